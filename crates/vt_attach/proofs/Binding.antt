@@ -37,6 +37,7 @@ use Rattle.vt_attach.proofs.AttachedCounts.{attached_counts, attached_value, mou
 use Rattle.vt_attach.proofs.AttachedWorlds.{new_found, new_uses_there, old_is_counted, same_numbers, shown_was}
 use Rattle.vt_detach.proofs.FileEvents.{permit_fits}
 use Rattle.vt_detach.proofs.Finishing.{own_exchanged}
+use Rattle.vt_attach.proofs.AttachedGroups.{attached_has}
 use Rattle.vt_detach.proofs.OwnInodesKept.{IsOwn}
 use Rattle.vt_detach.proofs.Showing.{ShowsAs}
 use Rattle.vt_detach.proofs.Shown.{is_some_mapped}
@@ -86,7 +87,7 @@ module _ (value : WorldValue) (whole : IsHeld value) (name : TaskName) (source p
   shows = record {
     plain = world_is_plain value;
     mounts = sym (mounts_are value whole value.filesystems filesystems new mounts next is_kept ascending);
-    ungrouped = λ group. refl;
+    groups = attached_has world after value.groups (map mount_of new) whole.groups refl ascending ungrouped (λ group. refl);
     numbers = same_numbers value.mounts mounts value.filesystems filesystems new is_kept;
     inodes = λ entry m. let from = shown_was value.mounts mounts value.filesystems filesystems new is_kept entry m in
         old_is_counted value whole after new from.0 entry (world_is_plain value) from.1 (gained (counted from.0.count))

@@ -4,6 +4,7 @@ pub mod EnteringLemmas
 pub mod AddedUses
 pub mod AttachedWorlds
 pub mod AttachedCounts
+pub mod AttachedGroups
 pub mod Grafting
 pub mod Binding
 pub mod TreeBinding
@@ -21,3 +22,11 @@ pub mod UnsharedDone
 pub mod UnsharedInodes
 pub mod TasksUnshared
 pub mod UnsharingLemmas
+pub mod PlannedMoves
+pub mod NumbersByParts
+pub mod GrownGroups
+pub mod FormedGroups
+pub mod PlacedUses
+pub mod MovedPoints
+pub mod PlannedCounts
+pub mod PointsCounted

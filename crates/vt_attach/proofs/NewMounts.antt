@@ -26,11 +26,11 @@ use Rattle.vt_letting_go.proofs.AttachedSwept.{new_mounts_of_trees_keep_all}
 use Rattle.vt_letting_go.proofs.Lists.{Among, all_pass, among-append, among-append_left, among-append_right, among-filter_map, among-from_filter_map, among-from_map, among-map, among_from_all, among_numbers, passes}
 use Rattle.vt_letting_go.proofs.OfWorlds.{mounts_of_worlds_stand}
 use Rattle.vt_letting_go.proofs.PlacesLeft.{found_itself, number_found}
-use Rattle.vt_location.specs.declared.flags.MountFlags.{MountFlags}
+use Rattle.vt_cred.specs.declared.mount_flags.MountFlags.{MountFlags}
 use Rattle.vt_location.specs.declared.locations.Location.{Location}
 use Rattle.vt_location.specs.declared.mounts.Mount.{Mount}
 use Rattle.vt_location.specs.declared.mounts.Propagation.TheVariants.{Private}
-use Rattle.vt_location.specs.Flags.{flags_of}
+use Rattle.vt_cred.specs.MountFlags.{flags_of}
 use Rattle.vt_location.specs.Locations.{location_of, number_of}
 use Rattle.vt_location.specs.MountValue.{mount_of}
 use Rattle.vt_location.specs.Numbers.{counted, inode_number}
@@ -47,6 +47,7 @@ use Rattle.vt_detach.specs.Uses.{inode_of, kept, with_attached}
 use Rattle.vt_detach.specs.WorldValue.{WorldValue, world_of}
 use Rattle.vt_attach.proofs.AddedUses.{IsFoundIn, gained_by, mounts_are_gained, with_mounts_on}
 use Rattle.vt_attach.proofs.AttachedCounts.{attached_counts, attached_value, lower_numbers, mounts_are, times_none}
+use Rattle.vt_attach.proofs.AttachedGroups.{attached_has}
 use Rattle.vt_attach.proofs.AttachedWorlds.{new_found, new_uses_there, old_is_counted, same_numbers, shown_was}
 use Rattle.vt_attach.proofs.Binding.{only_index}
 use Rattle.vt_attach.proofs.EnteringLemmas.{ascending_joined}
@@ -298,7 +299,7 @@ module _ (value : WorldValue) (whole : IsHeld value) (name : TaskName) (place : 
     shows = record {
       plain = after_is_plain;
       mounts = sym (mounts_are value whole base filesystems (mount ∷ []) mounts next is_kept ascending);
-      ungrouped = λ group. refl;
+      groups = attached_has world after value.groups (mount_of mount ∷ []) whole.groups refl ascending refl (λ group. refl);
       numbers = ap (map (λ (f : Filesystem ℕ). f.number)) (sym seen_base) ∙ same_numbers value.mounts mounts base filesystems (mount ∷ []) is_kept;
       inodes = λ made m. let from = shown_was value.mounts mounts base filesystems (mount ∷ []) is_kept made m in
           ⊎_elim

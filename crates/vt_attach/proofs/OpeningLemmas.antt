@@ -16,14 +16,16 @@ use Rattle.vt_count_laws.specs.Using.{one_counted, root_counted}
 use Rattle.vt_count_laws.proofs.Places.{opening_is_counted}
 use Rattle.vt_laws.specs.Numbers.{KeepsTo}
 use Rattle.vt_laws.proofs.Supports.{opening_keeps_to_four}
+use Rattle.vt_group.specs.Grouping.{Grouping, Has, no_groups}
+use Rattle.vt_group.proofs.Showing.{opening_has_no_groups}
 use Rattle.vt_letting_go.specs.Counts.{mounts_showing}
-use Rattle.vt_location.specs.declared.flags.MountFlags.{MountFlags}
+use Rattle.vt_cred.specs.declared.mount_flags.MountFlags.{MountFlags}
 use Rattle.vt_location.specs.declared.locations.NodeRef.{NodeRef}
 use Rattle.vt_location.specs.declared.mounts.Propagation.TheVariants.{Private}
 use Rattle.vt_location.specs.declared.numbers.FilesystemId.{FilesystemId}
 use Rattle.vt_location.specs.declared.numbers.MountId.{MountId}
 use Rattle.vt_location.specs.declared.numbers.NamespaceId.{NamespaceId}
-use Rattle.vt_location.specs.Flags.{flags_of}
+use Rattle.vt_cred.specs.MountFlags.{flags_of}
 use Rattle.vt_location.specs.Locations.{location_of}
 use Rattle.vt_location.specs.MountValue.{mount_of}
 use Rattle.vt_location.specs.Numbers.{counted, inode_number, is_inode_of}
@@ -168,7 +170,7 @@ first_tasks = first_task nat_eq opening_numbers ∷ []
 
 abbrev first_value : FilesystemEntry → WorldValue
 first_value entry =
-    record { mounts = first_mount_entries; filesystems = entry ∷ []; namespaces = first_namespace_entries; tasks = first_tasks; next = 3 }
+    record { mounts = first_mount_entries; groups = no_groups; filesystems = entry ∷ []; namespaces = first_namespace_entries; tasks = first_tasks; next = 3 }
 
 module _ (entry : FilesystemEntry) (counts : entry.count ≡ 2) (inodes : inodes_seen entry ≡ one_counted (inode_number 2 0) 4) (mounts : entry.mounts ≡ 1) where
   abbrev seen : filesystem_seen entry ≡ new_plain nat_eq (counted 2) (inode_number 2 0)
@@ -189,6 +191,7 @@ module _ (entry : FilesystemEntry) (counts : entry.count ≡ 2) (inodes : inodes
   first_held =
       record {
         in_world = subst (IsWorld nat_eq) (sym first_world) (opening_is_a_world opening_numbers numbers_apart).0;
+        groups = subst (λ world. Has world no_groups) (sym first_world) (opening_has_no_groups opening_numbers);
         ungrouped = refl;
         given = subst (KeepsTo (is_counted_before 3)) (sym first_world)
             (opening_keeps_to_four (is_counted_before 3) opening_numbers refl refl refl refl);
@@ -207,17 +210,17 @@ module _ (entry : FilesystemEntry) (counts : entry.count ≡ 2) (inodes : inodes
       }
 
 -- what is made for the opening world is held, and is seen as that
-module _ (mounts : List MountEntry) (filesystems : Filesystems) (namespaces : List NamespaceEntry) (tasks : List (meant.Task ℕ))
-    (mounts_are : mounts ≡ first_mount_entries) (filesystems_are : shown filesystems ≡ first_shown 2)
+module _ (mounts : List MountEntry) (groups : Grouping) (filesystems : Filesystems) (namespaces : List NamespaceEntry) (tasks : List (meant.Task ℕ))
+    (mounts_are : mounts ≡ first_mount_entries) (groups_are : groups ≡ no_groups) (filesystems_are : shown filesystems ≡ first_shown 2)
     (namespaces_are : namespaces ≡ first_namespace_entries) (tasks_are : tasks ≡ first_tasks) where
   abbrev made : WorldValue
-  made = record { mounts = mounts; filesystems = filesystems; namespaces = namespaces; tasks = tasks; next = 3 }
+  made = record { mounts = mounts; groups = groups; filesystems = filesystems; namespaces = namespaces; tasks = tasks; next = 3 }
 
   abbrev first : IsFirst filesystems
   first = is_first filesystems filesystems_are
 
   is_made : made ≡ first_value first.entry
-  is_made = λ i. record { mounts = mounts_are i; filesystems = first.alone i; namespaces = namespaces_are i; tasks = tasks_are i; next = 3 }
+  is_made = λ i. record { mounts = mounts_are i; groups = groups_are i; filesystems = first.alone i; namespaces = namespaces_are i; tasks = tasks_are i; next = 3 }
 
   pub opening_held : IsHeld made
   opening_held = subst IsHeld (sym is_made) (first_held first.entry first.counts first.inodes first.mounts)

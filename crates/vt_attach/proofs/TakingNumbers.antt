@@ -24,7 +24,7 @@ use Rattle.vt_detach.specs.Held.{CountsItsMounts, HasOwnInodes, IsHeld, is_ungro
 use Rattle.vt_detach.specs.WorldValue.{WorldValue, world_of}
 use Rattle.vt_detach.proofs.Finishing.{CountsBeside}
 use Rattle.vt_detach.proofs.OwnInodesKept.{IsOwn}
-use Rattle.vt_detach.proofs.Showing.{ShowsAs, shown_is_counted, shown_is_same}
+use Rattle.vt_detach.proofs.Showing.{ShowsAs, shown_has, shown_is_counted, shown_is_same}
 use Rattle.vt_detach.proofs.Staying.{IsDone, becomes_so, world_is_plain}
 
 -- in no peer group, as the laws of numbers say it
@@ -74,6 +74,7 @@ module _ (value : WorldValue) (whole : IsHeld value) (name : TaskName) (permit :
       record {
         held = record {
           in_world = world.0;
+          groups = shown_has (left_by value task permit) new shows left_is_world.0;
           ungrouped = counts.ungrouped;
           given = subst (λ count. KeepsTo (is_counted_before count) (world_of new)) (sym next)
               (same_worlds_keep_to_numbers (is_counted_before (value.next + counts_taken (world_of value) task permit))

@@ -1,5 +1,5 @@
 -- A task gets a namespace of its own, as code does it: unshare(2) with CLONE_NEWNS.
-use Rattle.std.proofs.Common.{◌≡◌, ap, subst, ◌∙◌, ℕ, ◌+◌, ◌*◌, true, List, [], ◌∷◌, ◌++◌, length, map, Some}
+use Rattle.std.proofs.Common.{◌≡◌, ap, subst, ◌∙◌, ℕ, ◌+◌, ◌*◌, nat_lt, true, List, [], ◌∷◌, ◌++◌, length, map, Some}
 use Rattle.std.specs.List.{list_all}
 use Rattle.std.proofs.lemmas.Option.{same_Some}
 use Rattle.vt_spec.specs.Language.Calls.{TaskName}
@@ -11,7 +11,7 @@ use Rattle.vt_location.specs.declared.mounts.Mount.{Mount}
 use Rattle.vt_location.specs.Locations.{location_of}
 use Rattle.vt_location.specs.MountValue.{mount_of}
 use Rattle.vt_location.specs.Numbers.{counted}
-use Rattle.vt_mount.specs.MountsValue.{MountEntry}
+use Rattle.vt_mount.specs.MountsValue.{MountEntry, mounts_in}
 use Rattle.vt_run_laws.specs.Handed.{counts_from}
 use Rattle.vt_tasks.specs.declared.task.Task.{Task as Own}
 use Rattle.vt_tasks.specs.TaskValue.{task_of}
@@ -43,6 +43,8 @@ pub record IsUnshared (value : WorldValue) (name : TaskName) (own : Own) (copies
   pub namespaces_left : new.namespaces ≡ with_one_task_less own.namespace.count namespaces
   pub tasks : new.tasks ≡ changed_called name
       (λ task. record task { namespace = counted value.next; root = location_of root; directory = location_of directory }) value.tasks
+  pub groups : new.groups ≡ value.groups
+  pub before : list_all (λ mount. nat_lt mount.number (counted value.next)) (mounts_in value.mounts) ≡ true
   pub next : new.next ≡ value.next + 2 * length (attached_in (counted own.namespace.count) value.mounts)
 
 pub task_is_unshared : (value : WorldValue) → IsHeld value → (name : TaskName) → Permits value name ToUnshare → (own : Own)
@@ -60,6 +62,7 @@ task_is_unshared value whole name permits own is copies root directory mounts fi
     (facts.namespaces_left ∙ ap (with_one_task_less own.namespace.count) facts.entered)
     tasks_are
     (facts.next ∙ ap (λ n. value.next + 2 * length (attached_in n value.mounts)) in_namespace)
+    facts.groups facts.before
   where
     own_is : task_of own ≡ permits.task
     own_is = same_Some (task_of own) permits.task (is ∙ permits.called)

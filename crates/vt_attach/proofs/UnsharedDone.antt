@@ -1,6 +1,8 @@
 -- The end of an unshare, where the inodes that the copies use are found: unshare(2) with CLONE_NEWNS.
-use Rattle.std.proofs.Common.{◌≡◌, refl, sym, ap, subst, ◌∙◌, ℕ, ◌+◌, ◌*◌, nat_eq, Bool, false, List, [], ◌∷◌, ◌++◌, length, map, Option, Some}
-use Rattle.std.specs.Prelude.{All}
+use Rattle.std.proofs.Common.{◌≡◌, refl, sym, ap, subst, ◌∙◌, ℕ, ◌+◌, ◌*◌, nat_eq, Bool, true, false, List, [], ◌∷◌, ◌++◌, length, map, Option, Some}
+use Rattle.std.specs.Prelude.{All, nat_lt}
+use Rattle.std.specs.List.{list_all}
+use Rattle.vt_spec.specs.Lists.{holds_of}
 use Rattle.vt_spec.specs.Language.Calls.{TaskName}
 use Rattle.vt_spec.specs.Machine.Mounts.{Location, Mount}
 use Rattle.vt_spec.specs.Machine.Namespaces.{copied_mount}
@@ -12,6 +14,7 @@ use Rattle.vt_spec.specs.Machine.Invariants.{IsWorld}
 use Rattle.vt_count_laws.specs.Counted.{IsPlain}
 use Rattle.vt_count_laws.specs.Using.{AreThere, places_of}
 use Rattle.vt_fs.specs.FilesystemsValue.{FilesystemEntry, Filesystems, inodes_seen, shown}
+use Rattle.vt_group.specs.Grouping.{Has, are_rising, numbers_of}
 use Rattle.vt_laws.specs.Numbers.{KeepsTo}
 use Rattle.vt_letting_go.specs.Counts.{times}
 use Rattle.vt_letting_go.specs.Mounting.{inode_at}
@@ -20,7 +23,7 @@ use Rattle.vt_letting_go.proofs.Lists.{Among, all_from_among, among_from_all}
 use Rattle.vt_location.specs.declared.mounts.Mount.{Mount as Attached}
 use Rattle.vt_location.specs.MountValue.{mount_of}
 use Rattle.vt_location.specs.Numbers.{counted}
-use Rattle.vt_mount.specs.MountsValue.{MountEntry}
+use Rattle.vt_mount.specs.MountsValue.{MountEntry, are_ascending, mounts_in}
 use Rattle.vt_permit_laws.proofs.SameInUse.{same_worlds_are_worlds}
 use Rattle.vt_permit_laws.proofs.SameNumbers.{same_worlds_keep_to_numbers}
 use Rattle.vt_run_laws.specs.Handed.{counts_from, is_counted_before}
@@ -33,11 +36,15 @@ use Rattle.vt_detach.specs.Uses.{kept, with_attached}
 use Rattle.vt_detach.specs.WorldValue.{NamespaceEntry, WorldValue, namespace_of, world_of}
 use Rattle.vt_attach.proofs.AddedBegins as Begins
 use Rattle.vt_attach.proofs.AddedBegins.{IsAdded, KeepsAdded, with_added}
+use Rattle.vt_attach.proofs.AttachedGroups.{ascending_rises}
+use Rattle.vt_attach.proofs.CopyLemmas.{ascending_filter}
+use Rattle.vt_attach.proofs.UnsharingLemmas.{copies_ascend}
 use Rattle.vt_attach.proofs.AddedUses.{gained_by, shown_by_all}
-use Rattle.vt_detach.proofs.Bridging.{IsSwept, swept_is_counted, swept_is_same}
+use Rattle.vt_detach.proofs.Bridging.{IsSwept, swept_has, swept_is_counted, swept_is_same}
 use Rattle.vt_detach.proofs.Finishing.{CountsBeside, own_exchanged}
-use Rattle.vt_detach.proofs.Midway.{Reached}
-use Rattle.vt_detach.proofs.MidwayDone.{reached_counted, reached_swept}
+use Rattle.vt_detach.proofs.Grouped.{rising_mapped}
+use Rattle.vt_detach.proofs.Midway.{Reached, gone_if, gone_number}
+use Rattle.vt_detach.proofs.MidwayDone.{reached_counted, reached_has_none, reached_swept}
 use Rattle.vt_attach.proofs.MovedUses as Moved
 use Rattle.vt_detach.proofs.NamespacesEnded.{left_counted}
 use Rattle.vt_detach.proofs.OwnInodesKept.{IsOwn}
@@ -107,7 +114,8 @@ module _ (value : WorldValue) (whole : IsHeld value) (name : TaskName) (permits 
       (gained_there : (was : FilesystemEntry) → Among was value.filesystems → AreThere (counted was.count) (inodes_seen was) (gained_by copies))
       (new : WorldValue) (is_left : MountsAreLeft (counted count) (namespace_entry count entries) (kept moved_entries filesystems) (kept new.mounts new.filesystems))
       (namespaces_are : new.namespaces ≡ with_one_task_less count entries) (tasks_are : new.tasks ≡ tasks)
-      (next_is : new.next ≡ value.next + 2 * length (attached_in task.namespace value.mounts)) where
+      (next_is : new.next ≡ value.next + 2 * length (attached_in task.namespace value.mounts)) (groups_are : new.groups ≡ value.groups)
+      (before : list_all (λ mount. nat_lt mount.number (counted value.next)) (mounts_in value.mounts) ≡ true) where
     abbrev ended : World ℕ
     ended = Begins.ended value whole added tasks come_to gone_from inside
         (Worlds.nowhere_stays value whole name task permits.called permits.given.serves count in_namespace) (map namespace_of (with_one_task_less count entries))
@@ -140,11 +148,28 @@ module _ (value : WorldValue) (whole : IsHeld value) (name : TaskName) (permits 
     world_left : IsWorld nat_eq (settled nat_eq ended) × IsPlain (settled nat_eq ended)
     world_left = subst (λ w. IsWorld nat_eq w × IsPlain w) (sym ended_is) (left_is_world value whole name ToUnshare task takes)
 
+    -- the copies come after all mounts, in the order of those that they are of
+    still_rising : are_rising (numbers_of ended.mounts) ≡ true
+    still_rising =
+        rising_mapped (gone_if (λ mount. inside mount.namespace)) (gone_number (λ mount. inside mount.namespace)) (world.mounts ++ added)
+        (ap (λ all. are_rising (numbers_of (world.mounts ++ all))) copied_so
+        ∙ sym (ascending_rises (world.mounts ++ copies_of value.next (attached_in task.namespace value.mounts)))
+        ∙ copies_ascend value.next world.mounts (attached_in task.namespace value.mounts) ascending before
+        (ascending_filter (λ mount. holds_of (nat_eq task.namespace) mount.namespace) world.mounts ascending))
+      where
+        ascending : are_ascending world.mounts ≡ true
+        ascending = ascending_rises world.mounts ∙ whole.groups.order
+
     swept : IsSwept value ended (gained_by copies) left.reached.lost new
     swept =
         reached_swept value ended (gained_by copies) (λ mount. inside mount.namespace) (kept new.mounts new.filesystems) left.reached left.all_gone new refl (sym tasks_are)
-        (world_is_plain value) world_left.1 (λ group. refl)
+        (world_is_plain value)
         (ap (map (λ (n : Rattle.vt_spec.specs.Machine.World.Namespace ℕ). record n { change = 0 })) (ap (map namespace_of) (sym namespaces_are)))
+
+    has : Has (settled nat_eq ended) new.groups
+    has = subst (Has (settled nat_eq ended)) (sym groups_are)
+        (reached_has_none value ended (gained_by copies) (λ mount. inside mount.namespace) (kept new.mounts new.filesystems) left.reached left.all_gone new refl (sym tasks_are)
+        whole still_rising)
 
     counts : CountsBeside new
     counts =
@@ -154,11 +179,12 @@ module _ (value : WorldValue) (whole : IsHeld value) (name : TaskName) (permits 
 
     pub unshared_done : IsDone value name ToUnshare new
     unshared_done =
-        let same = swept_is_same value whole ended (gained_by copies) left.reached.lost new swept world_left.0 in
+        let same = swept_is_same value whole ended (gained_by copies) left.reached.lost new swept has world_left in
         let is = same_worlds_are_worlds (settled nat_eq ended) (world_of new) same world_left.1 world_left.0 in
         record {
           held = record {
             in_world = is.0;
+            groups = swept_has value whole ended (gained_by copies) left.reached.lost new swept has world_left;
             ungrouped = counts.ungrouped;
             given = subst (λ next. KeepsTo (is_counted_before next) (world_of new)) (sym next_is)
                 (same_worlds_keep_to_numbers (is_counted_before (value.next + 2 * length (attached_in task.namespace value.mounts))) (settled nat_eq ended) (world_of new) same world_left.1
@@ -166,7 +192,7 @@ module _ (value : WorldValue) (whole : IsHeld value) (name : TaskName) (permits 
             mounts = counts.uses;
             filesystems = all_from_among (CountsItsMounts (world_of new)) new.filesystems (λ entry m. record {
               mounts = counts.mounts entry m;
-              inodes = swept_is_counted value whole ended (gained_by copies) left.reached.lost new swept world_left.0 entry m is.0;
+              inodes = swept_is_counted value whole ended (gained_by copies) left.reached.lost new swept has world_left entry m is.0;
             });
             own_inodes = all_from_among HasOwnInodes new.filesystems (λ entry m. let from = swept.entries entry m in
                 subst (λ count. IsOwn count (inodes_seen entry)) (sym from.count)

@@ -37,7 +37,9 @@ pub fn attach_all(
     ensures err_mounts { OnErr result (mounts.new ≡ mounts.old) }
     ensures err_filesystems { OnErr result (filesystems.new ≡ filesystems.old) }
 {
-    if !have_room(filesystems, new) {
+    // They make two uses of an inode for each mount at the most.
+    let most = u64::MAX - 2 * new.len() as u64;
+    if !have_room(filesystems, new, most) {
         return Err(Rule::S5.denial());
     }
     enter_all(mounts, new)?;
@@ -72,13 +74,11 @@ pub fn attach_copies(
     attach_all(mounts, filesystems, &added)
 }
 
-// Whether the uses that mounts make can all be counted: two of an inode for each mount at the most.
-fn have_room(filesystems: &Filesystems, new: &[Mount]) -> bool
-    ensures room { result ≡ true
-        → list_all (meant.has_room (most_counted - 2 * length new.now) (shown filesystems.now)) new.now ≡ true }
+// Whether the roots, the mount points and the filesystems of mounts have no more uses than so many.
+pub(crate) fn have_room(filesystems: &Filesystems, new: &[Mount], most: u64) -> bool
+    ensures room { result ≡ true → list_all (meant.has_room most (shown filesystems.now)) new.now ≡ true }
     ensures slots { result ≡ true → list_all has_small_slots new.now ≡ true }
 {
-    let most = u64::MAX - 2 * new.len() as u64;
     for mount in new {
         if !has_room(filesystems, *mount, most) {
             return false;
@@ -109,7 +109,7 @@ fn point_has_room(filesystems: &Filesystems, point: Option<Location>, most: u64)
 }
 
 // Adds mounts after all others, or none.
-fn enter_all(mounts: &mut Mounts, new: &[Mount]) -> Result<(), Deny>
+pub(crate) fn enter_all(mounts: &mut Mounts, new: &[Mount]) -> Result<(), Deny>
     requires { are_ascending (mounts_in mounts.old ++ map mount_of new.now) ≡ true }
     ensures ok { OnOk result (mounts.new ≡ mounts.old ++ map unused_entry new.now) }
     ensures memory { IfErr result (λ deny. deny ≡ denial S5) }
@@ -125,7 +125,7 @@ fn enter_all(mounts: &mut Mounts, new: &[Mount]) -> Result<(), Deny>
 }
 
 // Removes those of the mounts that exist.
-fn remove_all(mounts: &mut Mounts, new: &[Mount])
+pub(crate) fn remove_all(mounts: &mut Mounts, new: &[Mount])
     ensures { mounts.new ≡ folded without_one mounts.old new.now }
 {
     for mount in new {
@@ -134,7 +134,7 @@ fn remove_all(mounts: &mut Mounts, new: &[Mount])
 }
 
 // The roots and mount points of mounts are in use, and their filesystems are shown.
-fn show_all(filesystems: &mut Filesystems, new: &[Mount])
+pub(crate) fn show_all(filesystems: &mut Filesystems, new: &[Mount])
     requires { list_all (meant.has_room (most_counted - 2 * length new.now) (shown filesystems.old)) new.now ≡ true }
     ensures { shown filesystems.new ≡ folded shown_by (shown filesystems.old) new.now }
 {

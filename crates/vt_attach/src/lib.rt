@@ -5,3 +5,5 @@
 pub mod attaching;
 pub mod bind_copies;
 pub mod copying;
+pub mod laws;
+pub mod planned;

@@ -1,7 +1,7 @@
 -- A right stands behind each effect.
 use Rattle.std.proofs.Common.{◌≡◌, refl, sym, ap, subst, ◌∙◌, inl, inr, ◌⊎◌, true≢false, ℕ, nat_eq, eqb-true, nat_lt, length, Bool, true, false, cond, ◌==◌, ◌&&◌, ◌||◌, List, [], ◌∷◌, ◌++◌, Option, Some, None, Result, Ok, Err, IfOk, ok_or, find, option_to_list}
 use Rattle.std.specs.Prelude.{⊤}
-use Rattle.std.proofs.lemmas.Bool.{and_parts}
+use Rattle.std.proofs.lemmas.Bool.{and_parts, or_parts}
 use Rattle.std.proofs.lemmas.Option.{same_Some}
 use Rattle.std.specs.Str.{bytes_eq}
 use Rattle.vt_call_laws.proofs.EffectsSearched.{IsSearched, MaySearch, searched_file_walk, searched_new_leaf_walk, searched_new_walk, searched_old_leaf_walk, searched_old_walk, searched_rename_walk}
@@ -43,10 +43,7 @@ use Rattle.vt_spec.specs.Machine.World.{Descriptor, Task, World, mount_at, node_
 use Rattle.vt_spec.specs.Rights.{cap_chown, cap_sys_admin, execute_right, has_all, is_member, owns, write_right}
 use Rattle.vt_spec.specs.Tree.{Node, bytes_of, entries_of, entry_named}
 use Rattle.vt_tree_laws.proofs.TreesWalked.{Ends, not_true}
-
-first_false : (a b : Bool) → (a || b) ≡ false → (a ≡ false) × (b ≡ false)
-first_false true b e = cc
-first_false false b e = (refl, e)
+use Rattle.vt_laws.proofs.GivenPermits.{given}
 
 -- a word that is no word that stands for a directory is a name
 pub no_special : (last : LastWord) → is_dot_dot last ≡ false → is_dot last ≡ false → is_no_word last ≡ false → is_special last ≡ false
@@ -73,12 +70,6 @@ module _ (fresh : Fresh ℕ) (world : World ℕ) (task : Task ℕ) (R : Permit �
       → Gives (and_then walk next)
   anyhow (Ok a) next h = h a refl
   anyhow (Err deny) next h = tt
-
--- what is known of a judgement's permit is known of the one that is given
-pub given : (P : Permit ℕ → Type 0) (judgement : Judgement ℕ) (permit : Permit ℕ) → judgement ≡ Ok permit → IfOk judgement P
-    → P permit
-given P (Ok other) permit e h = let same : other ≡ permit = cc in subst P same h
-given P (Err deny) permit e h = cc
 
 -- Entries
 module _ (fresh : Fresh ℕ) (world : World ℕ) (task : Task ℕ) where
@@ -139,7 +130,7 @@ module _ (fresh : Fresh ℕ) (world : World ℕ) (task : Task ℕ) where
       walked fresh world task HasRights Searched (file_walk nat_eq looks task path) _ (searched_file_walk world task path)
       (λ place searched.
       ruled fresh world task HasRights (file_word_rules place) _ (λ pass. by place (searched
-      (first_false _ place.slash pass.0).0) place.object))
+      (or_parts _ place.slash pass.0).0) place.object))
     where
       by : (place : Place ℕ) → MaySearch world task place.parent → (o : Option (Location ℕ))
           → Gave (opened_or_created_permit nat_eq looks task place access mode o)
@@ -173,14 +164,14 @@ module _ (fresh : Fresh ℕ) (world : World ℕ) (task : Task ℕ) where
           → MayEnter (mount_at nat_eq world from.parent).filesystem directory
       by pass directory name true f e =
           one from.parent (name_of from.last) (
-            not_true _ (first_false _ _ pass.1.1.1.1.1.1.1.1.1.0).0,
+            not_true _ (or_parts _ _ pass.1.1.1.1.1.1.1.1.1.0).0,
             from_searched,
           ) directory name (ap (λ b. b || false) f)
       by pass directory name false f e =
           let mounts : from.parent.mount ≡ to.parent.mount = eqb-true from.parent.mount to.parent.mount
           (not_true _ pass.1.1.1.1.1.1.1.1.0) in
           subst (λ m. MayEnter (mount_at nat_eq world (record { mount = m; node = from.parent.node })).filesystem directory) (sym mounts)
-          (one to.parent (name_of to.last) (not_true _ (first_false _ _ pass.1.1.1.1.1.1.1.1.1.0).1, to_searched) directory name
+          (one to.parent (name_of to.last) (not_true _ (or_parts _ _ pass.1.1.1.1.1.1.1.1.1.0).1, to_searched) directory name
           (ap (λ b. b || is_among same_entry (directory, name) ((to.parent.node, name_of to.last) ∷ [])) (sym f) ∙ e))
 
   names_by_right : (call : Call) → changes_names call ≡ true → Gave (judge_in nat_eq fresh world task call)
@@ -189,7 +180,7 @@ module _ (fresh : Fresh ℕ) (world : World ℕ) (task : Task ℕ) where
       walked fresh world task HasRights Searched (file_walk nat_eq looks task path) _ (searched_file_walk world task path)
       (λ place searched.
       ruled fresh world task HasRights (file_word_rules place) _ (λ pass.
-      written_named place bytes (searched (first_false _ place.slash pass.0).0) place.object))
+      written_named place bytes (searched (or_parts _ place.slash pass.0).0) place.object))
   names_by_right (Mkdir path mode) e =
       walked fresh world task HasRights Searched (new_walk nat_eq looks task path) _ (searched_new_walk world task path) (λ place searched.
       made_named place _ searched)

@@ -5,7 +5,6 @@ use Rattle.std.specs.Ordering.{eq_by_cmp}
 use Rattle.std.specs.Str.{bytes_eq}
 use Rattle.vt_laws.proofs.GivenPermits.{permits_are_for_their_calls}
 use Rattle.vt_call_laws.proofs.InodesLeft.{LeftBy, MadeBy, inode_left}
-use Rattle.vt_call_laws.proofs.InodesOwn.{neither}
 use Rattle.vt_call_laws.proofs.InodesParts.{KeptByParents, KeptIn, Stays, at_node, here, itself, kept_at, made_kept, moved_kept, removed_kept}
 use Rattle.vt_call_laws.proofs.InodesSettled.{inode_after_call}
 use Rattle.vt_laws.specs.Given.{IsFor}
@@ -25,6 +24,7 @@ use Rattle.vt_spec.specs.Machine.World.{Task, World, files_at, mount_at}
 use Rattle.vt_spec.specs.Tree.{Content, Node, entries_of, entry_named, name_cmp, node_with_bytes, node_with_entry, with_bytes, with_entries, with_entry}
 use Rattle.vt_spec.specs.Tree.Content.{Directory, Regular, Symlink, Whiteout}
 use Rattle.vt_spec.proofs.Nodes.{entry_named-with_entry, entry_named-without_entry, same_name}
+use Rattle.std.proofs.lemmas.Bool.{or_parts}
 
 module _ (entry : List ℕ) where
   -- the number that the name leads to
@@ -139,7 +139,7 @@ module _ (entry : List ℕ) where
         → is_among same_entry (other, entry) ((directory, name) ∷ rest) ≡ false
         → Apart directory name × (is_among same_entry (other, entry) rest ≡ false)
     first directory name rest e =
-        neither (same_entry (other, entry) (directory, name)) (is_among same_entry (other, entry) rest) e
+        or_parts (same_entry (other, entry) (directory, name)) (is_among same_entry (other, entry) rest) e
 
     kept : (files : FileTree ℕ) (change : Change ℕ) → NewApart change
         → is_among same_entry (other, entry) (entries_named_by change) ≡ false

@@ -3,44 +3,21 @@ use Rattle.std.proofs.Common.{◌≡◌, refl, sym, ap, subst, ◌∙◌, true�
 use Rattle.std.specs.List.{All}
 use Rattle.vt_call_laws.specs.Inodes.{HasNoOverlays, change_of}
 use Rattle.vt_spec.specs.Machine.Apply.{apply}
-use Rattle.vt_spec.specs.Language.Calls.{TypeWord}
 use Rattle.vt_spec.specs.Language.Changes.{Change, changed}
 use Rattle.vt_spec.specs.Language.Changes.Change.{CopyUp}
-use Rattle.vt_spec.specs.Machine.Detach.{deepest_first, unmounted, unmounted_if_there}
+use Rattle.vt_spec.specs.Machine.Detach.{deepest_first}
 use Rattle.vt_spec.specs.Machine.Filesystems.{filesystem_changed, with_change, with_files}
-use Rattle.vt_spec.specs.Lists.{Fresh, evens, folded, odds}
-use Rattle.vt_spec.specs.Machine.Mounts.{Location, Mount, mount_tree, numbers_by}
+use Rattle.vt_spec.specs.Lists.{Fresh, evens, odds}
+use Rattle.vt_spec.specs.Machine.Mounts.{Location, mount_tree}
 use Rattle.vt_spec.specs.Machine.Namespaces.{namespace_entered, unshared}
 use Rattle.vt_spec.specs.Machine.Outcome.Descriptors.{is_copied_up, pwritten, with_copy}
 use Rattle.vt_spec.specs.Machine.Outcome.Removing.{without_replaced}
 use Rattle.vt_spec.specs.Machine.Permits.{Permit}
 use Rattle.vt_spec.specs.Machine.Permits.Permit.{ToChange, ToEnterNamespace, ToExit, ToMake, ToMountOverlay, ToMountPlain, ToOpen, ToOpenNew, ToRemoveDirectory, ToRename, ToSetType, ToUnmount, ToUnmountLazily, ToUnshare, ToWritePart}
-use Rattle.vt_spec.specs.Machine.Types.{named_mounts, retyped_mount, with_new_groups, with_type}
 use Rattle.vt_spec.specs.Machine.World.{Filesystem, Overlay, Task, World, files_at, filesystem_at, is_overlay, mount_at, mount_numbered, new_plain, no_filesystem, replaced_if_numbered, root_attr, without_task}
 use Rattle.vt_spec.specs.Tree.{Node, new_directory}
-use Rattle.vt_tree_laws.proofs.TreesOfWorlds.{number_numbered, numbered, numbered_anyhow, regrouped_filesystems, taken_files, taken_filesystems, taken_shows}
-
-pub lazily_filesystems : (mounts : List (Mount ℕ)) (world : World ℕ)
-    → (folded (unmounted_if_there nat_eq) world mounts).filesystems ≡ world.filesystems
-lazily_filesystems [] world = refl
-lazily_filesystems (mount ∷ mounts) world = lazily_filesystems mounts (unmounted_if_there nat_eq world mount) ∙ by _
-  where
-    by : (b : Bool) → (cond b (unmounted nat_eq world mount.number) world).filesystems ≡ world.filesystems
-    by true = taken_filesystems world _
-    by false = refl
-
-pub typed_filesystems : (fresh : Fresh ℕ) (world : World ℕ) (number : ℕ) (word : TypeWord) (recursive : Bool)
-    → (with_type nat_eq fresh world number word recursive).filesystems ≡ world.filesystems
-typed_filesystems fresh world number word recursive = regrouped_filesystems (record world {
-  mounts = map (retyped_mount nat_eq group word named) world.mounts;
-  master = with_new_groups nat_eq group world.master named;
-})
-  where
-    named : List (Mount ℕ)
-    named = named_mounts nat_eq world number recursive
-
-    group : ℕ → ℕ
-    group = numbers_by nat_eq fresh named
+use Rattle.vt_tree_laws.proofs.TreesOfWorlds.{number_numbered, numbered, numbered_anyhow, taken_files, taken_filesystems, taken_shows}
+use Rattle.vt_tree_laws.proofs.ChangesByOthers.{lazily_filesystems, typed_filesystems}
 
 -- what is seen at a location stays where mounts are taken away for what is replaced
 pub replaced_filesystems : (world : World ℕ) (replaced : Option (Location ℕ))

@@ -18,10 +18,7 @@ use Rattle.vt_spec.specs.Machine.Permits.{Permit}
 use Rattle.vt_spec.specs.Machine.Permits.Permit.{ToMountOverlay, ToMountPlain}
 use Rattle.vt_spec.specs.Machine.World.{Task, World, files_at, mount_at}
 use Rattle.vt_spec.specs.Tree.{Node, entries_in, entry_named}
-
-pub neither : (a b : Bool) → (a || b) ≡ false → (a ≡ false) × (b ≡ false)
-neither false b e = (refl, e)
-neither true b e = cc
+use Rattle.std.proofs.lemmas.Bool.{or_parts}
 
 -- an inode that a change does not name stays
 skip : (b : Bool) (new was : Option (Node ℕ)) → b ≡ false → cond b new was ≡ was
@@ -33,19 +30,19 @@ parent_stays : (files : FileTree ℕ) (object : Option ℕ) (other : ℕ)
     → (without_parent nat_eq files object).tree.node other ≡ files.tree.node other
 parent_stays files None other apart = refl
 parent_stays files (Some object) other apart =
-    skip (nat_eq other object) _ _ (neither (nat_eq other object) false apart).0
+    skip (nat_eq other object) _ _ (or_parts (nat_eq other object) false apart).0
 
 changed_elsewhere : (files : FileTree ℕ) (change : Change ℕ) (other : ℕ)
     → is_among nat_eq other (named_by files change) ≡ false
     → (changed nat_eq files change).tree.node other ≡ files.tree.node other
 changed_elsewhere files (Make directory name number node) other apart =
-    let both = neither (nat_eq other directory) (is_among nat_eq other (number ∷ [])) apart in
-    let last = neither (nat_eq other number) false both.1 in
+    let both = or_parts (nat_eq other directory) (is_among nat_eq other (number ∷ [])) apart in
+    let last = or_parts (nat_eq other number) false both.1 in
     skip (nat_eq other directory) _ _ both.0 ∙ skip (nat_eq other number) _ _ last.0
 changed_elsewhere files (AddName directory name object) other apart =
-    skip (nat_eq other directory) _ _ (neither (nat_eq other directory) (is_among nat_eq other (object ∷ [])) apart).0
+    skip (nat_eq other directory) _ _ (or_parts (nat_eq other directory) (is_among nat_eq other (object ∷ [])) apart).0
 changed_elsewhere files (Remove directory name object) other apart =
-    let both = neither (nat_eq other directory) (is_among nat_eq other (object ∷ [])) apart in
+    let both = or_parts (nat_eq other directory) (is_among nat_eq other (object ∷ [])) apart in
     parent_stays (without_name nat_eq files directory name) (Some object) other both.1
     ∙ skip (nat_eq other directory) _ _ both.0
 changed_elsewhere files (Move from old to new object) other apart =
@@ -65,19 +62,19 @@ changed_elsewhere files (Move from old to new object) other apart =
     named = with_name nat_eq unnamed to new object
 
     first : (nat_eq other from ≡ false) × (is_among nat_eq other (to ∷ object ∷ option_to_list replaced) ≡ false)
-    first = neither (nat_eq other from) (is_among nat_eq other (to ∷ object ∷ option_to_list replaced)) apart
+    first = or_parts (nat_eq other from) (is_among nat_eq other (to ∷ object ∷ option_to_list replaced)) apart
 
     second : (nat_eq other to ≡ false) × (is_among nat_eq other (object ∷ option_to_list replaced) ≡ false)
-    second = neither (nat_eq other to) (is_among nat_eq other (object ∷ option_to_list replaced)) first.1
+    second = or_parts (nat_eq other to) (is_among nat_eq other (object ∷ option_to_list replaced)) first.1
 
     third : (nat_eq other object ≡ false) × (is_among nat_eq other (option_to_list replaced) ≡ false)
-    third = neither (nat_eq other object) (is_among nat_eq other (option_to_list replaced)) second.1
+    third = or_parts (nat_eq other object) (is_among nat_eq other (option_to_list replaced)) second.1
 changed_elsewhere files (SetBytes file bytes) other apart =
-    skip (nat_eq other file) _ _ (neither (nat_eq other file) false apart).0
+    skip (nat_eq other file) _ _ (or_parts (nat_eq other file) false apart).0
 changed_elsewhere files (SetAttr object attr) other apart =
-    skip (nat_eq other object) _ _ (neither (nat_eq other object) false apart).0
+    skip (nat_eq other object) _ _ (or_parts (nat_eq other object) false apart).0
 changed_elsewhere files (SetMark directory opaque) other apart =
-    skip (nat_eq other directory) _ _ (neither (nat_eq other directory) false apart).0
+    skip (nat_eq other directory) _ _ (or_parts (nat_eq other directory) false apart).0
 changed_elsewhere files (CopyUp object) other apart = refl
 
 -- an overlay is mounted by its own call

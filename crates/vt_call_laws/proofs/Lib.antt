@@ -1,6 +1,5 @@
 pub mod EffectsRights
 pub mod EffectsSearched
-pub mod EffectsTold
 pub mod InodesEntries
 pub mod InodesLeft
 pub mod InodesOwn
@@ -8,9 +7,6 @@ pub mod InodesPartLaws
 pub mod InodesParts
 pub mod InodesRemain
 pub mod InodesSettled
-pub mod ReachedLaws
-pub mod ReachedWalks
-pub mod RootsStay
 pub mod TasksFound
 pub mod TasksLaws
 pub mod TasksLeft

@@ -1,16 +1,14 @@
 -- The tasks that each permit leaves, and that settling and raising leave of them.
-use Rattle.std.proofs.Common.{◌≡◌, refl, sym, ap, subst, ◌∙◌, ℕ, ◌+◌, nat_eq, Bool, true, false, not, cond, ◌||◌, List, [], ◌∷◌, ◌++◌, map, filter, Option, Some, None, unwrap_or, Ok, Err, ok_or}
+use Rattle.std.proofs.Common.{◌≡◌, refl, sym, ap, subst, ◌∙◌, ℕ, ◌+◌, nat_eq, Bool, true, false, not, ◌||◌, List, [], ◌∷◌, ◌++◌, map, filter, Option, Some, None, unwrap_or, Ok, Err, ok_or}
 use Rattle.vt_laws.proofs.CallsJudged.{policy_judges_then_applies}
 use Rattle.vt_spec.specs.declared.errors.Rule.TheVariants.{S2}
 use Rattle.vt_spec.specs.Errors.{denial}
 use Rattle.vt_spec.specs.Machine.Apply.{apply}
-use Rattle.vt_spec.specs.Language.Calls.{Call, TaskName, TypeWord, same_name}
-use Rattle.vt_spec.specs.Language.Changes.{Change}
-use Rattle.vt_spec.specs.Machine.Detach.{after_going, deepest_first, taken_away, unmounted, unmounted_if_there, without_mounts_on}
-use Rattle.vt_spec.specs.Machine.Filesystems.{filesystem_changed, overlay_changed, with_change}
+use Rattle.vt_spec.specs.Language.Calls.{Call, TaskName, same_name}
+use Rattle.vt_spec.specs.Machine.Detach.{deepest_first, without_mounts_on}
 use Rattle.vt_spec.specs.Machine.Judge.{Judgement, judge_in}
-use Rattle.vt_spec.specs.Lists.{Fresh, evens, folded, odds}
-use Rattle.vt_spec.specs.Machine.Mounts.{Location, Mount, mount_tree, numbers_by}
+use Rattle.vt_spec.specs.Lists.{Fresh, evens, odds}
+use Rattle.vt_spec.specs.Machine.Mounts.{Location, mount_tree, numbers_by}
 use Rattle.vt_spec.specs.Machine.Namespaces.{entered_at, namespace_entered, namespace_root, pivoted_task, unshared, unshared_task}
 use Rattle.vt_spec.specs.Machine.Outcome.Descriptors.{is_copied_up, pwritten, with_copy, with_descriptor, without_descriptor}
 use Rattle.vt_spec.specs.Machine.Outcome.Removing.{without_replaced}
@@ -19,58 +17,8 @@ use Rattle.vt_spec.specs.Machine.Outcomes.{after, denied}
 use Rattle.vt_spec.specs.Machine.Permits.{Permit}
 use Rattle.vt_spec.specs.Machine.Permits.Permit.{ToChange, ToClose, ToEnterNamespace, ToExit, ToFork, ToMake, ToOpen, ToOpenNew, ToPivot, ToRemoveDirectory, ToRename, ToSetCredentials, ToSetDirectory, ToSetRoot, ToSetType, ToSetUmask, ToUnmount, ToUnmountLazily, ToUnshare, ToWritePart}
 use Rattle.vt_spec.specs.Machine.Policy.{filesystems_changed_by, finished, finished_by, only_looks, policy, raised_task}
-use Rattle.vt_spec.specs.Machine.Receives.{regrouped, regrouped_by}
-use Rattle.vt_spec.specs.Machine.Types.{named_mounts, retyped_mount, with_new_groups, with_type}
-use Rattle.vt_spec.specs.Machine.World.{Overlay, Layer, Task, World, filesystem_at, mount_at, mount_numbered, mounts_of, replaced_if_called, task_called, with_mounts, without_task}
-
--- the worlds on the way keep the tasks
-changed_tasks : (fresh : Fresh ℕ) (world : World ℕ) (location : Location ℕ) (change : Change ℕ)
-    → (with_change nat_eq fresh world location change).tasks ≡ world.tasks
-changed_tasks fresh world location change = by (filesystem_at nat_eq world location).overlay
-  where
-    by_upper : (overlay : Overlay ℕ) (o : Option (Layer ℕ))
-        → (overlay_changed nat_eq fresh world (filesystem_at nat_eq world location) overlay o change).tasks
-        ≡ world.tasks
-    by_upper overlay None = refl
-    by_upper overlay (Some upper) = refl
-
-    by : (o : Option (Overlay ℕ))
-        → (filesystem_changed nat_eq fresh world (filesystem_at nat_eq world location) o change).tasks
-        ≡ world.tasks
-    by None = refl
-    by (Some overlay) = by_upper overlay overlay.upper
-
-regrouped_tasks : (world : World ℕ) → (regrouped nat_eq world).tasks ≡ world.tasks
-regrouped_tasks world = by _
-  where
-    by : (b : Bool) → (regrouped_by nat_eq b world).tasks ≡ world.tasks
-    by true = refl
-    by false = refl
-
-taken_tasks : (world : World ℕ) (gone : List ℕ) → (taken_away nat_eq world gone).tasks ≡ world.tasks
-taken_tasks world gone = regrouped_tasks (with_mounts world (map (after_going nat_eq world gone) world.mounts))
-
-lazily_tasks : (mounts : List (Mount ℕ)) (world : World ℕ)
-    → (folded (unmounted_if_there nat_eq) world mounts).tasks ≡ world.tasks
-lazily_tasks [] world = refl
-lazily_tasks (mount ∷ mounts) world = lazily_tasks mounts (unmounted_if_there nat_eq world mount) ∙ by _
-  where
-    by : (b : Bool) → (cond b (unmounted nat_eq world mount.number) world).tasks ≡ world.tasks
-    by true = taken_tasks world _
-    by false = refl
-
-typed_tasks : (fresh : Fresh ℕ) (world : World ℕ) (number : ℕ) (word : TypeWord) (recursive : Bool)
-    → (with_type nat_eq fresh world number word recursive).tasks ≡ world.tasks
-typed_tasks fresh world number word recursive = regrouped_tasks (record world {
-  mounts = map (retyped_mount nat_eq group word named) world.mounts;
-  master = with_new_groups nat_eq group world.master named;
-})
-  where
-    named : List (Mount ℕ)
-    named = named_mounts nat_eq world number recursive
-
-    group : ℕ → ℕ
-    group = numbers_by nat_eq fresh named
+use Rattle.vt_spec.specs.Machine.World.{Task, World, mount_at, mount_numbered, mounts_of, replaced_if_called, task_called, without_task}
+use Rattle.vt_tree_laws.proofs.TreesLimits.{changed_tasks, lazily_tasks, taken_tasks, typed_tasks}
 
 replaced_tasks : (world : World ℕ) (replaced : Option (Location ℕ))
     → (without_replaced nat_eq world replaced).tasks ≡ world.tasks

@@ -1,6 +1,7 @@
 -- What tasks are after a call.
 use Rattle.std.proofs.Common.{◌≡◌, refl, sym, ap, subst, ◌∙◌, inl, inr, ◌⊎◌, ⊎_elim, ℕ, ◌+◌, nat_eq, nat_lt, eqb-true, eq-eqb, Bool, true, false, cond, not, ◌&&◌, ◌==◌, bit_and, bytes_eq, List, [], ◌∷◌, ◌++◌, map, filter, Option, Some, None, option_map, Ok}
 use Rattle.std.proofs.lemmas.Nat.{and_assoc}
+use Rattle.std.proofs.lemmas.Bool.{and_parts, not-false}
 use Rattle.std.specs.Cmp.Lexicographic.{bytes_decides}
 use Rattle.std.specs.Int.Bits.{and_self}
 use Rattle.vt_laws.proofs.GivenPermits.{permits_are_for_their_calls}
@@ -56,25 +57,17 @@ either_holds true b e = inl refl
 either_holds false true e = inr refl
 either_holds false false e = cc
 
-both_hold : (a b : Bool) → (a && b) ≡ true → (a ≡ true) × (b ≡ true)
-both_hold true b e = (refl, e)
-both_hold false b e = cc
-
-not_fails : (b : Bool) → not b ≡ false → b ≡ true
-not_fails true e = refl
-not_fails false e = cc
-
 -- the rules of fork let pass what the caller may give
 forked_may_give : (task : Task ℕ) (child : Credentials) → NoneFails (fork_rules task child)
     → MayGive task.credentials child
 forked_may_give task child pass = (
   λ capability held. held_of_held who.capabilities child.capabilities capability
-      (not_fails (has_all who.capabilities child.capabilities) pass.1.1.1.0) held,
+      (not-false (has_all who.capabilities child.capabilities) pass.1.1.1.0) held,
   ⊎_elim (λ same. inl (eqb-true child.uid who.uid same)) inr
       (either_holds (child.uid == who.uid) (has_all who.capabilities cap_setuid) pass.1.0),
   ⊎_elim
       (λ same.
-      let both = both_hold (child.gid == who.gid) (bytes_eq child.groups who.groups) same in
+      let both = and_parts (child.gid == who.gid) (bytes_eq child.groups who.groups) same in
       inl (eqb-true child.gid who.gid both.0, (bytes_decides child.groups who.groups).0 both.1))
       inr
       (either_holds (child.gid == who.gid && bytes_eq child.groups who.groups)

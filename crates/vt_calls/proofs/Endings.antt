@@ -35,7 +35,8 @@ use Rattle.vt_calls.proofs.Finishing.{answers, grants, leaves, refuses}
 use Rattle.vt_calls.proofs.Forms.{frees, is_free, types, ungroups}
 use Rattle.vt_calls.proofs.Supplies.{AreVacant, allotted, counts, judged_with, permits}
 use Rattle.vt_calls.specs.Answered.{answered}
-use Rattle.vt_calls.specs.Meets.{Ends, MayBeRefusedMemory, Meets}
+use Rattle.vt_answers.specs.Ends.{MayBeRefusedMemory}
+use Rattle.vt_calls.specs.Meets.{Ends, Meets}
 use Rattle.vt_calls.specs.Permitted.{EndsGiven, IsGiven, IsPermitted}
 
 -- A call that is refused

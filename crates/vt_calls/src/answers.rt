@@ -6,6 +6,7 @@ use vt_request::Answer;
 use vt_spec::errors::Deny;
 
 // A change that was made is answered by `ok`, and one that was not by why.
+#[inline(always)]
 pub(crate) fn done(changed: Result<(), Deny>) -> Result<Answer, Deny>
     ensures { result ≡ answered changed }
 {

@@ -9,6 +9,7 @@ use vt_request::{Answer, TaskName};
 use vt_spec::errors::Deny;
 
 // Opens or closes a file as a permit allows. S5 (ENOMEM): an allocation failed, or a count of uses is full; nothing has changed.
+#[inline(always)]
 pub(crate) fn change_descriptors(
     world: &mut World,
     name: &TaskName,

@@ -10,6 +10,7 @@ use vt_request::{Answer, TaskName};
 use vt_spec::errors::Deny;
 
 // Changes a file as a permit allows. S5 (ENOMEM): an allocation failed; nothing has changed.
+#[inline(always)]
 pub(crate) fn change_file(
     world: &mut World,
     name: &TaskName,

@@ -12,4 +12,5 @@ mod removing;
 mod spending;
 mod tasks;
 
-pub use calls::Calls;
+pub use calls::Kernel;
+pub use vt_answers::Calls;

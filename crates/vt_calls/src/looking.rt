@@ -9,6 +9,7 @@ use vt_request::{Answer, TaskName};
 use vt_spec::errors::Deny;
 
 // What a permit to look is answered. S5 (ENOMEM): an allocation failed.
+#[inline(always)]
 pub(crate) fn look(world: &World, name: &TaskName, permit: Permit) -> Result<Answer, Deny>
     requires given { IsGiven world.now name.now permit }
     requires kind { is_to_look permit ≡ true }

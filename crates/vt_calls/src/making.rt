@@ -10,6 +10,7 @@ use vt_request::{Answer, TaskName};
 use vt_spec::errors::Deny;
 
 // Makes a name as a permit allows. S5 (ENOMEM): an allocation failed, or a count of uses is full; nothing has changed.
+#[inline(always)]
 pub(crate) fn make(world: &mut World, name: &TaskName, permit: Permit) -> Result<Answer, Deny>
     requires given { IsGiven world.old name.now permit }
     requires kind { is_to_make permit ≡ true }

@@ -14,6 +14,7 @@ use vt_request::{Answer, TaskName};
 use vt_spec::errors::Deny;
 
 // Does what a permit allows. S5 (ENOMEM): an allocation failed, or a count of uses is full; nothing has changed.
+#[inline(always)]
 pub(crate) fn spend(world: &mut World, name: &TaskName, permit: Permit) -> Result<Answer, Deny>
     requires { IsGiven world.old name.now permit }
     ensures { EndsGiven world.old name.now permit result world.new }

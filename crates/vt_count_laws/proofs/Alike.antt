@@ -35,7 +35,7 @@ named_sum n node (first ∷ rest) =
     (named_by node rest) = times_append n (targets_in (node first)) (named_by node rest) in
     omega arith
 
-same_itself : (f : Filesystem ℕ) → SameFilesystem f f
+pub same_itself : (f : Filesystem ℕ) → SameFilesystem f f
 same_itself f = record { number = refl; files = record { tree = refl; numbers = IsPermutation-refl f.files.numbers }; overlay = refl }
 
 found_same : (ones others : List (Filesystem ℕ)) → SameFilesystems ones others → (k : ℕ)

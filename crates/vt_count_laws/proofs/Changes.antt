@@ -11,7 +11,6 @@ use Rattle.vt_spec.specs.Machine.Filesystems.{filesystem_changed, with_change, w
 use Rattle.vt_spec.specs.Machine.Mounts.{Location}
 use Rattle.vt_spec.specs.Machine.Settled.{settled}
 use Rattle.vt_spec.specs.Machine.World.{Filesystem, Overlay, World, filesystem_at, filesystem_numbered, is_overlay}
-use Rattle.vt_spec.specs.Machine.Invariants.{IsWorld}
 use Rattle.vt_spec.specs.Fits.{Fits, MayReplace}
 use Rattle.vt_spec.specs.Inodes.{Inodes, changed, node_in, tree_of, with_changed, without_replaced}
 use Rattle.vt_spec.specs.Tree.{Node, entries_in, entry_named, is_directory_node, node_with_bytes, node_with_entry}
@@ -19,9 +18,8 @@ use Rattle.vt_letting_go.proofs.NamesKept.{same_entries_attr, same_entries_bytes
 use Rattle.vt_letting_go.specs.InUse.{AllInUse, IsListedTree, is_inode_used}
 use Rattle.vt_letting_go.specs.OneByOne as LettingGo
 use Rattle.vt_letting_go.specs.TreeChanges.{with_tree}
-use Rattle.vt_letting_go.proofs.InUse.{what_is_left_is_in_use}
 use Rattle.vt_letting_go.proofs.Lists.{Among, among_from_all, fails}
-use Rattle.vt_letting_go.proofs.OfWorlds.{uppers_of_worlds_are_plain, worlds_have_trees}
+use Rattle.vt_letting_go.proofs.OfWorlds.{all_in_use, worlds_have_trees}
 use Rattle.vt_one_text.specs.OneTree.{times_in}
 use Rattle.vt_one_text.proofs.OneTreeEntries.{one_if}
 use Rattle.vt_one_text.proofs.OneTreeCounts.{other_if}
@@ -136,10 +134,6 @@ module _ (base : ℕ → ℕ) (files : FileTree ℕ) (inodes : Inodes ℕ) (root
 
 -- The world
 
-pub world_in_use : (world : World ℕ) → IsWorld nat_eq world → AllInUse world
-world_in_use world is = subst AllInUse is.nothing_unused
-    (what_is_left_is_in_use world (worlds_have_trees world is) (uppers_of_worlds_are_plain world is))
-
 module _ (fresh : Fresh ℕ) (world : World ℕ) (location : Location ℕ) (inodes : Inodes ℕ) (change : Change ℕ)
     (is : IsChange world location inodes change) where
   abbrev pub number : ℕ
@@ -152,7 +146,7 @@ module _ (fresh : Fresh ℕ) (world : World ℕ) (location : Location ℕ) (inod
   files = Changes.changed nat_eq old.files change
 
   pub in_use : AllInUse world
-  in_use = world_in_use world is.in_world
+  in_use = all_in_use world is.in_world
 
   pub plain : LettingGo.IsPlain world
   plain = plain_of world is.plain

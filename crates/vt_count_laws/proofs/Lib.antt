@@ -10,5 +10,4 @@ pub mod Gone
 pub mod KeptAll
 pub mod Sweeps
 pub mod Alike
-pub mod Looks
 pub mod MountRoots

@@ -1,6 +1,6 @@
 -- Mounts and the locations on them.
 use Rattle.std.proofs.Common.{◌≡◌, refl, sym, ap, subst, ◌∙◌, ⊎_elim, inl, ℕ, nat_eq, eqb-true, Bool, true, false, true≢false, cond, not, ◌||◌, List, [], ◌∷◌, ◌++◌, map, filter, find, Option, Some, None, is_some, unwrap_or}
-use Rattle.std.specs.Prelude.{filter_map, option_to_list}
+use Rattle.std.specs.Prelude.{filter_map}
 use Rattle.std.specs.List.{cons_option, list_all, list_any}
 use Rattle.std.proofs.lemmas.Bool.{and_parts, or_parts}
 use Rattle.vt_spec.specs.Lists.{any_pair, is_among}
@@ -8,11 +8,11 @@ use Rattle.vt_spec.specs.Machine.Mounts.{Location, Mount, mount_in, no_mount, ro
 use Rattle.vt_spec.specs.Machine.Settled.{is_located}
 use Rattle.vt_spec.specs.Machine.World.{World, all_locations, mount_at, mount_numbered}
 use Rattle.vt_spec.specs.Machine.Invariants.{is_located_well, is_nowhere_or_attached, is_there}
-use Rattle.vt_letting_go.specs.Leaving.{MountsStand, stands_on_attached}
+use Rattle.vt_letting_go.specs.Leaving.{MountsStand}
 use Rattle.vt_letting_go.specs.Mounting.{inode_at, root_inode}
 use Rattle.vt_letting_go.specs.OneByOne.{is_mount_used, without_mount}
 use Rattle.vt_letting_go.proofs.Lists.{Among, all_pass, among-append, among-append_left, among-append_right, among-from_filter_map, among-from_map, among-map, among_numbers, fails, filter_all, is_among_numbers, passes}
-use Rattle.vt_letting_go.proofs.PlacesLeft.{found_itself, nowhere_parts}
+use Rattle.vt_letting_go.proofs.PlacesLeft.{found_itself, nowhere_parts, place_attached}
 use Rattle.vt_count_laws.specs.Using.{LocationsOfWorldsStand, MountsLeaveTheirRoots, PlacesStand, is_on, places_of}
 use Rattle.vt_count_laws.specs.Using.{Exchanges}
 use Rattle.vt_count_laws.proofs.Exchanged.{exchanges_turn}
@@ -38,14 +38,6 @@ attached_is (first ∷ rest) number e = by (nat_eq number first.number) e (attac
         → (b || is_among nat_eq number (map (λ mount. mount.number) rest)) ≡ true
     by true e later = refl
     by false e later = later e
-
--- a place is on a mount in a namespace
-place_attached : (world : World ℕ) → MountsStand world → (mount : Mount ℕ) → Among mount world.mounts → (place : Location ℕ)
-    → mount.mount_point ≡ Some place → is_some (mount_at nat_eq world place).namespace ≡ true
-place_attached world stand mount m place e =
-    (and_parts (is_some (mount_at nat_eq world place).namespace) true
-    (ap (λ o. list_all (λ l. is_some (mount_at nat_eq world l).namespace) (option_to_list o)) (sym e)
-    ∙ passes (stands_on_attached world) world.mounts stand.on_attached mount m)).0
 
 pub places_stand : PlacesStand
 places_stand world stand locations =

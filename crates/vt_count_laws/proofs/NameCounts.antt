@@ -1,7 +1,7 @@
 -- The counts of a tree's inodes where names come, go and move, before anything is swept.
-use Rattle.std.proofs.Common.{◌≡◌, ◌≢◌, refl, sym, ap, subst, ◌∙◌, ⊎_elim, inl, inr, ◌⊎◌, ℕ, zero, suc, ◌+◌, ◌≤◌, nat_eq, eq-eqb, ne_eqb, Bool, true, false, true≢false, cond, not, List, [], ◌∷◌, ◌++◌, Option, Some, None, is_some, arith}
-use Rattle.std.specs.Cmp.Lexicographic.{bytes_decides, texts_ties}
-use Rattle.std.specs.FinMap.Entries.{find-where_key, is_sorted}
+use Rattle.std.proofs.Common.{◌≡◌, ◌≢◌, refl, sym, ap, subst, ◌∙◌, ⊎_elim, inl, inr, ◌⊎◌, ℕ, zero, suc, ◌+◌, ◌≤◌, nat_eq, eq-eqb, ne_eqb, Bool, true, false, true≢false, cond, List, [], ◌∷◌, ◌++◌, Option, Some, None, is_some, arith}
+use Rattle.std.specs.Cmp.Lexicographic.{bytes_decides}
+use Rattle.std.specs.FinMap.Entries.{is_sorted}
 use Rattle.std.specs.Str.{bytes_eq}
 use Rattle.std.proofs.lemmas.Bool.Decides.{eqb_tells}
 use Rattle.vt_spec.specs.Language.Changes.{node_with_parent, node_without_entry, without_entry}
@@ -9,25 +9,17 @@ use Rattle.vt_spec.specs.FileTree.{targets_in}
 use Rattle.vt_spec.specs.Laws.Trees.{IsNewIn}
 use Rattle.vt_spec.specs.Inodes.{Inodes, inode_with_node, node_in, with_changed, with_new, without_name, without_replaced}
 use Rattle.vt_spec.specs.Rights.{is_directory}
-use Rattle.vt_spec.specs.Tree.{Content, Entries, Node, entries_in, entries_of, entry_named, is_directory_node, kind_of, name_cmp, new_directory, node_with_entry, with_entry}
+use Rattle.vt_spec.specs.Tree.{Content, Node, entries_in, entries_of, entry_named, is_directory_node, kind_of, name_cmp, node_with_entry, with_entry}
 use Rattle.vt_spec.specs.Tree.Content.{Directory, Regular, Symlink, Whiteout}
 use Rattle.vt_one_text.specs.OneTree.{times_in}
 use Rattle.vt_one_text.proofs.OneTreeCounts as Counts
 use Rattle.vt_one_text.proofs.OneTreeCounts.{counted_new, other_if}
 use Rattle.vt_one_text.proofs.OneTreeEntries.{changed_at, found_target, named_apart, named_by, named_changed, one_if, one_if_some, sorted_without, targets, times_put, times_without}
-use Rattle.vt_one_text.proofs.OneTreeMakes.{entries_with_entry}
+use Rattle.vt_one_text.proofs.OneTreeMakes.{entries_with_entry, new_entries}
 use Rattle.vt_one_text.proofs.OneTreeNames.{at_other, at_place, directory_without, entries_with_parent, entries_without, part_at, some_with, some_with_parent, some_without, sorted_at}
 use Rattle.vt_one_text.proofs.OneTreeTrees.{times_append}
+use Rattle.vt_one_text.proofs.OneTreeMoves.{commute, find_without}
 use Rattle.vt_count_laws.proofs.TreeCounts.{IsStart, IsTallied, added_targets, apart_one, changed_counts, changed_same, once_directory, other_uses, own_one, there_directory, unpinned_counts, uses_of}
-
--- what a new object holds
-new_entries : (directory : ℕ) (content : Content ℕ) → ((content ≡ new_directory directory) ⊎ (is_directory (kind_of content) ≡ false))
-    → entries_of content ≡ []
-new_entries directory (Directory parent entries opaque) (inl e) = ap entries_of e
-new_entries directory (Directory parent entries opaque) (inr e) = cc
-new_entries directory (Regular bytes) e = refl
-new_entries directory (Symlink text) e = refl
-new_entries directory Whiteout e = refl
 
 -- what has an entry is a directory
 pub directory_with : (name : List ℕ) (object : ℕ) (o : Option (Node ℕ)) → entry_named name (entries_in o) ≡ Some object
@@ -213,27 +205,6 @@ module _ (base : ℕ → ℕ) (node : ℕ → Option (Node ℕ)) (numbers : List
   }
 
 -- A name that is moved
-
--- changes at two places may change places
-commute : (node : ℕ → Option (Node ℕ)) (a b : ℕ) (f g : Option (Node ℕ) → Option (Node ℕ)) → a ≢ b → (n : ℕ)
-    → at_place (at_place node a f) b g n ≡ at_place (at_place node b g) a f n
-commute node a b f g apart n =
-    ⊎_elim
-    (λ t. ap (λ c. cond c (g (at_place node a f b)) (at_place node a f n)) t.0
-    ∙ ap g (at_other node a f b (λ e. apart (sym e)))
-    ∙ sym (at_other (at_place node b g) a f n (λ e. apart (sym e ∙ t.1)) ∙ ap (λ c. cond c (g (node b)) (node n)) t.0))
-    (λ t. ap (λ c. cond c (g (at_place node a f b)) (at_place node a f n)) t.0
-    ∙ (λ i. cond (nat_eq n a) (f (sym (at_other node b g a apart) i)) (sym (at_other node b g n t.1) i)))
-    (eqb_tells n b)
-
--- entries of another name stay
-find_without : (name other : List ℕ) (entries : Entries ℕ) → (bytes_eq other name ≡ false)
-    → entry_named other (without_entry name entries) ≡ entry_named other entries
-find_without name other entries apart =
-    find-where_key name_cmp (λ key. not (bytes_eq key name)) other
-    (λ key same. ap (λ k. not (bytes_eq k name))
-    (sym ((bytes_decides other key).0 (texts_ties other key ∙ ap Rattle.std.specs.Ordering.is_eq same)))) entries
-    ∙ ap (λ b. cond (not b) (entry_named other entries) None) apart
 
 module _ (base : ℕ → ℕ) (node : ℕ → Option (Node ℕ)) (numbers : List ℕ) (inodes : Inodes ℕ) (start : IsStart base node numbers inodes)
     (from : ℕ) (old : List ℕ) (to : ℕ) (new : List ℕ) (object : ℕ) (replaced : Option ℕ)

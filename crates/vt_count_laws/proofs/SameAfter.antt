@@ -1,6 +1,5 @@
 -- The world with the changed inodes in it is the world after the change.
 use Rattle.std.proofs.Common.{◌≡◌, refl, sym, ap, subst, ◌∙◌, ℕ, nat_eq, Bool, true, false, cond, List, [], ◌∷◌, map, is_some}
-use Rattle.std.proofs.lemmas.List.Sorted.{IsPermutation-refl}
 use Rattle.vt_spec.specs.FileTree.{FileTree}
 use Rattle.vt_spec.specs.Machine.Filesystems.{with_files}
 use Rattle.vt_spec.specs.Machine.SameWorlds.{SameFilesystem, SameFilesystems, SameWorlds}
@@ -10,9 +9,7 @@ use Rattle.vt_letting_go.specs.TreeChanges.{with_tree}
 use Rattle.vt_count_laws.specs.Changing.{CountedChangesAreSwept, filesystem_of}
 use Rattle.vt_count_laws.proofs.Changes as Changes
 use Rattle.vt_count_laws.proofs.Listed.{among_by_times, same_numbers_are_permuted}
-
-same_filesystem : (f : Filesystem ℕ) → SameFilesystem f f
-same_filesystem f = record { number = refl; files = record { tree = refl; numbers = IsPermutation-refl f.files.numbers }; overlay = refl }
+use Rattle.vt_count_laws.proofs.Alike.{same_itself}
 
 -- two worlds that differ in the order of the numbers of one filesystem
 same_filesystems : (one other : Filesystem ℕ) → one.number ≡ other.number → SameFilesystem one other → (filesystems : List (Filesystem ℕ))
@@ -26,7 +23,7 @@ same_filesystems one other number same (first ∷ rest) = (
   where
     by : (b : Bool) → SameFilesystem (cond b one first) (cond b other first)
     by true = same
-    by false = same_filesystem first
+    by false = same_itself first
 
 pub counted_changes_are_swept : CountedChangesAreSwept
 counted_changes_are_swept fresh world location inodes change is files tree once lists =

@@ -1,3 +1,4 @@
 pub mod Caps
 pub mod Rights
+pub mod MountFlags
 pub mod Access

@@ -1,7 +1,6 @@
 -- From what code counts to what the sweep leaves: where inodes got uses and lost uses, and mounts and filesystems went as the
 -- sweep says, the code's world is the one that the sweep leaves, and counts what is in it.
-use Rattle.std.proofs.Common.{◌≡◌, refl, sym, subst, ◌∙◌, ℕ, nat_eq, Bool, true, false, cond, not, List, map, None}
-use Rattle.vt_spec.specs.Machine.Receives.{has_members}
+use Rattle.std.proofs.Common.{◌≡◌, sym, subst, ◌∙◌, ℕ, nat_eq, not, List, map}
 use Rattle.vt_spec.specs.Machine.SameWorlds.{SameWorlds, without_changes}
 use Rattle.vt_spec.specs.Machine.Settled.{only_used, settled, without_dead_in}
 use Rattle.vt_spec.specs.Machine.World.{World, filesystem_numbered, is_overlay}
@@ -12,6 +11,7 @@ use Rattle.vt_count_laws.specs.Using.{AreThere, Exchanges, exchanged}
 use Rattle.vt_count_laws.proofs.Exchanged.{numbers_mapped}
 use Rattle.vt_count_laws.proofs.Sweeps.{uses_are_swept}
 use Rattle.vt_fs.specs.FilesystemsValue.{FilesystemEntry, filesystem_seen, inodes_seen}
+use Rattle.vt_group.specs.Grouping.{Has}
 use Rattle.vt_letting_go.specs.OneByOne.{Inode}
 use Rattle.vt_letting_go.proofs.Lists.{Among, among-map, among_from_all}
 use Rattle.vt_letting_go.proofs.OfWorlds.{worlds_have_trees}
@@ -22,7 +22,7 @@ use Rattle.vt_world_laws.proofs.RaisedInUse.{worlds_are_in_use}
 use Rattle.vt_detach.specs.Held.{CountsItsMounts, IsHeld}
 use Rattle.vt_detach.specs.WorldValue.{WorldValue, world_of}
 pub use Rattle.vt_detach.proofs.Showing.{found_filesystem}
-use Rattle.vt_detach.proofs.Showing.{ShowsAs, shown_is_counted, shown_is_same}
+use Rattle.vt_detach.proofs.Showing.{ShowsAs, shown_has, shown_is_counted, shown_is_same}
 
 -- An entry comes from one of the same filesystem, in which inodes got these uses and lost those.
 pub record ComesFrom (old : WorldValue) (after : World ℕ) (gained lost : List Inode) (entry : FilesystemEntry) : Type 0 where
@@ -37,15 +37,14 @@ pub record ComesFrom (old : WorldValue) (after : World ℕ) (gained lost : List 
 pub record IsSwept (old : WorldValue) (after : World ℕ) (gained lost : List Inode) (new : WorldValue) : Type 0 where
   pub plain : IsPlain after
   pub mounts : (living after).mounts ≡ mounts_in new.mounts
-  pub ungrouped : (group : ℕ) → after.master group ≡ None
-  pub plain_left : IsPlain (settled nat_eq after)
   pub numbers : map (λ f. f.number) (living after).filesystems ≡ map (λ entry. counted entry.count) new.filesystems
   pub entries : (entry : FilesystemEntry) → Among entry new.filesystems → ComesFrom old after gained lost entry
   pub namespaces : (without_changes after).namespaces ≡ (without_changes (world_of new)).namespaces
   pub tasks : (without_changes after).tasks ≡ (without_changes (world_of new)).tasks
 
 module _ (old : WorldValue) (held : IsHeld old) (after : World ℕ) (gained lost : List Inode) (new : WorldValue)
-    (swept : IsSwept old after gained lost new) (is_world : IsWorld nat_eq (settled nat_eq after)) where
+    (swept : IsSwept old after gained lost new) (has : Has (settled nat_eq after) new.groups)
+    (is : IsWorld nat_eq (settled nat_eq after) × IsPlain (settled nat_eq after)) where
   abbrev left : World ℕ
   left = settled nat_eq after
 
@@ -72,15 +71,11 @@ module _ (old : WorldValue) (held : IsHeld old) (after : World ℕ) (gained lost
       first_round : World ℕ
       first_round = without_dead_in nat_eq is_overlay (living after)
 
-  no_master : (group : ℕ) (b : Bool) → cond b (after.master group) None ≡ None
-  no_master group true = swept.ungrouped group
-  no_master group false = refl
-
   shows : ShowsAs left new
   shows = record {
-    plain = swept.plain_left;
+    plain = is.1;
     mounts = swept.mounts;
-    ungrouped = λ group. no_master group (has_members nat_eq left.mounts group);
+    groups = has;
     numbers = numbers_left ∙ swept.numbers;
     inodes = counted_left;
     namespaces = swept.namespaces;
@@ -89,9 +84,13 @@ module _ (old : WorldValue) (held : IsHeld old) (after : World ℕ) (gained lost
 
   -- the code's world is the one that the sweep leaves
   pub swept_is_same : SameWorlds left (world_of new)
-  swept_is_same = shown_is_same left new shows is_world
+  swept_is_same = shown_is_same left new shows is.0
+
+  -- and has the groups that are kept
+  pub swept_has : Has (world_of new) new.groups
+  swept_has = shown_has left new shows is.0
 
   -- and its inodes count what is in it
   pub swept_is_counted : (entry : FilesystemEntry) → Among entry new.filesystems → IsWorld nat_eq (world_of new)
       → IsCounted (world_of new) (filesystem_seen entry) (inodes_seen entry)
-  swept_is_counted = shown_is_counted left new shows is_world
+  swept_is_counted = shown_is_counted left new shows is.0

@@ -38,6 +38,7 @@ use Rattle.vt_detach.specs.Events.{Becomes, Permits, left_by, supply_of}
 use Rattle.vt_detach.specs.Held.{CountsItsMounts, CountsItsUses, CountsWhatIsInIt, HasOwnInodes, IsHeld}
 use Rattle.vt_detach.specs.WorldValue.{WorldValue, world_of}
 use Rattle.vt_detach.proofs.ChangedNumbers.{MakesOther, none_stays}
+use Rattle.vt_detach.proofs.Grouped.{same_has}
 use Rattle.vt_detach.proofs.FilesSeen.{files_are_plain, one_entry}
 use Rattle.vt_detach.proofs.NumbersBeside.{found_by_number, numbers_apart_each, numbers_listed}
 
@@ -305,6 +306,7 @@ module _ (value : WorldValue) (held : IsHeld value) (location : Location ℕ) (c
   pub change_is_held : IsWorld nat_eq (world_of new) → KeepsTo (is_counted_before value.next) (world_of new) → IsHeld new
   change_is_held is keeps = record {
     in_world = is;
+    groups = same_has (world_of value) (world_of new) value.groups held.groups refl (λ group. refl);
     ungrouped = held.ungrouped;
     given = keeps;
     mounts = all_from_among (CountsItsUses (world_of new)) value.mounts (λ entry m.

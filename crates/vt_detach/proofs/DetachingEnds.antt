@@ -12,13 +12,15 @@ use Rattle.vt_spec.specs.Machine.Receives.{regrouped}
 use Rattle.vt_spec.specs.Machine.SameWorlds.{without_changes}
 use Rattle.vt_spec.specs.Machine.Settled.{settled}
 use Rattle.vt_spec.specs.Machine.World.{Filesystem, Task, World, filesystem_numbered, is_directory_at, mount_at, node_at, with_mounts}
-use Rattle.vt_spec.specs.Machine.Invariants.{has_its_root, is_located_well, is_there}
+use Rattle.vt_spec.specs.Machine.Invariants.{has_its_root, is_located_well, is_nowhere_or_attached, is_there}
 use Rattle.vt_spec.specs.Tree.{is_directory_node}
 use Rattle.vt_count_laws.specs.Counted.{IsPlain}
 use Rattle.vt_count_laws.specs.Sweeping.{living}
 use Rattle.vt_count_laws.specs.Using.{Exchanges}
 use Rattle.vt_count_laws.proofs.MountRoots as Roots
 use Rattle.vt_fs.specs.FilesystemsValue.{Filesystems, Shown, filesystem_seen, shown_entry}
+use Rattle.vt_group.specs.Grouping.{Grouping, Has, are_rising, numbers_of}
+use Rattle.vt_group.specs.Together.{TakesAway}
 use Rattle.vt_letting_go.specs.Counts.{mount_uses, mounts_showing, times}
 use Rattle.vt_letting_go.specs.Leaving.{stands_on_attached}
 use Rattle.vt_letting_go.specs.OneByOne.{Inode}
@@ -37,12 +39,14 @@ use Rattle.vt_detach.specs.WorldValue.{WorldValue, world_of}
 use Rattle.vt_detach.proofs.Bridging.{IsSwept}
 use Rattle.vt_detach.proofs.Detached.{IsDetaching}
 use Rattle.vt_detach.proofs.DetachingBegins.{HasChildrenOf, detached_world}
-use Rattle.vt_detach.proofs.Finishing.{CountsBeside, IsApplied, finished, is_left}
+use Rattle.vt_detach.proofs.Finishing.{CountsBeside, IsApplied, finished}
+use Rattle.vt_detach.proofs.Grouped.{left_has_none, rising_mapped, stays_private}
 use Rattle.vt_detach.proofs.Keeping.{IsKeptBut, detached_in, no_more}
 use Rattle.vt_detach.proofs.LocationsSeen.{seen_where_located}
 use Rattle.vt_detach.proofs.Moving.{map_itself}
 use Rattle.vt_detach.proofs.Remaining.{remade}
 use Rattle.vt_detach.proofs.Staying.{IsDone, world_is_plain}
+use Rattle.vt_detach.proofs.TypedEvents.{typed_done, typed_entry, typed_value}
 use Rattle.vt_detach.proofs.Ungrouped.{nothing_regrouped}
 
 -- What is kept of a world with its invariants
@@ -115,14 +119,20 @@ module _ (old : WorldValue) (after : World ℕ) (gained lost : List Inode) (new 
   mounts_are : (living after).mounts ≡ mounts_in new.mounts
   mounts_are = is.mounts ∙ sym (map_itself (mounts_in new.mounts))
 
-  pub detached_swept : IsPlain after → ((group : ℕ) → after.master group ≡ None) → IsPlain (settled nat_eq after)
+  free : list_all (λ (entry : MountEntry). is_ungrouped entry.mount.propagation) new.mounts ≡ true
+  free = all_pass (λ (entry : MountEntry). is_ungrouped entry.mount.propagation) new.mounts (λ entry m.
+      passes (λ (mount : Mount ℕ). is_ungrouped mount.propagation) (living after).mounts is.ungrouped entry.mount
+      (subst (λ all. Among entry.mount all) (sym mounts_are) (among-map (λ (one : MountEntry). one.mount) new.mounts entry m)))
+
+  pub detached_has_none : IsHeld old → are_rising (numbers_of after.mounts) ≡ true → Has (settled nat_eq after) old.groups
+  detached_has_none held rising = left_has_none old held after new.mounts rising mounts_are free
+
+  pub detached_swept : IsPlain after
       → (without_changes after).namespaces ≡ (without_changes (world_of new)).namespaces
       → (without_changes after).tasks ≡ (without_changes (world_of new)).tasks → IsSwept old after gained lost new
-  detached_swept plain ungrouped plain_left namespaces tasks = record {
+  detached_swept plain namespaces tasks = record {
     plain = plain;
     mounts = mounts_are;
-    ungrouped = ungrouped;
-    plain_left = plain_left;
     numbers = is.numbers ∙ map_twice (λ (one : Shown). counted one.count) shown_entry new.filesystems;
     entries = λ entry m. let from = is.filesystems (shown_entry entry) (among-map shown_entry new.filesystems entry m) in record {
       was = from.was;
@@ -138,9 +148,7 @@ module _ (old : WorldValue) (after : World ℕ) (gained lost : List Inode) (new 
 
   pub detached_counted : All (CountsWhatIsInIt (world_of new)) new.namespaces → CountsBeside new
   detached_counted inside = record {
-    ungrouped = all_pass (λ (entry : MountEntry). is_ungrouped entry.mount.propagation) new.mounts (λ entry m.
-        passes (λ (mount : Mount ℕ). is_ungrouped mount.propagation) (living after).mounts is.ungrouped entry.mount
-        (subst (λ all. Among entry.mount all) (sym mounts_are) (among-map (λ (one : MountEntry). one.mount) new.mounts entry m)));
+    ungrouped = free;
     uses = all_from_among (CountsItsUses (world_of new)) new.mounts (λ entry m.
         let counts = among_from_all (CountsItsUses (living after)) new.mounts is.uses entry m in
         record {
@@ -167,12 +175,11 @@ still_ungrouped gone mounts ungrouped =
     by mount true h = refl
     by mount false h = h
 
-pub taken_is_detached : (world : World ℕ) (gone : List ℕ) → list_all (λ (mount : Mount ℕ). is_ungrouped mount.propagation) world.mounts ≡ true
-    → HasChildrenOf gone world.mounts → taken_away nat_eq world gone ≡ detached_world gone world
-taken_is_detached world gone ungrouped closed =
+pub taken_regroups : (world : World ℕ) (gone : List ℕ) → HasChildrenOf gone world.mounts
+    → taken_away nat_eq world gone ≡ regrouped nat_eq (detached_world gone world)
+taken_regroups world gone closed =
     ap (λ mounts. regrouped nat_eq (with_mounts world mounts))
     (map_alike (after_going nat_eq world gone) (detached_in gone) world.mounts (λ mount m. same mount m (is_among nat_eq mount.number gone) refl))
-    ∙ nothing_regrouped (detached_world gone world) (still_ungrouped gone world.mounts ungrouped)
   where
     stays_placed : (mount : Mount ℕ) → Among mount world.mounts → is_among nat_eq mount.number gone ≡ false → (o : Option (Place ℕ)) → mount.mount_point ≡ o
         → option_map (mount_point_left nat_eq world gone) o ≡ o
@@ -191,6 +198,22 @@ taken_is_detached world gone ungrouped closed =
     same mount m true e = refl
     same mount m false e = ap (λ place. record mount { mount_point = place }) (stays_placed mount m e mount.mount_point refl)
 
+-- where no mount is in a group, none ends
+pub taken_is_detached : (world : World ℕ) (gone : List ℕ) → list_all (λ (mount : Mount ℕ). is_ungrouped mount.propagation) world.mounts ≡ true
+    → HasChildrenOf gone world.mounts → taken_away nat_eq world gone ≡ detached_world gone world
+taken_is_detached world gone ungrouped closed =
+    taken_regroups world gone closed ∙ nothing_regrouped (detached_world gone world) (still_ungrouped gone world.mounts ungrouped)
+
+-- mounts that are detached keep their places in the list
+pub detached_rises : (gone : List ℕ) (mounts : List (Mount ℕ)) → are_rising (numbers_of mounts) ≡ true
+    → are_rising (numbers_of (map (detached_in gone) mounts)) ≡ true
+detached_rises gone mounts rising =
+    rising_mapped (detached_in gone) (λ mount. by mount (is_among nat_eq mount.number gone)) mounts rising
+  where
+    by : (mount : Mount ℕ) (b : Bool) → (cond b (detached mount) mount).number ≡ mount.number
+    by mount true = refl
+    by mount false = refl
+
 -- An event in which mounts of a list are detached, and nothing else happens
 pub detached_done : (value : WorldValue) (name : TaskName) (permit : Permit ℕ) (task : Task ℕ) (gone : List ℕ) (mounts : List MountEntry) (filesystems : Filesystems)
     → IsHeld value → IsApplied value name permit task (detached_world gone (world_of value))
@@ -201,9 +224,35 @@ detached_done value name permit task gone mounts filesystems whole is detaching 
     let new = remade value mounts filesystems value.tasks in
     let kept_last = subst (λ one. IsKeptBut value [] [] [] detaching.lost one (kept mounts filesystems)) detaching.ends detaching.is in
     finished value whole name permit task after is [] detaching.lost new
-    (detached_swept value after [] detaching.lost new kept_last refl (world_is_plain value) (λ group. refl)
-    (is_left value whole name permit task after is).1 refl refl)
+    (detached_swept value after [] detaching.lost new kept_last refl (world_is_plain value) refl refl)
+    (detached_has_none value after [] detaching.lost new kept_last refl whole (detached_rises gone (mounts_in value.mounts) whole.groups.order))
     (detached_counted value after [] detaching.lost new kept_last refl
     (all_from_among (CountsWhatIsInIt (world_of new)) value.namespaces (λ entry m.
     let was = among_from_all (CountsWhatIsInIt (world_of value)) value.namespaces whole.namespaces entry m in record { tasks = was.tasks })))
     refl
+
+-- Where they are in groups, they leave them at once, and all mounts get the types that the groups then tell.
+pub detached_typed : (value : WorldValue) (name : TaskName) (permit : Permit ℕ) (task : Task ℕ) (gone : List ℕ) (groups : Grouping)
+    (mounts : List MountEntry) (filesystems : Filesystems) → IsHeld value → HasChildrenOf gone (mounts_in value.mounts)
+    → TakesAway value.groups groups gone → IsApplied value name permit task (taken_away nat_eq (world_of value) gone)
+    → IsDetaching value [] (living (detached_world gone (world_of value))) [] (kept mounts filesystems)
+    → list_all (λ (entry : MountEntry). is_ungrouped entry.mount.propagation) (map (typed_entry groups) mounts) ≡ true
+    → IsDone value name permit (typed_value groups (remade value mounts filesystems value.tasks))
+detached_typed value name permit task gone groups mounts filesystems whole closed follows is detaching free =
+    let after = detached_world gone (world_of value) in
+    let new = remade value mounts filesystems value.tasks in
+    let kept_last = subst (λ one. IsKeptBut value [] [] [] detaching.lost one (kept mounts filesystems)) detaching.ends detaching.is in
+    let regroups = taken_regroups (world_of value) gone closed in
+    typed_done value whole name permit task after
+    (record { called = is.called; given = is.given; named = is.named; applied = λ fresh. is.applied fresh ∙ regroups })
+    groups (subst (λ one. Has one groups) regroups (follows (world_of value) whole.groups whole.in_world.mounts.groups))
+    (λ mount m none. let from = among-from_map (detached_in gone) (mounts_in value.mounts) mount m in
+    ap (λ (x : Mount ℕ). x.propagation) from.2
+    ∙ stays_private from.0 (passes is_nowhere_or_attached (mounts_in value.mounts) whole.in_world.mounts.nowhere from.0 from.1)
+    (is_among nat_eq from.0.number gone) (ap (λ (x : Mount ℕ). is_some x.namespace) (sym from.2) ∙ none))
+    [] detaching.lost new
+    (detached_swept value after [] detaching.lost new kept_last refl (world_is_plain value) refl refl)
+    (detached_counted value after [] detaching.lost new kept_last refl
+    (all_from_among (CountsWhatIsInIt (world_of new)) value.namespaces (λ entry m.
+    let was = among_from_all (CountsWhatIsInIt (world_of value)) value.namespaces whole.namespaces entry m in record { tasks = was.tasks })))
+    free refl

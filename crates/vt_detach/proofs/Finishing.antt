@@ -14,6 +14,7 @@ use Rattle.vt_spec.specs.Inodes.{Inodes, pinned, unpinned}
 use Rattle.vt_count_laws.specs.Counted.{IsPlain}
 use Rattle.vt_count_laws.specs.Using.{exchanged, pinned_if, unpinned_if}
 use Rattle.vt_fs.specs.FilesystemsValue.{FilesystemEntry, inodes_seen}
+use Rattle.vt_group.specs.Grouping.{Has}
 use Rattle.vt_laws.specs.Numbers.{KeepsTo}
 use Rattle.vt_letting_go.specs.Counts.{mounts_showing}
 use Rattle.vt_letting_go.specs.OneByOne.{Inode}
@@ -30,7 +31,7 @@ use Rattle.vt_detach.specs.Events.{supply_of}
 use Rattle.vt_detach.specs.Held.{CountsItsMounts, CountsItsUses, CountsWhatIsInIt, HasOwnInodes, IsHeld, is_ungrouped}
 use Rattle.vt_detach.specs.WorldValue.{WorldValue, world_of}
 use Rattle.vt_detach.proofs.OwnInodesKept.{IsOwn, own_pinned, own_unpinned}
-use Rattle.vt_detach.proofs.Bridging.{IsSwept, swept_is_counted, swept_is_same}
+use Rattle.vt_detach.proofs.Bridging.{IsSwept, swept_has, swept_is_counted, swept_is_same}
 use Rattle.vt_detach.proofs.Staying.{IsDone, becomes_so, world_is_plain}
 
 -- inodes that get uses and lose uses keep numbers of their own
@@ -77,19 +78,20 @@ pub record CountsBeside (new : WorldValue) : Type 0 where
 -- what is left is a world, so the code's world has its invariants
 module _ (value : WorldValue) (whole : IsHeld value) (next : World ℕ)
     (left : IsWorld nat_eq (settled nat_eq next) × IsPlain (settled nat_eq next)) where
-  pub swept_held : (gained lost : List Inode) (new : WorldValue) → IsSwept value next gained lost new → CountsBeside new
-      → KeepsTo (is_counted_before new.next) (world_of new) → IsHeld new
-  swept_held gained lost new swept counts keeps =
-      let same = swept_is_same value whole next gained lost new swept left.0 in
+  pub swept_held : (gained lost : List Inode) (new : WorldValue) → IsSwept value next gained lost new → Has (settled nat_eq next) new.groups
+      → CountsBeside new → KeepsTo (is_counted_before new.next) (world_of new) → IsHeld new
+  swept_held gained lost new swept has counts keeps =
+      let same = swept_is_same value whole next gained lost new swept has left in
       let world = same_worlds_are_worlds (settled nat_eq next) (world_of new) same left.1 left.0 in
       record {
         in_world = world.0;
+        groups = swept_has value whole next gained lost new swept has left;
         ungrouped = counts.ungrouped;
         given = keeps;
         mounts = counts.uses;
         filesystems = all_from_among (CountsItsMounts (world_of new)) new.filesystems (λ entry m. record {
           mounts = counts.mounts entry m;
-          inodes = swept_is_counted value whole next gained lost new swept left.0 entry m world.0;
+          inodes = swept_is_counted value whole next gained lost new swept has left entry m world.0;
         });
         own_inodes = all_from_among HasOwnInodes new.filesystems (λ entry m. let from = swept.entries entry m in
             subst (λ count. IsOwn count (inodes_seen entry)) (sym from.count)
@@ -112,15 +114,23 @@ module _ (value : WorldValue) (whole : IsHeld value) (name : TaskName) (permit :
       subst (λ world. KeepsTo (is_counted_before value.next) (settled nat_eq world)) (is.applied (λ k. 0))
       (permits_keep_to_numbers (is_counted_before value.next) (λ k. 0) (world_of value) task permit is.given.called whole.given (λ k. refl) is.named)
 
-  pub finished : (gained lost : List Inode) (new : WorldValue) → IsSwept value next gained lost new → CountsBeside new → new.next ≡ value.next
+  -- the code's world is what is left of a world of which as much is left as of the policy's
+  pub finished_as : (after : World ℕ) → settled nat_eq next ≡ settled nat_eq after → (gained lost : List Inode) (new : WorldValue)
+      → IsSwept value after gained lost new → Has (settled nat_eq after) new.groups → CountsBeside new → new.next ≡ value.next
       → IsDone value name permit new
-  finished gained lost new swept counts same_next =
-      let left = is_left in
-      let same = swept_is_same value whole next gained lost new swept left.0 in
+  finished_as after alike gained lost new swept has counts same_next =
+      let left = subst (λ (world : World ℕ). IsWorld nat_eq world × IsPlain world) alike is_left in
+      let same = swept_is_same value whole after gained lost new swept has left in
       record {
-        held = swept_held value whole next left gained lost new swept counts
+        held = swept_held value whole after left gained lost new swept has counts
             (subst (λ count. KeepsTo (is_counted_before count) (world_of new)) (sym same_next)
-            (same_worlds_keep_to_numbers (is_counted_before value.next) (settled nat_eq next) (world_of new) same left.1 keeps_left));
+            (same_worlds_keep_to_numbers (is_counted_before value.next) (settled nat_eq after) (world_of new) same left.1
+            (subst (KeepsTo (is_counted_before value.next)) alike keeps_left)));
         becomes = becomes_so value name permit new task is.called
-            (subst (λ one. SameWorlds (settled nat_eq one) (world_of new)) (sym (is.applied (supply_of value permit))) same);
+            (subst (λ one. SameWorlds (settled nat_eq one) (world_of new)) (sym (is.applied (supply_of value permit)))
+            (subst (λ left. SameWorlds left (world_of new)) (sym alike) same));
       }
+
+  pub finished : (gained lost : List Inode) (new : WorldValue) → IsSwept value next gained lost new → Has (settled nat_eq next) new.groups
+      → CountsBeside new → new.next ≡ value.next → IsDone value name permit new
+  finished = finished_as next refl

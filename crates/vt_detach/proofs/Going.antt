@@ -7,7 +7,7 @@ use Rattle.vt_spec.specs.Language.Calls.{TaskName}
 use Rattle.vt_spec.specs.Lists.{folded, holds_of, is_among}
 use Rattle.vt_spec.specs.Machine.Mounts.{Location, Mount, mount_in}
 use Rattle.vt_spec.specs.Machine.Permits.{Permit}
-use Rattle.vt_spec.specs.Machine.Settled.{filesystem_lives, is_located, is_mounted, settled, without_dead_filesystems, without_dead_mounts}
+use Rattle.vt_spec.specs.Machine.Settled.{filesystem_lives, is_located, is_mounted, without_dead_filesystems, without_dead_mounts}
 use Rattle.vt_spec.specs.Machine.World.{Filesystem, Task, World, all_locations, is_overlay, mount_numbered}
 use Rattle.vt_spec.specs.Machine.Invariants.{is_located_well}
 use Rattle.vt_count_laws.specs.Counted.{IsPlain}
@@ -36,7 +36,8 @@ use Rattle.vt_detach.specs.Uses as meant
 use Rattle.vt_detach.specs.Uses.{Kept, kept, mounts_shown, released_if}
 use Rattle.vt_detach.specs.WorldValue.{WorldValue, world_of}
 use Rattle.vt_detach.proofs.Bridging.{IsSwept}
-use Rattle.vt_detach.proofs.Finishing.{CountsBeside, IsApplied, finished, is_left}
+use Rattle.vt_detach.proofs.Finishing.{CountsBeside, IsApplied, finished}
+use Rattle.vt_detach.proofs.Grouped.{left_has}
 use Rattle.vt_detach.proofs.Moving.{Moves, Use, entry_counts, exchanged_shown, filesystems_moved, gained_there, held_counts, hold_if, inodes_of_uses, locations, mounts_moved, moved_kept, release_if, released_counts, swap_eq, uses_moved}
 use Rattle.vt_detach.proofs.Remaining.{remade}
 use Rattle.vt_detach.proofs.Staying.{IsDone, after, world_is_plain}
@@ -289,12 +290,10 @@ module _ (value : WorldValue) (whole : IsHeld value) (tasks : Tasks) (more : Lis
       ∙ sym (ap (map (λ (one : Shown). counted one.count)) shown_are)
       ∙ map_twice (λ (one : Shown). counted one.count) shown_entry filesystems
 
-  gone_swept : IsPlain (settled nat_eq next) → IsSwept value next gained lost (remade value mounts filesystems tasks)
-  gone_swept plain = record {
+  gone_swept : IsSwept value next gained lost (remade value mounts filesystems tasks)
+  gone_swept = record {
     plain = world_is_plain value;
     mounts = ap (λ (one : World ℕ). one.mounts) living_is ∙ sym mounts_are;
-    ungrouped = λ group. refl;
-    plain_left = plain;
     numbers = ap (λ (one : World ℕ). map (λ (f : Filesystem ℕ). f.number) one.filesystems) living_is ∙ numbers_are;
     entries = λ entry m. let from = shown_was entry m in let is = step_is from.0 from.1 in
         let count : entry.count ≡ from.0.count = ap (λ (one : Shown). one.count) from.2 ∙ is.0 in record {
@@ -351,4 +350,4 @@ module _ (value : WorldValue) (whole : IsHeld value) (tasks : Tasks) (more : Lis
       → IsDone value name permit (remade value mounts filesystems tasks)
   gone_done name permit task is inside =
       finished value whole name permit task next is gained lost (remade value mounts filesystems tasks)
-      (gone_swept (is_left value whole name permit task next is).1) (gone_counted inside) refl
+      gone_swept (left_has value whole next refl (λ group. refl)) (gone_counted inside) refl

@@ -10,6 +10,8 @@ pub mod FileEvents
 pub mod LocationsSeen
 pub mod Bridging
 pub mod Ungrouped
+pub mod Grouped
+pub mod TypedWorlds
 pub mod Showing
 pub mod Closing
 pub mod Finishing
@@ -41,6 +43,8 @@ pub mod MidwayDone
 pub mod MidwayBegins
 pub mod EndingLemmas
 pub mod NamespacesEnded
+pub mod TypedEvents
+pub mod NamespacesTyped
 pub mod Departing
 pub mod Exiting
 pub mod UnbindableBelow

@@ -1,6 +1,7 @@
 -- The steps by which tasks leave uses and namespaces, and the world after the last of them.
-use Rattle.std.proofs.Common.{◌≡◌, refl, sym, ap, subst, ◌∙◌, ℕ, nat_eq, Bool, true, false, true≢false, cond, not, ◌&&◌, ◌||◌, List, [], ◌∷◌, ◌++◌, map, flat_map, Option, Some, None, is_some, arith}
+use Rattle.std.proofs.Common.{◌≡◌, refl, sym, ap, subst, ◌∙◌, ℕ, nat_eq, Bool, true, false, true≢false, cond, not, ◌&&◌, ◌||◌, List, [], ◌∷◌, ◌++◌, map, flat_map, Option, Some, is_some, arith}
 use Rattle.std.specs.Prelude.{All}
+use Rattle.std.specs.List.{list_all}
 use Rattle.std.proofs.lemmas.List.{append-nil}
 use Rattle.vt_spec.specs.Lists.{folded}
 use Rattle.vt_spec.specs.Machine.Mounts.{Location, Mount, detached}
@@ -12,6 +13,7 @@ use Rattle.vt_count_laws.specs.Sweeping.{living}
 use Rattle.vt_count_laws.specs.Using.{Exchanges}
 use Rattle.vt_count_laws.proofs.Swept.{plain_of}
 use Rattle.vt_fs.specs.FilesystemsValue.{FilesystemEntry, Shown, shown_entry}
+use Rattle.vt_group.specs.Grouping.{Has, are_rising, numbers_of}
 use Rattle.vt_letting_go.specs.Counts.{mount_uses, mounts_showing}
 use Rattle.vt_letting_go.specs.OneByOne.{Inode}
 use Rattle.vt_letting_go.specs.Mounting.{inode_at}
@@ -27,6 +29,7 @@ use Rattle.vt_detach.specs.Uses.{Kept, kept, without_attachment, without_use}
 use Rattle.vt_detach.specs.WorldValue.{WorldValue, world_of}
 use Rattle.vt_detach.proofs.Bridging.{IsSwept}
 use Rattle.vt_detach.proofs.Finishing.{CountsBeside}
+use Rattle.vt_detach.proofs.Grouped.{left_has_none}
 use Rattle.vt_detach.proofs.Midway.{IsGoing, IsShown, Midway, NoneUnused, Reached, gone_if, left_alone, mount_taken, point_left, points_left, taken_alone, use_left}
 use Rattle.vt_detach.proofs.MidwayGoes.{mount_looked_at}
 use Rattle.vt_detach.proofs.Moving.{Use, inodes_of_uses}
@@ -151,14 +154,22 @@ module _ (value : WorldValue) (start : World ℕ) (gained : List Inode) (goes : 
   shown_of : (entry : FilesystemEntry) → Among entry new.filesystems → Among (shown_entry entry) k.filesystems
   shown_of entry m = subst (λ (one : Kept). Among (shown_entry entry) one.filesystems) is_kept (among-map shown_entry new.filesystems entry m)
 
-  pub reached_swept : IsPlain start → IsPlain (settled nat_eq start) → ((group : ℕ) → start.master group ≡ None)
+  entry_of : (entry : MountEntry) → Among entry new.mounts → Among entry k.mounts
+  entry_of entry m = subst (λ (one : Kept). Among entry one.mounts) is_kept m
+
+  free : list_all (λ (entry : MountEntry). is_ungrouped entry.mount.propagation) new.mounts ≡ true
+  free = all_pass (λ entry. is_ungrouped entry.mount.propagation) new.mounts (λ entry m. mid.ungrouped entry (entry_of entry m))
+
+  pub reached_has_none : IsHeld value → are_rising (numbers_of start.mounts) ≡ true → Has (settled nat_eq start) value.groups
+  reached_has_none held rising =
+      left_has_none value held start new.mounts rising (ap (λ (w : World ℕ). w.mounts) living_is ∙ mounts_are) free
+
+  pub reached_swept : IsPlain start
       → (without_changes start).namespaces ≡ (without_changes (world_of new)).namespaces
       → IsSwept value start gained at.lost new
-  reached_swept plain plain_left ungrouped namespaces = record {
+  reached_swept plain namespaces = record {
     plain = plain;
     mounts = ap (λ (w : World ℕ). w.mounts) living_is ∙ mounts_are;
-    ungrouped = ungrouped;
-    plain_left = plain_left;
     numbers = ap (λ (w : World ℕ). map (λ (f : Filesystem ℕ). f.number) w.filesystems) living_is ∙ mid.numbers
         ∙ ap (λ (one : Kept). map (λ (x : Shown). counted x.count) one.filesystems) (sym is_kept)
         ∙ map_twice (λ (x : Shown). counted x.count) shown_entry new.filesystems;
@@ -176,12 +187,9 @@ module _ (value : WorldValue) (start : World ℕ) (gained : List Inode) (goes : 
     tasks = ap (map (λ (task : Task ℕ). record task { change = 0 })) same_tasks;
   }
 
-  entry_of : (entry : MountEntry) → Among entry new.mounts → Among entry k.mounts
-  entry_of entry m = subst (λ (one : Kept). Among entry one.mounts) is_kept m
-
   pub reached_counted : All (CountsWhatIsInIt (world_of new)) new.namespaces → CountsBeside new
   reached_counted namespaces = record {
-    ungrouped = all_pass (λ entry. is_ungrouped entry.mount.propagation) new.mounts (λ entry m. mid.ungrouped entry (entry_of entry m));
+    ungrouped = free;
     uses = all_from_among (CountsItsUses (world_of new)) new.mounts (λ entry m.
         let uses = mid.uses entry (entry_of entry m) in
         let writers = mid.writers entry (entry_of entry m) in

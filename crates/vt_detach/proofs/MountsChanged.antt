@@ -11,11 +11,11 @@ use Rattle.vt_spec.specs.Machine.Mounts.{Mount, no_mount}
 use Rattle.vt_spec.specs.Machine.Permits.{Permit}
 use Rattle.vt_spec.specs.Machine.Settled.{filesystem_lives, has_layer_on, is_located, is_mounted, mount_lives, settled, without_dead_filesystems, without_dead_mounts}
 use Rattle.vt_spec.specs.Machine.World.{Filesystem, Task, World, mount_numbered, with_mounts}
-use Rattle.vt_count_laws.specs.Counted.{IsPlain}
 use Rattle.vt_count_laws.specs.Sweeping.{living}
 use Rattle.vt_count_laws.specs.Using.{AreThere, Exchanges}
 use Rattle.vt_count_laws.proofs.Places.{mount_is_placed}
 use Rattle.vt_fs.specs.FilesystemsValue.{FilesystemEntry, Filesystems, Shown, filesystem_seen, inodes_seen, shown, shown_entry}
+use Rattle.vt_group.specs.Grouping.{Has, are_rising, numbers_of}
 use Rattle.vt_letting_go.specs.Counts.{mounts_showing, times}
 use Rattle.vt_letting_go.specs.InUse.{AllInUse}
 use Rattle.vt_letting_go.specs.Mounting.{inode_at}
@@ -27,7 +27,8 @@ use Rattle.vt_world_laws.proofs.RaisedInUse.{worlds_are_in_use}
 use Rattle.vt_detach.specs.Held.{CountsItsMounts, CountsItsUses, CountsWhatIsInIt, IsHeld, is_ungrouped}
 use Rattle.vt_detach.specs.WorldValue.{WorldValue, world_of}
 use Rattle.vt_detach.proofs.Bridging.{IsSwept}
-use Rattle.vt_detach.proofs.Finishing.{CountsBeside, IsApplied, finished, is_left}
+use Rattle.vt_detach.proofs.Finishing.{CountsBeside, IsApplied, finished}
+use Rattle.vt_detach.proofs.Grouped.{changed_has, left_has_none, rising_mapped}
 use Rattle.vt_detach.proofs.Moving.{exchanged_shown}
 use Rattle.vt_detach.proofs.Remaining.{remade}
 use Rattle.vt_detach.proofs.Shown.{found_entry}
@@ -64,7 +65,7 @@ pub mounts_changed : (number : ℕ) (change : Mount ℕ → Mount ℕ) (entries 
 mounts_changed number change [] = refl
 mounts_changed number change (entry ∷ rest) = λ i. entry_mount number change entry i ∷ mounts_changed number change rest i
 
-times_map : {A B : Type 0} (test : B → Bool) (f : A → B) (list : List A) → times test (map f list) ≡ times (λ a. test (f a)) list
+pub times_map : {A B : Type 0} (test : B → Bool) (f : A → B) (list : List A) → times test (map f list) ≡ times (λ a. test (f a)) list
 times_map test f [] = refl
 times_map test f (a ∷ rest) = ap (λ n. cond (test (f a)) 1 0 + n) (times_map test f rest)
 
@@ -78,6 +79,14 @@ module _ (value : WorldValue) (whole : IsHeld value) (number : ℕ) (change : Mo
 
   abbrev pub next_of : World ℕ
   next_of = with_mounts (world_of value) (mounts_in (changed number (with_mount_changed change) value.mounts))
+
+  part_changed : {A : Type 0} (part : Mount ℕ → A) → ((mount : Mount ℕ) → part (change mount) ≡ part mount) → (mount : Mount ℕ)
+      → part (one_changed number change mount) ≡ part mount
+  part_changed part same mount = by (nat_eq number mount.number)
+    where
+      by : (b : Bool) → part (cond b (change mount) mount) ≡ part mount
+      by true = same mount
+      by false = refl
 
   part_kept : {A : Type 0} (part : Mount ℕ → A) → ((mount : Mount ℕ) → part (change mount) ≡ part mount) → (entry : MountEntry)
       → part (entry_changed number change entry).mount ≡ part entry.mount
@@ -108,6 +117,24 @@ module _ (value : WorldValue) (whole : IsHeld value) (number : ℕ) (change : Mo
       let was = mount_was mount m in
       ap (λ (one : Mount ℕ). is_ungrouped one.propagation) was.2
       ∙ still_free was.0 (passes (λ one. is_ungrouped one.mount.propagation) value.mounts whole.ungrouped was.0 was.1))
+
+  entries_free : list_all (λ (entry : MountEntry). is_ungrouped entry.mount.propagation) entries ≡ true
+  entries_free = all_pass (λ entry. is_ungrouped entry.mount.propagation) entries (λ entry m.
+      let from = among-from_map (entry_changed number change) value.mounts entry m in
+      ap (λ (one : MountEntry). is_ungrouped one.mount.propagation) from.2
+      ∙ still_free from.0 (passes (λ one. is_ungrouped one.mount.propagation) value.mounts whole.ungrouped from.0 from.1))
+
+  still_rising : are_rising (numbers_of next_of.mounts) ≡ true
+  still_rising =
+      ap (λ mounts. are_rising (numbers_of mounts)) (mounts_changed number change value.mounts)
+      ∙ rising_mapped (one_changed number change) (part_changed (λ mount. mount.number) keeps.number) (mounts_in value.mounts) whole.groups.order
+
+  -- where the mount keeps its type, groups stay as they are
+  pub kind_kept : ((mount : Mount ℕ) → (change mount).propagation ≡ mount.propagation) → Has (settled nat_eq next_of) value.groups
+  kind_kept kind =
+      changed_has value whole next_of (one_changed number change) (mounts_changed number change value.mounts) (λ group. refl)
+      (part_changed (λ mount. mount.number) keeps.number) (part_changed (λ mount. mount.namespace) keeps.namespace)
+      (part_changed (λ mount. mount.propagation) kind)
 
   same_mounted : (filesystem : ℕ) → is_mounted nat_eq next_of filesystem ≡ is_mounted nat_eq (world_of value) filesystem
   same_mounted filesystem =
@@ -149,6 +176,10 @@ module _ (value : WorldValue) (whole : IsHeld value) (number : ℕ) (change : Mo
       same_lives f = λ i. same_mounted f.number i
           || list_any (λ merged. has_layer_on nat_eq f.number merged && same_mounted merged.number i) (world_of value).filesystems
 
+  -- no mount is in a group
+  pub none_in_group : Has (settled nat_eq next_of) value.groups
+  none_in_group = left_has_none value whole next_of entries still_rising (ap (λ (world : World ℕ). world.mounts) living_is) entries_free
+
   module _ (gained lost : List Inode) (filesystems : Filesystems)
       (shown_are : shown filesystems ≡ map (exchanged_shown gained lost) (shown value.filesystems))
       (exchanges : (filesystem : ℕ) → Exchanges gained lost filesystem (world_of value) next_of)
@@ -172,12 +203,10 @@ module _ (value : WorldValue) (whole : IsHeld value) (number : ℕ) (change : Mo
         ∙ sym (ap (map (λ (one : Shown). counted one.count)) shown_are)
         ∙ map_twice (λ (one : Shown). counted one.count) shown_entry filesystems
 
-    swept : IsPlain (settled nat_eq next_of) → IsSwept value next_of gained lost new
-    swept plain = record {
+    swept : IsSwept value next_of gained lost new
+    swept = record {
       plain = world_is_plain value;
       mounts = ap (λ (world : World ℕ). world.mounts) living_is;
-      ungrouped = λ group. refl;
-      plain_left = plain;
       numbers = ap (λ (world : World ℕ). map (λ (f : Filesystem ℕ). f.number) world.filesystems) living_is ∙ same_numbers;
       entries = λ entry m. let from = shown_was entry m in record {
         was = from.0;
@@ -194,10 +223,7 @@ module _ (value : WorldValue) (whole : IsHeld value) (number : ℕ) (change : Mo
 
     counts : CountsBeside new
     counts = record {
-      ungrouped = all_pass (λ entry. is_ungrouped entry.mount.propagation) entries (λ entry m.
-          let from = among-from_map (entry_changed number change) value.mounts entry m in
-          ap (λ (one : MountEntry). is_ungrouped one.mount.propagation) from.2
-          ∙ still_free from.0 (passes (λ one. is_ungrouped one.mount.propagation) value.mounts whole.ungrouped from.0 from.1));
+      ungrouped = entries_free;
       uses = all_from_among (CountsItsUses (world_of new)) entries (λ entry m.
           let from = among-from_map (entry_changed number change) value.mounts entry m in
           let was = among_from_all (CountsItsUses (world_of value)) value.mounts whole.mounts from.0 from.1 in
@@ -221,9 +247,10 @@ module _ (value : WorldValue) (whole : IsHeld value) (number : ℕ) (change : Mo
             by false = was
 
     pub mount_is_changed : (name : TaskName) (permit : Permit ℕ) (task : Task ℕ) → IsApplied value name permit task next_of
+        → Has (settled nat_eq next_of) value.groups
         → IsDone value name permit (remade value (changed number (with_mount_changed change) value.mounts) filesystems value.tasks)
-    mount_is_changed name permit task is =
-        finished value whole name permit task next_of is gained lost new (swept (is_left value whole name permit task next_of is).1) counts refl
+    mount_is_changed name permit task is has =
+        finished value whole name permit task next_of is gained lost new swept has counts refl
 
 -- The uses of inodes that come and go with the mount point of one mount
 

@@ -44,7 +44,7 @@ use Rattle.vt_detach.proofs.FileEvents.{permit_fits}
 use Rattle.vt_detach.proofs.LocationsSeen.{seen_where_located}
 use Rattle.vt_detach.proofs.LookLemmas.{turned}
 use Rattle.vt_detach.proofs.Moving.{exchanged_shown}
-use Rattle.vt_detach.proofs.MountsChanged.{KeepsWhatItShows, attached_entry, mount_is_changed, mounts_changed, next_of, one_changed, places_exchanged}
+use Rattle.vt_detach.proofs.MountsChanged.{KeepsWhatItShows, attached_entry, kind_kept, mount_is_changed, mounts_changed, next_of, one_changed, places_exchanged}
 use Rattle.vt_detach.proofs.Places.{located_is_named}
 use Rattle.vt_detach.proofs.Remaining.{remade}
 use Rattle.vt_detach.proofs.Staying.{IsDone}
@@ -318,3 +318,4 @@ module _ (value : WorldValue) (whole : IsHeld value) (name : TaskName) (number :
         named = λ i. attached_named value whole number permits.task.namespace may.own i && located_is_named value whole (location_of place) well i;
         applied = tree_moved value whole number permits.task.namespace (location_of place) may.own may.destination.own may.placed;
       })
+      (kind_kept value whole number (placed_at (location_of place)) (places_keep (location_of place)) (λ mount. refl))

@@ -38,8 +38,7 @@ regrouped_nothing world plain = ap (λ b. regrouped_by nat_eq b world) (none_pas
 
 -- Mounts that are taken away, and no mount that stays is on them
 
-module _ (world : World ℕ) (one : OneNumber world.mounts) (plain : (mount : Mount ℕ) → Among mount world.mounts → is_ungrouped mount.propagation ≡ true)
-    (goes : Mount ℕ → Bool)
+module _ (world : World ℕ) (one : OneNumber world.mounts) (goes : Mount ℕ → Bool)
     (stays : (mount : Mount ℕ) → Among mount world.mounts → goes mount ≡ false → (place : Location ℕ) → mount.mount_point ≡ Some place
     → goes (mount_at nat_eq world place) ≡ false) where
   abbrev gone : List ℕ
@@ -98,16 +97,25 @@ module _ (world : World ℕ) (one : OneNumber world.mounts) (plain : (mount : Mo
       by mount m true e = refl
       by mount m false e = λ i. record mount { mount_point = same mount m e mount.mount_point refl i }
 
-  pub taken_alone_away : taken_away nat_eq world gone ≡ with_mounts world (map (gone_if goes) world.mounts)
-  taken_alone_away =
-      ap (λ mounts. regrouped nat_eq (with_mounts world mounts)) taken_so
-      ∙ regrouped_nothing (with_mounts world (map (gone_if goes) world.mounts)) (λ mount m.
-      let from = among-from_map (gone_if goes) world.mounts mount m in
-      ap (λ (x : Mount ℕ). is_ungrouped x.propagation) from.2 ∙ ungrouped from.0 (goes from.0) (plain from.0 from.1))
-    where
-      ungrouped : (mount : Mount ℕ) (b : Bool) → is_ungrouped mount.propagation ≡ true → is_ungrouped (cond b (detached mount) mount).propagation ≡ true
-      ungrouped mount true e = refl
-      ungrouped mount false e = e
+  -- they are detached, and then the groups without members end
+  pub taken_regrouped : taken_away nat_eq world gone ≡ regrouped nat_eq (with_mounts world (map (gone_if goes) world.mounts))
+  taken_regrouped = ap (λ mounts. regrouped nat_eq (with_mounts world mounts)) taken_so
+
+-- where no mount is in a group, none ends
+pub taken_alone_away : (world : World ℕ) → OneNumber world.mounts
+    → ((mount : Mount ℕ) → Among mount world.mounts → is_ungrouped mount.propagation ≡ true) → (goes : Mount ℕ → Bool)
+    → ((mount : Mount ℕ) → Among mount world.mounts → goes mount ≡ false → (place : Location ℕ) → mount.mount_point ≡ Some place
+    → goes (mount_at nat_eq world place) ≡ false)
+    → taken_away nat_eq world (map (λ (mount : Mount ℕ). mount.number) (filter goes world.mounts)) ≡ with_mounts world (map (gone_if goes) world.mounts)
+taken_alone_away world one plain goes stays =
+    taken_regrouped world one goes stays
+    ∙ regrouped_nothing (with_mounts world (map (gone_if goes) world.mounts)) (λ mount m.
+    let from = among-from_map (gone_if goes) world.mounts mount m in
+    ap (λ (x : Mount ℕ). is_ungrouped x.propagation) from.2 ∙ ungrouped from.0 (goes from.0) (plain from.0 from.1))
+  where
+    ungrouped : (mount : Mount ℕ) (b : Bool) → is_ungrouped mount.propagation ≡ true → is_ungrouped (cond b (detached mount) mount).propagation ≡ true
+    ungrouped mount true e = refl
+    ungrouped mount false e = e
 
 -- Entries of namespaces, where one task less is in one of them
 

@@ -4,9 +4,8 @@ use Rattle.vt_spec.specs.Language.Calls.{TaskName}
 use Rattle.vt_spec.specs.Lists.{folded}
 use Rattle.vt_spec.specs.Machine.Mounts.{Mount}
 use Rattle.vt_spec.specs.Machine.Permits.{Permit}
-use Rattle.vt_spec.specs.Machine.Settled.{filesystem_lives, settled, without_dead_filesystems, without_dead_mounts}
+use Rattle.vt_spec.specs.Machine.Settled.{filesystem_lives, without_dead_filesystems, without_dead_mounts}
 use Rattle.vt_spec.specs.Machine.World.{Filesystem, Task, World}
-use Rattle.vt_count_laws.specs.Counted.{IsPlain}
 use Rattle.vt_count_laws.specs.Sweeping.{living}
 use Rattle.vt_count_laws.specs.Using.{Exchanges}
 use Rattle.vt_fs.specs.FilesystemsValue.{FilesystemEntry, Filesystems, Shown, filesystem_seen, shown, shown_entry}
@@ -21,7 +20,8 @@ use Rattle.vt_detach.specs.Held.{CountsItsMounts, CountsItsUses, CountsWhatIsInI
 use Rattle.vt_detach.specs.Uses.{kept}
 use Rattle.vt_detach.specs.WorldValue.{WorldValue, world_of}
 use Rattle.vt_detach.proofs.Bridging.{IsSwept}
-use Rattle.vt_detach.proofs.Finishing.{CountsBeside, IsApplied, finished, is_left}
+use Rattle.vt_detach.proofs.Finishing.{CountsBeside, IsApplied, finished}
+use Rattle.vt_detach.proofs.Grouped.{left_has}
 use Rattle.vt_detach.proofs.Moving.{Moves, Use, entry_counts, exchanged_shown, filesystems_moved, gained_there, held_counts, hold_if, inodes_of_uses, mounts_moved, moved_kept, release_if, released_counts, uses_moved}
 use Rattle.vt_detach.proofs.Staying.{IsDone, after, world_is_plain}
 
@@ -87,12 +87,10 @@ module _ (value : WorldValue) (whole : IsHeld value) (tasks : Tasks) (more less 
         (filter_all (filesystem_lives nat_eq next) next.filesystems (λ f m.
         passes (filesystem_lives nat_eq (world_of value)) (world_of value).filesystems (worlds_are_in_use (world_of value) whole.in_world).filesystems f m))
 
-    pub remains_swept : IsPlain (settled nat_eq next) → IsSwept value next gained lost (remade value mounts filesystems tasks)
-    remains_swept plain = record {
+    pub remains_swept : IsSwept value next gained lost (remade value mounts filesystems tasks)
+    remains_swept = record {
       plain = world_is_plain value;
       mounts = ap (λ (world : World ℕ). world.mounts) living_is ∙ sym same_mounts;
-      ungrouped = λ group. refl;
-      plain_left = plain;
       numbers = ap (λ (world : World ℕ). map (λ (f : Filesystem ℕ). f.number) world.filesystems) living_is ∙ same_numbers;
       entries = λ entry m. let from = shown_was entry m in record {
         was = from.0;
@@ -133,4 +131,4 @@ module _ (value : WorldValue) (whole : IsHeld value) (tasks : Tasks) (more less 
         → IsDone value name permit (remade value mounts filesystems tasks)
     remains_done name permit task is inside =
         finished value whole name permit task next is gained lost (remade value mounts filesystems tasks)
-        (remains_swept (is_left value whole name permit task next is).1) (remains_counted inside) refl
+        remains_swept (left_has value whole next refl (λ group. refl)) (remains_counted inside) refl

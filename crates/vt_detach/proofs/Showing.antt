@@ -11,10 +11,12 @@ use Rattle.vt_count_laws.specs.Counted.{IsCounted, IsPlain}
 use Rattle.vt_count_laws.proofs.Alike.{same_worlds_count_alike}
 use Rattle.vt_count_laws.proofs.Listed.{same_numbers_are_permuted}
 use Rattle.vt_fs.specs.FilesystemsValue.{FilesystemEntry, Filesystems, filesystem_seen, filesystems_seen, inodes_seen}
+use Rattle.vt_group.specs.Grouping.{Has}
 use Rattle.vt_letting_go.proofs.Lists.{Among, among-map, among_from_all, fails}
 use Rattle.vt_location.specs.Numbers.{counted}
 use Rattle.vt_mount.specs.MountsValue.{mounts_in}
 use Rattle.vt_detach.specs.WorldValue.{WorldValue, world_of}
+use Rattle.vt_detach.proofs.Grouped.{master_is, same_has}
 use Rattle.vt_detach.proofs.NumbersBeside.{numbers_apart_each, numbers_listed}
 
 -- Filesystems by their numbers
@@ -51,11 +53,11 @@ same_filesystems (f ∷ filesystems) (entry ∷ entries) numbers same =
     let tails : map (λ g. g.number) filesystems ≡ map (λ other. counted other.count) entries = cc in
     (same f (inl refl) entry (inl refl) heads, same_filesystems filesystems entries tails (λ g m other n. same g (inr m) other (inr n)))
 
--- What code keeps, against a world of plain filesystems in which no mount is in a peer group
+-- What code keeps, against a world of plain filesystems
 pub record ShowsAs (world : World ℕ) (new : WorldValue) : Type 0 where
   pub plain : IsPlain world
   pub mounts : world.mounts ≡ mounts_in new.mounts
-  pub ungrouped : (group : ℕ) → world.master group ≡ None
+  pub groups : Has world new.groups
   pub numbers : map (λ f. f.number) world.filesystems ≡ map (λ entry. counted entry.count) new.filesystems
   pub inodes : (entry : FilesystemEntry) → Among entry new.filesystems
       → IsCounted world (filesystem_numbered nat_eq world (counted entry.count)) (inodes_seen entry)
@@ -93,11 +95,17 @@ module _ (world : World ℕ) (new : WorldValue) (shows : ShowsAs world new) (is_
   pub shown_is_same : SameWorlds world (world_of new)
   shown_is_same = record {
     mounts = shows.mounts;
-    master = λ i. λ group. shows.ungrouped group i;
+    master = λ i. λ group. master_is world new.groups is_world shows.groups group i;
     filesystems = same_filesystems world.filesystems new.filesystems shows.numbers same_one;
     namespaces = shows.namespaces;
     tasks = shows.tasks;
   }
+
+  -- and has the groups that are kept
+  pub shown_has : Has (world_of new) new.groups
+  shown_has =
+      same_has world (world_of new) new.groups shows.groups (sym shows.mounts)
+      (λ group. sym (master_is world new.groups is_world shows.groups group))
 
   -- and its inodes count what is in it
   pub shown_is_counted : (entry : FilesystemEntry) → Among entry new.filesystems → IsWorld nat_eq (world_of new)

@@ -38,6 +38,7 @@ use Rattle.vt_detach.specs.Held.{CountsItsMounts, CountsItsUses, CountsWhatIsInI
 use Rattle.vt_detach.specs.WorldValue.{WorldValue, world_of}
 use Rattle.vt_detach.proofs.Splits.{locations_stay, replaced_split, times_replaced, writes_replaced}
 use Rattle.vt_detach.proofs.FilesSeen.{files_are_plain}
+use Rattle.vt_detach.proofs.Grouped.{same_has}
 
 abbrev pub after : WorldValue → Tasks → WorldValue
 after value tasks = record value { tasks = tasks }
@@ -75,6 +76,7 @@ module _ (value : WorldValue) (tasks : Tasks) (same : all_locations (world_of (a
       → IsHeld (after value tasks)
   stays_held held writes inside is keeps = record {
     in_world = is;
+    groups = same_has (world_of value) (world_of (after value tasks)) value.groups held.groups refl (λ group. refl);
     ungrouped = held.ungrouped;
     given = keeps;
     mounts = all_from_among (CountsItsUses (world_of (after value tasks))) value.mounts (λ entry m.

@@ -10,10 +10,12 @@ use Rattle.vt_spec.specs.Machine.Mounts.Propagation.{Private, Shared, Slave, Unb
 use Rattle.vt_spec.specs.Machine.Permits.{Permit}
 use Rattle.vt_spec.specs.Machine.Permits.Permit.{ToSetFlags, ToSetType}
 use Rattle.vt_spec.specs.Machine.Receives.{regrouped}
+use Rattle.vt_spec.specs.Machine.Settled.{settled}
 use Rattle.vt_spec.specs.Machine.Types.{master_after, retyped, retyped_mount, type_after}
 use Rattle.vt_spec.specs.Machine.World.{World, mount_numbered, with_mounts}
 use Rattle.vt_count_laws.specs.Using.{Exchanges, is_inode}
 use Rattle.vt_fs.specs.FilesystemsValue.{Shown, shown}
+use Rattle.vt_group.specs.Grouping.{Has}
 use Rattle.vt_letting_go.specs.Counts.{times}
 use Rattle.vt_letting_go.specs.Keeping.{flags_if}
 use Rattle.vt_letting_go.specs.Mounting.{inode_at}
@@ -28,9 +30,10 @@ use Rattle.vt_detach.specs.Held.{IsHeld, is_ungrouped}
 use Rattle.vt_detach.specs.WorldValue.{WorldValue, world_of}
 use Rattle.vt_detach.proofs.FileEvents.{permit_fits}
 use Rattle.vt_detach.proofs.FilesSeen.{mount_named}
+use Rattle.vt_detach.proofs.Grouped.{no_master}
 use Rattle.vt_detach.proofs.LookLemmas.{turned}
 use Rattle.vt_detach.proofs.Moving.{exchanged_shown}
-use Rattle.vt_detach.proofs.MountsChanged.{KeepsWhatItShows, attached_entry, mount_is_changed, mounts_changed, next_of, next_ungrouped, one_changed, places_exchanged, with_mount_changed}
+use Rattle.vt_detach.proofs.MountsChanged.{KeepsWhatItShows, attached_entry, kind_kept, mount_is_changed, mounts_changed, next_of, next_ungrouped, none_in_group, one_changed, places_exchanged, with_mount_changed}
 use Rattle.vt_detach.proofs.Remaining.{remade}
 use Rattle.vt_detach.proofs.Staying.{IsDone}
 use Rattle.vt_detach.proofs.TreesLookedAt.{or_nothing}
@@ -81,13 +84,14 @@ module _ (value : WorldValue) (whole : IsHeld value) (name : TaskName) (number :
       }
 
   -- the event of a change of one mount that keeps its mount point
-  pub mount_is_retouched : permit_named (is_counted_before value.next) permit ≡ true
+  pub mount_is_retouched : Has (settled nat_eq (next_of value whole number change keeps)) value.groups
+      → permit_named (is_counted_before value.next) permit ≡ true
       → ((fresh : Fresh ℕ) → (apply nat_eq fresh (world_of value) permits.task permit).world ≡ next_of value whole number change keeps)
       → IsDone value name permit (remade value (changed number (with_mount_changed change) value.mounts) value.filesystems value.tasks)
-  mount_is_retouched named applied =
+  mount_is_retouched has named applied =
       mount_is_changed value whole number change keeps [] [] value.filesystems (same_shown (shown value.filesystems)) nothing_exchanged
       (λ was m. refl) name permit permits.task
-      (record { called = permits.called; given = permits.given; named = named; applied = applied })
+      (record { called = permits.called; given = permits.given; named = named; applied = applied }) has
 
 -- Flags
 
@@ -110,6 +114,7 @@ pub flags_are_set : (value : WorldValue) → IsHeld value → (name : TaskName) 
 flags_are_set value whole name number flags permits =
     let own = (permit_fits value whole name (ToSetFlags number flags) permits).names in
     mount_is_retouched value whole name number (ToSetFlags number flags) (with_flags flags) (flags_keep flags) (λ mount. refl) permits own
+    (kind_kept value whole number (with_flags flags) (flags_keep flags) (λ mount. refl))
     (attached_named value whole number permits.task.namespace own)
     (λ fresh.
     flags_are_of_one (world_of value) (record { mount = number; node = number }) flags whole.in_world.mounts.one_number
@@ -138,9 +143,9 @@ no_master_above (Slave master) e = absurd (true≢false (sym e))
 no_master_above Private e = refl
 no_master_above Unbindable e = refl
 
-no_master_either : (b : Bool) → ◌≡◌ {A = Option ℕ} (cond b None None) None
-no_master_either true = refl
-no_master_either false = refl
+stays_masterless : (b : Bool) (master : Option ℕ) → master ≡ None → cond b None master ≡ master
+stays_masterless true master e = sym e
+stays_masterless false master e = refl
 
 module _ (value : WorldValue) (whole : IsHeld value) (name : TaskName) (number : ℕ) (word : TypeWord) (kind : Propagation ℕ)
     (free : is_ungrouped kind ≡ true) (sets : (new : ℕ) (old : Propagation ℕ) → type_after new word old ≡ kind)
@@ -164,8 +169,8 @@ module _ (value : WorldValue) (whole : IsHeld value) (name : TaskName) (number :
         mounts = (map_alike (retyped_mount nat_eq group word (named ∷ [])) (one_changed number (with_propagation kind)) (mounts_in value.mounts) (λ mount m.
             (λ j. cond (is_named mount j) (record mount { propagation = sets (group mount.number) mount.propagation j }) mount))
             ∙ sym (mounts_changed number (with_propagation kind) value.mounts)) i;
-        master = λ other. (ap (λ above. cond (nat_eq other (group named.number)) above None) (no_master_above named.propagation (attached_free value whole number permits.task.namespace own))
-            ∙ no_master_either (nat_eq other (group named.number))) i;
+        master = λ other. (ap (λ above. cond (nat_eq other (group named.number)) above (world.master other)) (no_master_above named.propagation (attached_free value whole number permits.task.namespace own))
+            ∙ stays_masterless (nat_eq other (group named.number)) (world.master other) (no_master value whole other)) i;
       })
       ∙ nothing_regrouped next (next_ungrouped value whole number (with_propagation kind) (kinds_keep kind free))
     where
@@ -177,5 +182,6 @@ module _ (value : WorldValue) (whole : IsHeld value) (name : TaskName) (number :
       (remade value (changed number (λ entry. record entry { mount = record entry.mount { propagation = kind } }) value.mounts) value.filesystems value.tasks)
   type_is_set =
       mount_is_retouched value whole name number (ToSetType number word false) (with_propagation kind) (kinds_keep kind free) (λ mount. refl) permits own
+      (none_in_group value whole number (with_propagation kind) (kinds_keep kind free))
       (attached_named value whole number permits.task.namespace own)
       (λ fresh. retyped_one (numbers_by nat_eq fresh (mount_numbered nat_eq (world_of value) number ∷ [])))

@@ -1,5 +1,5 @@
--- What holds of each world of the code: the invariants of a world, and that what is counted beside it is what the
--- definitions count.
+-- What holds of each world of the code: the invariants of a world, and that what is kept beside it, groups and counts, is
+-- what the definitions say.
 use Rattle.std.specs.Prelude.{All, Bool, List, None, [], false, nat_eq, true, ℕ, ◌&&◌, ◌+◌, ◌∷◌, ◌≡◌}
 use Rattle.std.specs.List.{list_all}
 use Rattle.vt_spec.specs.Machine.Mounts.{Propagation}
@@ -8,6 +8,7 @@ use Rattle.vt_spec.specs.Machine.World.{Descriptor, Task, World}
 use Rattle.vt_spec.specs.Machine.Invariants.{IsWorld}
 use Rattle.vt_count_laws.specs.Counted.{IsCounted}
 use Rattle.vt_fs.specs.FilesystemsValue.{FilesystemEntry, filesystem_seen, inodes_seen}
+use Rattle.vt_group.specs.Grouping.{Has}
 use Rattle.vt_laws.specs.Numbers.{KeepsTo}
 use Rattle.vt_letting_go.specs.Counts.{mount_uses, mounts_showing, times}
 use Rattle.vt_location.specs.Numbers.{counted, is_inode_of}
@@ -53,6 +54,7 @@ pub record CountsWhatIsInIt (world : World ℕ) (entry : NamespaceEntry) : Type 
 
 pub record IsHeld (value : WorldValue) : Type 0 where
   pub in_world : IsWorld nat_eq (world_of value)
+  pub groups : Has (world_of value) value.groups
   pub ungrouped : list_all (λ entry. is_ungrouped entry.mount.propagation) value.mounts ≡ true
   pub given : KeepsTo (is_counted_before value.next) (world_of value)
   pub mounts : All (CountsItsUses (world_of value)) value.mounts

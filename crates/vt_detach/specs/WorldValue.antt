@@ -1,7 +1,8 @@
 -- What contracts see of the code's world, and what the definitions see of it.
-use Rattle.std.specs.Prelude.{List, None, Option, find, map, nat_eq, ℕ}
+use Rattle.std.specs.Prelude.{List, Option, find, map, nat_eq, ℕ}
 use Rattle.vt_spec.specs.Machine.World as meant
 use Rattle.vt_fs.specs.FilesystemsValue.{Filesystems, filesystems_seen}
+use Rattle.vt_group.specs.Grouping.{Grouping, master_in}
 use Rattle.vt_location.specs.Numbers.{counted}
 use Rattle.vt_location.specs.declared.numbers.NamespaceId.{NamespaceId}
 use Rattle.vt_mount.specs.MountsValue.{MountEntry, mounts_in}
@@ -15,6 +16,7 @@ pub record NamespaceEntry : Type 0 where
 -- `next` is what is counted next: all mounts, filesystems and namespaces have lower counts
 pub record WorldValue : Type 0 where
   pub mounts : List MountEntry
+  pub groups : Grouping
   pub filesystems : Filesystems
   pub namespaces : List NamespaceEntry
   pub tasks : List (meant.Task ℕ)
@@ -23,11 +25,11 @@ pub record WorldValue : Type 0 where
 abbrev pub namespace_of : NamespaceEntry → meant.Namespace ℕ
 namespace_of entry = record { number = counted entry.count; change = 0 }
 
--- the world: no mount is in a peer group, and change numbers are aside
+-- the world: change numbers are aside
 abbrev pub world_of : WorldValue → meant.World ℕ
 world_of value = record {
   mounts = mounts_in value.mounts;
-  master = λ group. None;
+  master = master_in value.groups;
   filesystems = filesystems_seen value.filesystems;
   namespaces = map namespace_of value.namespaces;
   tasks = value.tasks;

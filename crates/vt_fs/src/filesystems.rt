@@ -52,6 +52,7 @@ impl Filesystem {
 
 // The filesystem of a number. The first one is mostly the root filesystem, where most walks are: it is compared before a hash is
 // taken.
+#[inline(always)]
 fn found_under(
     by_number: &IndexMap<FilesystemId, Filesystem>,
     id: FilesystemId,
@@ -126,6 +127,7 @@ impl Filesystems {
     }
 
     /// The tree of a filesystem, with its inodes in their slots.
+    #[inline(always)]
     pub fn get(&self, filesystem: FilesystemId) -> Option<&Tree>
         ensures { option_copied result ≡ option_map (λ entry. entry.tree) (entry_of self.now filesystem.count) }
     {
@@ -155,6 +157,7 @@ impl Filesystems {
     }
 
     /// The node of an inode, its entries and its parent by slots.
+    #[inline(always)]
     pub fn node(&self, inode: NodeRef) -> Option<&Node>
         ensures { option_map (node_seen inode.filesystem.count) (option_copied result)
             ≡ (files_at self.now inode.filesystem.count).tree.node (number_of inode) }

@@ -477,3 +477,20 @@ shared_has world live groups has group lacks named there pairs same =
     (grown_has world (after world live groups has group lacks named within) groups
     (types world live groups has group lacks named) (begun world live groups has group lacks named) has
     (grows world live groups has group lacks named within)))
+
+-- no group loses a member by it
+module _ (world : World ℕ) (live : GroupsLive world) (groups : Grouping) (has : Has world groups) (group : ℕ → ℕ)
+    (lacks : (number : ℕ) → LacksGroup world (group number)) (named : List (Mount ℕ)) (there : All (Contains world.mounts) named) where
+  within_world : (mount : Mount ℕ) → Among mount named → Among mount world.mounts
+  within_world mount m = among_from_contains world.mounts mount (among_from_all (Contains world.mounts) named there mount m)
+
+  pub sharing_regroups : retyped nat_eq world group ToShared named ≡ record world {
+    mounts = map (retyped_mount nat_eq group ToShared named) world.mounts;
+    master = with_new_groups nat_eq group world.master named;
+  }
+  sharing_regroups =
+      regrouped_living (after world live groups has group lacks named within_world)
+      (after_live world live groups has group lacks named within_world)
+
+  pub sharing_lives : GroupsLive (retyped nat_eq world group ToShared named)
+  sharing_lives = subst GroupsLive (sym sharing_regroups) (after_live world live groups has group lacks named within_world)

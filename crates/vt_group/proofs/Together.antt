@@ -67,7 +67,7 @@ module _ (world : World ℕ) (live : GroupsLive world) where
 
 -- Which mounts were visited
 
-is_among-snoc : (number one : ℕ) (numbers : List ℕ) → is_among nat_eq number (numbers ++ one ∷ [])
+pub is_among-snoc : (number one : ℕ) (numbers : List ℕ) → is_among nat_eq number (numbers ++ one ∷ [])
     ≡ (is_among nat_eq number numbers || nat_eq number one)
 is_among-snoc number one numbers = list_any-append (nat_eq number) numbers (one ∷ [])
     ∙ ap (λ b. is_among nat_eq number numbers || b) (or_false (nat_eq number one))
@@ -76,7 +76,7 @@ is_among-snoc number one numbers = list_any-append (nat_eq number) numbers (one 
     or_false true = refl
     or_false false = refl
 
-eqb-swapped : (a b : ℕ) (t : Bool) → nat_eq a b ≡ t → nat_eq b a ≡ t
+pub eqb-swapped : (a b : ℕ) (t : Bool) → nat_eq a b ≡ t → nat_eq b a ≡ t
 eqb-swapped a b true e = eq-eqb b a (sym (eqb-true a b e))
 eqb-swapped a b false e = ne_eqb b a (λ same. eqb-false a b e (sym same))
 
@@ -298,7 +298,7 @@ module _ (world : World ℕ) (live : GroupsLive world) where
       ∙ ap (λ b. if b then master_after mount.propagation else master one)
       (ne_eqb one (group mount.number) (λ same. true≢false (sym has ∙ ap were same ∙ lacks mount.number)))
 
-  named_numbers : (number : ℕ) (named : List (Mount ℕ)) → list_any (λ other. nat_eq number other.number) named
+  pub named_numbers : (number : ℕ) (named : List (Mount ℕ)) → list_any (λ other. nat_eq number other.number) named
       ≡ is_among nat_eq number (numbers_of named)
   named_numbers number [] = refl
   named_numbers number (mount ∷ rest) = ap (λ b. nat_eq number mount.number || b) (named_numbers number rest)

@@ -21,9 +21,9 @@ use Rattle.vt_spec.specs.Machine.Mounts.{Location}
 use Rattle.vt_spec.specs.Machine.Outcome.Descriptors.{open_outcome, with_descriptor}
 use Rattle.vt_spec.specs.Machine.Outcome.Descriptors as Opening
 use Rattle.vt_spec.specs.Machine.Outcome.Making.{new_file}
-use Rattle.vt_spec.specs.Machine.Outcomes.{Outcome, after, judged}
+use Rattle.vt_spec.specs.Machine.Outcomes.{after, judged}
 use Rattle.vt_spec.specs.Machine.Permits.{Permit}
-use Rattle.vt_spec.specs.Machine.Policy.{call_outcome, filesystems_changed_by, finished, finished_by, policy, raised_task}
+use Rattle.vt_spec.specs.Machine.Policy.{call_outcome, filesystems_changed_by, finished, policy, raised_task}
 use Rattle.vt_spec.specs.Machine.Rightful.{node_allows}
 use Rattle.vt_spec.specs.Machine.Rules.Descriptors.{descriptor_rules, exclusive_word_rules}
 use Rattle.vt_spec.specs.Machine.Rules.Making.{make_rules}
@@ -56,7 +56,7 @@ use Rattle.vt_world_laws.proofs.SeenTrees.{change_mounts, change_tasks, unused_i
 use Rattle.vt_later_laws.specs.LaterPaths.{ExclusiveTwice}
 use Rattle.vt_later_laws.proofs.AfterChange.{later_files, later_is, listed, spent}
 use Rattle.vt_later_laws.proofs.Changed.{files_changed, files_other}
-use Rattle.vt_later_laws.proofs.Granted.{IsPermitted, permitted}
+use Rattle.vt_later_laws.proofs.Granted.{IsPermitted, answer_stays, permitted}
 use Rattle.vt_later_laws.proofs.Looked.{search_all}
 use Rattle.vt_later_laws.proofs.MadeSeen.{Never, new_parts}
 use Rattle.vt_later_laws.proofs.Opened.{called_replaced, walk_ended}
@@ -212,11 +212,6 @@ module _ (looks later : Looks ℕ) (task reader : Task ℕ) (Refused : Deny → 
           hidden_so ((false, rule) ∷ rows) h = hidden_so rows h
 
 -- What a second open answers
-answer_stays : (b : Bool) (world : World ℕ) (name : TaskName) (changes : List ℕ) (outcome : Outcome ℕ)
-    → (finished_by nat_eq b world name changes outcome).answer ≡ outcome.answer
-answer_stays true world name changes outcome = refl
-answer_stays false world name changes outcome = refl
-
 exclusive_refused : (world : World ℕ) (fresh : Fresh ℕ) (name : TaskName) (task : Task ℕ) (path : List ℕ) (access : Access) (mode : ℕ)
     (place : Place ℕ) → task_called world name ≡ Some task → nat_le most_descriptors (length task.descriptors) ≡ false
     → new_walk nat_eq (looks_of nat_eq world) task path ≡ Ok place → is_special place.last ≡ false → place.slash ≡ false

@@ -29,7 +29,7 @@ pub record IsPermitted (world : World ℕ) (fresh : Fresh ℕ) (name : TaskName)
       (settled nat_eq (apply nat_eq fresh world task permit).world)
 
 -- the last step leaves the answer
-answer_stays : (looks : Bool) (world : World ℕ) (name : TaskName) (changed : List ℕ) (outcome : Outcome ℕ)
+pub answer_stays : (looks : Bool) (world : World ℕ) (name : TaskName) (changed : List ℕ) (outcome : Outcome ℕ)
     → (finished_by nat_eq looks world name changed outcome).answer ≡ outcome.answer
 answer_stays true world name changed outcome = refl
 answer_stays false world name changed outcome = refl

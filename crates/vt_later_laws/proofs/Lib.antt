@@ -5,7 +5,6 @@ pub mod Stays
 pub mod Through
 pub mod Opened
 pub mod OpenedNew
-pub mod WalkedAlike
 pub mod Ways
 pub mod WaysPlaces
 pub mod WaysTrees
@@ -14,12 +13,6 @@ pub mod WaysChanges
 pub mod AfterChange
 pub mod Looked
 pub mod Readers
-pub mod Unlinked
 pub mod MadeSeen
-pub mod LinkedSeen
 pub mod AttrSeen
-pub mod WaysFiles
-pub mod WrittenSeen
-pub mod RenamedSeen
 pub mod CreatedSeen
-pub mod EndedBy

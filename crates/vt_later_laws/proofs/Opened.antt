@@ -37,15 +37,7 @@ use Rattle.vt_later_laws.proofs.Granted.{IsPermitted, permitted}
 use Rattle.vt_later_laws.proofs.Stays.{still_called, still_seen}
 use Rattle.vt_later_laws.proofs.Steps.{both_gave, passing, same_ok}
 use Rattle.vt_later_laws.proofs.Through.{descriptor_located, pread_of, raised_descriptors}
-
--- The least free number is that of no descriptor, so the new one is found by it
-free_above : (number : ℕ) (descriptors : List (Descriptor ℕ)) → number ≤ free_from number descriptors
-free_above number [] = omega arith
-free_above number (descriptor ∷ rest) = by (nat_eq descriptor.number number) (free_above (number + 1) rest)
-  where
-    by : (b : Bool) → number + 1 ≤ free_from (number + 1) rest → number ≤ cond b (free_from (number + 1) rest) number
-    by true h = omega arith
-    by false h = omega arith
+use Rattle.vt_tree_laws.proofs.TreesTasks.{free_above}
 
 pub inserted_found : (number : ℕ) (descriptors : List (Descriptor ℕ)) (new : Descriptor ℕ)
     → are_ascending_from number descriptors ≡ true → new.number ≡ free_from number descriptors

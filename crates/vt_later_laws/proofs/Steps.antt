@@ -1,5 +1,5 @@
 -- Steps that may be refused, and tables of rules that let pass.
-use Rattle.std.proofs.Common.{◌≡◌, refl, true≢false, Bool, true, false, not, [], ◌∷◌, Result, Ok, Err}
+use Rattle.std.proofs.Common.{◌≡◌, refl, true≢false, true, false, [], ◌∷◌, Result, Ok, Err}
 use Rattle.std.specs.Prelude.{⊤}
 use Rattle.vt_spec.specs.declared.errors.Deny.{Deny}
 use Rattle.vt_spec.specs.Errors.{Rules, and_then, unless}
@@ -30,7 +30,3 @@ both_gave (Err deny) next b e = cc
 
 pub same_ok : {A : Type 0} (a b : A) → Path (Result A Deny) (Ok a) (Ok b) → a ≡ b
 same_ok a b e = cc
-
-pub not_fails : (b : Bool) → not b ≡ false → b ≡ true
-not_fails true e = refl
-not_fails false e = cc

@@ -10,7 +10,8 @@ use Rattle.vt_spec.specs.Machine.Walking.{Follow, Here, LastWord, Stop, follow_r
 use Rattle.vt_spec.specs.Machine.World.{Task}
 use Rattle.vt_spec.specs.PathText.{ends_in_slash, is_absolute, words}
 use Rattle.vt_spec.specs.Rights.{execute_right}
-use Rattle.vt_later_laws.proofs.Steps.{AllPass, both_gave, not_fails, passed, passing, same_ok}
+use Rattle.vt_later_laws.proofs.Steps.{AllPass, both_gave, passed, passing, same_ok}
+use Rattle.std.proofs.lemmas.Bool.{not-false}
 
 -- Walks that may be refused
 
@@ -102,10 +103,10 @@ module _ (looks later : Looks ℕ) (task reader : Task ℕ) (Refused : Deny → 
       → AllPass (search_rules nat_eq later reader here)
       ⊎ (Refused (denial W4) × ((answer : Result (Location ℕ) Deny)
       → unless (search_rules nat_eq later reader here) answer ≡ Err (denial W4)))
-  search_too here known pass = by (leads.search here known is (not_fails _ pass.1.0))
+  search_too here known pass = by (leads.search here known is (not-false _ pass.1.0))
     where
       is : is_directory_at looks here ≡ true
-      is = not_fails _ pass.0
+      is = not-false _ pass.0
 
       by : (may later reader here execute_right ≡ true)
           ⊎ ((may later reader here execute_right ≡ false) × Refused (denial W4))
@@ -204,7 +205,7 @@ module _ (looks later : Looks ℕ) (task reader : Task ℕ) (Refused : Deny → 
             (λ steps_there known_there.
             then_too (word_walked nat_eq later reader (at reached steps_there) (last_word word)) _ next end
             (word_too reached next (last_word word) steps_there known_there gave.0 same
-            (leads.step reached.location (last_word word) next.location known_there (not_fails _ gave.0.0) gave.1))
+            (leads.step reached.location (last_word word) next.location known_there (not-false _ gave.0.0) gave.1))
             (λ steps_next known_next.
             subst (λ o. Ends (if_link (at next steps_next) o (other reached.location (at next steps_next))) end)
             (sym (leads.link next.location known_next)) (after.1 known_there known_next steps_next))),

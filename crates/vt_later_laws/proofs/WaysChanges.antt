@@ -1,6 +1,7 @@
 -- What changes of a tree leave of the ways through it.
 use Rattle.std.proofs.Common.{◌≡◌, ◌≢◌, refl, sym, ap, ◌∙◌, inl, inr, ◌⊎◌, ⊎_elim, true≢false, ℕ, nat_eq, eqb-true, ne_eqb, Bool, true, false, cond, not, List, Option, Some, None, is_some}
 use Rattle.std.proofs.lemmas.Bool.Decides.{eqb_tells}
+use Rattle.std.proofs.lemmas.Option.{same_Some}
 use Rattle.std.specs.Cmp.{tied_itself}
 use Rattle.std.specs.Cmp.Lexicographic.{bytes_decides, nat_list_cmp_total}
 use Rattle.std.specs.Ordering.{eq_by_cmp, is_eq}
@@ -19,7 +20,7 @@ use Rattle.vt_spec.specs.Tree.Content.{Directory, Regular, Symlink, Whiteout}
 use Rattle.vt_spec.specs.TreeLaws.{IsDirectory, entry_at}
 use Rattle.vt_spec.proofs.Nodes.{entries-node_with_bytes, entries-node_with_entry, entry_named-with_entry, entry_named-without_entry, is_directory-node_with_bytes, is_directory-node_with_entry, none_is_not, parent-node_with_bytes, parent-node_with_entry, same_name}
 use Rattle.vt_tree_laws.proofs.ChangesNodes.{attr_keeps_place, elsewhere, entries-node_without_entry, kind-node_without_entry, parent-node_without_entry, part_stays, there}
-use Rattle.vt_tree_laws.proofs.TreesRearranged.{node_with_entries, some_same}
+use Rattle.vt_tree_laws.proofs.TreesRearranged.{node_with_entries}
 
 -- What was there is of its kind, and a directory has its parent, a symlink its text. A name leads where it led, or is
 -- missing, and then it was no directory's.
@@ -307,7 +308,7 @@ module _ (files : FileTree ℕ) (Refused : Deny → Type 0) where
             by true same now was =
                 let name_is : other ≡ name = (bytes_decides other name).0 same in
                 let object_is : object ≡ next =
-                some_same object next (sym named_so ∙ ap (entry_at files.tree directory) (sym name_is) ∙ was) in
+                same_Some object next (sym named_so ∙ ap (entry_at files.tree directory) (sym name_is) ∙ was) in
                 inr (now, ap (λ m. is_directory_node (files.tree.node m)) (sym object_is) ∙ no_directory, missing)
             by false same now was = inl (now ∙ was)
 

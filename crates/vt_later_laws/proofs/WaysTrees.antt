@@ -9,7 +9,8 @@ use Rattle.vt_spec.proofs.Trees.{found, led-append, parent_reached, reached_name
 use Rattle.vt_tree_laws.specs.Trees.{IsFileTree}
 use Rattle.vt_tree_laws.proofs.TreesAbove.{parent_named, under_seen}
 use Rattle.vt_tree_laws.proofs.TreesReached.{not_removed_reached}
-use Rattle.vt_tree_laws.proofs.TreesRearranged.{node_with_entries, some_same}
+use Rattle.vt_tree_laws.proofs.TreesRearranged.{node_with_entries}
+use Rattle.std.proofs.lemmas.Option.{same_Some}
 
 -- The names that lead to a directory from what lies above it
 module _ (tree : Tree ℕ) (conditions : IsTree tree) where
@@ -20,7 +21,7 @@ module _ (tree : Tree ℕ) (conditions : IsTree tree) where
       (parent_in d (tree.node d))))
       (eq-eqb d tree.root (sym root))) ∙ e))
       (λ named.
-      let same : named.0 ≡ p = some_same named.0 p (sym (parent_named tree conditions named.0 named.1 d named.2 is) ∙ e) in (
+      let same : named.0 ≡ p = same_Some named.0 p (sym (parent_named tree conditions named.0 named.1 d named.2 is) ∙ e) in (
         named.1,
         ap (λ n. entry_at tree n named.1) (sym same) ∙ named.2,
         subst (IsDirectory tree) same (node_with_entries named.1 d (tree.node named.0) named.2),
@@ -77,7 +78,7 @@ module _ (tree : Tree ℕ) (conditions : IsTree tree) where
   -- names that lead to a directory go through directories
   pub led_through : (from : ℕ) (names : List (List ℕ)) (to : ℕ) → led tree from names ≡ Some to → IsDirectory tree to
       → IsDirectory tree from
-  led_through from [] to e is = subst (IsDirectory tree) (sym (some_same from to e)) is
+  led_through from [] to e is = subst (IsDirectory tree) (sym (same_Some from to e)) is
   led_through from (name ∷ names) to e is =
       let step = found (λ next. led tree next names) (entry_at tree from name) to e in
       node_with_entries name step.0 (tree.node from) step.1

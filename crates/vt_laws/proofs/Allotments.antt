@@ -18,15 +18,18 @@ allotted_by other rename (LeftOver k) number = other.left_over k
 pub allotted : Allotment → Allotment → (ℕ → ℕ) → ℕ → ℕ
 allotted allotment other rename number = allotted_by other rename (allotment.lot number) number
 
-pub allotted_kept : (allotment other : Allotment) (rename : ℕ → ℕ) (number : ℕ) → allotment.lot number ≡ Kept → allotted allotment other rename number ≡ rename number
+pub allotted_kept : (allotment other : Allotment) (rename : ℕ → ℕ) (number : ℕ) → allotment.lot number ≡ Kept
+    → allotted allotment other rename number ≡ rename number
 unfolding allotted allotted_by
 allotted_kept allotment other rename number e = ap (λ s. allotted_by other rename s number) e
 
-pub allotted_new : (allotment other : Allotment) (rename : ℕ → ℕ) (number k : ℕ) → allotment.lot number ≡ New k → allotted allotment other rename number ≡ other.new k
+pub allotted_new : (allotment other : Allotment) (rename : ℕ → ℕ) (number k : ℕ) → allotment.lot number ≡ New k
+    → allotted allotment other rename number ≡ other.new k
 unfolding allotted allotted_by
 allotted_new allotment other rename number k e = ap (λ s. allotted_by other rename s number) e
 
-allotted_left : (allotment other : Allotment) (rename : ℕ → ℕ) (number k : ℕ) → allotment.lot number ≡ LeftOver k → allotted allotment other rename number ≡ other.left_over k
+allotted_left : (allotment other : Allotment) (rename : ℕ → ℕ) (number k : ℕ) → allotment.lot number ≡ LeftOver k
+    → allotted allotment other rename number ≡ other.left_over k
 unfolding allotted allotted_by
 allotted_left allotment other rename number k e = ap (λ s. allotted_by other rename s number) e
 
@@ -53,7 +56,8 @@ allotted_back allotment other rename again inverse keeps number = by (other.lot 
         ∙ allotted_left allotment other rename (allotment.left_over k) k (allotment.left_over_lot k) ∙ other.lot_left_over number k e
 
 -- a renaming that takes the kept to the kept, and the new ones to the new ones, each to that at its place
-unfoldable pub joined : (allotment other : Allotment) (renaming : Renaming ℕ ℕ) → ((number : ℕ) → is_kept other number ≡ is_kept allotment (renaming.back number)) → Renaming ℕ ℕ
+unfoldable pub joined : (allotment other : Allotment) (renaming : Renaming ℕ ℕ)
+    → ((number : ℕ) → is_kept other number ≡ is_kept allotment (renaming.back number)) → Renaming ℕ ℕ
 joined allotment other renaming same = record {
   there = allotted allotment other renaming.there;
   back = allotted other allotment renaming.back;
@@ -65,7 +69,8 @@ joined allotment other renaming same = record {
 }
 
 -- One renaming after another
-composed_at : {M N P : Type 0} (e : N ≃ P) (f : M → N) (g : N → M) (world : World M) (back : P → N) → ((number : P) → e.0 (back number) ≡ number)
+composed_at : {M N P : Type 0} (e : N ≃ P) (f : M → N) (g : N → M) (world : World M) (back : P → N)
+    → ((number : P) → e.0 (back number) ≡ number)
     → renamed (λ n. e.0 (f n)) (λ p. g (back p)) world ≡ renamed e.0 back (renamed f g world)
 unfolding id_equiv
 composed_at {M} {N} {P} e =

@@ -20,7 +20,8 @@ option_itself f same (Some a) = λ i. Some (same a i)
 -- With each number for itself nothing is renamed.
 module _ {N : Type 0} where
   content_itself : (content : Content N) → renamed_content (λ n. n) (λ n. n) content ≡ content
-  content_itself (Directory parent entries opaque) = λ i. Directory parent (map_itself (renamed_entry (λ n. n) (λ n. n)) (λ entry. refl) entries i) opaque
+  content_itself (Directory parent entries opaque) =
+      λ i. Directory parent (map_itself (renamed_entry (λ n. n) (λ n. n)) (λ entry. refl) entries i) opaque
   content_itself (Regular bytes) = refl
   content_itself (Symlink text) = refl
   content_itself Whiteout = refl

@@ -1,17 +1,13 @@
 pub mod Allotments
-pub mod AskedRules
 pub mod CallsJudged
 pub mod Cells
 pub mod Commuting
 pub mod Exchanges
 pub mod GivenPermits
-pub mod LeastAnswers
-pub mod LeastRule
 pub mod LooksAlike
 pub mod NamedWorlds
 pub mod NumbersRaised
 pub mod Outcomes
-pub mod OwnLines
 pub mod OwnRules
 pub mod Renamings
 pub mod Rows
@@ -24,5 +20,4 @@ pub mod Supports
 pub mod TableOrder
 pub mod Texts
 pub mod Unchanged
-pub mod WalkOrder
 pub mod WalkRules

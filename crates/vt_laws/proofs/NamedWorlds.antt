@@ -1,5 +1,5 @@
 -- A world keeps to the numbers that it has anywhere.
-use Rattle.std.proofs.Common.{◌≡◌, refl, sym, ap, ◌∙◌, true≢false, ℕ, Bool, true, false, ◌&&◌, List, [], ◌∷◌, Option, Some, None, zero, arith, suc}
+use Rattle.std.proofs.Common.{◌≡◌, refl, sym, ap, ◌∙◌, true≢false, ℕ, Bool, true, false, List, [], ◌∷◌, Option, Some, None, zero, arith, suc}
 use Rattle.std.specs.Prelude.{All, map, option_map}
 use Rattle.std.specs.List.{list_all}
 use Rattle.vt_spec.specs.Tree.{Content, Node}
@@ -11,19 +11,18 @@ use Rattle.vt_spec.specs.Machine.World.{Descriptor, Filesystem, Layer, Namespace
 use Rattle.vt_spec.specs.Machine.World.Real.{Below, Upper}
 use Rattle.vt_laws.specs.Renaming.{Leaves, Renaming}
 use Rattle.vt_laws.specs.Numbers.{FilesystemNamed, IsFoundAmong, NamedIsKept, OverlayIfAnyNamed, OverlayNamed, WorldNamed, content_named, descriptor_named, layer_named, location_named, mount_named, namespace_named, node_named, none_or, propagation_named, real_named, task_named}
-
-both : (a b : Bool) → (a && b) ≡ true → (a ≡ true) × (b ≡ true)
-both true b e = (refl, e)
-both false b e = absurd (true≢false (sym e))
+use Rattle.std.proofs.lemmas.Bool.{and_parts}
 
 -- what is left where it is one by one is left so in a list
-list_left : {A : Type 0} (f : A → A) (test : A → Bool) → ((a : A) → test a ≡ true → f a ≡ a) → (list : List A) → list_all test list ≡ true → map f list ≡ list
+list_left : {A : Type 0} (f : A → A) (test : A → Bool) → ((a : A) → test a ≡ true → f a ≡ a) → (list : List A)
+    → list_all test list ≡ true → map f list ≡ list
 list_left f test same [] e = refl
 list_left f test same (a ∷ rest) e =
-    let parts = both (test a) (list_all test rest) e in
+    let parts = and_parts (test a) (list_all test rest) e in
     λ i. same a parts.0 i ∷ list_left f test same rest parts.1 i
 
-option_left : {A : Type 0} (f : A → A) (test : A → Bool) → ((a : A) → test a ≡ true → f a ≡ a) → (option : Option A) → none_or test option ≡ true → option_map f option ≡ option
+option_left : {A : Type 0} (f : A → A) (test : A → Bool) → ((a : A) → test a ≡ true → f a ≡ a) → (option : Option A)
+    → none_or test option ≡ true → option_map f option ≡ option
 option_left f test same None e = refl
 option_left f test same (Some a) e = λ i. Some (same a e i)
 
@@ -51,7 +50,8 @@ module _ (named : ℕ → Bool) (renaming : Renaming ℕ ℕ) (leaves : Leaves r
       by true e =
           absurd (true≢false (sym e ∙ ap named (sym (leaves (back number) e) ∙ renaming.there_back number) ∙ out))
 
-  found_left : {A : Type 0} (f : A → A) (test : A → Bool) → ((a : A) → test a ≡ true → f a ≡ a) → (find : ℕ → Option A) → IsFoundAmong named test find
+  found_left : {A : Type 0} (f : A → A) (test : A → Bool) → ((a : A) → test a ≡ true → f a ≡ a) → (find : ℕ → Option A)
+      → IsFoundAmong named test find
       → (number : ℕ) → option_map f (find (back number)) ≡ find number
   found_left f test same find found number = by (named number) refl
     where
@@ -61,7 +61,7 @@ module _ (named : ℕ → Bool) (renaming : Renaming ℕ ℕ) (leaves : Leaves r
 
   location_left : (location : Location ℕ) → location_named named location ≡ true → renamed_location there back location ≡ location
   location_left location e =
-      let parts = both (named location.mount) (named location.node) e in
+      let parts = and_parts (named location.mount) (named location.node) e in
       λ i. record { mount = leaves location.mount parts.0 i; node = leaves location.node parts.1 i }
 
   propagation_left : (kind : Propagation ℕ) → propagation_named named kind ≡ true → renamed_propagation there back kind ≡ kind
@@ -72,11 +72,11 @@ module _ (named : ℕ → Bool) (renaming : Renaming ℕ ℕ) (leaves : Leaves r
 
   mount_left : (mount : Mount ℕ) → mount_named named mount ≡ true → renamed_mount there back mount ≡ mount
   mount_left mount e =
-      let last = both _ (propagation_named named mount.propagation) e in
-      let root = both _ (named mount.root) last.0 in
-      let filesystem = both _ (named mount.filesystem) root.0 in
-      let place = both _ (none_or (location_named named) mount.mount_point) filesystem.0 in
-      let first = both (named mount.number) (none_or named mount.namespace) place.0 in
+      let last = and_parts _ (propagation_named named mount.propagation) e in
+      let root = and_parts _ (named mount.root) last.0 in
+      let filesystem = and_parts _ (named mount.filesystem) root.0 in
+      let place = and_parts _ (none_or (location_named named) mount.mount_point) filesystem.0 in
+      let first = and_parts (named mount.number) (none_or named mount.namespace) place.0 in
       λ i. record {
         number = leaves mount.number first.0 i;
         namespace = option_left there named leaves mount.namespace first.1 i;
@@ -92,7 +92,7 @@ module _ (named : ℕ → Bool) (renaming : Renaming ℕ ℕ) (leaves : Leaves r
 
   content_left : (content : Content ℕ) → content_named named content ≡ true → renamed_content there back content ≡ content
   content_left (Directory parent entries opaque) e =
-      let parts = both (named parent) (list_all (λ (entry : List ℕ × ℕ). named entry.1) entries) e in
+      let parts = and_parts (named parent) (list_all (λ (entry : List ℕ × ℕ). named entry.1) entries) e in
       λ i. Directory (leaves parent parts.0 i)
       (list_left (renamed_entry there back) (λ (entry : List ℕ × ℕ). named entry.1) entry_left entries parts.1 i) opaque
   content_left (Regular bytes) e = refl
@@ -104,7 +104,7 @@ module _ (named : ℕ → Bool) (renaming : Renaming ℕ ℕ) (leaves : Leaves r
 
   layer_left : (layer : Layer ℕ) → layer_named named layer ≡ true → renamed_layer there back layer ≡ layer
   layer_left layer e =
-      let parts = both (named layer.filesystem) (named layer.directory) e in
+      let parts = and_parts (named layer.filesystem) (named layer.directory) e in
       λ i. record { filesystem = leaves layer.filesystem parts.0 i; directory = leaves layer.directory parts.1 i }
 
   real_left : (real : Real ℕ) → real_named named real ≡ true → renamed_real there back real ≡ real
@@ -120,7 +120,8 @@ module _ (named : ℕ → Bool) (renaming : Renaming ℕ ℕ) (leaves : Leaves r
     real = λ number. found_left (renamed_real there back) (real_named named) real_left overlay.real h.real number i;
   }
 
-  overlay_if_any_left : (overlay : Option (Overlay ℕ)) → OverlayIfAnyNamed named overlay → option_map (renamed_overlay there back) overlay ≡ overlay
+  overlay_if_any_left : (overlay : Option (Overlay ℕ)) → OverlayIfAnyNamed named overlay
+      → option_map (renamed_overlay there back) overlay ≡ overlay
   overlay_if_any_left None h = refl
   overlay_if_any_left (Some overlay) h = ap Some (overlay_left overlay h)
 
@@ -141,15 +142,16 @@ module _ (named : ℕ → Bool) (renaming : Renaming ℕ ℕ) (leaves : Leaves r
   namespace_left : (namespace : Namespace ℕ) → namespace_named named namespace ≡ true → renamed_namespace there back namespace ≡ namespace
   namespace_left namespace e = λ i. record { number = leaves namespace.number e i; change = namespace.change }
 
-  descriptor_left : (descriptor : Descriptor ℕ) → descriptor_named named descriptor ≡ true → renamed_descriptor there back descriptor ≡ descriptor
+  descriptor_left : (descriptor : Descriptor ℕ) → descriptor_named named descriptor ≡ true
+      → renamed_descriptor there back descriptor ≡ descriptor
   descriptor_left descriptor e =
       λ i. record { number = descriptor.number; location = location_left descriptor.location e i; reads = descriptor.reads; writes = descriptor.writes }
 
   task_left : (task : Task ℕ) → task_named named task ≡ true → renamed_task there back task ≡ task
   task_left task e =
-      let last = both _ (list_all (descriptor_named named) task.descriptors) e in
-      let directory = both _ (location_named named task.directory) last.0 in
-      let first = both (named task.namespace) (location_named named task.root) directory.0 in
+      let last = and_parts _ (list_all (descriptor_named named) task.descriptors) e in
+      let directory = and_parts _ (location_named named task.directory) last.0 in
+      let first = and_parts (named task.namespace) (location_named named task.root) directory.0 in
       λ i. record {
         name = task.name;
         credentials = task.credentials;

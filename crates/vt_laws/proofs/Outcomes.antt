@@ -111,7 +111,8 @@ module _ (rules : List Rule) where
     after_own world (Err deny) next own h = (refl, own)
 
     -- change numbers are raised where a call is granted alone
-    pub finished_own : (eq : N → N → Bool) (world : World N) (name : TaskName) (changed : List N) (looks : Bool) (answer : Result Answer Deny) (left : World N)
+    pub finished_own : (eq : N → N → Bool) (world : World N) (name : TaskName) (changed : List N) (looks : Bool)
+        (answer : Result Answer Deny) (left : World N)
         → DeniesOwn world (record { answer = answer; world = left })
         → DeniesOwn world (finished_by eq (looks || not (is_ok answer)) world name changed (record { answer = answer; world = left }))
     finished_own eq world name changed true answer left own = own

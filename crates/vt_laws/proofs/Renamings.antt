@@ -28,7 +28,7 @@ module _ {N : Type 0} where
     numbers = map_itself (λ n. n) (λ n. refl) files.numbers i;
   }
 
-  real_itself : (real : Real N) → renamed_real (λ n. n) (λ n. n) real ≡ real
+  pub real_itself : (real : Real N) → renamed_real (λ n. n) (λ n. n) real ≡ real
   real_itself (Upper object) = refl
   real_itself (Below layer path) = refl
 
@@ -38,7 +38,7 @@ module _ {N : Type 0} where
   layer_itself : (layer : Option (Layer N)) → option_map (renamed_layer (λ n. n) (λ n. n)) layer ≡ layer
   layer_itself = option_itself (renamed_layer (λ n. n) (λ n. n)) (λ layer. refl)
 
-  overlay_itself : (overlay : Overlay N) → renamed_overlay (λ n. n) (λ n. n) overlay ≡ overlay
+  pub overlay_itself : (overlay : Overlay N) → renamed_overlay (λ n. n) (λ n. n) overlay ≡ overlay
   overlay_itself overlay = λ i. record {
     upper = layer_itself overlay.upper i;
     work = layer_itself overlay.work i;
@@ -172,8 +172,10 @@ lines_renamed renaming grammar fresh world line =
 pub same_worlds_answer_alike : SameWorldsAnswerAlike
 same_worlds_answer_alike world other same fresh name call =
     let renaming : Renaming ℕ ℕ = record { there = same.there; back = same.back; there_back = same.there_back; back_there = same.back_there } in
-    let alike : policy nat_eq (renamed_supply same.there same.back fresh) other name call ≡ renamed_outcome same.there same.back (policy nat_eq fresh world name call) =
-    ap (λ w. policy nat_eq (renamed_supply same.there same.back fresh) w name call) (sym same.same) ∙ calls_renamed renaming fresh world name call in (
+    let alike : policy nat_eq (renamed_supply same.there same.back fresh) other name call ≡ renamed_outcome same.there same.back
+    (policy nat_eq fresh world name call) =
+    ap (λ w. policy nat_eq (renamed_supply same.there same.back fresh) w name call) (sym same.same)
+    ∙ calls_renamed renaming fresh world name call in (
       ap (λ outcome. outcome.answer) alike,
       record {
         there = same.there;

@@ -215,7 +215,8 @@ module _ (world : World ℕ) (others : List (Filesystem ℕ)) (namespaces : List
       mounted_same (odds fresh) place (overlay_filesystem nat_eq (evens fresh) world overlay) flags
       ∙ (λ i. has_too_many nat_eq (mounted nat_eq (odds fresh) again place
       (overlay_same world others namespaces tasks change same any (evens fresh) overlay i) flags))
-  many_same fresh task (ToBind source place recursive) = bound_same world others namespaces tasks change same any fresh source place recursive
+  many_same fresh task (ToBind source place recursive) =
+      bound_same world others namespaces tasks change same any fresh source place recursive
   many_same fresh task (ToMove mount place) =
       attach_same world others namespaces tasks change same any fresh place true
       (mount_tree nat_eq world.mounts (mount_numbered nat_eq world mount))

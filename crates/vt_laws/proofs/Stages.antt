@@ -133,7 +133,8 @@ module _ (m : ℕ) (keeps : ℕ → Bool) (early : (number : ℕ) → keeps numb
   unfolding left_at later_by shift shift_by lot_by lot_of
   left_is_left_at a k = by (keeps a) refl (side m (row a)) refl k
     where
-      with_shift : (test : Bool) → keeps a ≡ test → (s : Side) → side m (row a) ≡ s → (k : ℕ) → lot_of (spread (beyond m a) k) ≡ LeftOver (number_in_row a (shift_by test s k))
+      with_shift : (test : Bool) → keeps a ≡ test → (s : Side) → side m (row a) ≡ s → (k : ℕ)
+          → lot_of (spread (beyond m a) k) ≡ LeftOver (number_in_row a (shift_by test s k))
       with_shift test is s at k = lot_late a k ∙ (λ i. LeftOver (number_in_row a (shift_by (is i) (at i) k)))
 
       opened : (test : Bool) → keeps a ≡ test → (s : Side) → side m (row a) ≡ s → (k : ℕ) → left_at a k ≡ later_by test s a k
@@ -218,7 +219,8 @@ module _ (m : ℕ) (keeps : ℕ → Bool) (early : (number : ℕ) → keeps numb
   unfolding stage lot_of lot_by Says
   stage_rows number = by (keeps number) refl (side m (row number)) refl
     where
-      by : (test : Bool) → keeps number ≡ test → (s : Side) → side m (row number) ≡ s → is_in_hand_lot (lot_by test s number) ≡ true → row number ≤ suc m
+      by : (test : Bool) → keeps number ≡ test → (s : Side) → side m (row number) ≡ s
+          → is_in_hand_lot (lot_by test s number) ≡ true → row number ≤ suc m
       by true is s at e = let h = early number is in omega arith
       by false is Before at e = absurd (true≢false (sym e))
       by false is At at e = let h : row number ≡ suc m = says m (row number) At at in omega arith

@@ -23,7 +23,8 @@ calls_keep_to_numbers named fresh world name call keeps supplied renaming leaves
 
 -- the world after a renamed step is the renamed world
 pub step_world-renamed : (renaming : Renaming ℕ ℕ) (world : World ℕ) (step : Step ℕ)
-    → step_world (renamed renaming.there renaming.back world) (renamed_step renaming.there renaming.back step) ≡ renamed renaming.there renaming.back (step_world world step)
+    → step_world (renamed renaming.there renaming.back world) (renamed_step renaming.there renaming.back step)
+    ≡ renamed renaming.there renaming.back (step_world world step)
 step_world-renamed renaming world Silent = refl
 step_world-renamed renaming world (Answered outcome) = refl
 
@@ -31,7 +32,8 @@ pub lines_keep_to_numbers : LinesKeepToNumbers
 lines_keep_to_numbers named grammar fresh world line keeps supplied renaming leaves =
     sym (step_world-renamed renaming world (line_step nat_eq grammar world line (Some fresh)))
     ∙ ap (step_world (renamed renaming.there renaming.back world)) (sym (lines_renamed renaming grammar (Some fresh) world line))
-    ∙ (λ i. step_world (keeps renaming leaves i) (line_step nat_eq grammar (keeps renaming leaves i) line (Some (λ k. leaves (fresh k) (supplied k) i))))
+    ∙ (λ i. step_world (keeps renaming leaves i)
+    (line_step nat_eq grammar (keeps renaming leaves i) line (Some (λ k. leaves (fresh k) (supplied k) i))))
 
 -- The opening world
 
@@ -42,7 +44,7 @@ named_supply = record { rename = λ A B there back fresh k. there (fresh k); its
 four : ℕ → ℕ → ℕ → ℕ → Fresh ℕ
 four a b c d k = cond (nat_eq k 0) a (cond (nat_eq k 1) b (cond (nat_eq k 2) c d))
 
-opening_alike : (f g : Fresh ℕ) → f 0 ≡ g 0 → f 1 ≡ g 1 → f 2 ≡ g 2 → f 3 ≡ g 3 → opening nat_eq f ≡ opening nat_eq g
+pub opening_alike : (f g : Fresh ℕ) → f 0 ≡ g 0 → f 1 ≡ g 1 → f 2 ≡ g 2 → f 3 ≡ g 3 → opening nat_eq f ≡ opening nat_eq g
 unfolding four
 opening_alike f g mount namespace filesystem root = λ i. opening nat_eq (four (mount i) (namespace i) (filesystem i) (root i))
 
@@ -57,7 +59,8 @@ opening_keeps_to_four named fresh mount namespace filesystem root renaming leave
 named_list : Named List
 named_list = record { rename = λ A B there back list. map there list; itself = λ A list. map_itself (λ n. n) (λ n. refl) list }
 
-used_renamed : (renaming : Renaming ℕ ℕ) (world : World ℕ) → numbers_in_use (renamed renaming.there renaming.back world) ≡ map renaming.there (numbers_in_use world)
+used_renamed : (renaming : Renaming ℕ ℕ) (world : World ℕ)
+    → numbers_in_use (renamed renaming.there renaming.back world) ≡ map renaming.there (numbers_in_use world)
 unfolding named_list
 used_renamed renaming world = commutes_nat World List named_world named_list (λ A eq world. numbers_in_use world) renaming world
 
@@ -73,7 +76,8 @@ member_itself f [] same number among = absurd (true≢false (sym among))
 member_itself f (first ∷ rest) same number among =
     ⊎_elim
     (λ t. ap f t.1 ∙ same_first (f first) first (map f rest) rest same ∙ sym t.1)
-    (λ t. member_itself f rest (same_rest (f first) first (map f rest) rest same) number (sym (ap (λ b. b || is_among nat_eq number rest) t.0) ∙ among))
+    (λ t. member_itself f rest (same_rest (f first) first (map f rest) rest same) number
+    (sym (ap (λ b. b || is_among nat_eq number rest) t.0) ∙ among))
     (eqb_tells number first)
 
 -- Of two numbers that are left out one is another than the number given
@@ -94,4 +98,5 @@ used_numbers_are_named named world keeps out number among = by (named number) re
         let same : map (swapped number other.0) (numbers_in_use world) ≡ numbers_in_use world =
         sym (used_renamed (exchange number other.0) world)
         ∙ ap numbers_in_use (keeps (exchange number other.0) (exchange_leaves named number other.0 e other.2)) in
-        absurd (other.1 (sym (swapped_first number other.0) ∙ member_itself (swapped number other.0) (numbers_in_use world) same number among))
+        absurd (other.1 (sym (swapped_first number other.0)
+        ∙ member_itself (swapped number other.0) (numbers_in_use world) same number among))

@@ -17,7 +17,8 @@ use Rattle.vt_laws.proofs.Stages.{stage, stage_keeps, stage_new, stage_rows}
 use Rattle.vt_laws.proofs.Supports.{used_numbers_are_named, lines_keep_to_numbers, step_world-renamed, opening_keeps_to_four}
 
 -- who keeps to some numbers keeps to more
-more : (named others : ℕ → Bool) (world : World ℕ) → ((number : ℕ) → named number ≡ true → others number ≡ true) → KeepsTo named world → KeepsTo others world
+more : (named others : ℕ → Bool) (world : World ℕ) → ((number : ℕ) → named number ≡ true → others number ≡ true)
+    → KeepsTo named world → KeepsTo others world
 more named others world among keeps renaming leaves = keeps renaming (λ number is. leaves number (among number is))
 
 kept_in_hand : (lot : Lot) → is_kept_lot lot ≡ true → is_in_hand_lot lot ≡ true
@@ -32,32 +33,38 @@ worlds_keep_to_hand grammar in_hand world allotment line serves =
     (more (is_kept allotment) (is_in_hand allotment) world (λ number is. kept_in_hand (allotment.lot number) is) serves.keeps)
     (λ k. ap is_in_hand_lot (allotment.new_lot k))
 
-step_text-renamed : (renaming : Renaming ℕ ℕ) (number : ℕ) (step : Step ℕ) → step_text number (renamed_step renaming.there renaming.back step) ≡ step_text number step
+step_text-renamed : (renaming : Renaming ℕ ℕ) (number : ℕ) (step : Step ℕ)
+    → step_text number (renamed_step renaming.there renaming.back step) ≡ step_text number step
 step_text-renamed renaming number Silent = refl
 step_text-renamed renaming number (Answered outcome) = refl
 
 -- a line in a renamed world writes the same text, and leads to the renamed world
-module _ (renaming : Renaming ℕ ℕ) (grammar : Grammar) (world other : World ℕ) (same : renamed renaming.there renaming.back world ≡ other) (line : List ℕ) where
-  pub refused_alike : (number : ℕ) → step_text number (line_step nat_eq grammar world line None) ≡ step_text number (line_step nat_eq grammar other line None)
+module _ (renaming : Renaming ℕ ℕ) (grammar : Grammar) (world other : World ℕ)
+    (same : renamed renaming.there renaming.back world ≡ other) (line : List ℕ) where
+  pub refused_alike : (number : ℕ)
+      → step_text number (line_step nat_eq grammar world line None) ≡ step_text number (line_step nat_eq grammar other line None)
   refused_alike number =
       sym (step_text-renamed renaming number (line_step nat_eq grammar world line None))
       ∙ ap (step_text number) (sym (lines_renamed renaming grammar None world line))
       ∙ ap (λ w. step_text number (line_step nat_eq grammar w line None)) same
 
-  pub refused_leads : renamed renaming.there renaming.back (step_world world (line_step nat_eq grammar world line None)) ≡ step_world other (line_step nat_eq grammar other line None)
+  pub refused_leads : renamed renaming.there renaming.back (step_world world (line_step nat_eq grammar world line None))
+      ≡ step_world other (line_step nat_eq grammar other line None)
   refused_leads =
       sym (step_world-renamed renaming world (line_step nat_eq grammar world line None))
       ∙ ap (step_world (renamed renaming.there renaming.back world)) (sym (lines_renamed renaming grammar None world line))
       ∙ ap (λ w. step_world w (line_step nat_eq grammar w line None)) same
 
   module _ (fresh new : Fresh ℕ) (supplied : (k : ℕ) → renaming.there (fresh k) ≡ new k) where
-    pub line_alike : (number : ℕ) → step_text number (line_step nat_eq grammar world line (Some fresh)) ≡ step_text number (line_step nat_eq grammar other line (Some new))
+    pub line_alike : (number : ℕ) → step_text number (line_step nat_eq grammar world line (Some fresh)) ≡ step_text number
+        (line_step nat_eq grammar other line (Some new))
     line_alike number =
         sym (step_text-renamed renaming number (line_step nat_eq grammar world line (Some fresh)))
         ∙ ap (step_text number) (sym (lines_renamed renaming grammar (Some fresh) world line))
         ∙ (λ i. step_text number (line_step nat_eq grammar (same i) line (Some (λ k. supplied k i))))
 
-    pub line_leads : renamed renaming.there renaming.back (step_world world (line_step nat_eq grammar world line (Some fresh))) ≡ step_world other (line_step nat_eq grammar other line (Some new))
+    pub line_leads : renamed renaming.there renaming.back (step_world world (line_step nat_eq grammar world line (Some fresh)))
+        ≡ step_world other (line_step nat_eq grammar other line (Some new))
     line_leads =
         sym (step_world-renamed renaming world (line_step nat_eq grammar world line (Some fresh)))
         ∙ ap (step_world (renamed renaming.there renaming.back world)) (sym (lines_renamed renaming grammar (Some fresh) world line))
@@ -70,10 +77,12 @@ supplies_do_not_matter world other same first second name call keeps kept =
     let before : Renaming ℕ ℕ = record { there = same.there; back = same.back; there_back = same.there_back; back_there = same.back_there } in
     let joint : Renaming ℕ ℕ = joined first second before kept in
     let agrees : renamed joint.there joint.back world ≡ other =
-    agree (is_kept first) world before joint keeps (λ number is. allotted_kept first second same.there number (kept_lot (first.lot number) is)) ∙ same.same in
+    agree (is_kept first) world before joint keeps
+    (λ number is. allotted_kept first second same.there number (kept_lot (first.lot number) is)) ∙ same.same in
     let again : SameWorld world other =
     record { there = joint.there; back = joint.back; there_back = joint.there_back; back_there = joint.back_there; same = agrees } in
-    let supplied : (k : ℕ) → joint.there (first.new k) ≡ second.new k = λ k. allotted_new first second same.there (first.new k) k (first.new_lot k) in
+    let supplied : (k : ℕ) → joint.there (first.new k) ≡ second.new k =
+    λ k. allotted_new first second same.there (first.new k) k (first.new_lot k) in
     let P : Fresh ℕ → Type 0 = λ new. ((policy nat_eq new other name call).answer ≡ (policy nat_eq first.new world name call).answer)
     × SameWorld (policy nat_eq first.new world name call).world (policy nat_eq new other name call).world in
     subst P (λ i k. supplied k i) (same_worlds_answer_alike world other again first.new name call)
@@ -95,8 +104,10 @@ module _ (grammar : Grammar) where
   AreEarly in_hand rename m = (number : ℕ) → in_hand number ≡ true → row (rename number) ≤ m
 
   -- A line that is handed some supply, and the same line in the renamed world that is handed the next row
-  module _ (m : ℕ) (renaming : Renaming ℕ ℕ) (in_hand : ℕ → Bool) (world other : World ℕ) (same : renamed renaming.there renaming.back world ≡ other)
-      (early : (number : ℕ) → in_hand number ≡ true → row (renaming.there number) ≤ m) (allotment : Allotment) (serves : ServesWithRoom in_hand world allotment) where
+  module _ (m : ℕ) (renaming : Renaming ℕ ℕ) (in_hand : ℕ → Bool) (world other : World ℕ)
+      (same : renamed renaming.there renaming.back world ≡ other)
+      (early : (number : ℕ) → in_hand number ≡ true → row (renaming.there number) ≤ m) (allotment : Allotment)
+      (serves : ServesWithRoom in_hand world allotment) where
     is_kept_there : ℕ → Bool
     is_kept_there number = is_kept allotment (renaming.back number)
 
@@ -139,7 +150,8 @@ module _ (grammar : Grammar) where
             omega arith
         by (LeftOver k) e is = absurd (true≢false (sym is))
 
-  texts_alike : (lines : List (List ℕ)) (refused : List Bool) (m number : ℕ) (renaming : Renaming ℕ ℕ) (in_hand : ℕ → Bool) (world other : World ℕ)
+  texts_alike : (lines : List (List ℕ)) (refused : List Bool) (m number : ℕ) (renaming : Renaming ℕ ℕ) (in_hand : ℕ → Bool)
+      (world other : World ℕ)
       → renamed renaming.there renaming.back world ≡ other → ((number : ℕ) → in_hand number ≡ true → row (renaming.there number) ≤ m)
       → (text : List ℕ) → TellsWithRoom grammar in_hand world number lines refused text → text ≡ rows_text m other number lines refused
   unfolding rows_text
@@ -153,18 +165,21 @@ module _ (grammar : Grammar) where
       let allotment = tells.0 in
       let joint = next m renaming in_hand world other same early allotment tells.1 in
       let joint_same = next_same m renaming in_hand world other same early allotment tells.1 in
-      let supplied = λ (k : ℕ). next_new m renaming in_hand world other same early allotment tells.1 (allotment.new k) k (allotment.new_lot k) in
+      let supplied =
+      λ (k : ℕ). next_new m renaming in_hand world other same early allotment tells.1 (allotment.new k) k (allotment.new_lot k) in
       let rest = texts_alike lines refused (suc m) (number + 1) joint (is_in_hand allotment) _ _
       (line_leads joint grammar world other joint_same line allotment.new (spread (suc m)) supplied)
       (next_early m renaming in_hand world other same early allotment tells.1) tells.2 tells.4 in
       tells.3 ∙ (λ i. line_alike joint grammar world other joint_same line allotment.new (spread (suc m)) supplied number i ++ rest i)
 
   -- a line that was refused memory changes nothing
-  refused_keeps : (in_hand : ℕ → Bool) (world : World ℕ) (line : List ℕ) → KeepsTo in_hand world → KeepsTo in_hand (step_world world (line_step nat_eq grammar world line None))
+  refused_keeps : (in_hand : ℕ → Bool) (world : World ℕ) (line : List ℕ) → KeepsTo in_hand world
+      → KeepsTo in_hand (step_world world (line_step nat_eq grammar world line None))
   refused_keeps in_hand world line keeps renaming leaves =
       refused_leads renaming grammar world world (keeps renaming leaves) line
 
-  stage_serves : (m : ℕ) (in_hand : ℕ → Bool) (world : World ℕ) → KeepsTo in_hand world → (early : (number : ℕ) → in_hand number ≡ true → row number ≤ m)
+  stage_serves : (m : ℕ) (in_hand : ℕ → Bool) (world : World ℕ) → KeepsTo in_hand world
+      → (early : (number : ℕ) → in_hand number ≡ true → row number ≤ m)
       → ServesWithRoom in_hand world (stage m in_hand early)
   stage_serves m in_hand world keeps early = record {
     from_hand = λ number is. sym (stage_keeps m in_hand early number) ∙ is;
@@ -200,7 +215,7 @@ abbrev nothing_renamed : Renaming ℕ ℕ
 nothing_renamed = record { there = λ n. n; back = λ n. n; there_back = λ n. refl; back_there = λ n. refl }
 
 -- the opening world keeps to the first four numbers, which stand in the first row
-first_early : (number : ℕ) → first_four number ≡ true → row number ≤ 0
+pub first_early : (number : ℕ) → first_four number ≡ true → row number ≤ 0
 first_early number is =
     let first : row number ≡ 0 = row_first number (ltb-true number 4 is) in
     omega arith
@@ -249,7 +264,8 @@ some_text_is_there grammar refused script long =
     (rows_told grammar (lines_of script) refused 0 1 first_four first_world first_keeps first_early long)
 
 -- a text that may be told has a chance for each line
-told_long : (grammar : Grammar) (lines : List (List ℕ)) (refused : List Bool) (in_hand : ℕ → Bool) (world : World ℕ) (number : ℕ) (text : List ℕ)
+told_long : (grammar : Grammar) (lines : List (List ℕ)) (refused : List Bool) (in_hand : ℕ → Bool) (world : World ℕ) (number : ℕ)
+    (text : List ℕ)
     → TellsWithRoom grammar in_hand world number lines refused text → length lines ≤ length refused
 told_long grammar [] refused in_hand world number text tells = omega arith
 told_long grammar (line ∷ lines) [] in_hand world number text tells = absurd tells
@@ -291,11 +307,14 @@ room_serves in_hand world allotment serves = record {
       left 1,
     )
 
-    unused : (k : ℕ) (b : Bool) → is_among nat_eq (allotment.new k) (numbers_in_use world) ≡ b → is_among nat_eq (allotment.new k) (numbers_in_use world) ≡ false
-    unused k true e = absurd (true≢false (sym (used_numbers_are_named (is_kept allotment) world serves.keeps two (allotment.new k) e) ∙ named k))
+    unused : (k : ℕ) (b : Bool) → is_among nat_eq (allotment.new k) (numbers_in_use world) ≡ b
+        → is_among nat_eq (allotment.new k) (numbers_in_use world) ≡ false
+    unused k true e =
+        absurd (true≢false (sym (used_numbers_are_named (is_kept allotment) world serves.keeps two (allotment.new k) e) ∙ named k))
     unused k false e = e
 
-told_with_room : (grammar : Grammar) (lines : List (List ℕ)) (refused : List Bool) (in_hand : ℕ → Bool) (world : World ℕ) (number : ℕ) (text : List ℕ)
+told_with_room : (grammar : Grammar) (lines : List (List ℕ)) (refused : List Bool) (in_hand : ℕ → Bool) (world : World ℕ)
+    (number : ℕ) (text : List ℕ)
     → TellsWithRoom grammar in_hand world number lines refused text → Tells nat_eq grammar world number lines refused text
 told_with_room grammar [] refused in_hand world number text tells = tells
 told_with_room grammar (line ∷ lines) [] in_hand world number text tells = tells

@@ -52,7 +52,8 @@ looks_keep fresh world task ListMounts e = refl
 looks_keep fresh world task call e = cc
 
 -- no change number is raised by a look
-unraised : (looks granted : Bool) (world : World ℕ) (name : TaskName) (changed : List ℕ) (outcome : Outcome ℕ) → looks ≡ true → outcome.world ≡ world
+unraised : (looks granted : Bool) (world : World ℕ) (name : TaskName) (changed : List ℕ) (outcome : Outcome ℕ) → looks ≡ true
+    → outcome.world ≡ world
     → (finished_by nat_eq (looks || granted) world name changed outcome).world ≡ world
 unraised true granted world name changed outcome e same = same
 unraised false granted world name changed outcome e same = cc

@@ -30,6 +30,7 @@ pub mod LowersKept
 pub mod LowersMounts
 pub mod LowersWorld
 pub mod MountingKept
+pub mod MountingReached
 pub mod MountingWalked
 pub mod ShownAlike
 pub mod ShownAtPath

@@ -52,7 +52,7 @@ under_itself files directory is =
     first Rattle.std.proofs.Common.zero = left_holds (nat_eq directory directory) _ (eq-eqb directory directory refl)
     first (Rattle.std.proofs.Common.suc most) = started (named_parent nat_eq files.tree directory) (chain most (named_parent nat_eq files.tree))
 
-found_among : (test : Filesystem ℕ → Bool) (list : List (Filesystem ℕ)) (a : Filesystem ℕ) → find test list ≡ Some a → Among a list
+pub found_among : (test : Filesystem ℕ → Bool) (list : List (Filesystem ℕ)) (a : Filesystem ℕ) → find test list ≡ Some a → Among a list
 found_among test [] a e = none_is_some a e
 found_among test (first ∷ list) a e = by (test first) e (found_among test list a)
   where

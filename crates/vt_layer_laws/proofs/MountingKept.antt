@@ -1,9 +1,10 @@
 -- What a world is when an overlay is mounted in it.
-use Rattle.std.proofs.Common.{arith, ◌≡◌, refl, sym, ap, ◌∙◌, true≢false, ℕ, nat_eq, Bool, true, false, ◌&&◌, ◌||◌, List, [], ◌∷◌, ◌++◌, map, Option, Some, None, Result, Ok, Err, inl, inr, unwrap_or}
+use Rattle.std.proofs.Common.{arith, ◌≡◌, refl, sym, ap, subst, ◌∙◌, true≢false, ℕ, nat_eq, eqb-true, Bool, true, false, ◌&&◌, ◌||◌, List, [], ◌∷◌, ◌++◌, map, Option, Some, None, Result, Ok, Err, inl, inr, unwrap_or}
 use Rattle.std.proofs.lemmas.Bool.Decides.{eqb_tells}
 use Rattle.std.proofs.lemmas.List.Elements.{All-push}
 use Rattle.std.proofs.lemmas.List.Folds.{list_all-append}
 use Rattle.std.specs.List.{list_all}
+use Rattle.std.specs.Prelude.{All, option_to_list}
 use Rattle.vt_spec.specs.Language.Answers.Answer.{Done}
 use Rattle.vt_spec.specs.Language.Calls.{MountFlags, OverlayWords}
 use Rattle.vt_spec.specs.declared.errors.Deny.{Deny}
@@ -17,7 +18,8 @@ use Rattle.vt_spec.specs.Machine.Outcomes.{Outcome, after, granted, judged}
 use Rattle.vt_spec.specs.Machine.Walk.{Here, walk_end}
 use Rattle.vt_spec.specs.Machine.World.{Filesystem, Layer, Overlay, Task, World, filesystem_numbered, layers_of, no_filesystem}
 use Rattle.vt_spec.specs.Machine.Invariants.{IsMerged, IsWorld, ListsNumbers, OverlayInvariants, TreeInvariants, has_fit_layers, is_fit_filesystem, is_plain_layer}
-use Rattle.vt_spec.specs.TreeLaws.{HasOwnParents, IsTree}
+use Rattle.vt_spec.specs.TreeLaws.{HasOwnParents, IsReached, IsTree}
+use Rattle.vt_spec.proofs.Lists
 use Rattle.vt_tree_laws.proofs.TreesWalked.{Passed, after_any, after_holds, judged_holds}
 use Rattle.vt_layer_laws.specs.Layers.Mounted.{AreLayers}
 use Rattle.vt_layer_laws.specs.Layers.Mounting.{AreNewNumbers, MountingKeepsOverlays, MountingKeepsTrees, MountingMakesOverlay}
@@ -27,6 +29,8 @@ use Rattle.vt_layer_laws.proofs.DirectoriesLater.{not_found}
 use Rattle.vt_layer_laws.proofs.DirectoriesOrder.{pairwise_append}
 use Rattle.vt_layer_laws.proofs.DirectoriesStill.{find_new, overlays_still_merge}
 use Rattle.vt_layer_laws.proofs.DirectoriesLater
+use Rattle.vt_layer_laws.proofs.LockedApart.{layer_plain, upper_in_layers}
+use Rattle.vt_layer_laws.proofs.MountingReached.{layers_are_reached}
 use Rattle.vt_layer_laws.proofs.MountingWalked.{AreWalked, all_plain, are_walked, fit_layers, has_layers, none_refuses, shown_plain}
 use Rattle.vt_layer_laws.proofs.ShownObjects.{Among}
 
@@ -54,6 +58,7 @@ overlays_with world mounts master is = record {
   plain_layers = is.plain_layers;
   changed_apart = is.changed_apart;
   lowers_apart = is.lowers_apart;
+  uppers_reached = is.uppers_reached;
 }
 
 pub trees_with : (world : World ℕ) (mounts : List (Mount ℕ)) (master : ℕ → Option ℕ) → TreeInvariants nat_eq world → TreeInvariants nat_eq (WithMounts world mounts master)
@@ -85,7 +90,12 @@ module _ (world : World ℕ) (conditions : IsWorld nat_eq world) (fresh : Fresh 
   even_distinct : (j k : ℕ) → evens fresh j ≡ evens fresh k → j ≡ k
   even_distinct j k e = let same = are_new.distinct _ _ e in omega (arith, same)
 
-  module _ (places : LayerPlaces ℕ) (walked : AreWalked world task places) (passed : Passed (layer_rules nat_eq world places (overlay_at nat_eq world task places))) where
+  abbrev AreReached : LayerPlaces ℕ → Type 0
+  AreReached places =
+      All (λ (layer : Layer ℕ). IsReached (filesystem_numbered nat_eq world layer.filesystem).files.tree layer.directory)
+      (layers_of (overlay_at nat_eq world task places))
+
+  module _ (places : LayerPlaces ℕ) (walked : AreWalked world task places) (reached : AreReached places) (passed : Passed (layer_rules nat_eq world places (overlay_at nat_eq world task places))) where
     abbrev overlay : Overlay ℕ
     overlay = overlay_at nat_eq world task places
 
@@ -160,6 +170,41 @@ module _ (world : World ℕ) (conditions : IsWorld nat_eq world) (fresh : Fresh 
       fit_filesystems = pushed is_fit_filesystem conditions.files.fit_filesystems (new_overlay_is_fit (evens fresh) world overlay conditions are_layers even_distinct);
     }
 
+    -- names lead to an upper layer's directory as they did, and to that of the new overlay
+    reached_later : (layer : Layer ℕ) → is_plain_layer nat_eq world layer ≡ true
+        → IsReached (filesystem_numbered nat_eq world layer.filesystem).files.tree layer.directory
+        → IsReached (filesystem_numbered nat_eq later layer.filesystem).files.tree layer.directory
+    reached_later layer plain is =
+        subst (λ (f : Filesystem ℕ). IsReached f.files.tree layer.directory)
+        (sym (DirectoriesLater.same_filesystem world conditions overlay are_layers (evens fresh) even_distinct unused layer.filesystem
+        (DirectoriesLater.plain_is_old world conditions overlay are_layers (evens fresh) even_distinct unused layer plain))) is
+
+    own_upper : (layer : Layer ℕ) → overlay.upper ≡ Some layer → Lists.Among layer (layers_of overlay)
+    own_upper layer has = subst (λ o. Lists.Among layer (option_to_list o ++ option_to_list overlay.work ++ overlay.lowers)) (sym has) (inl refl)
+
+    uppers_later : (number : ℕ) (some_overlay : Overlay ℕ) (upper : Layer ℕ) → (filesystem_numbered nat_eq later number).overlay ≡ Some some_overlay
+        → some_overlay.upper ≡ Some upper → IsReached (filesystem_numbered nat_eq later upper.filesystem).files.tree upper.directory
+    uppers_later number some_overlay upper e has = by (nat_eq number new.number) refl
+      where
+        by : (b : Bool) → nat_eq number new.number ≡ b → IsReached (filesystem_numbered nat_eq later upper.filesystem).files.tree upper.directory
+        by false t =
+            let was = sym (ap (λ (f : Filesystem ℕ). f.overlay) (DirectoriesLater.same_filesystem world conditions overlay are_layers (evens fresh) even_distinct unused number t)) ∙ e in
+            reached_later upper (layer_plain world conditions number some_overlay was upper (upper_in_layers world conditions number some_overlay was upper has))
+            (conditions.overlays.uppers_reached number some_overlay upper was has)
+        by true t =
+            let same : filesystem_numbered nat_eq later number ≡ new =
+            ap (λ o. unwrap_or o (no_filesystem number)) (find_new (λ f. nat_eq number f.number) world.filesystems new
+            (not_found number world.filesystems (ap (λ n. is_among nat_eq n (map (λ (f : Filesystem ℕ). f.number) world.filesystems)) (eqb-true number new.number t) ∙ unused)) t) in
+            let own = own_upper upper (ap (upper_in overlay) (sym (ap (λ (f : Filesystem ℕ). f.overlay) same) ∙ e) ∙ has) in
+            reached_later upper
+            (Lists.among_from_list_all (is_plain_layer nat_eq world) (layers_of overlay) (all_plain world task places walked passed) upper own)
+            (Lists.among_from_all (λ (layer : Layer ℕ). IsReached (filesystem_numbered nat_eq world layer.filesystem).files.tree layer.directory)
+            (layers_of overlay) reached upper own)
+          where
+            upper_in : Overlay ℕ → Option (Overlay ℕ) → Option (Layer ℕ)
+            upper_in default None = default.upper
+            upper_in default (Some o) = o.upper
+
     overlays_later : OverlayInvariants nat_eq later
     overlays_later =
         let plain = all_plain world task places walked passed in
@@ -171,6 +216,7 @@ module _ (world : World ℕ) (conditions : IsWorld nat_eq world) (fresh : Fresh 
               (plain_filesystems world.filesystems conditions.overlays.plain_layers) (all_plain_later (layers_of overlay) plain);
           changed_apart = changed_stay_apart (evens fresh) world overlay places conditions are_layers plain even_distinct unused passes;
           lowers_apart = lowers_stay_apart (evens fresh) world overlay places conditions are_layers plain even_distinct unused passes;
+          uppers_reached = uppers_later;
         }
 
     trees_mounted : (place : Location ℕ) (flags : MountFlags) → TreeInvariants nat_eq (overlay_mounted nat_eq fresh world task place places flags)
@@ -183,7 +229,7 @@ module _ (world : World ℕ) (conditions : IsWorld nat_eq world) (fresh : Fresh 
 
   -- what the call leaves
   mounting : (Said : World ℕ → Type 0) → Said world
-      → ((places : LayerPlaces ℕ) → AreWalked world task places → Passed (layer_rules nat_eq world places (overlay_at nat_eq world task places))
+      → ((places : LayerPlaces ℕ) → AreWalked world task places → AreReached places → Passed (layer_rules nat_eq world places (overlay_at nat_eq world task places))
       → (place : Location ℕ) (flags : MountFlags) → Said (overlay_mounted nat_eq fresh world task place places flags))
       → (path : List ℕ) (options : Option OverlayWords) (flags : MountFlags) → Said (mount_overlay_outcome nat_eq fresh world task path options flags).world
   unfolding mount_overlay_outcome
@@ -198,7 +244,7 @@ module _ (world : World ℕ) (conditions : IsWorld nat_eq world) (fresh : Fresh 
           judged_holds Said world (layer_rules nat_eq world places (overlay_at nat_eq world task places)) _ is (λ passed.
           judged_holds Said world (new_mount_rules nat_eq world task place (overlay_mounted nat_eq fresh world task place places flags))
           (granted Done (overlay_mounted nat_eq fresh world task place places flags)) is
-          (λ free. makes places (are_walked world task words places found) passed place flags)))
+          (λ free. makes places (are_walked world task words places found) (layers_are_reached world task words places conditions found) passed place flags)))
 
 pub mounting_keeps_trees : MountingKeepsTrees
 mounting_keeps_trees fresh world task path options flags conditions are_new =

@@ -1,6 +1,6 @@
 -- A change of an overlay writes to new inodes and to objects of the upper layer alone.
 use Rattle.std.proofs.Common.{◌≡◌, ◌≢◌, refl, sym, ap, subst, ◌∙◌, true≢false, ℕ, ◌+◌, ◌*◌, nat_eq, ne_eqb, Bool, true, false, cond, List, Option, Some, None, is_some}
-use Rattle.vt_spec.specs.Language.Changes.{Change, changed_node, node_with_attr, node_with_mark, node_with_parent, node_without_entries, node_without_entry, with_inode, with_moved}
+use Rattle.vt_spec.specs.Language.Changes.{Change, changed_node, node_with_attr, node_with_mark, node_with_parent, node_without_entries, node_without_entry, with_inode, with_moved, with_name, without_name, without_parent}
 use Rattle.vt_spec.specs.Language.Changes.Change.{AddName, CopyUp, Make, Move, Remove, SetAttr, SetBytes, SetMark}
 use Rattle.vt_spec.specs.Machine.CopyUp.{Merge, Stack, changed_both, copied_up, emptied, hides_directory, linked, made, marked, merge_changed, moved, name_left_by, removed, shown_below, upper_directory_named, upper_of, whiteout_of}
 use Rattle.vt_spec.specs.FileTree.{FileTree, a_name}
@@ -34,6 +34,23 @@ module _ (inode : ℕ) where
   emptied_elsewhere upper (Some object) e =
       kept_elsewhere (changed_node nat_eq upper object node_without_entries) object (node_with_parent object) inode (e object refl)
       ∙ kept_elsewhere upper object node_without_entries inode (e object refl)
+
+  -- a move of another object between other directories, not over the inode
+  moved_elsewhere : (files : FileTree ℕ) (from : ℕ) (old : List ℕ) (to : ℕ) (name : List ℕ) (object : ℕ) → nat_eq inode from ≡ false
+      → nat_eq inode to ≡ false → nat_eq inode object ≡ false → entry_named name (entries_in (files.tree.node to)) ≢ Some inode
+      → (with_moved nat_eq files from old to name object).tree.node inode ≡ files.tree.node inode
+  moved_elsewhere files from old to name object f t o spared =
+      let freed = without_parent nat_eq files (entry_named name (entries_in (files.tree.node to))) in
+      let left = without_name nat_eq freed from old in
+      kept_elsewhere (with_name nat_eq left to name object) object (node_with_parent to) inode o
+      ∙ kept_elsewhere left to (node_with_entry name object) inode t
+      ∙ kept_elsewhere freed from (node_without_entry old) inode f
+      ∙ by (entry_named name (entries_in (files.tree.node to))) spared
+    where
+      by : (replaced : Option ℕ) → replaced ≢ Some inode → (without_parent nat_eq files replaced).tree.node inode ≡ files.tree.node inode
+      by None differs = refl
+      by (Some replaced) differs =
+          kept_elsewhere files replaced (node_with_parent replaced) inode (ne_eqb inode replaced (λ same. differs (ap Some (sym same))))
 
 module _ (files : FileTree ℕ) (tree : IsTree files.tree) (numbers : ListsNumbers nat_eq files) (inode : ℕ) (node : Option (Node ℕ)) where
   abbrev Apart : (ℕ → Option (Real ℕ)) → FileTree ℕ → Type 0
@@ -93,50 +110,89 @@ module _ (files : FileTree ℕ) (tree : IsTree files.tree) (numbers : ListsNumbe
         ∙ left_elsewhere inode (is_some (shown_below nat_eq stack (With real upper) from old)) fresh stack away (upper_of (With real upper) from) old
         (ne_eqb inode (fresh 0) (new 0)) from_differs)))
 
+    -- nothing of it changes, its parent neither, where it is not what the new name had
+    pub moved_leaves : (from : ℕ) (old : List ℕ) (to : ℕ) (name : List ℕ) (object : ℕ) → HasUpper real from → HasUpper real to → HasUpper real object
+        → entry_named name (entries_in ((emptied nat_eq upper (upper_directory_named (With real upper) to name)).tree.node (upper_of (With real upper) to))) ≢ Some inode
+        → (moved nat_eq fresh stack (With real upper) from old to name object).upper.tree.node inode ≡ node
+    moved_leaves from old to name object f t o spared =
+        let freed = emptied nat_eq upper (upper_directory_named (With real upper) to name) in
+        let from_differs = upper_differs files tree numbers inode node real upper fine from f in
+        let object_differs = upper_differs files tree numbers inode node real upper fine object o in
+        let away = with_moved nat_eq freed (upper_of (With real upper) from) old (upper_of (With real upper) to) name (upper_of (With real upper) object) in
+        marked_elsewhere inode (hides_directory nat_eq stack (With real upper) to name) _ (upper_of (With real upper) object) object_differs
+        ∙ left_elsewhere inode (is_some (shown_below nat_eq stack (With real upper) from old)) fresh stack away (upper_of (With real upper) from) old
+        (ne_eqb inode (fresh 0) (new 0)) from_differs
+        ∙ moved_elsewhere inode freed (upper_of (With real upper) from) old (upper_of (With real upper) to) name (upper_of (With real upper) object)
+        from_differs (upper_differs files tree numbers inode node real upper fine to t) object_differs spared
+        ∙ emptied_elsewhere inode upper (upper_directory_named (With real upper) to name) (replaced_differs real upper fine to name)
+        ∙ fine.here
+
     changed_both_keeps : (object : ℕ) (change : Option (Node ℕ) → Option (Node ℕ)) → HasUpper real object → (changed_both nat_eq (With real upper) object change).upper.tree.node inode ≡ node
     changed_both_keeps object change has =
         kept_elsewhere upper (upper_of (With real upper) object) change inode (upper_differs files tree numbers inode node real upper fine object has) ∙ fine.here
 
   -- each change, after what it asks to be copied was copied
-  module _ (fresh : Fresh ℕ) (new : (k : ℕ) → inode ≢ fresh k) (stack : Stack ℕ) (real : ℕ → Option (Real ℕ)) (upper : FileTree ℕ) (fine : Apart real upper) where
+  module _ (fresh : Fresh ℕ) (new : (k : ℕ) → inode ≢ fresh k) (stack : Stack ℕ) (real : ℕ → Option (Real ℕ)) (upper : FileTree ℕ) (fine : Apart real upper)
+      (Kept : Option (Node ℕ) → Type 0) (same : (o : Option (Node ℕ)) → o ≡ node → Kept o) (change_made : Change ℕ)
+      (moves : (from : ℕ) (old : List ℕ) (to : ℕ) (name : List ℕ) (object : ℕ) → Move from old to name object ≡ change_made
+      → (moved_real : ℕ → Option (Real ℕ)) (moved_upper : FileTree ℕ)
+      → copied_up nat_eq (evens (odds fresh)) (copied_up nat_eq (evens fresh) (With real upper) object) to ≡ With moved_real moved_upper
+      → Apart moved_real moved_upper → HasUpper moved_real from → HasUpper moved_real to → HasUpper moved_real object
+      → Kept ((moved nat_eq (odds (odds fresh)) stack (With moved_real moved_upper) from old to name object).upper.tree.node inode)) where
     abbrev After : Merge ℕ → Type 0
-    After merge = IsKept node (merge.upper.tree.node inode)
+    After merge = Kept (merge.upper.tree.node inode)
 
     changed_keeps : (object : ℕ) (change : Option (Node ℕ) → Option (Node ℕ)) → is_some (files.tree.node object) ≡ true → After (changed_both nat_eq (copied_up nat_eq fresh (With real upper) object) object change)
     changed_keeps object change there =
         let copied = (up_arrives files tree numbers inode node fresh new real upper fine object there).arrives in
         subst (λ m. After (changed_both nat_eq m object change)) (sym copied.is)
-        (kept_same node _ (changed_both_keeps fresh new stack copied.real copied.upper copied.fine object change copied.copied))
+        (same _ (changed_both_keeps fresh new stack copied.real copied.upper copied.fine object change copied.copied))
 
-    pub changes_keep : (change : Change ℕ) → SpeaksOfWhatIsThere files change
+    each_keeps : (change : Change ℕ) → change ≡ change_made → SpeaksOfWhatIsThere files change
         → ((from : ℕ) (old : List ℕ) (object : ℕ) → entry_at files.tree from old ≡ Some object → (later : ℕ → Option (Real ℕ)) → ((number : ℕ) → HasUpper real number → HasUpper later number) → HasUpper later object → ((name : ℕ × List ℕ) → a_name nat_eq files object ≡ Some name → HasUpper later name.0) → HasUpper later from)
         → After (merge_changed nat_eq fresh stack (With real upper) change)
-    changes_keep (Make directory name number object) there from_too =
+    each_keeps (Make directory name number object) is there from_too =
         let copied = (up_arrives files tree numbers inode node (evens fresh) (λ k. new (2 * k)) real upper fine directory there).arrives in
         subst (λ m. After (made nat_eq (odds fresh) stack m directory name number object)) (sym copied.is)
-        (kept_same node _ (made_keeps (odds fresh) (λ k. new (2 * k + 1)) stack copied.real copied.upper copied.fine directory name number object copied.copied))
-    changes_keep (AddName directory name object) there from_too =
+        (same _ (made_keeps (odds fresh) (λ k. new (2 * k + 1)) stack copied.real copied.upper copied.fine directory name number object copied.copied))
+    each_keeps (AddName directory name object) is there from_too =
         let first = (up_arrives files tree numbers inode node (evens fresh) (λ k. new (2 * k)) real upper fine object there.1).arrives in
         let copied = (up_arrives files tree numbers inode node (odds fresh) (λ k. new (2 * k + 1)) first.real first.upper first.fine directory there.0).arrives in
         subst (λ m. After (linked nat_eq (copied_up nat_eq (odds fresh) m directory) directory name object)) (sym first.is)
         (subst (λ m. After (linked nat_eq m directory name object)) (sym copied.is)
-        (kept_same node _ (linked_keeps fresh new stack copied.real copied.upper copied.fine directory name object copied.copied)))
-    changes_keep (Remove directory name object) there from_too =
+        (same _ (linked_keeps fresh new stack copied.real copied.upper copied.fine directory name object copied.copied)))
+    each_keeps (Remove directory name object) is there from_too =
         let copied = (up_arrives files tree numbers inode node (evens fresh) (λ k. new (2 * k)) real upper fine directory there).arrives in
         subst (λ m. After (removed nat_eq (odds fresh) stack m directory name object)) (sym copied.is)
-        (kept_same node _ (removed_keeps (odds fresh) (λ k. new (2 * k + 1)) stack copied.real copied.upper copied.fine directory name object copied.copied))
-    changes_keep (Move from old to name object) there from_too =
+        (same _ (removed_keeps (odds fresh) (λ k. new (2 * k + 1)) stack copied.real copied.upper copied.fine directory name object copied.copied))
+    each_keeps (Move from old to name object) is there from_too =
         let both = up_arrives files tree numbers inode node (evens fresh) (λ k. new (2 * k)) real upper fine object (tree.alive from old object there.0) in
         let first = both.arrives in
         let copied = (up_arrives files tree numbers inode node (evens (odds fresh)) (λ k. new (2 * (2 * k) + 1)) first.real first.upper first.fine to there.1).arrives in
         subst (λ m. After (moved nat_eq (odds (odds fresh)) stack (copied_up nat_eq (evens (odds fresh)) m to) from old to name object)) (sym first.is)
         (subst (λ m. After (moved nat_eq (odds (odds fresh)) stack m from old to name object)) (sym copied.is)
-        (moved_keeps (odds (odds fresh)) (λ k. new (2 * (2 * k + 1) + 1)) stack copied.real copied.upper copied.fine from old to name object
+        (moves from old to name object is copied.real copied.upper
+        (ap (λ m. copied_up nat_eq (evens (odds fresh)) m to) first.is ∙ copied.is) copied.fine
         (copied.grows from (from_too from old object there.0 first.real first.grows first.copied both.parent))
         copied.copied (copied.grows object first.copied)))
-    changes_keep (SetBytes file bytes) there from_too = changed_keeps file (node_with_bytes bytes) there
-    changes_keep (SetAttr object attr) there from_too = changed_keeps object (node_with_attr attr) there
-    changes_keep (SetMark directory opaque) there from_too = changed_keeps directory (node_with_mark opaque) there
-    changes_keep (CopyUp object) there from_too =
+    each_keeps (SetBytes file bytes) is there from_too = changed_keeps file (node_with_bytes bytes) there
+    each_keeps (SetAttr object attr) is there from_too = changed_keeps object (node_with_attr attr) there
+    each_keeps (SetMark directory opaque) is there from_too = changed_keeps directory (node_with_mark opaque) there
+    each_keeps (CopyUp object) is there from_too =
         let copied = (up_arrives files tree numbers inode node fresh new real upper fine object there).arrives in
-        subst After (sym copied.is) (kept_same node _ copied.fine.here)
+        subst After (sym copied.is) (same _ copied.fine.here)
+
+    pub changes_keep_so : SpeaksOfWhatIsThere files change_made
+        → ((from : ℕ) (old : List ℕ) (object : ℕ) → entry_at files.tree from old ≡ Some object → (later : ℕ → Option (Real ℕ)) → ((number : ℕ) → HasUpper real number → HasUpper later number) → HasUpper later object → ((name : ℕ × List ℕ) → a_name nat_eq files object ≡ Some name → HasUpper later name.0) → HasUpper later from)
+        → After (merge_changed nat_eq fresh stack (With real upper) change_made)
+    changes_keep_so = each_keeps change_made refl
+
+  -- the inode is kept, but for its parent
+  module _ (fresh : Fresh ℕ) (new : (k : ℕ) → inode ≢ fresh k) (stack : Stack ℕ) (real : ℕ → Option (Real ℕ)) (upper : FileTree ℕ) (fine : Apart real upper) where
+    pub changes_keep : (change : Change ℕ) → SpeaksOfWhatIsThere files change
+        → ((from : ℕ) (old : List ℕ) (object : ℕ) → entry_at files.tree from old ≡ Some object → (later : ℕ → Option (Real ℕ)) → ((number : ℕ) → HasUpper real number → HasUpper later number) → HasUpper later object → ((name : ℕ × List ℕ) → a_name nat_eq files object ≡ Some name → HasUpper later name.0) → HasUpper later from)
+        → IsKept node ((merge_changed nat_eq fresh stack (With real upper) change).upper.tree.node inode)
+    changes_keep change =
+        changes_keep_so fresh new stack real upper fine (IsKept node) (λ o e. kept_same node o e) change
+        (λ from old to name object is moved_real moved_upper copied apart f t o.
+        moved_keeps (odds (odds fresh)) (λ k. new (2 * (2 * k + 1) + 1)) stack moved_real moved_upper apart from old to name object f t o)

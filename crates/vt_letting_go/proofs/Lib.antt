@@ -13,7 +13,6 @@ pub mod PlacesLeft
 pub mod TreesChanged
 pub mod TreesWithOverlays
 pub mod LeftOneByOne
-pub mod GroupsHandedOn
 pub mod NamespacesEnd
 pub mod Detached
 pub mod UsesKept

@@ -139,7 +139,7 @@ locations_of_worlds_stand world is =
     (and_parts (is_among nat_eq location.mount (map (λ (mount : Mount ℕ). mount.number) world.mounts)) _
     (passes (is_located_well nat_eq world) (all_locations world) is.tasks.locations_live location m)).0)
 
-all_in_use : (world : World ℕ) → IsWorld nat_eq world → AllInUse world
+pub all_in_use : (world : World ℕ) → IsWorld nat_eq world → AllInUse world
 all_in_use world is =
     subst AllInUse is.nothing_unused (what_is_left_is_in_use world (worlds_have_trees world is) (uppers_of_worlds_are_plain world is))
 

@@ -2,15 +2,15 @@
 ghost use Rattle.std.specs.Prelude.{◌≡◌, ◌+◌, ◌^◌, ◌<◌, [], ◌∷◌, ◌++◌, codes, decimal, if◌then◌else◌, option_map};
 ghost use Rattle.vt_spec.specs.Language.Printed.{kind_word, mount_line_words, place_words, printed_flags, printed_line, printed_spot, printed_type, spaced};
 ghost use Rattle.vt_io.specs.Sink.{Prints};
-ghost use Rattle.vt_location.specs.Flags.{flags_of};
+ghost use Rattle.vt_cred.specs.MountFlags.{flags_of};
 ghost use Rattle.vt_request.specs.Answers.{mount_line_of, spot_of, type_line_of};
 ghost use Rattle.vt_line.specs.Printing.{mount_point_of, printed_mounts, printed_steps, shown_words};
 
 use crate::print::{write_bytes, write_number, write_word};
 use itoa::Buffer;
+use vt_cred::MountFlags;
 use vt_io::output::{Sink, SinkFailed};
 use vt_io::writing::{write_all, write_parts};
-use vt_location::MountFlags;
 use vt_request::{MountLine, Spot, TypeLine};
 
 /// The names of a path, behind a slash each.

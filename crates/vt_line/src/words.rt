@@ -3,7 +3,7 @@ ghost use Rattle.std.specs.Prelude.{◌≡◌, ◌<◌, option_map, length, is_s
 ghost use Rattle.vt_spec.specs.Language.Script.{task_word, path_word, capability_named, capabilities_word, access_word, first_flags, kept_or_identity, groups_word, type_word};
 ghost use Rattle.vt_request.specs.declared.task.TheConstants.{INLINE_NUMBERS};
 ghost use Rattle.vt_cred.specs.Caps.{capability_bits};
-ghost use Rattle.vt_location.specs.Flags.{flags_of};
+ghost use Rattle.vt_cred.specs.MountFlags.{flags_of};
 ghost use Rattle.vt_request.specs.Requests.{access_of, capabilities_of, type_word_of};
 
 use crate::number::{child_number, identity_word};
@@ -12,8 +12,7 @@ use arrayvec::ArrayVec;
 use std::alloc::{AllocError, Global};
 use std::marker::Model;
 use std::str;
-use vt_cred::{Caps, Flags, MAX_GROUPS};
-use vt_location::MountFlags;
+use vt_cred::{Caps, Flags, MAX_GROUPS, MountFlags};
 use vt_request::{Access, CapsWord, TaskName, TypeWord};
 
 /// The groups of a child, of which none takes memory.

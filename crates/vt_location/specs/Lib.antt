@@ -1,4 +1,3 @@
 pub mod Numbers
-pub mod Flags
 pub mod Locations
 pub mod MountValue

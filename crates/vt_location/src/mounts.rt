@@ -4,9 +4,9 @@ ghost use Rattle.vt_spec.specs.Machine.Mounts.{root_of};
 ghost use Rattle.vt_location.specs.Locations.{location_of};
 ghost use Rattle.vt_location.specs.MountValue.{mount_of};
 
-use crate::flags::MountFlags;
 use crate::locations::{Location, NodeRef};
 use crate::numbers::{GroupId, MountId, NamespaceId};
+use vt_cred::MountFlags;
 
 /// The propagation type of a mount: the kernel's document sharedsubtree.
 #[derive(Clone, Copy, Debug, PartialEq, Eq)]

@@ -11,7 +11,8 @@ ghost use Rattle.vt_location.specs.Locations.{location_of, number_of};
 ghost use Rattle.vt_location.specs.Numbers.{counted};
 ghost use Rattle.vt_looks.specs.Looking.{HasNoOverlays, IsGround, is_at_or_below, mount_seen, node_seen, permit_of};
 
-use vt_location::{FilesystemId, Location, Mount, MountFlags, MountId, NamespaceId, NodeRef};
+use vt_cred::MountFlags;
+use vt_location::{FilesystemId, Location, Mount, MountId, NamespaceId, NodeRef};
 use vt_node::Node;
 use vt_request::TaskName;
 use vt_spec::errors::Deny;

@@ -16,15 +16,14 @@ pub enum LastWord<'a> {
 
 impl<'a> LastWord<'a> {
     /// This word, as the last of a path.
+    #[inline(always)]
     pub fn of(word: &'a [u8]) -> LastWord<'a>
         ensures { last_of result ≡ last_word word.now }
     {
-        if word == b".".as_slice() {
-            LastWord::Dot
-        } else if word == b"..".as_slice() {
-            LastWord::DotDot
-        } else {
-            LastWord::Named(word)
+        match word {
+            [b'.'] => LastWord::Dot,
+            [b'.', b'.'] => LastWord::DotDot,
+            _ => LastWord::Named(word),
         }
     }
 

@@ -1,6 +1,7 @@
 //! Worked examples of the written policy, each a theorem by computation.
 #![tactic(auto)]
 
+pub mod container_runtimes;
 pub mod corners_of_files;
 pub mod corners_of_mounts;
 pub mod corners_of_overlays;

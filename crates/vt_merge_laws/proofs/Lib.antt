@@ -9,5 +9,4 @@ pub mod MountedLeft
 pub mod MountedAgain
 pub mod MountedWorlds
 pub mod WorldsRaised
-pub mod LayersReached
 pub mod MountedReached

@@ -24,7 +24,7 @@ use Rattle.vt_layer_laws.specs.Layers.Mounted.{AreLayers}
 use Rattle.vt_layer_laws.proofs.DirectoriesLater.{plain_is_old, same_filesystem}
 use Rattle.vt_layer_laws.proofs.MountingWalked.{all_plain, are_walked, has_layers, shown_plain}
 use Rattle.vt_merge_laws.specs.MountedAnew.{MountedLayersAreReached, world_mounted}
-use Rattle.vt_merge_laws.proofs.LayersReached.{layers_are_reached}
+use Rattle.vt_layer_laws.proofs.MountingReached.{layers_are_reached}
 use Rattle.vt_merge_laws.proofs.MountedAgain.{files_raised, granted_so, is_answer, world_is}
 
 -- a granted call has passed its rules, and is what they let pass

@@ -50,8 +50,7 @@ changes_are_by_layers fresh stack merge whole new change at (copies object place
 -- In a world with the filesystems of one that has all invariants
 module _ (world now : World ℕ) (conditions : IsWorld nat_eq world) (same : now.filesystems ≡ world.filesystems)
     (location : Location ℕ) (overlay : Overlay ℕ) (upper : Layer ℕ)
-    (is : (filesystem_at nat_eq now location).overlay ≡ Some overlay) (has : overlay.upper ≡ Some upper)
-    (reached : IsReached (filesystem_numbered nat_eq world upper.filesystem).files.tree upper.directory) where
+    (is : (filesystem_at nat_eq now location).overlay ≡ Some overlay) (has : overlay.upper ≡ Some upper) where
   abbrev number : ℕ
   number = (mount_at nat_eq now location).filesystem
 
@@ -64,7 +63,7 @@ module _ (world now : World ℕ) (conditions : IsWorld nat_eq world) (same : now
 
   whole : IsWhole (stack_of nat_eq world overlay upper)
       (merge_of nat_eq world (filesystem_numbered nat_eq world number) overlay upper)
-  whole = overlays_are_whole world number overlay upper conditions is_before has reached
+  whole = overlays_are_whole world number overlay upper conditions is_before has
 
   apart : upper.filesystem ≢ number
   apart = upper_elsewhere world conditions number overlay is_before upper has
@@ -128,8 +127,7 @@ module _ (world now : World ℕ) (conditions : IsWorld nat_eq world) (same : now
 -- A change in a world from which mounts are taken away, as one in the world before
 module _ (world : World ℕ) (conditions : IsWorld nat_eq world) (gone : List ℕ) (location : Location ℕ)
     (overlay : Overlay ℕ) (upper : Layer ℕ)
-    (is : (filesystem_at nat_eq world location).overlay ≡ Some overlay) (has : overlay.upper ≡ Some upper)
-    (reached : IsReached (filesystem_numbered nat_eq world upper.filesystem).files.tree upper.directory) where
+    (is : (filesystem_at nat_eq world location).overlay ≡ Some overlay) (has : overlay.upper ≡ Some upper) where
   abbrev now : World ℕ
   now = taken_away nat_eq world gone
 
@@ -148,13 +146,12 @@ module _ (world : World ℕ) (conditions : IsWorld nat_eq world) (gone : List �
       (filesystem_numbered nat_eq world upper.filesystem).files at
   upper_taken fresh change at new asks =
       upper_by_layers world now conditions (taken_filesystems world gone) location overlay upper
-      (ap (λ f. f.overlay) filesystem_same ∙ is) has reached fresh change at new
+      (ap (λ f. f.overlay) filesystem_same ∙ is) has fresh change at new
       (subst (λ f. Asks (merge_of nat_eq world f overlay upper) change at) (sym filesystem_same) asks)
 
 module _ (fresh : Fresh ℕ) (world : World ℕ) (task : Task ℕ) (location : Location ℕ) (at : ChangeAt)
     (overlay : Overlay ℕ) (upper : Layer ℕ) (conditions : IsWorld nat_eq world)
-    (is : (filesystem_at nat_eq world location).overlay ≡ Some overlay) (has : overlay.upper ≡ Some upper)
-    (reached : IsReached (filesystem_numbered nat_eq world upper.filesystem).files.tree upper.directory) where
+    (is : (filesystem_at nat_eq world location).overlay ≡ Some overlay) (has : overlay.upper ≡ Some upper) where
   after_call : (numbers : Fresh ℕ) (permit : Permit ℕ) (change : Change ℕ)
       → Does fresh world permit location numbers change
       → AreNew numbers (filesystem_numbered nat_eq world upper.filesystem).files
@@ -163,40 +160,39 @@ module _ (fresh : Fresh ℕ) (world : World ℕ) (task : Task ℕ) (location : L
       ≡ changed_above numbers (stack_of nat_eq world overlay upper)
       (filesystem_numbered nat_eq world upper.filesystem).files at
   after_call numbers permit change (does_change place made) new asks =
-      upper_by_layers world world conditions refl location overlay upper is has reached numbers change at new asks
+      upper_by_layers world world conditions refl location overlay upper is has numbers change at new asks
   after_call numbers permit change (does_make directory name node) new asks =
-      upper_by_layers world world conditions refl location overlay upper is has reached numbers change at new asks
+      upper_by_layers world world conditions refl location overlay upper is has numbers change at new asks
   after_call numbers permit change (does_open_new directory name node access) new asks =
-      upper_by_layers world world conditions refl location overlay upper is has reached numbers change at new asks
+      upper_by_layers world world conditions refl location overlay upper is has numbers change at new asks
   after_call numbers permit change (does_remove parent name directory) new asks =
       upper_taken world conditions (map (λ mount. mount.number)
       (flat_map (mount_tree nat_eq world.mounts) (mounts_on nat_eq world directory)))
-      location overlay upper is has reached numbers change at new asks
+      location overlay upper is has numbers change at new asks
   after_call numbers permit change (does_rename from old to new_name object None) new asks =
-      upper_by_layers world world conditions refl location overlay upper is has reached numbers change at new asks
+      upper_by_layers world world conditions refl location overlay upper is has numbers change at new asks
   after_call numbers permit change (does_rename from old to new_name object (Some replaced)) new asks =
       upper_taken world conditions (map (λ mount. mount.number)
       (flat_map (mount_tree nat_eq world.mounts) (mounts_on nat_eq world replaced)))
-      location overlay upper is has reached numbers change at new asks
+      location overlay upper is has numbers change at new asks
   after_call numbers permit change (does_open file access copied) new asks =
       ap (λ b. (filesystem_numbered nat_eq
       (opened (with_copy nat_eq b fresh world file) task file access).world upper.filesystem).files) copied
-      ∙ upper_by_layers world world conditions refl location overlay upper is has reached numbers change at new asks
+      ∙ upper_by_layers world world conditions refl location overlay upper is has numbers change at new asks
   after_call numbers permit change (does_write file offset byte bytes) new asks =
-      upper_by_layers world world conditions refl location overlay upper is has reached numbers change at new asks
+      upper_by_layers world world conditions refl location overlay upper is has numbers change at new asks
 
 pub upper_layers_after_calls : UpperLayersAfterCalls
 upper_layers_after_calls fresh numbers world task permit location change at overlay upper conditions does is has
-    reached new asks =
-    after_call fresh world task location at overlay upper conditions is has reached numbers permit change does new asks
+    new asks =
+    after_call fresh world task location at overlay upper conditions is has numbers permit change does new asks
 
 pub upper_layers_after_whole_calls : UpperLayersAfterWholeCalls
 upper_layers_after_whole_calls fresh numbers world task call permit location change at overlay upper conditions judged
     does is
-    has reached new asks =
+    has new asks =
     ap (λ o. (filesystem_numbered nat_eq o.world upper.filesystem).files)
     (call_is_judged_then_applied fresh world task call
     ∙ ap (λ r. after world r (apply nat_eq fresh world task)) judged)
     ∙ upper_layers_after_calls fresh numbers world task permit location change at overlay upper conditions does is has
-    reached
     new asks

@@ -20,6 +20,7 @@ use Rattle.vt_spec.specs.Machine.Settled.{settled}
 use Rattle.vt_spec.specs.Machine.World.{Filesystem, Layer, Namespace, Overlay, Real, Task, World, filesystem_numbered, is_overlay, layers_of, no_filesystem, shown_layers, task_called}
 use Rattle.vt_spec.specs.Machine.World.Real.{Below, Upper}
 use Rattle.vt_spec.specs.Tree.{is_directory_node}
+use Rattle.vt_spec.specs.TreeLaws.{IsReached}
 use Rattle.vt_spec.proofs.Lists.{all-map}
 use Rattle.vt_letting_go.proofs.InUse.{nothing_goes}
 use Rattle.vt_letting_go.proofs.Lists.{any-map, flat_map-map}
@@ -185,6 +186,9 @@ module _ (of_filesystem : Filesystem ℕ → ℕ) (of_namespace : Namespace ℕ 
         (λ i. any_pair (λ a b. overlaps_by (under_same i) (files_same i) (b ∷ []) a) (live_same i)) ∙ is.changed_apart;
     lowers_apart =
         (λ i. list_any (overlaps_by (under_same i) (files_same i) (lowers_same i)) (live_same i)) ∙ is.lowers_apart;
+    uppers_reached = λ number overlay upper e has.
+        subst (λ files. IsReached (files upper.filesystem).tree upper.directory) (sym files_same)
+        (is.uppers_reached number overlay upper (sym (overlay_same number) ∙ e) has);
   }
 
   world_counted : IsWorld nat_eq world → IsWorld nat_eq later

@@ -121,7 +121,6 @@ UpperLayersAfterCalls =
     (at : ChangeAt) (overlay : Overlay ℕ) (upper : Layer ℕ)
     → IsWorld nat_eq world → Does fresh world permit location numbers change
     → (filesystem_at nat_eq world location).overlay ≡ Some overlay → overlay.upper ≡ Some upper
-    → IsReached (filesystem_numbered nat_eq world upper.filesystem).files.tree upper.directory
     → AreNew numbers (filesystem_numbered nat_eq world upper.filesystem).files
     → Asks (merge_of nat_eq world (filesystem_at nat_eq world location) overlay upper) change at
     → (filesystem_numbered nat_eq (apply nat_eq fresh world task permit).world upper.filesystem).files
@@ -137,7 +136,6 @@ UpperLayersAfterWholeCalls =
     → IsWorld nat_eq world → judge_in nat_eq fresh world task call ≡ Ok permit
     → Does fresh world permit location numbers change
     → (filesystem_at nat_eq world location).overlay ≡ Some overlay → overlay.upper ≡ Some upper
-    → IsReached (filesystem_numbered nat_eq world upper.filesystem).files.tree upper.directory
     → AreNew numbers (filesystem_numbered nat_eq world upper.filesystem).files
     → Asks (merge_of nat_eq world (filesystem_at nat_eq world location) overlay upper) change at
     → (filesystem_numbered nat_eq (call_outcome nat_eq fresh world task call).world upper.filesystem).files

@@ -8,3 +8,5 @@ pub mod KeptLemmas
 pub mod PointLemmas
 pub mod TreeLemmas
 pub mod MoveLemmas
+mod CopiedLemmas
+mod RetypeLemmas

@@ -22,7 +22,7 @@ id_cmp_total = record {
   congr = λ x y z. nat_cmp_total.congr x.count y.count z.count;
 }
 
-id_cmp_same : (x y : MountId) → id_cmp x y ≡ Equal → x ≡ y
+pub id_cmp_same : (x y : MountId) → id_cmp x y ≡ Equal → x ≡ y
 id_cmp_same x y tie = ap (λ n. record { count = n }) (nat_cmp-IsAntisymmetric x.count y.count tie)
 
 pub tied : (x y : MountId) → eq_by_cmp id_cmp x y ≡ same_id x y

@@ -2,7 +2,8 @@
 ghost use Rattle.std.specs.Prelude.{◌≡◌, ◌&&◌, nat_lt, true};
 ghost use Rattle.vt_mount.specs.MountsValue.{held_kept, mount_kept, released_kept};
 
-use vt_location::{Location, Mount, MountFlags, MountId, NamespaceId, NodeRef, Propagation};
+use vt_cred::MountFlags;
+use vt_location::{Location, Mount, MountId, NamespaceId, NodeRef, Propagation};
 
 /// A mount without its number, and what uses it.
 #[derive(Clone, Copy, Debug, PartialEq, Eq)]
@@ -37,6 +38,7 @@ impl Mounted {
     }
 
     /// The mount, with its number.
+    #[inline(always)]
     pub(crate) fn mount(&self, number: MountId) -> Mount
         ensures { result ≡ mount_kept number self.now }
     {

@@ -1,24 +1,27 @@
 //! All mounts, by their numbers.
 ghost use Rattle.std.specs.Prelude.{◌≡◌, ◌%◌, ◌==◌, ◌++◌, ◌∷◌, [], None, Some, filter, find, length, map};
-ghost use Rattle.std.specs.Prelude.{nat_eq, nat_lt, not, option_copied, option_map, true, ◌<◌, IfErr, IsOk, OnErr, OnOk, IfSome};
+ghost use Rattle.std.specs.Prelude.{nat_eq, nat_lt, not, option_copied, option_map, true, ℕ, ◌<◌, IfErr, IsOk, OnErr, OnOk, IfSome};
 ghost use Rattle.std.specs.List.{list_all};
 ghost use Rattle.std.specs.Map.{lookup};
 ghost use Rattle.vt_spec.specs.declared.errors.Rule.TheVariants.{S5};
 ghost use Rattle.vt_spec.specs.Errors.{denial};
-ghost use Rattle.vt_spec.specs.Machine.Mounts.{detached};
-ghost use Rattle.vt_location.specs.Flags.{flags_of};
+ghost use Rattle.vt_spec.specs.Machine.Mounts.{Propagation as Type_of_mount, detached};
+ghost use Rattle.vt_location.specs.declared.mounts.Propagation.{Propagation};
+ghost use Rattle.vt_location.specs.declared.numbers.MountId.{MountId};
+ghost use Rattle.vt_cred.specs.MountFlags.{flags_of};
 ghost use Rattle.vt_location.specs.Locations.{location_of};
 ghost use Rattle.vt_location.specs.MountValue.{mount_of, propagation_of};
 ghost use Rattle.vt_location.specs.Numbers.{counted};
 ghost use Rattle.vt_mount.specs.Listed.{same_id};
-ghost use Rattle.vt_mount.specs.MountsValue.{are_ascending, changed, held, mounts_in, released, uses_of, writers_of};
+ghost use Rattle.vt_mount.specs.MountsValue.{are_ascending, changed, held, mounts_in, released, retyped, uses_of, writers_of};
 
 use crate::indexes::Indexes;
 use crate::mounted::Mounted;
 use indexmap::IndexMap;
 use std::alloc::Global;
 use std::marker::Model;
-use vt_location::{Location, Mount, MountFlags, MountId, Propagation};
+use vt_cred::MountFlags;
+use vt_location::{Location, Mount, MountId, Propagation};
 use vt_spec::errors::{Deny, Rule};
 
 /// The mounts of all namespaces, and those that were detached and are still in use.
@@ -50,6 +53,7 @@ impl Model for Mounts {
 
 // What is kept under a number. The first mount is mostly the root of the first namespace, where most walks are: it is compared
 // before a hash is taken.
+#[inline(always)]
 pub(crate) fn kept_under(by_number: &IndexMap<MountId, Mounted>, id: MountId) -> Option<&Mounted>
     ensures { option_copied result ≡ lookup (same_id id) by_number.now.entries }
 {
@@ -92,6 +96,7 @@ impl Mounts {
     }
 
     /// The mount of this number.
+    #[inline(always)]
     pub fn get(&self, id: MountId) -> Option<Mount>
         ensures { option_map mount_of result ≡ find (λ mount. nat_eq (counted id.count) mount.number) (mounts_in self.now) }
     {
@@ -145,6 +150,20 @@ impl Mounts {
         if let Some(kept) = self.by_number.get_mut(&id) {
             kept.propagation = propagation;
         }
+    }
+
+    /// Sets the propagation type of each mount to what a function returns for its number and its type. It does not allocate.
+    pub fn retype<F: Fn(MountId, Propagation) -> Propagation>(&mut self, kind: F)
+        requires { F.IsAlwaysCallable kind }
+        ensures { (seen : ℕ → Type_of_mount ℕ → Type_of_mount ℕ)
+            → ((id : MountId) (old new : Propagation) → F.post kind id old new
+            → propagation_of new ≡ seen (counted id.count) (propagation_of old))
+            → self.new ≡ map (retyped seen) self.old }
+    {
+        self.by_number.retain(|id, kept| {
+            kept.propagation = kind(*id, kept.propagation);
+            true
+        });
     }
 
     /// Counts a root, a working directory or a descriptor on a mount; a descriptor may be open for writing.

@@ -34,7 +34,8 @@ module _ (world : World ℕ) where
       → has_members nat_eq (map (inheriting nat_eq world) mounts) group ≡ has_members nat_eq mounts group
   members-inherited [] group = refl
   members-inherited (mount ∷ mounts) group =
-      ap (λ g. holds_of (nat_eq group) g || has_members nat_eq (map (inheriting nat_eq world) mounts) group) (group-inherited mount.propagation)
+      ap (λ g. holds_of (nat_eq group) g || has_members nat_eq (map (inheriting nat_eq world) mounts) group)
+      (group-inherited mount.propagation)
       ∙ ap (λ b. is_member_of nat_eq group mount || b) (members-inherited mounts group)
 
   -- a slave whose master has a member keeps it
@@ -63,7 +64,9 @@ module _ (world : World ℕ) where
       by : (b : Bool) → list_any (lost_a_group nat_eq world) world.mounts ≡ b
           → (regrouped_by nat_eq b world).mounts ≡ map (inheriting nat_eq world) world.mounts
       by true e = refl
-      by false e = sym (map_same (inheriting nat_eq world) world.mounts (λ mount m. nothing_lost mount (none_among (lost_a_group nat_eq world) world.mounts e mount m)))
+      by false e =
+          sym (map_same (inheriting nat_eq world) world.mounts
+          (λ mount m. nothing_lost mount (none_among (lost_a_group nat_eq world) world.mounts e mount m)))
 
   -- the groups that have members stay the same
   pub members-regrouped : (group : ℕ) → has_members nat_eq (regrouped nat_eq world).mounts group ≡ has_members nat_eq world.mounts group
@@ -84,4 +87,5 @@ no_heir world group above none = by (length world.mounts)
   where
     by : (n : ℕ) → find (has_members nat_eq world.mounts) (chain n world.master group) ≡ None
     by zero = ap (λ b. cond b (Some group) None) none
-    by (suc n) = ap (find (has_members nat_eq world.mounts)) (chain_ends world.master n group above) ∙ ap (λ b. cond b (Some group) None) none
+    by (suc n) =
+        ap (find (has_members nat_eq world.mounts)) (chain_ends world.master n group above) ∙ ap (λ b. cond b (Some group) None) none

@@ -43,7 +43,8 @@ found_passes p (y ∷ ys) x e = by (p y) refl (found_passes p ys x)
 lives_weaker : (p q : ℕ → Bool) (master : ℕ → Option ℕ) → ((group : ℕ) → p group ≡ true → q group ≡ true) → (group : ℕ)
     → Lives p master group → Lives q master group
 lives_weaker p q master more group (has_no_master it has e) = has_no_master it (more it has) e
-lives_weaker p q master more group (has_master it next has e later) = has_master it next (more it has) e (lives_weaker p q master more next later)
+lives_weaker p q master more group (has_master it next has e later) =
+    has_master it next (more it has) e (lives_weaker p q master more next later)
 
 lives_end : (p : ℕ → Bool) (master : ℕ → Option ℕ) (group : ℕ) → Lives p master group → EndsUp master group
 lives_end p master group (has_no_master it has e) = at_top it e
@@ -103,9 +104,11 @@ module _ (world : World ℕ) where
           let member = any_among (is_member_of nat_eq it) world.mounts has in
           let shared = member_shared it member.0 member.2 in
           sym (ap (is_lost_group nat_eq world) (ap (λ k. then_some (source_of k) world.master) shared ∙ e))
-          ∙ (or_parts (is_lost_group nat_eq world (source_of member.0.propagation)) (is_lost_group nat_eq world (then_some (source_of member.0.propagation) world.master)) (unlost member.0 member.1)).1
+          ∙ (or_parts (is_lost_group nat_eq world (source_of member.0.propagation))
+          (is_lost_group nat_eq world (then_some (source_of member.0.propagation) world.master)) (unlost member.0 member.1)).1
 
-  pub regrouped_live : ((mount : Mount ℕ) → Among mount world.mounts → (source : ℕ) → source_of mount.propagation ≡ Some source → EndsUp world.master source)
+  pub regrouped_live : ((mount : Mount ℕ) → Among mount world.mounts → (source : ℕ) → source_of mount.propagation ≡ Some source
+      → EndsUp world.master source)
       → GroupsLive (regrouped nat_eq world)
   regrouped_live ends = by (list_any (lost_a_group nat_eq world) world.mounts) refl
     where
@@ -114,7 +117,8 @@ module _ (world : World ℕ) where
       source_lives mount m (Shared group) e source f =
           let same : group ≡ source = same_Some group source f in
           subst (Lives members inherited_master) same
-          (inherits_live group (ends mount m group (ap source_of e)) group (here group) (any_from_among (is_member_of nat_eq group) world.mounts mount m (shared_member group mount e)))
+          (inherits_live group (ends mount m group (ap source_of e)) group (here group)
+          (any_from_among (is_member_of nat_eq group) world.mounts mount m (shared_member group mount e)))
       source_lives mount m (Slave first) e source f = slave (heir nat_eq world (Some first)) refl f
         where
           slave : (found : Option ℕ) → heir nat_eq world (Some first) ≡ found
@@ -141,7 +145,8 @@ module _ (world : World ℕ) where
 -- the masters of a living world's groups end
 masters_end_in : (world : World ℕ) → GroupsLive world → (mount : Mount ℕ) → Among mount world.mounts → (source : ℕ)
     → source_of mount.propagation ≡ Some source → EndsUp world.master source
-masters_end_in world live mount m source e = lives_end (has_members nat_eq world.mounts) world.master source (lives_in world live mount m source e)
+masters_end_in world live mount m source e =
+    lives_end (has_members nat_eq world.mounts) world.master source (lives_in world live mount m source e)
 
 pub inheritance_keeps_groups : KeptByInheritance GroupsLive
 inheritance_keeps_groups world live = regrouped_live world (masters_end_in world live)
@@ -149,29 +154,34 @@ inheritance_keeps_groups world live = regrouped_live world (masters_end_in world
 pub taking_away_keeps_groups : KeptByTakingAway GroupsLive
 taking_away_keeps_groups world gone live = regrouped_live (middle world gone) (λ mount m source e.
     let from = among-from_map (after_going nat_eq world gone) world.mounts mount m in
-    masters_end_in world live from.0 from.1 source (by from.0 (is_going nat_eq gone from.0.number) refl source (sym (ap (λ x. source_of x.propagation) from.2) ∙ e)))
+    masters_end_in world live from.0 from.1 source
+    (by from.0 (is_going nat_eq gone from.0.number) refl source (sym (ap (λ x. source_of x.propagation) from.2) ∙ e)))
   where
     by : (mount : Mount ℕ) (b : Bool) → is_going nat_eq gone mount.number ≡ b → (source : ℕ)
         → source_of (after_going nat_eq world gone mount).propagation ≡ Some source → source_of mount.propagation ≡ Some source
-    by mount true e source f = absurd (true≢false (sym (ap is_some f) ∙ ap (λ x. is_some (source_of x.propagation)) (going_is_detached world gone mount e)))
+    by mount true e source f =
+        absurd (true≢false (sym (ap is_some f) ∙ ap (λ x. is_some (source_of x.propagation)) (going_is_detached world gone mount e)))
     by mount false e source f = sym (ap (λ x. source_of x.propagation) (staying_is_placed world gone mount e)) ∙ f
 
 pub unmount_keeps_groups : KeptByUnmount GroupsLive
 unmount_keeps_groups world one live = taking_away_keeps_groups world (going nat_eq world (mount_numbered nat_eq world one)) live
 
 pub ended_namespaces_keep_groups : KeptByEndedNamespaces GroupsLive
-ended_namespaces_keep_groups world live = taking_away_keeps_groups world (map (λ mount. mount.number) (filter (is_in_ended nat_eq world) world.mounts)) live
+ended_namespaces_keep_groups world live =
+    taking_away_keeps_groups world (map (λ mount. mount.number) (filter (is_in_ended nat_eq world) world.mounts)) live
 
 lazy_keeps : (mounts : List (Mount ℕ)) (world : World ℕ) → GroupsLive world → GroupsLive (folded (unmounted_if_there nat_eq) world mounts)
 lazy_keeps [] world live = live
-lazy_keeps (mount ∷ mounts) world live = lazy_keeps mounts (unmounted_if_there nat_eq world mount) (by (is_some (mount_numbered nat_eq world mount.number).namespace))
+lazy_keeps (mount ∷ mounts) world live =
+    lazy_keeps mounts (unmounted_if_there nat_eq world mount) (by (is_some (mount_numbered nat_eq world mount.number).namespace))
   where
     by : (b : Bool) → GroupsLive (if b then unmounted nat_eq world mount.number else world)
     by true = unmount_keeps_groups world mount.number live
     by false = live
 
 pub lazy_keeps_groups : KeptByLazyUnmount GroupsLive
-lazy_keeps_groups world one live = lazy_keeps (deepest_first nat_eq world (mount_tree nat_eq world.mounts (mount_numbered nat_eq world one))) world live
+lazy_keeps_groups world one live =
+    lazy_keeps (deepest_first nat_eq world (mount_tree nat_eq world.mounts (mount_numbered nat_eq world one))) world live
 
 -- Mounts that keep their types
 members-map : (f : Mount ℕ → Mount ℕ) → ((mount : Mount ℕ) → (f mount).propagation ≡ mount.propagation)
@@ -179,7 +189,8 @@ members-map : (f : Mount ℕ → Mount ℕ) → ((mount : Mount ℕ) → (f moun
     → has_members nat_eq (map f mounts) group ≡ has_members nat_eq mounts group
 members-map f same [] group = refl
 members-map f same (mount ∷ mounts) group =
-    ap (λ k. holds_of (nat_eq group) (group_of k) || has_members nat_eq (map f mounts) group) (same mount) ∙ ap (λ b. is_member_of nat_eq group mount || b) (members-map f same mounts group)
+    ap (λ k. holds_of (nat_eq group) (group_of k) || has_members nat_eq (map f mounts) group) (same mount)
+    ∙ ap (λ b. is_member_of nat_eq group mount || b) (members-map f same mounts group)
 
 pub pivot_keeps_groups : KeptByPivot GroupsLive
 pivot_keeps_groups world namespace root new put live = groups_live_by (pivoted nat_eq world namespace root new put) (λ mount m source e.
@@ -191,7 +202,9 @@ pivot_keeps_groups world namespace root new put live = groups_live_by (pivoted n
     kept : (mount : Mount ℕ) → (pivoted_mount nat_eq root new put mount).propagation ≡ mount.propagation
     kept mount = by (nat_eq mount.number new.number) (nat_eq mount.number root.number)
       where
-        by : (a b : Bool) → (if a then (record mount { mount_point = root.mount_point }) else if b then (record mount { mount_point = Some put }) else mount).propagation ≡ mount.propagation
+        by : (a b : Bool)
+            → (if a then (record mount { mount_point = root.mount_point }) else if b then
+            (record mount { mount_point = Some put }) else mount).propagation ≡ mount.propagation
         by true b = refl
         by false true = refl
         by false false = refl
@@ -201,10 +214,12 @@ unshare_keeps_groups world fresh task live =
     let copied = mounts_of nat_eq world task.namespace in
     let copy = copied_mount (numbers_by nat_eq (odds fresh) copied) (evens fresh 0) in
     groups_live_by (unshared nat_eq world fresh task) (λ mount m source e.
-    let more : (group : ℕ) → has_members nat_eq world.mounts group ≡ true → has_members nat_eq (world.mounts ++ map copy copied) group ≡ true =
+    let more : (group : ℕ) → has_members nat_eq world.mounts group ≡ true
+    → has_members nat_eq (world.mounts ++ map copy copied) group ≡ true =
     λ group has.
     let member = any_among (is_member_of nat_eq group) world.mounts has in
-    any_from_among (is_member_of nat_eq group) (world.mounts ++ map copy copied) member.0 (among-append_left world.mounts (map copy copied) member.0 member.1) member.2 in
+    any_from_among (is_member_of nat_eq group) (world.mounts ++ map copy copied) member.0
+    (among-append_left world.mounts (map copy copied) member.0 member.1) member.2 in
     lives_weaker (has_members nat_eq world.mounts) (has_members nat_eq (world.mounts ++ map copy copied)) world.master more source
     (⊎_elim
     (λ old. lives_in world live mount old source e)
@@ -230,13 +245,16 @@ settling_keeps_groups world nowhere live = groups_live_by (settled nat_eq world)
     let member = any_among (is_member_of nat_eq group) world.mounts has in
     any_from_among (is_member_of nat_eq group) (filter (mount_lives nat_eq world) world.mounts) member.0
     (among-filter (mount_lives nat_eq world) world.mounts member.0 member.1
-    (attached member.0 (among_from_list_all is_nowhere_or_attached world.mounts nowhere member.0 member.1) group (member_shared group member.0 member.2)))
+    (attached member.0 (among_from_list_all is_nowhere_or_attached world.mounts nowhere member.0 member.1) group
+    (member_shared group member.0 member.2)))
     member.2)
     source (lives_in world live mount from.0 source e)))
   where
     attached : (mount : Mount ℕ) → is_nowhere_or_attached mount ≡ true → (group : ℕ) → mount.propagation ≡ Shared group
         → mount_lives nat_eq world mount ≡ true
-    attached mount fit group shared = by (is_some mount.namespace) (sym (ap (λ k. is_some mount.namespace || (not (is_some mount.mount_point) && is_private k)) shared) ∙ fit)
+    attached mount fit group shared =
+        by (is_some mount.namespace)
+        (sym (ap (λ k. is_some mount.namespace || (not (is_some mount.mount_point) && is_private k)) shared) ∙ fit)
       where
         by : (b : Bool) → (b || (not (is_some mount.mount_point) && false)) ≡ true → (b || is_located nat_eq world mount.number) ≡ true
         by true e = refl
@@ -267,5 +285,6 @@ flags_keep_groups world at flags one_each live =
     same_type old m true e =
         ap (λ x. x.propagation) (replaced_there (record (mount_at nat_eq world at) { flags = flags }) old e)
         ∙ ap (λ x. x.propagation)
-        (ap (mount_in nat_eq world.mounts) (sym (number_found world.mounts at.mount) ∙ eqb-true _ _ e) ∙ found_itself world.mounts one_each old m)
+        (ap (mount_in nat_eq world.mounts) (sym (number_found world.mounts at.mount) ∙ eqb-true _ _ e)
+        ∙ found_itself world.mounts one_each old m)
     same_type old m false e = ap (λ x. x.propagation) (replaced_elsewhere (record (mount_at nat_eq world at) { flags = flags }) old e)

@@ -35,7 +35,8 @@ module _ (master : ℕ → Option ℕ) where
   snoc group lower next (above it step other f way) e = above it step next f (snoc step other next way e)
 
   pub way_up : (n source group : ℕ) → is_among nat_eq group (chain n master source) ≡ true → Up master source group
-  way_up n source group h = along_chain master (Up master source) (λ g lower e way. snoc source lower g way e) n source group (here source) h
+  way_up n source group h =
+      along_chain master (Up master source) (λ g lower e way. snoc source lower g way e) n source group (here source) h
 
   ends_up : (n group : ℕ) → is_some (master (last_or group (chain n master group))) ≡ false → EndsUp master group
   ends_up zero group e = at_top group (none_there (master group) e)
@@ -46,7 +47,9 @@ module _ (master : ℕ → Option ℕ) where
       by None f later = at_top group f
       by (Some next) f later =
           goes_up group next f
-          (later next (sym (ap (λ g. is_some (master g)) (ap (last_or group) (chain_goes_on master n group next f) ∙ last_of_chain master n next group)) ∙ e))
+          (later next
+          (sym (ap (λ g. is_some (master g)) (ap (last_or group) (chain_goes_on master n group next f)
+          ∙ last_of_chain master n next group)) ∙ e))
 
   module _ (members : ℕ → Bool) where
     pub lives_by_chain : (n group : ℕ) → list_all members (chain n master group) ≡ true
@@ -55,13 +58,18 @@ module _ (master : ℕ → Option ℕ) where
     lives_by_chain (suc n) group all e = by (master group) refl (lives_by_chain n)
       where
         by : (found : Option ℕ) → master group ≡ found
-            → ((next : ℕ) → list_all members (chain n master next) ≡ true → is_some (master (last_or next (chain n master next))) ≡ false → Lives members master next)
+            → ((next : ℕ) → list_all members (chain n master next) ≡ true
+            → is_some (master (last_or next (chain n master next))) ≡ false → Lives members master next)
             → Lives members master group
-        by None f later = has_no_master group (and_parts (members group) true (sym (ap (list_all members) (chain_ends master n group f)) ∙ all)).0 f
+        by None f later =
+            has_no_master group (and_parts (members group) true (sym (ap (list_all members) (chain_ends master n group f)) ∙ all)).0 f
         by (Some next) f later =
-            let parts : (members group ≡ true) × (list_all members (chain n master next) ≡ true) = and_parts _ _ (sym (ap (list_all members) (chain_goes_on master n group next f)) ∙ all) in
+            let parts : (members group ≡ true) × (list_all members (chain n master next) ≡ true) =
+            and_parts _ _ (sym (ap (list_all members) (chain_goes_on master n group next f)) ∙ all) in
             has_master group next parts.0 f
-            (later next parts.1 (sym (ap (λ g. is_some (master g)) (ap (last_or group) (chain_goes_on master n group next f) ∙ last_of_chain master n next group)) ∙ e))
+            (later next parts.1
+            (sym (ap (λ g. is_some (master g)) (ap (last_or group) (chain_goes_on master n group next f)
+            ∙ last_of_chain master n next group)) ∙ e))
 
     pub live_members : (group : ℕ) → Lives members master group → members group ≡ true
     live_members group (has_no_master it has f) = has
@@ -76,12 +84,14 @@ module _ (master : ℕ → Option ℕ) where
     all_on_way zero group life = ap (λ b. b && true) (live_members group life)
     all_on_way (suc n) group (has_no_master it has f) = ap (list_all members) (chain_ends master n it f) ∙ ap (λ b. b && true) has
     all_on_way (suc n) group (has_master it next has f later) =
-        ap (list_all members) (chain_goes_on master n it next f) ∙ ap (λ b. b && list_all members (chain n master next)) has ∙ all_on_way n next later
+        ap (list_all members) (chain_goes_on master n it next f) ∙ ap (λ b. b && list_all members (chain n master next)) has
+        ∙ all_on_way n next later
 
     ends_within : (n group : ℕ) (life : Lives members master group) → length (way group life) ≤ suc n
         → is_some (master (last_or group (chain n master group))) ≡ false
     ends_within zero group (has_no_master it has f) l = ap is_some f
-    ends_within (suc n) group (has_no_master it has f) l = ap (λ gs. is_some (master (last_or it gs))) (chain_ends master n it f) ∙ ap is_some f
+    ends_within (suc n) group (has_no_master it has f) l =
+        ap (λ gs. is_some (master (last_or it gs))) (chain_ends master n it f) ∙ ap is_some f
     ends_within zero group (has_master it next has f later) l = absurd (too_long next later l)
       where
         too_long : (g : ℕ) (life : Lives members master g) → suc (length (way g life)) ≤ 1 → ⊥
@@ -94,8 +104,10 @@ module _ (master : ℕ → Option ℕ) where
     same_length : (a : ℕ) (life : Lives members master a) (b : ℕ) (other : Lives members master b) → a ≡ b
         → length (way a life) ≡ length (way b other)
     same_length a (has_no_master x has f) b (has_no_master y has_too g) e = refl
-    same_length a (has_no_master x has f) b (has_master y next has_too g later) e = absurd (true≢false (sym (ap is_some (ap master e ∙ g)) ∙ ap is_some f))
-    same_length a (has_master x next has f later) b (has_no_master y has_too g) e = absurd (true≢false (sym (ap is_some (ap master (sym e) ∙ f)) ∙ ap is_some g))
+    same_length a (has_no_master x has f) b (has_master y next has_too g later) e =
+        absurd (true≢false (sym (ap is_some (ap master e ∙ g)) ∙ ap is_some f))
+    same_length a (has_master x next has f later) b (has_no_master y has_too g) e =
+        absurd (true≢false (sym (ap is_some (ap master (sym e) ∙ f)) ∙ ap is_some g))
     same_length a (has_master x next has f later) b (has_master y after has_too g later_too) e =
         ap suc (same_length next later after later_too (same_Some next after (sym f ∙ ap master e ∙ g)))
 
@@ -108,7 +120,8 @@ module _ (master : ℕ → Option ℕ) where
         by o e = subst (λ g. (rest : Lives members master g) × (length (way g rest) ≤ 1)) e (has_no_master it has f, omega arith)
     rest_of_way group (has_master it next has f later) other m =
         ⊎_elim
-        (λ e. subst (λ g. (rest : Lives members master g) × (length (way g rest) ≤ suc (length (way next later)))) (sym e) (has_master it next has f later, omega arith))
+        (λ e. subst (λ g. (rest : Lives members master g) × (length (way g rest) ≤ suc (length (way next later)))) (sym e)
+        (has_master it next has f later, omega arith))
         (λ l. let t = rest_of_way next later other l in (t.0, omega (arith, t.1)))
         m
 
@@ -132,16 +145,20 @@ fewer_groups : (groups : List ℕ) (mounts : List (Mount ℕ)) → any_pair nat_
     → list_all (has_members nat_eq mounts) groups ≡ true → length groups ≤ length mounts
 fewer_groups [] mounts distinct all = omega arith
 fewer_groups (group ∷ groups) mounts distinct all =
-    let apart_all : (list_any (nat_eq group) groups ≡ false) × (any_pair nat_eq groups ≡ false) = or_parts (list_any (nat_eq group) groups) (any_pair nat_eq groups) distinct in
+    let apart_all : (list_any (nat_eq group) groups ≡ false) × (any_pair nat_eq groups ≡ false) =
+    or_parts (list_any (nat_eq group) groups) (any_pair nat_eq groups) distinct in
     let each : (has_members nat_eq mounts group ≡ true) × (list_all (has_members nat_eq mounts) groups ≡ true) = and_parts _ _ all in
     let member = any_among (is_member_of nat_eq group) mounts each.0 in
-    let inside : Among member.0 (filter (is_member_of nat_eq group) mounts) = among-filter (is_member_of nat_eq group) mounts member.0 member.1 member.2 in
-    let some_inside : 1 ≤ length (filter (is_member_of nat_eq group) mounts) = not_empty (filter (is_member_of nat_eq group) mounts) member.0 inside in
+    let inside : Among member.0 (filter (is_member_of nat_eq group) mounts) =
+    among-filter (is_member_of nat_eq group) mounts member.0 member.1 member.2 in
+    let some_inside : 1 ≤ length (filter (is_member_of nat_eq group) mounts) =
+    not_empty (filter (is_member_of nat_eq group) mounts) member.0 inside in
     let both = length-filter_both (is_member_of nat_eq group) (λ mount. not (is_member_of nat_eq group mount)) (λ mount. refl) mounts in
     let rest : length groups ≤ length (filter (λ mount. not (is_member_of nat_eq group mount)) mounts) =
     fewer_groups groups (filter (λ mount. not (is_member_of nat_eq group mount)) mounts) apart_all.1
     (list_all_from_among (has_members nat_eq (filter (λ mount. not (is_member_of nat_eq group mount)) mounts)) groups (λ other m.
-    still group other mounts (none_among (nat_eq group) groups apart_all.0 other m) (among_from_list_all (has_members nat_eq mounts) groups each.1 other m))) in
+    still group other mounts (none_among (nat_eq group) groups apart_all.0 other m)
+    (among_from_list_all (has_members nat_eq mounts) groups each.1 other m))) in
     omega (arith, both, rest, some_inside)
   where
     not_empty : (list : List (Mount ℕ)) (x : Mount ℕ) → Among x list → 1 ≤ length list
@@ -153,7 +170,8 @@ fewer_groups (group ∷ groups) mounts distinct all =
     still one other list differ h =
         let member = any_among (is_member_of nat_eq other) list h in
         any_from_among (is_member_of nat_eq other) (filter (λ mount. not (is_member_of nat_eq one mount)) list) member.0
-        (among-filter (λ mount. not (is_member_of nat_eq one mount)) list member.0 member.1 (no_member (group_of member.0.propagation) member.2)) member.2
+        (among-filter (λ mount. not (is_member_of nat_eq one mount)) list member.0 member.1
+        (no_member (group_of member.0.propagation) member.2)) member.2
       where
         no_member : (found : Option ℕ) → holds_of (nat_eq other) found ≡ true → not (holds_of (nat_eq one) found) ≡ true
         no_member None e = absurd (true≢false (sym e))
@@ -173,20 +191,27 @@ lives_in world live mount m source e =
 pub groups_live_by : (world : World ℕ)
     → ((mount : Mount ℕ) → Among mount world.mounts → (source : ℕ) → source_of mount.propagation ≡ Some source → LivesIn world source)
     → GroupsLive world
-groups_live_by world lives = list_all_from_among (has_living_groups nat_eq world) world.mounts (λ mount m. by mount m (source_of mount.propagation) refl)
+groups_live_by world lives =
+    list_all_from_among (has_living_groups nat_eq world) world.mounts (λ mount m. by mount m (source_of mount.propagation) refl)
   where
     one : (source : ℕ) → LivesIn world source
         → (list_all (has_members nat_eq world.mounts) (groups_up world source) && masters_end nat_eq world source) ≡ true
     one source life =
         let members = has_members nat_eq world.mounts in
         let few : length (way world.master members source life) ≤ length world.mounts =
-        fewer_groups (way world.master members source life) world.mounts (way_apart world.master members source life) (way_members world.master members source life) in
+        fewer_groups (way world.master members source life) world.mounts (way_apart world.master members source life)
+        (way_members world.master members source life) in
         and_from _ _ (all_on_way world.master members (length world.mounts) source life)
         (ap not (ends_within world.master members (length world.mounts) source life (omega (arith, few))))
 
     by : (mount : Mount ℕ) → Among mount world.mounts → (found : Option ℕ) → source_of mount.propagation ≡ found
         → has_living_groups nat_eq world mount ≡ true
-    by mount m None e = ap (λ s. list_all (λ group. list_all (has_members nat_eq world.mounts) (groups_up world group) && masters_end nat_eq world group) (option_to_list s)) e
+    by mount m None e =
+        ap (λ s. list_all
+        (λ group. list_all (has_members nat_eq world.mounts) (groups_up world group) && masters_end nat_eq world group)
+        (option_to_list s)) e
     by mount m (Some source) e =
-        ap (λ s. list_all (λ group. list_all (has_members nat_eq world.mounts) (groups_up world group) && masters_end nat_eq world group) (option_to_list s)) e
+        ap (λ s. list_all
+        (λ group. list_all (has_members nat_eq world.mounts) (groups_up world group) && masters_end nat_eq world group)
+        (option_to_list s)) e
         ∙ ap (λ b. b && true) (one source (lives mount m source e))

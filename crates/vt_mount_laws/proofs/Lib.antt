@@ -19,7 +19,6 @@ pub mod GroupsRetyped
 pub mod GroupsUp
 pub mod MountsApart
 pub mod MountsAttached
-pub mod MountsCalls
 pub mod MountsCounted
 pub mod MountsEnding
 pub mod MountsFound
@@ -42,11 +41,8 @@ pub mod PropagationAttaching
 pub mod PropagationCopies
 pub mod PropagationHeard
 pub mod PropagationHearing
-pub mod PropagationListing
 pub mod PropagationPremises
 pub mod PropagationTypes
-pub mod PropagationUndo
-pub mod PropagationUndone
 pub mod PropagationUp
 pub mod Receivers
 pub mod Standing

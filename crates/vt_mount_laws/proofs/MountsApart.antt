@@ -21,7 +21,8 @@ use Rattle.vt_spec.specs.Machine.Invariants.{share_a_mount_point, is_nowhere_or_
 use Rattle.vt_spec.specs.Machine.Namespaces.{copied_mount}
 
 -- places that stay the same stay apart
-places_same : (f : Mount ℕ → Mount ℕ) (mounts : List (Mount ℕ)) → ((mount : Mount ℕ) → Among mount mounts → (f mount).mount_point ≡ mount.mount_point)
+places_same : (f : Mount ℕ → Mount ℕ) (mounts : List (Mount ℕ))
+    → ((mount : Mount ℕ) → Among mount mounts → (f mount).mount_point ≡ mount.mount_point)
     → OneMountAPlace mounts → OneMountAPlace (map f mounts)
 places_same f mounts same one =
     pair-map (share_a_mount_point nat_eq) (share_a_mount_point nat_eq) f mounts
@@ -49,7 +50,8 @@ flags_keep_apart world here flags both =
     record {
       by_number = flags_keep_numbers world here flags both.by_number;
       by_place = places_same (replaced_if_same nat_eq new) world.mounts
-          (replaced_same_place world.mounts both.by_number new (ap (λ n. (mount_in nat_eq world.mounts n).mount_point) (number_found world.mounts here.mount))) both.by_place;
+          (replaced_same_place world.mounts both.by_number new
+          (ap (λ n. (mount_in nat_eq world.mounts n).mount_point) (number_found world.mounts here.mount))) both.by_place;
     }
 
 pub types_keep_apart : KeptByType AreApart
@@ -61,7 +63,8 @@ types_keep_apart world fresh number word recursive both =
       by_number = types_keep_numbers world fresh number word recursive both.by_number;
       by_place = ap (any_pair (share_a_mount_point nat_eq)) (mounts-regrouped middle)
           ∙ places_same (inheriting nat_eq middle) middle.mounts (λ mount m. refl)
-          (places_same (retype world group word named) world.mounts (λ mount m. (retype_keeps world group word named mount).mount_point) both.by_place);
+          (places_same (retype world group word named) world.mounts
+          (λ mount m. (retype_keeps world group word named mount).mount_point) both.by_place);
     }
 
 pub inheritance_keeps_apart : KeptByInheritance AreApart
@@ -81,26 +84,30 @@ settling_keeps_apart world both = record {
 lazy_numbers : (mounts : List (Mount ℕ)) (world : World ℕ) → OneNumberEach world
     → OneNumberEach (folded (unmounted_if_there nat_eq) world mounts)
 lazy_numbers [] world e = e
-lazy_numbers (mount ∷ mounts) world e = lazy_numbers mounts (unmounted_if_there nat_eq world mount) (by (is_some (mount_numbered nat_eq world mount.number).namespace))
+lazy_numbers (mount ∷ mounts) world e =
+    lazy_numbers mounts (unmounted_if_there nat_eq world mount) (by (is_some (mount_numbered nat_eq world mount.number).namespace))
   where
     by : (b : Bool) → OneNumberEach (if b then unmounted nat_eq world mount.number else world)
     by true = unmount_keeps_numbers world mount.number e
     by false = e
 
 pub lazy_keeps_numbers : KeptByLazyUnmount OneNumberEach
-lazy_keeps_numbers world one e = lazy_numbers (deepest_first nat_eq world (mount_tree nat_eq world.mounts (mount_numbered nat_eq world one))) world e
+lazy_keeps_numbers world one e =
+    lazy_numbers (deepest_first nat_eq world (mount_tree nat_eq world.mounts (mount_numbered nat_eq world one))) world e
 
 lazy_nowhere : (mounts : List (Mount ℕ)) (world : World ℕ) → NowhereOrAttached world
     → NowhereOrAttached (folded (unmounted_if_there nat_eq) world mounts)
 lazy_nowhere [] world e = e
-lazy_nowhere (mount ∷ mounts) world e = lazy_nowhere mounts (unmounted_if_there nat_eq world mount) (by (is_some (mount_numbered nat_eq world mount.number).namespace))
+lazy_nowhere (mount ∷ mounts) world e =
+    lazy_nowhere mounts (unmounted_if_there nat_eq world mount) (by (is_some (mount_numbered nat_eq world mount.number).namespace))
   where
     by : (b : Bool) → NowhereOrAttached (if b then unmounted nat_eq world mount.number else world)
     by true = unmount_keeps_nowhere world mount.number e
     by false = e
 
 pub lazy_keeps_nowhere : KeptByLazyUnmount NowhereOrAttached
-lazy_keeps_nowhere world one e = lazy_nowhere (deepest_first nat_eq world (mount_tree nat_eq world.mounts (mount_numbered nat_eq world one))) world e
+lazy_keeps_nowhere world one e =
+    lazy_nowhere (deepest_first nat_eq world (mount_tree nat_eq world.mounts (mount_numbered nat_eq world one))) world e
 
 -- copies of a namespace's mounts are in one
 pub unshare_keeps_nowhere : KeptByUnshare NowhereOrAttached
@@ -123,7 +130,8 @@ flags_keep_nowhere world here flags one e =
         → is_nowhere_or_attached (replaced_if_same nat_eq (record (mount_at nat_eq world here) { flags = flags }) old) ≡ true
     by old m true f =
         let same : mount_at nat_eq world here ≡ old =
-        ap (mount_in nat_eq world.mounts) (sym (number_found world.mounts here.mount) ∙ eqb-true _ _ f) ∙ found_itself world.mounts one old m in
+        ap (mount_in nat_eq world.mounts) (sym (number_found world.mounts here.mount) ∙ eqb-true _ _ f)
+        ∙ found_itself world.mounts one old m in
         ap is_nowhere_or_attached (replaced_there (record (mount_at nat_eq world here) { flags = flags }) old f)
         ∙ ap is_nowhere_or_attached same ∙ among_from_list_all is_nowhere_or_attached world.mounts e old m
     by old m false f =

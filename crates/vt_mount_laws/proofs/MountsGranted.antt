@@ -45,29 +45,38 @@ all_locations_raised name (task ∷ tasks) =
 lives_then : (before world : World ℕ) (name : TaskName) (changed : List ℕ) (mount : Mount ℕ)
     → mount_lives nat_eq world mount ≡ mount_lives nat_eq (numbers_raised nat_eq before name changed (settled nat_eq world)) mount
 lives_then before world name changed mount =
-    ap (λ locations. is_some mount.namespace || list_any (λ location. nat_eq mount.number location.mount) locations) (sym (all_locations_raised name world.tasks))
+    ap (λ locations. is_some mount.namespace || list_any (λ location. nat_eq mount.number location.mount) locations)
+    (sym (all_locations_raised name world.tasks))
 
 living_then : (before world : World ℕ) (name : TaskName) (changed : List ℕ)
     → HasLiving (numbers_raised nat_eq before name changed (settled nat_eq world)) world.mounts
-living_then before world name changed = filter_agree (mount_lives nat_eq world) (mount_lives nat_eq (numbers_raised nat_eq before name changed (settled nat_eq world))) (lives_then before world name changed) world.mounts
+living_then before world name changed =
+    filter_agree (mount_lives nat_eq world)
+    (mount_lives nat_eq (numbers_raised nat_eq before name changed (settled nat_eq world)))
+    (lives_then before world name changed) world.mounts
 
 -- a call leaves its outcome's world, or that without the dead
 finished_leaves : (b : Bool) (before : World ℕ) (name : TaskName) (changed : List ℕ) (outcome : Outcome ℕ)
-    → ((finished_by nat_eq b before name changed outcome).world.mounts ≡ outcome.world.mounts) ⊎ HasLiving (finished_by nat_eq b before name changed outcome).world outcome.world.mounts
+    → ((finished_by nat_eq b before name changed outcome).world.mounts ≡ outcome.world.mounts)
+    ⊎ HasLiving (finished_by nat_eq b before name changed outcome).world outcome.world.mounts
 finished_leaves true before name changed outcome = inl refl
 finished_leaves false before name changed outcome = inr (living_then before outcome.world name changed)
 
 pub policy_leaves : (fresh : Fresh ℕ) (world : World ℕ) (name : TaskName) (call : Call)
     → ((task : Task ℕ) → (call_outcome nat_eq fresh world task call).world.mounts ≡ world.mounts)
-    → ((policy nat_eq fresh world name call).world.mounts ≡ world.mounts) ⊎ HasLiving (policy nat_eq fresh world name call).world world.mounts
+    → ((policy nat_eq fresh world name call).world.mounts ≡ world.mounts)
+    ⊎ HasLiving (policy nat_eq fresh world name call).world world.mounts
 policy_leaves fresh world name call leaves = by (ok_or (task_called world name) (denial S2))
   where
     changed : Task ℕ → List ℕ
     changed task = filesystems_changed_by nat_eq world (judge_in nat_eq fresh world task call)
 
     by : (found : Result (Task ℕ) Deny)
-        → ((after world found (λ task. finished nat_eq world name call (changed task) (call_outcome nat_eq fresh world task call))).world.mounts ≡ world.mounts)
-        ⊎ HasLiving (after world found (λ task. finished nat_eq world name call (changed task) (call_outcome nat_eq fresh world task call))).world world.mounts
+        → ((after world found
+        (λ task. finished nat_eq world name call (changed task) (call_outcome nat_eq fresh world task call))).world.mounts ≡ world.mounts)
+        ⊎ HasLiving
+        (after world found
+        (λ task. finished nat_eq world name call (changed task) (call_outcome nat_eq fresh world task call))).world world.mounts
     by (Ok task) =
         let outcome = call_outcome nat_eq fresh world task call in
         let ended = finished nat_eq world name call (changed task) outcome in
@@ -79,8 +88,11 @@ module _ (fresh : Fresh ℕ) (world : World ℕ) (name : TaskName) (task : Task 
   abbrev changed : Task ℕ → List ℕ
   changed one = filesystems_changed_by nat_eq world (judge_in nat_eq fresh world one call)
 
-  policy_is : policy nat_eq fresh world name call ≡ finished nat_eq world name call (changed task) (call_outcome nat_eq fresh world task call)
-  policy_is = ap (λ found. after world (ok_or found (denial S2)) (λ t. finished nat_eq world name call (changed t) (call_outcome nat_eq fresh world t call))) is
+  policy_is : policy nat_eq fresh world name call ≡ finished nat_eq world name call (changed task)
+      (call_outcome nat_eq fresh world task call)
+  policy_is =
+      ap (λ found. after world (ok_or found (denial S2))
+      (λ t. finished nat_eq world name call (changed t) (call_outcome nat_eq fresh world t call))) is
 
   answer_stays : (b : Bool) (outcome : Outcome ℕ) → (finished_by nat_eq b world name (changed task) outcome).answer ≡ outcome.answer
   answer_stays true outcome = refl
@@ -88,7 +100,10 @@ module _ (fresh : Fresh ℕ) (world : World ℕ) (name : TaskName) (task : Task 
 
   -- a call is answered as its outcome is
   pub answered : (policy nat_eq fresh world name call).answer ≡ (call_outcome nat_eq fresh world task call).answer
-  answered = ap (λ o. o.answer) policy_is ∙ answer_stays (only_looks call || not (is_ok (call_outcome nat_eq fresh world task call).answer)) (call_outcome nat_eq fresh world task call)
+  answered =
+      ap (λ o. o.answer) policy_is
+      ∙ answer_stays (only_looks call || not (is_ok (call_outcome nat_eq fresh world task call).answer))
+      (call_outcome nat_eq fresh world task call)
 
   -- where it is granted, and does not only look, the dead mounts are gone
   pub settles : (answer : Answer) → only_looks call ≡ false → (policy nat_eq fresh world name call).answer ≡ Ok answer

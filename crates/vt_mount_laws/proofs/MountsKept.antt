@@ -26,29 +26,36 @@ numbers_regrouped : (world : World ℕ) → numbers_of (regrouped nat_eq world).
 numbers_regrouped world = ap numbers_of (mounts-regrouped world) ∙ numbers-map (inheriting nat_eq world) (λ mount. refl) world.mounts
 
 pub taking_away_keeps_numbers : KeptByTakingAway OneNumberEach
-taking_away_keeps_numbers world gone e = one_number_by_numbers world.mounts (taken_away nat_eq world gone).mounts (numbers_taken world gone) e
+taking_away_keeps_numbers world gone e =
+    one_number_by_numbers world.mounts (taken_away nat_eq world gone).mounts (numbers_taken world gone) e
 
 pub unmount_keeps_numbers : KeptByUnmount OneNumberEach
 unmount_keeps_numbers world one e = taking_away_keeps_numbers world (going nat_eq world (mount_numbered nat_eq world one)) e
 
 pub ended_namespaces_keep_numbers : KeptByEndedNamespaces OneNumberEach
-ended_namespaces_keep_numbers world e = taking_away_keeps_numbers world (map (λ mount. mount.number) (filter (is_in_ended nat_eq world) world.mounts)) e
+ended_namespaces_keep_numbers world e =
+    taking_away_keeps_numbers world (map (λ mount. mount.number) (filter (is_in_ended nat_eq world) world.mounts)) e
 
 pub inheritance_keeps_numbers : KeptByInheritance OneNumberEach
 inheritance_keeps_numbers world e = one_number_by_numbers world.mounts (regrouped nat_eq world).mounts (numbers_regrouped world) e
 
 pub types_keep_numbers : KeptByType OneNumberEach
 types_keep_numbers world fresh one word recursive e =
-    one_number_by_numbers world.mounts (with_type nat_eq fresh world one word recursive).mounts (numbers_with_type world fresh one word recursive) e
+    one_number_by_numbers world.mounts (with_type nat_eq fresh world one word recursive).mounts
+    (numbers_with_type world fresh one word recursive) e
 
 pub flags_keep_numbers : KeptByFlags OneNumberEach
 flags_keep_numbers world here flags e =
-    one_number_by_numbers world.mounts (with_flags nat_eq world here flags).mounts (numbers-with_mount (record (mount_at nat_eq world here) { flags = flags }) world.mounts) e
+    one_number_by_numbers world.mounts (with_flags nat_eq world here flags).mounts
+    (numbers-with_mount (record (mount_at nat_eq world here) { flags = flags }) world.mounts) e
 
-pub pivot_number : (root new : Mount ℕ) (put : Location ℕ) (mount : Mount ℕ) → (pivoted_mount nat_eq root new put mount).number ≡ mount.number
+pub pivot_number : (root new : Mount ℕ) (put : Location ℕ) (mount : Mount ℕ)
+    → (pivoted_mount nat_eq root new put mount).number ≡ mount.number
 pivot_number root new put mount = by (nat_eq mount.number new.number) (nat_eq mount.number root.number)
   where
-    by : (a b : Bool) → (if a then (record mount { mount_point = root.mount_point }) else if b then (record mount { mount_point = Some put }) else mount).number ≡ mount.number
+    by : (a b : Bool)
+        → (if a then (record mount { mount_point = root.mount_point }) else if b then
+        (record mount { mount_point = Some put }) else mount).number ≡ mount.number
     by true b = refl
     by false true = refl
     by false false = refl
@@ -74,38 +81,50 @@ nowhere_inherits world mount e = by mount.propagation refl e
     by : (kind : Propagation ℕ) → mount.propagation ≡ kind
         → (is_some mount.namespace || (not (is_some mount.mount_point) && is_private mount.propagation)) ≡ true
         → (is_some mount.namespace || (not (is_some mount.mount_point) && is_private (inherited nat_eq world mount.propagation))) ≡ true
-    by (Shared group) f h = ap (λ k. is_some mount.namespace || (not (is_some mount.mount_point) && is_private (inherited nat_eq world k))) f ∙ sym (ap (λ k. is_some mount.namespace || (not (is_some mount.mount_point) && is_private k)) f) ∙ h
+    by (Shared group) f h =
+        ap (λ k. is_some mount.namespace || (not (is_some mount.mount_point) && is_private (inherited nat_eq world k))) f
+        ∙ sym (ap (λ k. is_some mount.namespace || (not (is_some mount.mount_point) && is_private k)) f) ∙ h
     by (Slave above) f h =
         either_way (is_some mount.namespace) (not (is_some mount.mount_point)) (is_private (inherited nat_eq world mount.propagation))
         (sym (ap (λ k. is_some mount.namespace || (not (is_some mount.mount_point) && is_private k)) f) ∙ h)
-    by Private f h = ap (λ k. is_some mount.namespace || (not (is_some mount.mount_point) && is_private (inherited nat_eq world k))) f ∙ sym (ap (λ k. is_some mount.namespace || (not (is_some mount.mount_point) && is_private k)) f) ∙ h
-    by Unbindable f h = ap (λ k. is_some mount.namespace || (not (is_some mount.mount_point) && is_private (inherited nat_eq world k))) f ∙ sym (ap (λ k. is_some mount.namespace || (not (is_some mount.mount_point) && is_private k)) f) ∙ h
+    by Private f h =
+        ap (λ k. is_some mount.namespace || (not (is_some mount.mount_point) && is_private (inherited nat_eq world k))) f
+        ∙ sym (ap (λ k. is_some mount.namespace || (not (is_some mount.mount_point) && is_private k)) f) ∙ h
+    by Unbindable f h =
+        ap (λ k. is_some mount.namespace || (not (is_some mount.mount_point) && is_private (inherited nat_eq world k))) f
+        ∙ sym (ap (λ k. is_some mount.namespace || (not (is_some mount.mount_point) && is_private k)) f) ∙ h
 
 nowhere_after : (world : World ℕ) (gone : List ℕ) (mount : Mount ℕ) → is_nowhere_or_attached mount ≡ true
     → is_nowhere_or_attached (after_going nat_eq world gone mount) ≡ true
 nowhere_after world gone mount e = by (is_going nat_eq gone mount.number) mount.mount_point refl
   where
     by : (b : Bool) (place : Option (Location ℕ)) → mount.mount_point ≡ place
-        → is_nowhere_or_attached (if b then detached mount else (record mount { mount_point = option_map (mount_point_left nat_eq world gone) mount.mount_point })) ≡ true
+        → is_nowhere_or_attached
+        (if b then detached mount else
+        (record mount { mount_point = option_map (mount_point_left nat_eq world gone) mount.mount_point })) ≡ true
     by true place f = refl
     by false None f =
-        ap (λ p. is_some mount.namespace || (not (is_some (option_map (mount_point_left nat_eq world gone) p)) && is_private mount.propagation)) f
+        ap (λ p. is_some mount.namespace ||
+        (not (is_some (option_map (mount_point_left nat_eq world gone) p)) && is_private mount.propagation)) f
         ∙ sym (ap (λ p. is_some mount.namespace || (not (is_some p) && is_private mount.propagation)) f) ∙ e
     by false (Some place) f =
-        ap (λ p. is_some mount.namespace || (not (is_some (option_map (mount_point_left nat_eq world gone) p)) && is_private mount.propagation)) f
+        ap (λ p. is_some mount.namespace ||
+        (not (is_some (option_map (mount_point_left nat_eq world gone) p)) && is_private mount.propagation)) f
         ∙ sym (ap (λ p. is_some mount.namespace || (not (is_some p) && is_private mount.propagation)) f) ∙ e
 
 pub taking_away_keeps_nowhere : KeptByTakingAway NowhereOrAttached
 taking_away_keeps_nowhere world gone e =
     ap (list_all is_nowhere_or_attached) (mounts-regrouped (middle world gone))
-    ∙ all-map is_nowhere_or_attached (inheriting nat_eq (middle world gone)) (nowhere_inherits (middle world gone)) (map (after_going nat_eq world gone) world.mounts)
+    ∙ all-map is_nowhere_or_attached (inheriting nat_eq (middle world gone)) (nowhere_inherits (middle world gone))
+    (map (after_going nat_eq world gone) world.mounts)
     (all-map is_nowhere_or_attached (after_going nat_eq world gone) (nowhere_after world gone) world.mounts e)
 
 pub unmount_keeps_nowhere : KeptByUnmount NowhereOrAttached
 unmount_keeps_nowhere world one e = taking_away_keeps_nowhere world (going nat_eq world (mount_numbered nat_eq world one)) e
 
 pub ended_namespaces_keep_nowhere : KeptByEndedNamespaces NowhereOrAttached
-ended_namespaces_keep_nowhere world e = taking_away_keeps_nowhere world (map (λ mount. mount.number) (filter (is_in_ended nat_eq world) world.mounts)) e
+ended_namespaces_keep_nowhere world e =
+    taking_away_keeps_nowhere world (map (λ mount. mount.number) (filter (is_in_ended nat_eq world) world.mounts)) e
 
 pub inheritance_keeps_nowhere : KeptByInheritance NowhereOrAttached
 inheritance_keeps_nowhere world e =

@@ -62,7 +62,8 @@ module _ (world : World ℕ) where
 
   made_leaves : (fresh : Fresh ℕ) (task : Task ℕ) (place : Place ℕ) (node : Node ℕ) → Leaves (made_at nat_eq fresh world task place node)
   made_leaves fresh task place node =
-      judged_leaves (new_rules nat_eq fresh world task place node) _ (mounts-with_change (odds fresh) place.parent (making place (evens fresh 0) node))
+      judged_leaves (new_rules nat_eq fresh world task place node) _
+      (mounts-with_change (odds fresh) place.parent (making place (evens fresh 0) node))
 
   written_leaves : (fresh : Fresh ℕ) (task : Task ℕ) (place : Place ℕ) (bytes : List ℕ) (file : Option (Location ℕ))
       → Leaves (written nat_eq fresh world task place bytes file)
@@ -79,7 +80,8 @@ module _ (world : World ℕ) where
 
   open_leaves : (fresh : Fresh ℕ) (task : Task ℕ) (file : Location ℕ) (access : Access)
       → Leaves (open_file nat_eq fresh world task file access)
-  open_leaves fresh task file access = judged_leaves (open_rules nat_eq world task file access) _ (copied_leaves (is_copied_up nat_eq world file access) fresh file)
+  open_leaves fresh task file access =
+      judged_leaves (open_rules nat_eq world task file access) _ (copied_leaves (is_copied_up nat_eq world file access) fresh file)
 
   create_leaves : (fresh : Fresh ℕ) (task : Task ℕ) (place : Place ℕ) (access : Access) (mode : ℕ)
       → Leaves (create_file nat_eq fresh world task place access mode)
@@ -100,7 +102,8 @@ module _ (world : World ℕ) where
       after_leaves (walk_end (file_walk nat_eq world task path)) _ (λ place.
       judged_leaves (file_word_rules place) _ (open_or_create_leaves fresh task place access mode place.object))
   open_by_leaves fresh task path access (Exclusive mode) =
-      after_leaves (walk_end (new_walk nat_eq world task path)) _ (λ place. judged_leaves (exclusive_word_rules place) _ (create_leaves fresh task place access mode))
+      after_leaves (walk_end (new_walk nat_eq world task path)) _
+      (λ place. judged_leaves (exclusive_word_rules place) _ (create_leaves fresh task place access mode))
 
   pwritten_leaves : (fresh : Fresh ℕ) (file : Location ℕ) (offset : ℕ) (bytes : List ℕ)
       → (pwritten nat_eq fresh world file offset bytes).mounts ≡ world.mounts
@@ -110,24 +113,30 @@ module _ (world : World ℕ) where
 
   attr_leaves : (fresh : Fresh ℕ) (object : Location ℕ) (allowed : Bool) (attr : Attr)
       → Leaves (attr_set nat_eq fresh world object allowed attr)
-  attr_leaves fresh object allowed attr = judged_leaves (attr_rules nat_eq world object allowed attr) _ (mounts-with_change fresh object (SetAttr object.node attr))
+  attr_leaves fresh object allowed attr =
+      judged_leaves (attr_rules nat_eq world object allowed attr) _ (mounts-with_change fresh object (SetAttr object.node attr))
 
   -- each such call
   call_leaves : (fresh : Fresh ℕ) (task : Task ℕ) (call : Call) → is_of_no_mount call ≡ true
       → Leaves (call_outcome nat_eq fresh world task call)
   unfolding list_outcome stat_outcome lstat_outcome readlink_outcome read_outcome exec_outcome mkdir_outcome symlink_outcome whiteout_outcome hard_link_outcome write_outcome unlink_outcome chmod_outcome chown_outcome opaque_outcome open_outcome pread_outcome pwrite_outcome close_outcome chdir_outcome chroot_outcome umask_outcome drop_outcome fork_outcome mounts_outcome
   call_leaves fresh task (Ls path) e =
-      after_leaves (walk_end (directory_walk nat_eq world task path)) _ (λ here. judged_leaves (list_rules nat_eq world task here.location) _ refl)
+      after_leaves (walk_end (directory_walk nat_eq world task path)) _
+      (λ here. judged_leaves (list_rules nat_eq world task here.location) _ refl)
   call_leaves fresh task (Stat path) e = after_leaves (walk_end (object_walk nat_eq world task path)) _ (λ here. refl)
   call_leaves fresh task (Lstat path) e = after_leaves (walk_end (symlink_walk nat_eq world task path)) _ (λ here. refl)
   call_leaves fresh task (Readlink path) e =
-      after_leaves (walk_end (symlink_walk nat_eq world task path)) _ (λ here. judged_leaves (readlink_rules nat_eq world here.location) _ refl)
+      after_leaves (walk_end (symlink_walk nat_eq world task path)) _
+      (λ here. judged_leaves (readlink_rules nat_eq world here.location) _ refl)
   call_leaves fresh task (Read path) e =
-      after_leaves (walk_end (object_walk nat_eq world task path)) _ (λ here. judged_leaves (read_rules nat_eq world task here.location) _ refl)
+      after_leaves (walk_end (object_walk nat_eq world task path)) _
+      (λ here. judged_leaves (read_rules nat_eq world task here.location) _ refl)
   call_leaves fresh task (Write path bytes) e =
-      after_leaves (walk_end (file_walk nat_eq world task path)) _ (λ place. judged_leaves (file_word_rules place) _ (written_leaves fresh task place bytes place.object))
+      after_leaves (walk_end (file_walk nat_eq world task path)) _
+      (λ place. judged_leaves (file_word_rules place) _ (written_leaves fresh task place bytes place.object))
   call_leaves fresh task (Exec path) e =
-      after_leaves (walk_end (object_walk nat_eq world task path)) _ (λ here. judged_leaves (exec_rules nat_eq world task here.location) _ refl)
+      after_leaves (walk_end (object_walk nat_eq world task path)) _
+      (λ here. judged_leaves (exec_rules nat_eq world task here.location) _ refl)
   call_leaves fresh task (Mkdir path mode) e =
       after_leaves (walk_end (new_walk nat_eq world task path)) _ (λ place.
       made_leaves fresh task place (record { attr = new_attr task (unwrap_or mode directory_mode); content = new_directory place.parent.node }))
@@ -151,7 +160,8 @@ module _ (world : World ℕ) where
       (mounts-with_change fresh place.parent (removing place (object_there place)))))
   call_leaves fresh task (Chmod path mode) e =
       after_leaves (walk_end (object_walk nat_eq world task path)) _ (λ here.
-      attr_leaves fresh here.location (owns task.credentials (attr_at nat_eq world here.location)) (attr_with_mode (attr_at nat_eq world here.location) mode))
+      attr_leaves fresh here.location (owns task.credentials (attr_at nat_eq world here.location))
+      (attr_with_mode (attr_at nat_eq world here.location) mode))
   call_leaves fresh task (Chown path uid gid) e =
       after_leaves (walk_end (object_walk nat_eq world task path)) _ (λ here.
       attr_leaves fresh here.location
@@ -161,17 +171,20 @@ module _ (world : World ℕ) where
       judged_leaves ((lacks task cap_sys_admin, K1) ∷ []) _
       (after_leaves (walk_end (directory_walk nat_eq world task path)) _ (λ here.
       judged_leaves (opaque_rules nat_eq world here.location) _ (mounts-with_change fresh here.location (SetMark here.location.node mark))))
-  call_leaves fresh task (OpenFile path access creation) e = judged_leaves (descriptor_rules task) _ (open_by_leaves fresh task path access creation)
+  call_leaves fresh task (OpenFile path access creation) e =
+      judged_leaves (descriptor_rules task) _ (open_by_leaves fresh task path access creation)
   call_leaves fresh task (Pread descriptor offset size) e = after_leaves (descriptor_at task descriptor (λ d. d.reads)) _ (λ here. refl)
   call_leaves fresh task (Pwrite descriptor offset bytes) e =
       after_leaves (descriptor_at task descriptor (λ d. d.writes)) _ (λ here.
       judged_leaves (pwrite_rules nat_eq world here.location offset bytes) _ (pwritten_leaves fresh here.location offset bytes))
   call_leaves fresh task (Close descriptor) e = after_leaves (descriptor_at task descriptor (λ d. true)) _ (λ here. refl)
   call_leaves fresh task (Chdir path) e =
-      after_leaves (walk_end (directory_walk nat_eq world task path)) _ (λ here. judged_leaves (enter_rules nat_eq world task here.location) _ refl)
+      after_leaves (walk_end (directory_walk nat_eq world task path)) _
+      (λ here. judged_leaves (enter_rules nat_eq world task here.location) _ refl)
   call_leaves fresh task (Chroot path) e =
       judged_leaves ((lacks task cap_sys_chroot, K1) ∷ []) _
-      (after_leaves (walk_end (directory_walk nat_eq world task path)) _ (λ here. judged_leaves (enter_rules nat_eq world task here.location) _ refl))
+      (after_leaves (walk_end (directory_walk nat_eq world task path)) _
+      (λ here. judged_leaves (enter_rules nat_eq world task here.location) _ refl))
   call_leaves fresh task (Umask mode) e = refl
   call_leaves fresh task (Drop which) e = refl
   call_leaves fresh task (Fork words) e = judged_leaves (fork_rules task (child_credentials task.credentials words)) _ refl

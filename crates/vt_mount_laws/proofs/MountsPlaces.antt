@@ -10,11 +10,14 @@ use Rattle.vt_mount_laws.specs.Mounts.Places.{OneMountAPlace, StandsAloneAtItsPl
 use Rattle.vt_spec.proofs.Lists.{Among, all_from_among, none_among}
 
 pub same_location_itself : (place : Location ℕ) → same_location nat_eq place place ≡ true
-same_location_itself place = and_from (nat_eq place.mount place.mount) (nat_eq place.node place.node) (eq-eqb place.mount place.mount refl) (eq-eqb place.node place.node refl)
+same_location_itself place =
+    and_from (nat_eq place.mount place.mount) (nat_eq place.node place.node) (eq-eqb place.mount place.mount refl)
+    (eq-eqb place.node place.node refl)
 
 pub same_location_is : (a b : Location ℕ) → same_location nat_eq a b ≡ true → a ≡ b
 same_location_is a b h =
-    let parts : (nat_eq a.mount b.mount ≡ true) × (nat_eq a.node b.node ≡ true) = and_parts (nat_eq a.mount b.mount) (nat_eq a.node b.node) h in
+    let parts : (nat_eq a.mount b.mount ≡ true) × (nat_eq a.node b.node ≡ true) =
+    and_parts (nat_eq a.mount b.mount) (nat_eq a.node b.node) h in
     let mounts : a.mount ≡ b.mount = eqb-true a.mount b.mount parts.0 in
     let nodes : a.node ≡ b.node = eqb-true a.node b.node parts.1 in
     λ i. record { mount = mounts i; node = nodes i }
@@ -42,9 +45,11 @@ pub found_at_its_place : (mounts : List (Mount ℕ)) → OneMountAPlace mounts �
     → mount.mount_point ≡ Some place → child_at nat_eq mounts place ≡ Some mount
 found_at_its_place [] one mount m place e = absurd m
 found_at_its_place (first ∷ rest) one mount m place e =
-    let apart : (list_any (share_a_mount_point nat_eq first) rest ≡ false) × (any_pair (share_a_mount_point nat_eq) rest ≡ false) = or_parts _ _ one in
+    let apart : (list_any (share_a_mount_point nat_eq first) rest ≡ false) × (any_pair (share_a_mount_point nat_eq) rest ≡ false) =
+    or_parts _ _ one in
     ⊎_elim
-    (λ same. ap (λ b. cond b (Some first) (find (stands_at nat_eq place) rest)) (stands_at_its_place place first (ap (λ x. x.mount_point) (sym same) ∙ e)) ∙ ap Some (sym same))
+    (λ same. ap (λ b. cond b (Some first) (find (stands_at nat_eq place) rest))
+    (stands_at_its_place place first (ap (λ x. x.mount_point) (sym same) ∙ e)) ∙ ap Some (sym same))
     (λ later.
     by (stands_at nat_eq place first) refl (none_among (share_a_mount_point nat_eq first) rest apart.0 mount later)
     (found_at_its_place rest apart.1 mount later place e))
@@ -65,13 +70,18 @@ pub place_of_both : (a b : Mount ℕ) → share_a_mount_point nat_eq a b ≡ tru
     → (place : Location ℕ) × (a.mount_point ≡ Some place) × (b.mount_point ≡ Some place)
 place_of_both a b h = by a.mount_point refl b.mount_point refl h
   where
-    by : (p : Option (Location ℕ)) → a.mount_point ≡ p → (q : Option (Location ℕ)) → b.mount_point ≡ q → share_a_mount_point nat_eq a b ≡ true
+    by : (p : Option (Location ℕ)) → a.mount_point ≡ p → (q : Option (Location ℕ)) → b.mount_point ≡ q
+        → share_a_mount_point nat_eq a b ≡ true
         → (place : Location ℕ) × (a.mount_point ≡ Some place) × (b.mount_point ≡ Some place)
     by None e q f t = absurd (true≢false (sym t ∙ ap (λ p. is_some p && same_option (same_location nat_eq) p b.mount_point) e))
     by (Some p) e None f t =
-        absurd (true≢false (sym t ∙ ap (λ x. is_some x && same_option (same_location nat_eq) x b.mount_point) e ∙ ap (same_option (same_location nat_eq) (Some p)) f))
+        absurd (true≢false (sym t ∙ ap (λ x. is_some x && same_option (same_location nat_eq) x b.mount_point) e
+        ∙ ap (same_option (same_location nat_eq) (Some p)) f))
     by (Some p) e (Some q) f t =
-        let same : p ≡ q = same_location_is p q (sym (ap (λ x. is_some x && same_option (same_location nat_eq) x b.mount_point) e ∙ ap (same_option (same_location nat_eq) (Some p)) f) ∙ t) in
+        let same : p ≡ q =
+        same_location_is p q
+        (sym (ap (λ x. is_some x && same_option (same_location nat_eq) x b.mount_point) e
+        ∙ ap (same_option (same_location nat_eq) (Some p)) f) ∙ t) in
         (p, e, f ∙ ap Some (sym same))
 
 -- only one mount stands at a place

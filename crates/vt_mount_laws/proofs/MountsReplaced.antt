@@ -44,7 +44,9 @@ module _ (new : Mount ℕ) where
   found-with_mount_itself [] h = absurd (true≢false (sym h))
   found-with_mount_itself (first ∷ rest) h = by (nat_eq new.number first.number) refl (found-with_mount_itself rest)
     where
-      here : (b : Bool) → mount_in nat_eq (with_mount nat_eq (first ∷ rest) new) new.number ≡ mount_in nat_eq (replaced_if_same nat_eq new first ∷ with_mount nat_eq rest new) new.number
+      here : (b : Bool)
+          → mount_in nat_eq (with_mount nat_eq (first ∷ rest) new) new.number ≡ mount_in nat_eq
+          (replaced_if_same nat_eq new first ∷ with_mount nat_eq rest new) new.number
       here b = refl
 
       by : (b : Bool) → nat_eq new.number first.number ≡ b
@@ -52,10 +54,12 @@ module _ (new : Mount ℕ) where
           → mount_in nat_eq (with_mount nat_eq (first ∷ rest) new) new.number ≡ new
       by true e later =
           ap (λ x. mount_in nat_eq (x ∷ with_mount nat_eq rest new) new.number) (replaced_there first e)
-          ∙ ap (λ b. unwrap_or (cond b (Some new) (find (λ mount. nat_eq new.number mount.number) (with_mount nat_eq rest new))) (no_mount new.number)) (eq-eqb new.number new.number refl)
+          ∙ ap (λ b. unwrap_or (cond b (Some new) (find (λ mount. nat_eq new.number mount.number) (with_mount nat_eq rest new)))
+          (no_mount new.number)) (eq-eqb new.number new.number refl)
       by false e later =
           ap (λ x. mount_in nat_eq (x ∷ with_mount nat_eq rest new) new.number) (replaced_elsewhere first e)
-          ∙ ap (λ b. unwrap_or (cond b (Some first) (find (λ mount. nat_eq new.number mount.number) (with_mount nat_eq rest new))) (no_mount new.number)) e
+          ∙ ap (λ b. unwrap_or
+          (cond b (Some first) (find (λ mount. nat_eq new.number mount.number) (with_mount nat_eq rest new))) (no_mount new.number)) e
           ∙ later (sym (ap (λ b. b || is_among nat_eq new.number (numbers_of rest)) e) ∙ h)
 
 -- a number that no mount has
@@ -63,7 +67,8 @@ pub none_numbered : (mounts : List (Mount ℕ)) (number : ℕ) → is_among nat_
     → mount_in nat_eq mounts number ≡ no_mount number
 none_numbered [] number h = refl
 none_numbered (first ∷ rest) number h =
-    let parts : (nat_eq number first.number ≡ false) × (is_among nat_eq number (numbers_of rest) ≡ false) = or_parts (nat_eq number first.number) (is_among nat_eq number (numbers_of rest)) h in
+    let parts : (nat_eq number first.number ≡ false) × (is_among nat_eq number (numbers_of rest) ≡ false) =
+    or_parts (nat_eq number first.number) (is_among nat_eq number (numbers_of rest)) h in
     ap (λ b. unwrap_or (cond b (Some first) (find (λ mount. nat_eq number mount.number) rest)) (no_mount number)) parts.0
     ∙ none_numbered rest number parts.1
 
@@ -78,14 +83,19 @@ module _ (R : Mount ℕ → Mount ℕ → Type 0) (same : (mount : Mount ℕ) �
       there true e = subst (R (mount_in nat_eq mounts new.number)) (sym (found-with_mount_itself new mounts e)) r
       there false e =
           subst (R (mount_in nat_eq mounts new.number))
-          (none_numbered mounts new.number e ∙ sym (none_numbered (with_mount nat_eq mounts new) new.number (ap (is_among nat_eq new.number) (numbers-with_mount new mounts) ∙ e)))
+          (none_numbered mounts new.number e
+          ∙ sym (none_numbered (with_mount nat_eq mounts new) new.number
+          (ap (is_among nat_eq new.number) (numbers-with_mount new mounts) ∙ e)))
           (same (mount_in nat_eq mounts new.number))
 
       by : (b : Bool) → nat_eq new.number number ≡ b
           → R (mount_in nat_eq mounts number) (mount_in nat_eq (with_mount nat_eq mounts new) number)
       by true e =
-          subst (λ n. R (mount_in nat_eq mounts n) (mount_in nat_eq (with_mount nat_eq mounts new) n)) (eqb-true new.number number e) (there (is_among nat_eq new.number (numbers_of mounts)) refl)
-      by false e = subst (R (mount_in nat_eq mounts number)) (sym (found-with_mount_other new mounts number e)) (same (mount_in nat_eq mounts number))
+          subst (λ n. R (mount_in nat_eq mounts n) (mount_in nat_eq (with_mount nat_eq mounts new) n))
+          (eqb-true new.number number e) (there (is_among nat_eq new.number (numbers_of mounts)) refl)
+      by false e =
+          subst (R (mount_in nat_eq mounts number)) (sym (found-with_mount_other new mounts number e))
+          (same (mount_in nat_eq mounts number))
 
 -- what stands first in a list is found there
 pub found-append : (mounts others : List (Mount ℕ)) (number : ℕ) → is_among nat_eq number (numbers_of mounts) ≡ true
@@ -111,7 +121,8 @@ found_itself [] one mount m = absurd m
 found_itself (first ∷ rest) one mount m =
     let parts : (list_any (λ (other : Mount ℕ). nat_eq first.number other.number) rest ≡ false) × OneNumberAMount rest = or_parts _ _ one in
     ⊎_elim
-    (λ e. ap (λ b. unwrap_or (cond b (Some first) (find (λ other. nat_eq mount.number other.number) rest)) (no_mount mount.number)) (eq-eqb mount.number first.number (ap (λ x. x.number) e)) ∙ sym e)
+    (λ e. ap (λ b. unwrap_or (cond b (Some first) (find (λ other. nat_eq mount.number other.number) rest))
+    (no_mount mount.number)) (eq-eqb mount.number first.number (ap (λ x. x.number) e)) ∙ sym e)
     (λ later.
     ap (λ b. unwrap_or (cond b (Some first) (find (λ other. nat_eq mount.number other.number) rest)) (no_mount mount.number))
     (apart first.number mount.number (none_among (λ (other : Mount ℕ). nat_eq first.number other.number) rest parts.0 mount later))
@@ -126,7 +137,8 @@ tree_among (suc depth) mounts top mount m =
     ⊎_elim inl
     (λ later.
     let under = among-from_flat_map (tree_from nat_eq depth mounts) (children nat_eq mounts top.number) mount later in
-    let child : Among under.0 mounts × (stands_on nat_eq top.number under.0 ≡ true) = among-from_filter (stands_on nat_eq top.number) mounts under.0 under.1 in
+    let child : Among under.0 mounts × (stands_on nat_eq top.number under.0 ≡ true) =
+    among-from_filter (stands_on nat_eq top.number) mounts under.0 under.1 in
     inr (⊎_elim (λ e. subst (λ x. Among x mounts) (sym e) child.0) (λ l. l) (tree_among depth mounts under.0 mount under.2)))
     m
 

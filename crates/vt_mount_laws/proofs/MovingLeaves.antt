@@ -25,7 +25,7 @@ use Rattle.vt_mount_laws.proofs.MountsNumbered.{is_one_of, same_number, same_ori
 use Rattle.vt_mount_laws.proofs.MountsReplaced.{apart, found-with_mount_itself, found_itself, numbers-with_mount, one_number_by_numbers}
 
 -- mounts that are replaced by others with numbers of their own are found
-found_folded : (mounts copies : List (Mount ℕ)) → OneNumberAMount copies → (copy : Mount ℕ) → Among copy copies
+pub found_folded : (mounts copies : List (Mount ℕ)) → OneNumberAMount copies → (copy : Mount ℕ) → Among copy copies
     → is_among nat_eq copy.number (numbers_of mounts) ≡ true
     → mount_in nat_eq (folded (with_mount nat_eq) mounts copies) copy.number ≡ copy
 found_folded mounts [] own copy m is = absurd m

@@ -15,6 +15,7 @@ use Rattle.vt_mount_laws.proofs.MountsAttached.{arrives, arriving, graft, in_fro
 use Rattle.vt_mount_laws.proofs.MountsFound.{found_in, found_or_none, placed_among}
 use Rattle.vt_mount_laws.proofs.MountsPlaces.{stands_there}
 use Rattle.vt_mount_laws.proofs.MountsReplaced.{found_itself, replaced_elsewhere, replaced_there, tree_among}
+use Rattle.vt_mount_laws.proofs.AttachedNowhere.{among-folded}
 use Rattle.vt_mount_laws.specs.Mounts.Moving.{BindsKeepRootMounts, BindsStayInNamespaces, MovesKeepRootMounts, MovesStayInNamespaces, NewMountsKeepRootMounts, NewMountsStayInNamespaces, StaysInNamespaces}
 
 -- the root mounts of a namespace, and whether a mount is one
@@ -222,23 +223,6 @@ new_mounts_stay_in_namespaces world fresh place filesystem flags =
     let new = supplied larger fresh place mounts in
     attached_namespaces larger new place false mounts (still_there larger new place false mounts)
 
--- Mounts that are replaced one after the other
-among_folded : (mounts copies : List (Mount ℕ)) (x : Mount ℕ) → Among x (folded (with_mount nat_eq) mounts copies)
-    → Among x mounts ⊎ Among x copies
-among_folded mounts [] x m = inl m
-among_folded mounts (copy ∷ copies) x m =
-    ⊎_elim
-    (λ l.
-    let from = among-from_map (replaced_if_same nat_eq copy) mounts x l in
-    by from.0 from.1 from.2 (nat_eq copy.number from.0.number) refl)
-    (λ l. inr (inr l))
-    (among_folded (with_mount nat_eq mounts copy) copies x m)
-  where
-    by : (old : Mount ℕ) → Among old mounts → x ≡ replaced_if_same nat_eq copy old
-        → (b : Bool) → nat_eq copy.number old.number ≡ b → Among x mounts ⊎ Among x (copy ∷ copies)
-    by old l e true f = inr (inl (e ∙ replaced_there copy old f))
-    by old l e false f = inl (subst (λ y. Among y mounts) (sym (e ∙ replaced_elsewhere copy old f)) l)
-
 -- by some with places, where they had places
 count_folded : (namespace : ℕ) (mounts copies : List (Mount ℕ))
     → ((copy : Mount ℕ) → Among copy copies → is_some copy.mount_point ≡ true)
@@ -328,4 +312,4 @@ moves_stay_in_namespaces world fresh source place =
     (λ l.
     part_has_one world new place true mounts (mount_at nat_eq world place) (inl refl) namespace
     (sym (copy_has world new place true mounts (mount_at nat_eq world place) x l).1 ∙ e))
-    (among_folded world.mounts (arriving world new place true mounts) x m))
+    (among-folded world.mounts (arriving world new place true mounts) x m))

@@ -2,38 +2,18 @@
 use Rattle.std.proofs.Common.{◌≡◌, refl, sym, ap, subst, ◌∙◌, true, false, nat_eq, ℕ, Bool, List, Some, [], eq-eqb, eqb-true, flat_map, map, option_map, unwrap_or, ⊎_elim, ◌&&◌, ◌++◌, ◌∷◌}
 use Rattle.std.specs.Prelude.{if◌then◌else◌}
 use Rattle.std.specs.List.{list_any}
-use Rattle.std.proofs.lemmas.Bool.{or_parts}
-use Rattle.vt_spec.proofs.Lists.{Among, among-append_left, among-append_right, among-flat_map, among-from_filter, among-map, none_among, none_from_among, pair-map}
+use Rattle.vt_spec.proofs.Lists.{Among, among-append_left, among-append_right, among-flat_map, among-from_filter, among-map, none_from_among, pair-map}
 use Rattle.vt_spec.specs.Machine.Attach.{Copies, Graft, Twig, attached_by, copies_at, copy_at, copy_number, graft_of, parts_of, place_on_copy, pushed_up, receivers_of, takes_part, twig_of}
-use Rattle.vt_spec.specs.Lists.{first_of_list, folded, holds_of, is_among, rest_of}
-use Rattle.vt_spec.specs.Machine.Mounts.{Location, Mount, group_of, mount_in, same_location, with_mount}
+use Rattle.vt_spec.specs.Lists.{first_of_list, holds_of, is_among, rest_of}
+use Rattle.vt_spec.specs.Machine.Mounts.{Location, Mount, group_of, mount_in, same_location}
 use Rattle.vt_spec.specs.Machine.World.{World, mount_at, mount_numbered}
 use Rattle.vt_mount_laws.specs.Mounts.Attaching.{KeepsAllButPlace, OneNumberAMount, numbers_of}
 use Rattle.vt_mount_laws.specs.Mounts.Copies.{ServeAsCopies}
-use Rattle.vt_mount_laws.proofs.MountsAttached.{arriving, found-folded_other, found_attached, is_pushed_by, keeps_number, moved_ones, none_pushes, push_keeps}
+use Rattle.vt_mount_laws.proofs.MountsAttached.{arriving, found_attached, is_pushed_by, keeps_number, moved_ones, none_pushes, push_keeps}
 use Rattle.vt_mount_laws.proofs.MountsFound.{number_found}
 use Rattle.vt_mount_laws.proofs.MountsNumbered.{copies_keep_numbers, is_one_of, same_number, same_origin, taker_elsewhere}
-use Rattle.vt_mount_laws.proofs.MountsReplaced.{apart, found-with_mount_itself, found_itself, numbers-with_mount}
-
--- mounts that are put in the place of others are found
-found_put : (mounts copies : List (Mount ℕ)) → OneNumberAMount copies → (copy : Mount ℕ) → Among copy copies
-    → is_among nat_eq copy.number (numbers_of mounts) ≡ true
-    → mount_in nat_eq (folded (with_mount nat_eq) mounts copies) copy.number ≡ copy
-found_put mounts [] own copy m is = absurd m
-found_put mounts (first ∷ copies) own copy m is =
-    let parted : (list_any (same_number first) copies ≡ false) × OneNumberAMount copies =
-    or_parts (list_any (same_number first) copies) _ own in
-    ⊎_elim
-    (λ e.
-    subst (λ x. mount_in nat_eq (folded (with_mount nat_eq) mounts (first ∷ copies)) x.number ≡ x) (sym e)
-    (found-folded_other (with_mount nat_eq mounts first) copies first.number (λ other n.
-    apart first.number other.number (none_among (same_number first) copies parted.0 other n))
-    ∙ found-with_mount_itself first mounts
-    (subst (λ (x : Mount ℕ). is_among nat_eq x.number (numbers_of mounts) ≡ true) e is)))
-    (λ later.
-    found_put (with_mount nat_eq mounts first) copies parted.1 copy later
-    (ap (is_among nat_eq copy.number) (numbers-with_mount first mounts) ∙ is))
-    m
+use Rattle.vt_mount_laws.proofs.MountsReplaced.{apart, found_itself}
+use Rattle.vt_mount_laws.proofs.MovingLeaves.{found_folded}
 
 -- a mount that keeps all stays the same
 same_mount : (mount : Mount ℕ) → KeepsAllButPlace mount mount
@@ -239,7 +219,7 @@ module _ (world : World ℕ) (new : Copies ℕ) (place : Location ℕ) (mounts :
       ∙ ap (push world new place true mounts)
       (ap (mount_in nat_eq (moved_ones world new place true mounts))
       (sym (put_number (twig world new place true mounts origin)))
-      ∙ found_put world.mounts (arriving world new place true mounts) put_apart (moved destination origin)
+      ∙ found_folded world.mounts (arriving world new place true mounts) put_apart (moved destination origin)
       (copy_among world new place true mounts destination origin m)
       (ap (λ k. is_among nat_eq k (numbers_of world.mounts)) (put_number (twig world new place true mounts origin))
       ∙ is_one_of world.mounts origin (moving origin m)))

@@ -18,7 +18,8 @@ module _ (master : ℕ → Option ℕ) where
   -- what goes up the masters goes up a chain of them
   pub along_chain : (P : ℕ → Type 0) → ((group lower : ℕ) → master lower ≡ Some group → P lower → P group)
       → (n source group : ℕ) → P source → is_among nat_eq group (chain n master source) ≡ true → P group
-  along_chain P up zero source group p h = ⊎_elim (λ e. subst P (sym e) p) (λ none. absurd (true≢false (sym none))) (among_cases group source [] h)
+  along_chain P up zero source group p h =
+      ⊎_elim (λ e. subst P (sym e) p) (λ none. absurd (true≢false (sym none))) (among_cases group source [] h)
   along_chain P up (suc n) source group p h = by (master source) refl (λ above q later. along_chain P up n above group q later)
     where
       by : (found : Option ℕ) → master source ≡ found
@@ -44,18 +45,21 @@ module _ (master : ℕ → Option ℕ) where
     where
       by : (found : Option ℕ) → master source ≡ found → is_among nat_eq source (chain (suc n) master source) ≡ true
       by None e = ap (is_among nat_eq source) (chain_ends master n source e) ∙ head_among source source [] refl
-      by (Some above) e = ap (is_among nat_eq source) (chain_goes_on master n source above e) ∙ head_among source source (chain n master above) refl
+      by (Some above) e =
+          ap (is_among nat_eq source) (chain_goes_on master n source above e) ∙ head_among source source (chain n master above) refl
 
   -- a chain that ends holds the master of each of its groups
   pub chain_is_closed : (n source lower group : ℕ) → Ends n source → master lower ≡ Some group
       → is_among nat_eq lower (chain n master source) ≡ true
       → is_among nat_eq group (chain n master source) ≡ true
   chain_is_closed zero source lower group ends above h =
-      ⊎_elim (λ same. absurd (no_end source group (ap master (sym same) ∙ above) ends)) (λ none. absurd (true≢false (sym none))) (among_cases lower source [] h)
+      ⊎_elim (λ same. absurd (no_end source group (ap master (sym same) ∙ above) ends)) (λ none. absurd (true≢false (sym none)))
+      (among_cases lower source [] h)
   chain_is_closed (suc n) source lower group ends above h = by (master source) refl (λ next. chain_is_closed n next lower group)
     where
       by : (found : Option ℕ) → master source ≡ found
-          → ((next : ℕ) → Ends n next → master lower ≡ Some group → is_among nat_eq lower (chain n master next) ≡ true → is_among nat_eq group (chain n master next) ≡ true)
+          → ((next : ℕ) → Ends n next → master lower ≡ Some group → is_among nat_eq lower (chain n master next) ≡ true
+          → is_among nat_eq group (chain n master next) ≡ true)
           → is_among nat_eq group (chain (suc n) master source) ≡ true
       by None e go =
           ⊎_elim
@@ -64,7 +68,8 @@ module _ (master : ℕ → Option ℕ) where
           (among_cases lower source [] (sym (ap (is_among nat_eq lower) (chain_ends master n source e)) ∙ h))
       by (Some next) e go =
           let longer : chain (suc n) master source ≡ source ∷ chain n master next = chain_goes_on master n source next e in
-          let last : last_or source (chain (suc n) master source) ≡ last_or next (chain n master next) = ap (last_or source) longer ∙ last_of_chain master n next source in
+          let last : last_or source (chain (suc n) master source) ≡ last_or next (chain n master next) =
+          ap (last_or source) longer ∙ last_of_chain master n next source in
           ap (is_among nat_eq group) longer
           ∙ tail_among group source (chain n master next)
           (⊎_elim
@@ -79,7 +84,8 @@ pub groups_live_at : (world : World ℕ) → GroupsLive world → (mount : Mount
     → source_of mount.propagation ≡ Some source
     → (list_all (has_members nat_eq world.mounts) (groups_up world source) ≡ true) × (masters_end nat_eq world source ≡ true)
 groups_live_at world live mount m source e =
-    and_parts _ _ (among_from_list_all (λ group. list_all (has_members nat_eq world.mounts) (groups_up world group) && masters_end nat_eq world group)
+    and_parts _ _
+    (among_from_list_all (λ group. list_all (has_members nat_eq world.mounts) (groups_up world group) && masters_end nat_eq world group)
     (option_to_list (source_of mount.propagation)) (among_from_list_all (has_living_groups nat_eq world) world.mounts live mount m) source
     (subst (λ s. Among source (option_to_list s)) (sym e) (inl refl)))
 
@@ -157,17 +163,22 @@ receivers_are_closed world live = record {
       (λ mount m e. receives_from_source world group mount (ap source_of e));
   slaves = λ group. all_from_among (λ mount. mount.propagation ≡ Slave group → receives nat_eq world group mount ≡ true) world.mounts
       (λ mount m e. receives_from_source world group mount (ap source_of e));
-  further_down = λ group lower up. all_from_among (λ mount. receives nat_eq world lower mount ≡ true → receives nat_eq world group mount ≡ true) world.mounts
+  further_down =
+      λ group lower up. all_from_among (λ mount. receives nat_eq world lower mount ≡ true
+      → receives nat_eq world group mount ≡ true) world.mounts
       (λ mount m h. receives_further_down world live group lower mount m up h);
 }
 
 -- what receives is in every closed set
 in_closed : (world : World ℕ) (set : ℕ → Mount ℕ → Bool) → IsClosed world set → (group : ℕ) (mount : Mount ℕ) → Among mount world.mounts
     → Receives world group mount → set group mount ≡ true
-in_closed world set closed group mount m (member own one e) = among_from_all (λ x. x.propagation ≡ Shared own → set own x ≡ true) world.mounts (closed.members own) one m e
-in_closed world set closed group mount m (slave above one e) = among_from_all (λ x. x.propagation ≡ Slave above → set above x ≡ true) world.mounts (closed.slaves above) one m e
+in_closed world set closed group mount m (member own one e) =
+    among_from_all (λ x. x.propagation ≡ Shared own → set own x ≡ true) world.mounts (closed.members own) one m e
+in_closed world set closed group mount m (slave above one e) =
+    among_from_all (λ x. x.propagation ≡ Slave above → set above x ≡ true) world.mounts (closed.slaves above) one m e
 in_closed world set closed group mount m (further_down above lower one up r) =
-    among_from_all (λ x. set lower x ≡ true → set above x ≡ true) world.mounts (closed.further_down above lower up) one m (in_closed world set closed lower one m r)
+    among_from_all (λ x. set lower x ≡ true → set above x ≡ true) world.mounts (closed.further_down above lower up) one m
+    (in_closed world set closed lower one m r)
 
 pub receivers_are_least : ReceiversAreLeast
 receivers_are_least world set group closed =

@@ -21,23 +21,32 @@ module _ (world : World ℕ) (gone : List ℕ) where
   -- one mount after the event
   pub going_is_detached : (mount : Mount ℕ) → is_going nat_eq gone mount.number ≡ true
       → after_going nat_eq world gone mount ≡ detached mount
-  going_is_detached mount e = ap (λ b. if b then detached mount else (record mount { mount_point = option_map (mount_point_left nat_eq world gone) mount.mount_point })) e
+  going_is_detached mount e =
+      ap (λ b. if b then detached mount else
+      (record mount { mount_point = option_map (mount_point_left nat_eq world gone) mount.mount_point })) e
 
   pub staying_is_placed : (mount : Mount ℕ) → is_going nat_eq gone mount.number ≡ false
-      → after_going nat_eq world gone mount ≡ record mount { mount_point = option_map (mount_point_left nat_eq world gone) mount.mount_point }
-  staying_is_placed mount e = ap (λ b. if b then detached mount else (record mount { mount_point = option_map (mount_point_left nat_eq world gone) mount.mount_point })) e
+      → after_going nat_eq world gone mount
+      ≡ record mount { mount_point = option_map (mount_point_left nat_eq world gone) mount.mount_point }
+  staying_is_placed mount e =
+      ap (λ b. if b then detached mount else
+      (record mount { mount_point = option_map (mount_point_left nat_eq world gone) mount.mount_point })) e
 
   pub number_after : (mount : Mount ℕ) → (after_going nat_eq world gone mount).number ≡ mount.number
   number_after mount = by (is_going nat_eq gone mount.number)
     where
-      by : (b : Bool) → (if b then detached mount else (record mount { mount_point = option_map (mount_point_left nat_eq world gone) mount.mount_point })).number ≡ mount.number
+      by : (b : Bool)
+          → (if b then detached mount else
+          (record mount { mount_point = option_map (mount_point_left nat_eq world gone) mount.mount_point })).number ≡ mount.number
       by true = refl
       by false = refl
 
   none_after : (number : ℕ) → after_going nat_eq world gone (no_mount number) ≡ no_mount number
   none_after number = by (is_going nat_eq gone number)
     where
-      by : (b : Bool) → (if b then detached (no_mount number) else (record (no_mount number) { mount_point = option_map (mount_point_left nat_eq world gone) None })) ≡ no_mount number
+      by : (b : Bool)
+          → (if b then detached (no_mount number) else
+          (record (no_mount number) { mount_point = option_map (mount_point_left nat_eq world gone) None })) ≡ no_mount number
       by true = refl
       by false = refl
 
@@ -46,7 +55,8 @@ module _ (world : World ℕ) (gone : List ℕ) where
   middle = with_mounts world (map (after_going nat_eq world gone) world.mounts)
 
   pub taken : (number : ℕ)
-      → mount_numbered nat_eq (taken_away nat_eq world gone) number ≡ inheriting nat_eq middle (after_going nat_eq world gone (mount_numbered nat_eq world number))
+      → mount_numbered nat_eq (taken_away nat_eq world gone) number ≡ inheriting nat_eq middle
+      (after_going nat_eq world gone (mount_numbered nat_eq world number))
   taken number =
       ap (λ mounts. mount_in nat_eq mounts number) (mounts-regrouped middle)
       ∙ found-map (inheriting nat_eq middle) (λ mount. refl) middle.mounts number refl
@@ -65,7 +75,11 @@ module _ (world : World ℕ) (gone : List ℕ) where
 
   taken_staying : (number : ℕ) → is_going nat_eq gone (mount_numbered nat_eq world number).number ≡ false
       → mount_numbered nat_eq (taken_away nat_eq world gone) number
-      ≡ inheriting nat_eq middle (record (mount_numbered nat_eq world number) { mount_point = option_map (mount_point_left nat_eq world gone) (mount_numbered nat_eq world number).mount_point })
+      ≡ inheriting nat_eq middle
+      (record (mount_numbered nat_eq world number) {
+        mount_point = option_map (mount_point_left nat_eq world gone)
+            (mount_numbered nat_eq world number).mount_point;
+      })
   taken_staying number e = taken number ∙ ap (inheriting nat_eq middle) (staying_is_placed (mount_numbered nat_eq world number) e)
 
   -- Places
@@ -77,7 +91,8 @@ module _ (world : World ℕ) (gone : List ℕ) where
   pub left_at_rest : (n : ℕ) (place : Location ℕ) → is_going nat_eq gone place.mount ≡ false
       → last_or place (chain n (mount_point_of_parent nat_eq world gone) place) ≡ place
   left_at_rest zero place e = refl
-  left_at_rest (suc n) place e = ap (last_or place) (chain_ends (mount_point_of_parent nat_eq world gone) n place (ap (λ b. if b then down place else None) e))
+  left_at_rest (suc n) place e =
+      ap (last_or place) (chain_ends (mount_point_of_parent nat_eq world gone) n place (ap (λ b. if b then down place else None) e))
 
   -- the places below a place end within so many steps
   abbrev EndsBelow : ℕ → Location ℕ → Type 0
@@ -92,26 +107,34 @@ module _ (world : World ℕ) (gone : List ℕ) where
       ap (last_or at) (chain_goes_on (mount_point_of_parent nat_eq world gone) n at below next)
       ∙ last_of_chain (mount_point_of_parent nat_eq world gone) n below at
       ∙ falls_to_rest n below end
-      (sym (ap (λ p. is_some (down p)) (ap (last_or at) (chain_goes_on down n at below under) ∙ last_of_chain down n below at)) ∙ ends) later
+      (sym (ap (λ p. is_some (down p)) (ap (last_or at) (chain_goes_on down n at below under) ∙ last_of_chain down n below at))
+      ∙ ends) later
 
   abbrev below_mount : Mount ℕ → Option (Mount ℕ)
   below_mount mount = option_map (mount_at nat_eq world) mount.mount_point
 
   -- the mounts below the mount of a place are those of the places below it
   same_end : (n : ℕ) (place : Location ℕ)
-      → (last_or (mount_at nat_eq world place) (chain n below_mount (mount_at nat_eq world place))).mount_point ≡ down (last_or place (chain n down place))
+      → (last_or (mount_at nat_eq world place) (chain n below_mount (mount_at nat_eq world place))).mount_point ≡ down
+      (last_or place (chain n down place))
   same_end zero place = refl
   same_end (suc n) place = by (down place) refl (same_end n)
     where
       by : (found : Option (Location ℕ)) → down place ≡ found
-          → ((next : Location ℕ) → (last_or (mount_at nat_eq world next) (chain n below_mount (mount_at nat_eq world next))).mount_point ≡ down (last_or next (chain n down next)))
-          → (last_or (mount_at nat_eq world place) (chain (suc n) below_mount (mount_at nat_eq world place))).mount_point ≡ down (last_or place (chain (suc n) down place))
+          → ((next : Location ℕ)
+          → (last_or (mount_at nat_eq world next) (chain n below_mount (mount_at nat_eq world next))).mount_point ≡ down
+          (last_or next (chain n down next)))
+          → (last_or (mount_at nat_eq world place) (chain (suc n) below_mount (mount_at nat_eq world place))).mount_point ≡ down
+          (last_or place (chain (suc n) down place))
       by None e later =
-          ap (λ ms. (last_or (mount_at nat_eq world place) ms).mount_point) (chain_ends below_mount n (mount_at nat_eq world place) (ap (option_map (mount_at nat_eq world)) e))
+          ap (λ ms. (last_or (mount_at nat_eq world place) ms).mount_point)
+          (chain_ends below_mount n (mount_at nat_eq world place) (ap (option_map (mount_at nat_eq world)) e))
           ∙ sym (ap (λ ps. down (last_or place ps)) (chain_ends down n place e))
       by (Some next) e later =
           ap (λ m. m.mount_point)
-          (ap (last_or (mount_at nat_eq world place)) (chain_goes_on below_mount n (mount_at nat_eq world place) (mount_at nat_eq world next) (ap (option_map (mount_at nat_eq world)) e))
+          (ap (last_or (mount_at nat_eq world place))
+          (chain_goes_on below_mount n (mount_at nat_eq world place) (mount_at nat_eq world next)
+          (ap (option_map (mount_at nat_eq world)) e))
           ∙ last_of_chain below_mount n (mount_at nat_eq world next) (mount_at nat_eq world place))
           ∙ later next
           ∙ sym (ap down (ap (last_or place) (chain_goes_on down n place next e) ∙ last_of_chain down n next place))
@@ -120,8 +143,10 @@ module _ (world : World ℕ) (gone : List ℕ) where
   ends_below ends place =
       ap is_some (sym (same_end (length world.mounts) place))
       ∙ ⊎_elim
-      (λ m. not-true _ (and_parts _ _ (among_from_list_all (stands_in_its_namespace nat_eq world) world.mounts ends (mount_at nat_eq world place) m)).0)
-      (λ none. ap (λ m. is_some (last_or m (chain (length world.mounts) below_mount m)).mount_point) none ∙ none_ends (length world.mounts) place.mount)
+      (λ m. not-true _
+      (and_parts _ _ (among_from_list_all (stands_in_its_namespace nat_eq world) world.mounts ends (mount_at nat_eq world place) m)).0)
+      (λ none. ap (λ m. is_some (last_or m (chain (length world.mounts) below_mount m)).mount_point) none
+      ∙ none_ends (length world.mounts) place.mount)
       (found_or_none world.mounts place.mount)
     where
       none_ends : (n number : ℕ) → is_some (last_or (no_mount number) (chain n below_mount (no_mount number))).mount_point ≡ false
@@ -154,7 +179,8 @@ module _ (world : World ℕ) (gone : List ℕ) where
 
   place_by_number : (number : ℕ) (place : Location ℕ) → is_going nat_eq gone number ≡ false → (before_it number).mount_point ≡ Some place
       → (left number).mount_point ≡ Some (mount_point_left nat_eq world gone place)
-  place_by_number number place e at = ap (λ m. m.mount_point) (taken_staying number (goes_so number false e)) ∙ ap (option_map (mount_point_left nat_eq world gone)) at
+  place_by_number number place e at =
+      ap (λ m. m.mount_point) (taken_staying number (goes_so number false e)) ∙ ap (option_map (mount_point_left nat_eq world gone)) at
 
   pub place_kept : (number : ℕ) (place : Location ℕ) → is_going nat_eq gone number ≡ false → (before_it number).mount_point ≡ Some place
       → is_going nat_eq gone place.mount ≡ false → (left number).mount_point ≡ Some place
@@ -171,7 +197,8 @@ module _ (world : World ℕ) (gone : List ℕ) where
       by : (b : Bool) → is_going nat_eq gone (before_it number).number ≡ b
           → (after_going nat_eq world gone (before_it number)).mount_point ≡ None
       by true e = ap (λ m. m.mount_point) (going_is_detached (before_it number) e)
-      by false e = ap (λ m. m.mount_point) (staying_is_placed (before_it number) e) ∙ ap (option_map (mount_point_left nat_eq world gone)) at
+      by false e =
+          ap (λ m. m.mount_point) (staying_is_placed (before_it number) e) ∙ ap (option_map (mount_point_left nat_eq world gone)) at
 
   -- Types
   type_by_number : (number : ℕ) → is_going nat_eq gone number ≡ false
@@ -197,8 +224,11 @@ module _ (world : World ℕ) (gone : List ℕ) where
       → (left number).propagation ≡ slave_of_heir (find (has_members nat_eq (taken_away nat_eq world gone).mounts) (groups_up world master))
   slave_inherits number master e slave =
       type_by_number number e ∙ ap (inherited nat_eq middle) slave
-      ∙ ap (λ n. slave_of_heir (find (has_members nat_eq middle.mounts) (chain n world.master master))) (length-map world.mounts (after_going nat_eq world gone))
-      ∙ ap slave_of_heir (find_agrees (has_members nat_eq middle.mounts) (has_members nat_eq (taken_away nat_eq world gone).mounts) (λ group. sym (members_of_middle group)) (groups_up world master))
+      ∙ ap (λ n. slave_of_heir (find (has_members nat_eq middle.mounts) (chain n world.master master)))
+      (length-map world.mounts (after_going nat_eq world gone))
+      ∙ ap slave_of_heir
+      (find_agrees (has_members nat_eq middle.mounts) (has_members nat_eq (taken_away nat_eq world gone).mounts)
+      (λ group. sym (members_of_middle group)) (groups_up world master))
 
   pub master_kept : (group master : ℕ) → world.master group ≡ Some master
       → has_members nat_eq (taken_away nat_eq world gone).mounts master ≡ true → (taken_away nat_eq world gone).master group ≡ Some master

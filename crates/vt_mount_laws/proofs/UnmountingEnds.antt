@@ -59,7 +59,8 @@ detached_of_kept a b r = λ i. record {
 stays_detached : (world : World ℕ) (gone : List ℕ) (number : ℕ) (before : Mount ℕ) → mount_numbered nat_eq world number ≡ detached before
     → mount_numbered nat_eq (taken_away nat_eq world gone) number ≡ detached before
 stays_detached world gone number before e =
-    taken world gone number ∙ ap (λ m. inheriting nat_eq (middle world gone) (after_going nat_eq world gone m)) e ∙ by (is_going nat_eq gone before.number) refl
+    taken world gone number ∙ ap (λ m. inheriting nat_eq (middle world gone) (after_going nat_eq world gone m)) e
+    ∙ by (is_going nat_eq gone before.number) refl
   where
     by : (b : Bool) → is_going nat_eq gone before.number ≡ b
         → inheriting nat_eq (middle world gone) (after_going nat_eq world gone (detached before)) ≡ detached before
@@ -86,7 +87,9 @@ all_events : (before : Mount ℕ) (number : ℕ) (mounts : List (Mount ℕ)) (wo
     → DetachedOrKept before (mount_numbered nat_eq world number)
     → DetachedOrKept before (mount_numbered nat_eq (folded (unmounted_if_there nat_eq) world mounts) number)
 all_events before number [] world r = r
-all_events before number (mount ∷ mounts) world r = all_events before number mounts (unmounted_if_there nat_eq world mount) (by (is_some (mount_numbered nat_eq world mount.number).namespace))
+all_events before number (mount ∷ mounts) world r =
+    all_events before number mounts (unmounted_if_there nat_eq world mount)
+    (by (is_some (mount_numbered nat_eq world mount.number).namespace))
   where
     by : (b : Bool) → DetachedOrKept before (mount_numbered nat_eq (if b then unmounted nat_eq world mount.number else world) number)
     by true = then_event before world (going nat_eq world (mount_numbered nat_eq world mount.number)) number r
@@ -115,11 +118,13 @@ all_of_mounts (mount ∷ mounts) world =
     by false = record { filesystems = refl; namespaces = refl; tasks = refl; change = refl }
 
 pub lazy_is_of_mounts : LazyIsOfMounts
-lazy_is_of_mounts world one = all_of_mounts (deepest_first nat_eq world (mount_tree nat_eq world.mounts (mount_numbered nat_eq world one))) world
+lazy_is_of_mounts world one =
+    all_of_mounts (deepest_first nat_eq world (mount_tree nat_eq world.mounts (mount_numbered nat_eq world one))) world
 
 -- The mount itself
 pub the_mount_itself_goes : TheMountItselfGoes
-the_mount_itself_goes world one place one_each at childless = ap (λ ns. is_going nat_eq ns one) (ap (going_at nat_eq world itself) at) ∙ by parent.propagation refl
+the_mount_itself_goes world one place one_each at childless =
+    ap (λ ns. is_going nat_eq ns one) (ap (going_at nat_eq world itself) at) ∙ by parent.propagation refl
   where
     itself : Mount ℕ
     itself = mount_numbered nat_eq world one
@@ -138,28 +143,38 @@ the_mount_itself_goes world one place one_each at childless = ap (λ ns. is_goin
     empty list h = filter_none (stands_on nat_eq one) list h
 
     may : may_go nat_eq world itself ≡ true
-    may = ap (λ n. only_cover nat_eq itself (children nat_eq world.mounts n)) number ∙ ap (only_cover nat_eq itself) (empty world.mounts childless)
+    may =
+        ap (λ n. only_cover nat_eq itself (children nat_eq world.mounts n)) number
+        ∙ ap (only_cover nat_eq itself) (empty world.mounts childless)
 
     itself_among : Among itself world.mounts
-    itself_among = ⊎_elim (λ m. m) (λ none. absurd (true≢false (sym (ap is_some at) ∙ ap (λ m. is_some m.mount_point) none))) (found_or_none world.mounts one)
+    itself_among =
+        ⊎_elim (λ m. m) (λ none. absurd (true≢false (sym (ap is_some at) ∙ ap (λ m. is_some m.mount_point) none)))
+        (found_or_none world.mounts one)
 
     at_parent : child_at nat_eq world.mounts (record { mount = parent.number; node = place.node }) ≡ Some itself
     at_parent = ap (λ n. child_at nat_eq world.mounts (record { mount = n; node = place.node })) (number_found world.mounts place.mount) ∙ found_at_its_place world.mounts one_each itself itself_among place at
 
     parent_among : (group : ℕ) → parent.propagation ≡ Shared group → Among parent world.mounts
     parent_among group e =
-        ⊎_elim (λ m. m) (λ none. absurd (true≢false (sym (ap (λ k. is_some (group_of k)) e) ∙ ap (λ m. is_some (group_of m.propagation)) none))) (found_or_none world.mounts place.mount)
+        ⊎_elim (λ m. m)
+        (λ none. absurd (true≢false (sym (ap (λ k. is_some (group_of k)) e) ∙ ap (λ m. is_some (group_of m.propagation)) none)))
+        (found_or_none world.mounts place.mount)
 
     by : (kind : Propagation ℕ) → parent.propagation ≡ kind
         → is_going nat_eq (going_from nat_eq world itself place (is_shared parent.propagation)) one ≡ true
     by (Shared group) e =
         ap (λ k. is_going nat_eq (going_from nat_eq world itself place (is_shared k)) one) e
-        ∙ ap (λ rs. is_among nat_eq one (map (λ (gone : Mount ℕ). gone.number) (filter_map (goes_at nat_eq world place.node) rs))) (receivers_of_shared world parent group e)
+        ∙ ap (λ rs. is_among nat_eq one
+        (map (λ (gone : Mount ℕ). gone.number)
+        (filter_map (goes_at nat_eq world place.node) rs))) (receivers_of_shared world parent group e)
         ∙ is_among_numbers _ one
-        (subst (λ n. Among n (map (λ (gone : Mount ℕ). gone.number) (filter_map (goes_at nat_eq world place.node) (receivers nat_eq world group)))) number
+        (subst (λ n. Among n
+        (map (λ (gone : Mount ℕ). gone.number) (filter_map (goes_at nat_eq world place.node) (receivers nat_eq world group)))) number
         (among-map (λ (gone : Mount ℕ). gone.number) (filter_map (goes_at nat_eq world place.node) (receivers nat_eq world group)) itself
         (among-filter_map (goes_at nat_eq world place.node) (receivers nat_eq world group) parent itself
-        (among-filter (receives nat_eq world group) world.mounts parent (parent_among group e) (receives_from_source world group parent (ap source_of e)))
+        (among-filter (receives nat_eq world group) world.mounts parent (parent_among group e)
+        (receives_from_source world group parent (ap source_of e)))
         (child_goes_so world place.node parent itself at_parent may))))
     by (Slave above) e = ap (λ k. is_going nat_eq (going_from nat_eq world itself place (is_shared k)) one) e ∙ alone
     by Private e = ap (λ k. is_going nat_eq (going_from nat_eq world itself place (is_shared k)) one) e ∙ alone

@@ -41,7 +41,8 @@ module _ (world : World ℕ) where
           → (child_at nat_eq world.mounts (record { mount = receiver.number; node = node }) ≡ Some child) × (may_go nat_eq world child ≡ true)
       by None f = absurd (true≢false (sym (ap is_some e) ∙ ap (λ found. is_some (then_some found (λ c. when (may_go nat_eq world c) c))) f))
       by (Some found) f =
-          let t : (found ≡ child) × (may_go nat_eq world child ≡ true) = may found (may_go nat_eq world found) refl (sym (ap (λ o. then_some o (λ c. when (may_go nat_eq world c) c)) f) ∙ e) in
+          let t : (found ≡ child) × (may_go nat_eq world child ≡ true) =
+          may found (may_go nat_eq world found) refl (sym (ap (λ o. then_some o (λ c. when (may_go nat_eq world c) c)) f) ∙ e) in
           (f ∙ ap Some t.0, t.1)
 
   pub child_goes_so : (node : ℕ) (receiver child : Mount ℕ)
@@ -67,22 +68,29 @@ module _ (world : World ℕ) (live : GroupsLive world) (mount : Mount ℕ) where
           → Among number (map (λ gone. gone.number) (filter_map (goes_at nat_eq world place.node) (receivers nat_eq world group)))
           → Goes world mount number
       shared place group e f m =
-          let gone : (x : Mount ℕ) × Among x (filter_map (goes_at nat_eq world place.node) (receivers nat_eq world group)) × (number ≡ x.number) =
+          let gone : (x : Mount ℕ) × Among x (filter_map (goes_at nat_eq world place.node) (receivers nat_eq world group))
+          × (number ≡ x.number) =
           among-from_map (λ gone. gone.number) (filter_map (goes_at nat_eq world place.node) (receivers nat_eq world group)) number m in
           let heard : (x : Mount ℕ) × Among x (receivers nat_eq world group) × (goes_at nat_eq world place.node x ≡ Some gone.0) =
           among-from_filter_map (goes_at nat_eq world place.node) (receivers nat_eq world group) gone.0 gone.1 in
           let child : (child_at nat_eq world.mounts (record { mount = heard.0.number; node = place.node }) ≡ Some gone.0) × (may_go nat_eq world gone.0 ≡ true) =
           child_goes world place.node heard.0 gone.0 heard.2 in
-          let hears : Contains world.mounts heard.0 × Receives world group heard.0 = (receivers_receive world group heard.0 live).0 (contains_from_among _ heard.0 heard.1) in
+          let hears : Contains world.mounts heard.0 × Receives world group heard.0 =
+          (receivers_receive world group heard.0 live).0 (contains_from_among _ heard.0 heard.1) in
           subst (Goes world mount) (sym gone.2) (at_receiver place group heard.0 gone.0 e f hears.0 hears.1 child.0 child.1)
 
       at_place : (place : Location ℕ) → mount.mount_point ≡ Some place → (kind : Propagation ℕ)
           → (mount_at nat_eq world place).propagation ≡ kind → Goes world mount number
-      at_place place e kind f = on kind f (listed (going_from nat_eq world mount place (is_shared kind)) (ap (going_at nat_eq world mount) e ∙ ap (λ k. going_from nat_eq world mount place (is_shared k)) f))
+      at_place place e kind f =
+          on kind f (listed (going_from nat_eq world mount place (is_shared kind)) (ap (going_at nat_eq world mount) e
+          ∙ ap (λ k. going_from nat_eq world mount place (is_shared k)) f))
         where
           on : (k : Propagation ℕ) → (mount_at nat_eq world place).propagation ≡ k
               → Among number (going_from nat_eq world mount place (is_shared k)) → Goes world mount number
-          on (Shared group) g m = shared place group e g (subst (λ rs. Among number (map (λ gone. gone.number) (filter_map (goes_at nat_eq world place.node) rs))) (receivers_of_shared world (mount_at nat_eq world place) group g) m)
+          on (Shared group) g m =
+              shared place group e g
+              (subst (λ rs. Among number (map (λ gone. gone.number) (filter_map (goes_at nat_eq world place.node) rs)))
+              (receivers_of_shared world (mount_at nat_eq world place) group g) m)
           on (Slave above) g m = itself (alone place e (ap is_shared g)) m
           on Private g m = itself (alone place e (ap is_shared g)) m
           on Unbindable g m = itself (alone place e (ap is_shared g)) m
@@ -92,22 +100,28 @@ module _ (world : World ℕ) (live : GroupsLive world) (mount : Mount ℕ) where
       by (Some place) e = at_place place e (mount_at nat_eq world place).propagation refl
 
   goes_so_named : (number : ℕ) → Goes world mount number → is_going nat_eq (going nat_eq world mount) number ≡ true
-  goes_so_named number (from_nowhere e) = ap (λ ns. is_going nat_eq ns mount.number) (ap (going_at nat_eq world mount) e) ∙ is_among_numbers (mount.number ∷ []) mount.number (inl refl)
+  goes_so_named number (from_nowhere e) =
+      ap (λ ns. is_going nat_eq ns mount.number) (ap (going_at nat_eq world mount) e)
+      ∙ is_among_numbers (mount.number ∷ []) mount.number (inl refl)
   goes_so_named number (alone place e f) =
       ap (λ ns. is_going nat_eq ns mount.number) (ap (going_at nat_eq world mount) e ∙ ap (going_from nat_eq world mount place) f)
       ∙ is_among_numbers (mount.number ∷ []) mount.number (inl refl)
   goes_so_named number (at_receiver place group receiver child e f contained hears found may) =
-      let heard : Among receiver (receivers nat_eq world group) = among_from_contains _ receiver ((receivers_receive world group receiver live).1 (contained, hears)) in
+      let heard : Among receiver (receivers nat_eq world group) =
+      among_from_contains _ receiver ((receivers_receive world group receiver live).1 (contained, hears)) in
       ap (λ ns. is_going nat_eq ns child.number)
       (ap (going_at nat_eq world mount) e
       ∙ ap (λ k. going_from nat_eq world mount place (is_shared k)) f
-      ∙ ap (λ rs. map (λ gone. gone.number) (filter_map (goes_at nat_eq world place.node) rs)) (receivers_of_shared world (mount_at nat_eq world place) group f))
+      ∙ ap (λ rs. map (λ gone. gone.number) (filter_map (goes_at nat_eq world place.node) rs))
+      (receivers_of_shared world (mount_at nat_eq world place) group f))
       ∙ is_among_numbers _ child.number
       (among-map (λ gone. gone.number) _ child
-      (among-filter_map (goes_at nat_eq world place.node) (receivers nat_eq world group) receiver child heard (child_goes_so world place.node receiver child found may)))
+      (among-filter_map (goes_at nat_eq world place.node) (receivers nat_eq world group) receiver child heard
+      (child_goes_so world place.node receiver child found may)))
 
 pub what_goes_is_named : WhatGoesIsNamed
-what_goes_is_named world one number live = (is_named world live (mount_numbered nat_eq world one) number, goes_so_named world live (mount_numbered nat_eq world one) number)
+what_goes_is_named world one number live =
+    (is_named world live (mount_numbered nat_eq world one) number, goes_so_named world live (mount_numbered nat_eq world one) number)
 
 -- a granted umount has unmounted
 umount_granted : (world : World ℕ) (task : Task ℕ) (path : List ℕ) (here : Here ℕ)
@@ -116,11 +130,15 @@ umount_granted : (world : World ℕ) (task : Task ℕ) (path : List ℕ) (here :
     → (umount_outcome nat_eq world task path).world ≡ unmounted nat_eq world here.location.mount
 unfolding umount_outcome
 umount_granted world task path here ends e =
-    let walked : after world (walk_end (directory_walk nat_eq world task path)) (λ h. judged world (umount_rules nat_eq world task h.location) (granted Done (unmounted nat_eq world h.location.mount)))
+    let walked : after world (walk_end (directory_walk nat_eq world task path))
+    (λ h. judged world (umount_rules nat_eq world task h.location) (granted Done (unmounted nat_eq world h.location.mount)))
     ≡ judged world (umount_rules nat_eq world task here.location) (granted Done (unmounted nat_eq world here.location.mount)) =
-    ap (λ r. after world r (λ h. judged world (umount_rules nat_eq world task h.location) (granted Done (unmounted nat_eq world h.location.mount)))) ends in
+    ap (λ r. after world r
+    (λ h. judged world (umount_rules nat_eq world task h.location) (granted Done (unmounted nat_eq world h.location.mount)))) ends in
     let first = judged_granted Done world (admin_rules task) _ e in
-    let second = judged_granted Done world (umount_rules nat_eq world task here.location) (granted Done (unmounted nat_eq world here.location.mount)) (sym (ap (λ o. o.answer) (first ∙ walked)) ∙ e) in
+    let second =
+    judged_granted Done world (umount_rules nat_eq world task here.location)
+    (granted Done (unmounted nat_eq world here.location.mount)) (sym (ap (λ o. o.answer) (first ∙ walked)) ∙ e) in
     ap (λ o. o.world) (first ∙ walked ∙ second)
 
 pub umount_unmounts : UmountUnmounts

@@ -24,7 +24,8 @@ last_longer next (suc n) a e = by (next a) refl (last_longer next n)
         → last_or a (chain (suc (suc n)) next a) ≡ last_or a (chain (suc n) next a)
     by None f later = ap (last_or a) (chain_ends next (suc n) a f) ∙ sym (ap (last_or a) (chain_ends next n a f))
     by (Some b) f later =
-        let shorter : last_or a (chain (suc n) next a) ≡ last_or b (chain n next b) = ap (last_or a) (chain_goes_on next n a b f) ∙ last_of_chain next n b a in
+        let shorter : last_or a (chain (suc n) next a) ≡ last_or b (chain n next b) =
+        ap (last_or a) (chain_goes_on next n a b f) ∙ last_of_chain next n b a in
         ap (last_or a) (chain_goes_on next (suc n) a b f)
         ∙ last_of_chain next (suc n) b a
         ∙ later b (ap next (sym shorter) ∙ e)
@@ -54,7 +55,8 @@ module _ (world : World ℕ) (ends : PlacesEnd world) where
   parts : (mount : Mount ℕ) → Among mount world.mounts
       → (is_some (last_parent nat_eq world mount).mount_point ≡ false) × (mount.namespace ≡ (last_parent nat_eq world mount).namespace)
   parts mount m =
-      let both : (not (is_some (last_parent nat_eq world mount).mount_point) ≡ true) × (same_option nat_eq mount.namespace (last_parent nat_eq world mount).namespace ≡ true) =
+      let both : (not (is_some (last_parent nat_eq world mount).mount_point) ≡ true)
+      × (same_option nat_eq mount.namespace (last_parent nat_eq world mount).namespace ≡ true) =
       and_parts _ _ (among_from_list_all (stands_in_its_namespace nat_eq world) world.mounts ends mount m) in
       (not-true _ both.0, one_namespace mount.namespace (last_parent nat_eq world mount).namespace both.1)
 
@@ -82,7 +84,9 @@ in_ended world = map (λ (mount : Mount ℕ). mount.number) (filter (is_in_ended
 
 pub ended_closed : (world : World ℕ) → PlacesEnd world → OneNumberEach world → AreClosed world (in_ended world)
 ended_closed world ends one x place m e goes =
-    let from = among-from_map (λ (mount : Mount ℕ). mount.number) (filter (is_in_ended nat_eq world) world.mounts) place.mount (among_numbers (in_ended world) place.mount goes) in
+    let from =
+    among-from_map (λ (mount : Mount ℕ). mount.number) (filter (is_in_ended nat_eq world) world.mounts) place.mount
+    (among_numbers (in_ended world) place.mount goes) in
     let end = among-from_filter (is_in_ended nat_eq world) world.mounts from.0 from.1 in
     let it : mount_at nat_eq world place ≡ from.0 = ap (mount_in nat_eq world.mounts) from.2 ∙ found_itself world.mounts one from.0 end.0 in
     let there : Among (mount_at nat_eq world place) world.mounts = subst (λ z. Among z world.mounts) (sym it) end.0 in
@@ -90,7 +94,10 @@ ended_closed world ends one x place m e goes =
     is_among_numbers (in_ended world) x.number
     (among-map (λ (mount : Mount ℕ). mount.number) (filter (is_in_ended nat_eq world) world.mounts) x
     (among-filter (is_in_ended nat_eq world) world.mounts x m
-    (ap (holds_of (λ number. not (list_any (λ (listed : Namespace ℕ). nat_eq number listed.number && has_tasks nat_eq world listed) world.namespaces))) namespace ∙ end.1)))
+    (ap (holds_of
+    (λ number. not
+    (list_any (λ (listed : Namespace ℕ). nat_eq number listed.number
+    && has_tasks nat_eq world listed) world.namespaces))) namespace ∙ end.1)))
 
 pub ended_namespaces_leave_one_mount_a_place : EndedNamespacesLeaveOneMountAPlace
 ended_namespaces_leave_one_mount_a_place world ends both =

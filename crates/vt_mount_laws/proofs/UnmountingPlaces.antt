@@ -39,12 +39,15 @@ module _ (world : World ℕ) (gone : List ℕ) where
       step next false goes e = cc
 
       by : (found : Option (Location ℕ)) → mount_point_of_parent nat_eq world gone place ≡ found
-          → ((next : Location ℕ) → Falls world gone a next → Falls world gone a (last_or next (chain n (mount_point_of_parent nat_eq world gone) next)))
+          → ((next : Location ℕ) → Falls world gone a next
+          → Falls world gone a (last_or next (chain n (mount_point_of_parent nat_eq world gone) next)))
           → Falls world gone a (last_or place (chain (suc n) (mount_point_of_parent nat_eq world gone) place))
-      by None e later = subst (λ ps. Falls world gone a (last_or place ps)) (sym (chain_ends (mount_point_of_parent nat_eq world gone) n place e)) fall
+      by None e later =
+          subst (λ ps. Falls world gone a (last_or place ps)) (sym (chain_ends (mount_point_of_parent nat_eq world gone) n place e)) fall
       by (Some next) e later =
           subst (Falls world gone a)
-          (sym (ap (last_or place) (chain_goes_on (mount_point_of_parent nat_eq world gone) n place next e) ∙ last_of_chain (mount_point_of_parent nat_eq world gone) n next place))
+          (sym (ap (last_or place) (chain_goes_on (mount_point_of_parent nat_eq world gone) n place next e)
+          ∙ last_of_chain (mount_point_of_parent nat_eq world gone) n next place))
           (later next (step next (is_going nat_eq gone place.mount) refl e))
 
   -- where a mount stands after the event
@@ -75,14 +78,16 @@ one_child_alone mount (child ∷ []) h a b m n = only a m ∙ sym (only b n)
 one_child_alone mount (child ∷ other ∷ rest) h a b m n = absurd (true≢false (sym h))
 
 module _ (world : World ℕ) (gone : List ℕ) (apart_all : AreApart world)
-    (may : (x : Mount ℕ) (place : Location ℕ) → Among x world.mounts → x.mount_point ≡ Some place → is_going nat_eq gone place.mount ≡ true → may_go nat_eq world (mount_at nat_eq world place) ≡ true) where
+    (may : (x : Mount ℕ) (place : Location ℕ) → Among x world.mounts → x.mount_point ≡ Some place
+    → is_going nat_eq gone place.mount ≡ true → may_go nat_eq world (mount_at nat_eq world place) ≡ true) where
   stander : (a : Mount ℕ) (place : Location ℕ) → Among a world.mounts → Falls world gone a place
       → (x : Mount ℕ) × Among x world.mounts × (x.mount_point ≡ Some place)
   stander a place m (direct rest e) = (a, m, e)
   stander a place m (down at rest fall goes under) = (mount_at nat_eq world at, placed_among world.mounts at.mount rest under, under)
 
   -- two that stand on a mount that goes stand at one place
-  one_root : (x y : Mount ℕ) (p q : Location ℕ) → Among x world.mounts → Among y world.mounts → x.mount_point ≡ Some p → y.mount_point ≡ Some q
+  one_root : (x y : Mount ℕ) (p q : Location ℕ) → Among x world.mounts → Among y world.mounts → x.mount_point ≡ Some p
+      → y.mount_point ≡ Some q
       → is_going nat_eq gone p.mount ≡ true → q.mount ≡ p.mount → p ≡ q
   one_root x y p q m n e f goes same =
       let under = mount_at nat_eq world p in
@@ -104,16 +109,23 @@ module _ (world : World ℕ) (gone : List ℕ) (apart_all : AreApart world)
   one_falls : (a b : Mount ℕ) → Among a world.mounts → Among b world.mounts → is_going nat_eq gone a.number ≡ false
       → is_going nat_eq gone b.number ≡ false
       → (r : Location ℕ) → Falls world gone a r → (q : Location ℕ) → Falls world gone b q → q ≡ r → a ≡ b
-  one_falls a b m n stays also r (direct rest e) q (direct end f) same = one_stander world.mounts apart_all.by_place a b m n rest e (f ∙ ap Some same)
+  one_falls a b m n stays also r (direct rest e) q (direct end f) same =
+      one_stander world.mounts apart_all.by_place a b m n rest e (f ∙ ap Some same)
   one_falls a b m n stays also r (direct rest e) q (down at end fall goes under) same =
-      absurd (not_both a at stays goes (one_stander world.mounts apart_all.by_place (mount_at nat_eq world at) a (placed_among world.mounts at.mount end under) m end under (e ∙ ap Some (sym same))))
+      absurd (not_both a at stays goes
+      (one_stander world.mounts apart_all.by_place (mount_at nat_eq world at) a
+      (placed_among world.mounts at.mount end under) m end under (e ∙ ap Some (sym same))))
   one_falls a b m n stays also r (down at rest fall goes under) q (direct end f) same =
-      absurd (not_both b at also goes (one_stander world.mounts apart_all.by_place (mount_at nat_eq world at) b (placed_among world.mounts at.mount rest under) n rest under (f ∙ ap Some same)))
+      absurd (not_both b at also goes
+      (one_stander world.mounts apart_all.by_place (mount_at nat_eq world at) b
+      (placed_among world.mounts at.mount rest under) n rest under (f ∙ ap Some same)))
   one_falls a b m n stays also r (down at rest fall goes under) q (down at_too end fall_too goes_too under_too) same =
       let on_one : mount_at nat_eq world at ≡ mount_at nat_eq world at_too =
       one_stander world.mounts apart_all.by_place (mount_at nat_eq world at) (mount_at nat_eq world at_too)
-      (placed_among world.mounts at.mount rest under) (placed_among world.mounts at_too.mount end under_too) rest under (under_too ∙ ap Some same) in
-      let number : at_too.mount ≡ at.mount = sym (number_found world.mounts at_too.mount) ∙ ap (λ z. z.number) (sym on_one) ∙ number_found world.mounts at.mount in
+      (placed_among world.mounts at.mount rest under) (placed_among world.mounts at_too.mount end under_too) rest under
+      (under_too ∙ ap Some same) in
+      let number : at_too.mount ≡ at.mount =
+      sym (number_found world.mounts at_too.mount) ∙ ap (λ z. z.number) (sym on_one) ∙ number_found world.mounts at.mount in
       let x = stander a at m fall in
       let y = stander b at_too n fall_too in
       one_falls a b m n stays also at fall at_too fall_too (sym (one_root x.0 y.0 at at_too x.1 y.1 x.2 y.2 goes number))
@@ -136,24 +148,32 @@ module _ (world : World ℕ) (gone : List ℕ) (apart_all : AreApart world)
   pub taking_away_leaves_one : OneMountEachPlace (taken_away nat_eq world gone)
   taking_away_leaves_one =
       ap (any_pair (share_a_mount_point nat_eq)) (mounts-regrouped (middle world gone))
-      ∙ pair-map (share_a_mount_point nat_eq) (share_a_mount_point nat_eq) (inheriting nat_eq (middle world gone)) (middle world gone).mounts (λ a b m n e. e)
-      (pair-map (share_a_mount_point nat_eq) (share_a_mount_point nat_eq) (after_going nat_eq world gone) world.mounts one_place_left apart_all.by_place)
+      ∙ pair-map (share_a_mount_point nat_eq) (share_a_mount_point nat_eq) (inheriting nat_eq (middle world gone))
+      (middle world gone).mounts (λ a b m n e. e)
+      (pair-map (share_a_mount_point nat_eq) (share_a_mount_point nat_eq)
+      (after_going nat_eq world gone) world.mounts one_place_left apart_all.by_place)
 
 -- At an unmount
 -- what goes is the mount itself, or one that stands at a place and may go
 pub goes_or_may : (world : World ℕ) (mount : Mount ℕ) (number : ℕ) → is_going nat_eq (going nat_eq world mount) number ≡ true
-    → (number ≡ mount.number) ⊎ ((child : Mount ℕ) × Among child world.mounts × (may_go nat_eq world child ≡ true) × (number ≡ child.number) × (is_some child.mount_point ≡ true))
+    → (number ≡ mount.number)
+    ⊎ ((child : Mount ℕ) × Among child world.mounts × (may_go nat_eq world child ≡ true) × (number ≡ child.number)
+    × (is_some child.mount_point ≡ true))
 goes_or_may world mount number h = by mount.mount_point refl
   where
     alone : Among number (mount.number ∷ [])
-        → (number ≡ mount.number) ⊎ ((child : Mount ℕ) × Among child world.mounts × (may_go nat_eq world child ≡ true) × (number ≡ child.number) × (is_some child.mount_point ≡ true))
+        → (number ≡ mount.number)
+        ⊎ ((child : Mount ℕ) × Among child world.mounts × (may_go nat_eq world child ≡ true) × (number ≡ child.number)
+        × (is_some child.mount_point ≡ true))
     alone m = inl (⊎_elim (λ e. e) (λ none. absurd none) m)
 
     listed : (numbers : List ℕ) → going nat_eq world mount ≡ numbers → Among number numbers
     listed numbers e = among_numbers numbers number (sym (ap (λ ns. is_going nat_eq ns number) e) ∙ h)
 
     on : (place : Location ℕ) (b : Bool) → Among number (going_from nat_eq world mount place b)
-        → (number ≡ mount.number) ⊎ ((child : Mount ℕ) × Among child world.mounts × (may_go nat_eq world child ≡ true) × (number ≡ child.number) × (is_some child.mount_point ≡ true))
+        → (number ≡ mount.number)
+        ⊎ ((child : Mount ℕ) × Among child world.mounts × (may_go nat_eq world child ≡ true) × (number ≡ child.number)
+        × (is_some child.mount_point ≡ true))
     on place true m =
         let receiving = receivers_of nat_eq world (mount_at nat_eq world place) in
         let gone = among-from_map (λ (x : Mount ℕ). x.number) (filter_map (goes_at nat_eq world place.node) receiving) number m in
@@ -165,11 +185,14 @@ goes_or_may world mount number h = by mount.mount_point refl
     on place false m = alone m
 
     by : (place : Option (Location ℕ)) → mount.mount_point ≡ place
-        → (number ≡ mount.number) ⊎ ((child : Mount ℕ) × Among child world.mounts × (may_go nat_eq world child ≡ true) × (number ≡ child.number) × (is_some child.mount_point ≡ true))
+        → (number ≡ mount.number)
+        ⊎ ((child : Mount ℕ) × Among child world.mounts × (may_go nat_eq world child ≡ true) × (number ≡ child.number)
+        × (is_some child.mount_point ≡ true))
     by None e = alone (listed (mount.number ∷ []) (ap (going_at nat_eq world mount) e))
     by (Some place) e =
         on place (is_shared (mount_at nat_eq world place).propagation)
-        (listed (going_from nat_eq world mount place (is_shared (mount_at nat_eq world place).propagation)) (ap (going_at nat_eq world mount) e))
+        (listed (going_from nat_eq world mount place (is_shared (mount_at nat_eq world place).propagation))
+        (ap (going_at nat_eq world mount) e))
 
 pub unmount_leaves_one_mount_a_place : UnmountLeavesOneMountAPlace
 unmount_leaves_one_mount_a_place world one apart_all childless = record {
@@ -185,4 +208,5 @@ unmount_leaves_one_mount_a_place world one apart_all childless = record {
   where
     no_child : (x : Mount ℕ) (place : Location ℕ) → Among x world.mounts → x.mount_point ≡ Some place → place.mount ≡ one → ⊥
     no_child x place m e same =
-        true≢false (sym (ap (holds_of (λ p. nat_eq one p.mount)) e ∙ eq-eqb one place.mount (sym same)) ∙ none_among (stands_on nat_eq one) world.mounts childless x m)
+        true≢false (sym (ap (holds_of (λ p. nat_eq one p.mount)) e ∙ eq-eqb one place.mount (sym same))
+        ∙ none_among (stands_on nat_eq one) world.mounts childless x m)

@@ -18,7 +18,9 @@ use Rattle.vt_mount_laws.proofs.MountsKept.{taking_away_keeps_numbers}
 
 -- what stands on a mount that goes, goes
 abbrev pub AreClosed : World ℕ → List ℕ → Type 0
-AreClosed world gone = (x : Mount ℕ) (place : Location ℕ) → Among x world.mounts → x.mount_point ≡ Some place → is_going nat_eq gone place.mount ≡ true → is_going nat_eq gone x.number ≡ true
+AreClosed world gone =
+    (x : Mount ℕ) (place : Location ℕ) → Among x world.mounts → x.mount_point ≡ Some place
+    → is_going nat_eq gone place.mount ≡ true → is_going nat_eq gone x.number ≡ true
 
 module _ (world : World ℕ) (gone : List ℕ) (closed : AreClosed world gone) where
   -- then what stays stands where it stood
@@ -45,7 +47,8 @@ module _ (world : World ℕ) (gone : List ℕ) (closed : AreClosed world gone) w
   closed_keeps_apart both = record {
     by_number = taking_away_keeps_numbers world gone both.by_number;
     by_place = ap (any_pair (share_a_mount_point nat_eq)) (mounts-regrouped (middle world gone))
-        ∙ pair-map (share_a_mount_point nat_eq) (share_a_mount_point nat_eq) (inheriting nat_eq (middle world gone)) (middle world gone).mounts (λ a b m n e. e)
+        ∙ pair-map (share_a_mount_point nat_eq) (share_a_mount_point nat_eq) (inheriting nat_eq (middle world gone))
+        (middle world gone).mounts (λ a b m n e. e)
         (pair-map (share_a_mount_point nat_eq) (share_a_mount_point nat_eq) (after_going nat_eq world gone) world.mounts
         (λ a b m n differ. false_from_ne_true _ (λ together.
         let place = place_of_both (after_going nat_eq world gone a) (after_going nat_eq world gone b) together in
@@ -68,7 +71,8 @@ module _ (world : World ℕ) where
   one_more : (n : ℕ) (mount end : Mount ℕ) (place : Location ℕ) → Reaches n mount end → end.mount_point ≡ Some place
       → Reaches (suc n) mount (mount_at nat_eq world place)
   one_more n mount end place (arrived it) e = down zero it (mount_at nat_eq world place) place e (arrived (mount_at nat_eq world place))
-  one_more n mount end place (down k it last at f later) e = down (suc k) it (mount_at nat_eq world place) at f (one_more k (mount_at nat_eq world at) last place later e)
+  one_more n mount end place (down k it last at f later) e =
+      down (suc k) it (mount_at nat_eq world place) at f (one_more k (mount_at nat_eq world at) last place later e)
 
   -- so its places do not end sooner
   not_ended : (n k : ℕ) (mount end : Mount ℕ) → Reaches k mount end → k ≡ suc n
@@ -94,20 +98,24 @@ module _ (world : World ℕ) where
         → Among x (tree_from nat_eq depth world.mounts top) ⊎ Reaches (suc depth) x (mount_numbered nat_eq world top.number)
     in_tree zero top under x place m n e same =
         let number : place.mount ≡ top.number = ⊎_elim (λ f. same ∙ ap (λ z. z.number) f) (λ none. absurd none) m in
-        inr (subst (λ k. Reaches 1 x (mount_numbered nat_eq world k)) number (down zero x (mount_at nat_eq world place) place e (arrived (mount_at nat_eq world place))))
+        inr (subst (λ k. Reaches 1 x (mount_numbered nat_eq world k)) number
+        (down zero x (mount_at nat_eq world place) place e (arrived (mount_at nat_eq world place))))
     in_tree (suc depth) top under x place m n e same =
         ⊎_elim
         (λ f.
         let number : place.mount ≡ top.number = same ∙ ap (λ z. z.number) f in
         inl (inr (among-flat_map (tree_from nat_eq depth world.mounts) (children nat_eq world.mounts top.number) x x
-        (among-filter (stands_on nat_eq top.number) world.mounts x n (ap (holds_of (λ p. nat_eq top.number p.mount)) e ∙ eq-eqb top.number place.mount (sym number)))
+        (among-filter (stands_on nat_eq top.number) world.mounts x n (ap (holds_of (λ p. nat_eq top.number p.mount)) e
+        ∙ eq-eqb top.number place.mount (sym number)))
         (top_among depth x))))
         (λ later.
         let from = among-from_flat_map (tree_from nat_eq depth world.mounts) (children nat_eq world.mounts top.number) under later in
         let child = among-from_filter (stands_on nat_eq top.number) world.mounts from.0 from.1 in
         ⊎_elim
-        (λ found. inl (inr (among-flat_map (tree_from nat_eq depth world.mounts) (children nat_eq world.mounts top.number) from.0 x from.1 found)))
-        (λ deep. inr (deeper depth x from.0 child.0 child.1 (subst (Reaches (suc depth) x) (found_itself world.mounts one from.0 child.0) deep)))
+        (λ found. inl
+        (inr (among-flat_map (tree_from nat_eq depth world.mounts) (children nat_eq world.mounts top.number) from.0 x from.1 found)))
+        (λ deep. inr
+        (deeper depth x from.0 child.0 child.1 (subst (Reaches (suc depth) x) (found_itself world.mounts one from.0 child.0) deep)))
         (in_tree depth from.0 under x place from.2 n e same))
         m
       where
@@ -119,25 +127,31 @@ module _ (world : World ℕ) where
             → Reaches (suc d) z child → Reaches (suc (suc d)) z (mount_numbered nat_eq world top.number)
         deeper d z child c on r = by child.mount_point refl
           where
-            by : (found : Option (Location ℕ)) → child.mount_point ≡ found → Reaches (suc (suc d)) z (mount_numbered nat_eq world top.number)
+            by : (found : Option (Location ℕ)) → child.mount_point ≡ found
+                → Reaches (suc (suc d)) z (mount_numbered nat_eq world top.number)
             by None f = absurd (true≢false (sym on ∙ ap (holds_of (λ p. nat_eq top.number p.mount)) f))
             by (Some p) f =
-                let number : top.number ≡ p.mount = eqb-true top.number p.mount (sym (ap (holds_of (λ q. nat_eq top.number q.mount)) f) ∙ on) in
+                let number : top.number ≡ p.mount =
+                eqb-true top.number p.mount (sym (ap (holds_of (λ q. nat_eq top.number q.mount)) f) ∙ on) in
                 subst (λ k. Reaches (suc (suc d)) z (mount_numbered nat_eq world k)) (sym number) (one_more (suc d) z child p r f)
 
     pub trees_closed : (tops : List (Mount ℕ))
         → AreClosed world (map (λ (mount : Mount ℕ). mount.number) (flat_map (mount_tree nat_eq world.mounts) tops))
     trees_closed tops x place m e goes =
         let numbers = map (λ (mount : Mount ℕ). mount.number) (flat_map (mount_tree nat_eq world.mounts) tops) in
-        let gone = among-from_map (λ (mount : Mount ℕ). mount.number) (flat_map (mount_tree nat_eq world.mounts) tops) place.mount (among_numbers numbers place.mount goes) in
+        let gone =
+        among-from_map (λ (mount : Mount ℕ). mount.number) (flat_map (mount_tree nat_eq world.mounts) tops) place.mount
+        (among_numbers numbers place.mount goes) in
         let tree = among-from_flat_map (mount_tree nat_eq world.mounts) tops gone.0 gone.1 in
         ⊎_elim
         (λ found.
         is_among_numbers numbers x.number
-        (among-map (λ (mount : Mount ℕ). mount.number) (flat_map (mount_tree nat_eq world.mounts) tops) x (among-flat_map (mount_tree nat_eq world.mounts) tops tree.0 x tree.1 found)))
+        (among-map (λ (mount : Mount ℕ). mount.number) (flat_map (mount_tree nat_eq world.mounts) tops) x
+        (among-flat_map (mount_tree nat_eq world.mounts) tops tree.0 x tree.1 found)))
         (λ deep. absurd (ended x (mount_numbered nat_eq world tree.0.number) m deep))
         (in_tree (length world.mounts) tree.0 gone.0 x place tree.2 m e gone.2)
 
 pub trees_leave_one_mount_a_place : TreesLeaveOneMountAPlace
 trees_leave_one_mount_a_place world tops ends both =
-    closed_keeps_apart world (map (λ (mount : Mount ℕ). mount.number) (flat_map (mount_tree nat_eq world.mounts) tops)) (trees_closed world both.by_number ends tops) both
+    closed_keeps_apart world (map (λ (mount : Mount ℕ). mount.number) (flat_map (mount_tree nat_eq world.mounts) tops))
+    (trees_closed world both.by_number ends tops) both

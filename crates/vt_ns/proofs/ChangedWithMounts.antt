@@ -33,7 +33,7 @@ use Rattle.vt_letting_go.specs.FileChanges.{MayChange, names_lost}
 use Rattle.vt_letting_go.specs.InUse.{IsListedTree, is_inode_used}
 use Rattle.vt_letting_go.specs.OneByOne.{let_go_inode, let_go_inode_of, without_inode}
 use Rattle.vt_letting_go.specs.TreeChanges.{ChangesTree}
-use Rattle.vt_mount.specs.MountsValue.{MountEntry}
+use Rattle.vt_mount.specs.MountsValue.{MountEntry, mounts_in}
 use Rattle.vt_run_laws.specs.Handed.{is_counted_before}
 use Rattle.vt_run_laws.proofs.AlikeSettled.{settled_alike}
 use Rattle.vt_run_laws.proofs.AlikeWorlds.{alike_from_same, same_from_alike, sameness_is_an_equivalence}
@@ -51,9 +51,9 @@ use Rattle.vt_detach.specs.Held.{CountsItsMounts, CountsWhatIsInIt, HasOwnInodes
 use Rattle.vt_detach.specs.Uses.{kept}
 use Rattle.vt_detach.specs.WorldValue.{WorldValue, world_of}
 use Rattle.vt_detach.proofs.ChangedFiles.{ChangesFiles, change_is_held, change_is_swept, with_filesystems}
-use Rattle.vt_detach.proofs.Bridging.{swept_is_counted, swept_is_same}
+use Rattle.vt_detach.proofs.Bridging.{swept_has, swept_is_counted, swept_is_same}
 use Rattle.vt_detach.proofs.DetachingBegins.{HasChildrenOf, detached_world, detaching_begins, filesystem_kept}
-use Rattle.vt_detach.proofs.DetachingEnds.{detached_counted, detached_swept, held_is_kept}
+use Rattle.vt_detach.proofs.DetachingEnds.{detached_counted, detached_has_none, detached_rises, detached_swept, held_is_kept}
 use Rattle.vt_detach.proofs.Finishing.{own_exchanged}
 use Rattle.vt_detach.proofs.FilesSeen.{files_are_plain}
 use Rattle.vt_detach.proofs.Keeping.{IsKeptBut, detached_in}
@@ -287,9 +287,10 @@ module _ (value : WorldValue) (held : IsHeld value) (location : Location ℕ) (c
           (detaching_begins value_changed [] [] (world_of value_changed) (kept value.mounts filesystems) (held_is_kept value_changed held_first) gone closed) turn in
           let lost = detaching.lost in
           let kept_last = subst (λ one. IsKeptBut value_changed [] [] [] lost one (kept mounts others)) detaching.ends detaching.is in
-          let swept = detached_swept value_changed after [] lost new kept_last refl (world_is_plain value_changed) (λ group. refl) after_world.1 refl refl in
+          let swept = detached_swept value_changed after [] lost new kept_last refl (world_is_plain value_changed) refl refl in
+          let has = detached_has_none value_changed after [] lost new kept_last refl held_first (detached_rises gone (mounts_in value.mounts) held.groups.order) in
           let same = sameness_is_an_equivalence.onward (settled nat_eq last) (settled nat_eq after) (world_of new) same_left
-          (swept_is_same value_changed held_first after [] lost new swept after_world.0) in
+          (swept_is_same value_changed held_first after [] lost new swept has after_world) in
           let is = (same_worlds_are_worlds (settled nat_eq last) (world_of new) same left_world.1 left_world.0).0 in
           let counts = detached_counted value_changed after [] lost new kept_last refl
           (all_from_among (CountsWhatIsInIt (world_of new)) value.namespaces (λ entry m.
@@ -297,6 +298,7 @@ module _ (value : WorldValue) (held : IsHeld value) (location : Location ℕ) (c
           record {
             held = record {
               in_world = is;
+              groups = swept_has value_changed held_first after [] lost new swept has after_world;
               ungrouped = counts.ungrouped;
               given = same_keeps_to_numbers_too (is_counted_before value.next) (λ k. 0) world permits.task permit (world_of new)
                   permits.given.called held.given (λ k. refl) is_named
@@ -304,7 +306,7 @@ module _ (value : WorldValue) (held : IsHeld value) (location : Location ℕ) (c
               mounts = counts.uses;
               filesystems = all_from_among (CountsItsMounts (world_of new)) others (λ entry m. record {
                 mounts = counts.mounts entry m;
-                inodes = swept_is_counted value_changed held_first after [] lost new swept after_world.0 entry m is;
+                inodes = swept_is_counted value_changed held_first after [] lost new swept has after_world entry m is;
               });
               own_inodes = all_from_among HasOwnInodes others (λ entry m. let from = swept.entries entry m in
                   subst (λ count. IsOwn count (inodes_seen entry)) (sym from.count)

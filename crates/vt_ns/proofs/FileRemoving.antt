@@ -1,53 +1,39 @@
 -- The event that removes a directory on which no mount stands: rmdir(2).
-use Rattle.std.proofs.Common.{◌≡◌, refl, sym, ap, subst, ◌∙◌, ℕ, ◌&&◌, ◌||◌, true, false, nat_eq, List, [], ◌∷◌, is_some}
-use Rattle.std.proofs.lemmas.Bool.{and_parts}
-use Rattle.std.specs.List.{list_all, list_any}
+use Rattle.std.proofs.Common.{◌≡◌, refl, sym, ap, subst, ◌∙◌, ℕ, ◌&&◌, nat_eq, List, [], is_some}
 use Rattle.vt_spec.specs.Language.Calls.{TaskName}
 use Rattle.vt_spec.specs.Language.Changes.{Change}
 use Rattle.vt_spec.specs.Language.Changes.Change.{Remove}
 use Rattle.vt_spec.specs.Machine.Detach.{mounts_on, trees_taken_away, without_mounts_on}
 use Rattle.vt_spec.specs.Machine.Filesystems.{with_change}
 use Rattle.vt_spec.specs.Machine.Mounts as meant
-use Rattle.vt_spec.specs.Machine.Mounts.{Mount, Propagation}
-use Rattle.vt_spec.specs.Machine.Mounts.Propagation.{Private, Shared, Slave, Unbindable}
 use Rattle.vt_spec.specs.Machine.Permits.{Permit}
 use Rattle.vt_spec.specs.Machine.Permits.Permit.{ToRemoveDirectory}
-use Rattle.vt_spec.specs.Machine.Receives.{lost_a_group, regrouped_by}
-use Rattle.vt_spec.specs.Machine.World.{World}
 use Rattle.vt_spec.specs.Fits.{Fits}
 use Rattle.vt_spec.specs.Inodes.{Inodes, changed, tree_of}
 use Rattle.vt_spec.specs.TreeLaws.{entry_at}
 use Rattle.vt_fs.specs.FilesystemsValue.{ChangesInodes, Filesystems, inodes_at, inodes_seen}
+use Rattle.vt_group.proofs.Together.{regrouped_living}
 use Rattle.vt_letting_go.proofs.NamespacesEnd.{nothing_taken}
 use Rattle.vt_location.specs.declared.locations.Location.{Location}
 use Rattle.vt_location.specs.Locations.{location_of, number_of}
-use Rattle.vt_mount.specs.MountsValue.{MountEntry, mounts_in}
 use Rattle.vt_permit_laws.specs.Sees.{SeesTo}
 use Rattle.vt_permit_laws.proofs.SeesFit.{given_changes_fit}
 use Rattle.vt_permit_laws.proofs.SeesTasks.{given_permits_are_seen_to}
 use Rattle.vt_detach.specs.Events.{Permits, supply_of}
-use Rattle.vt_detach.specs.Held.{IsHeld, is_ungrouped}
+use Rattle.vt_detach.specs.Held.{IsHeld}
 use Rattle.vt_detach.specs.WorldValue.{WorldValue, world_of}
 use Rattle.vt_detach.proofs.ChangedFiles.{IsFilesEvent, files_are_changed, with_filesystems}
 use Rattle.vt_detach.proofs.FileEvents.{IsSmall, permit_fits}
 use Rattle.vt_detach.proofs.FilesSeen.{IsLocated, also_there, files_are_plain, located, located_filesystem, located_inodes, tree_of_entry}
-use Rattle.vt_detach.proofs.Ungrouped.{not_lost}
 
 -- Where no mount stands nothing is detached
-
-none_lost : (world : World ℕ) (entries : List MountEntry) → list_all (λ entry. is_ungrouped entry.mount.propagation) entries ≡ true
-    → list_any (lost_a_group nat_eq world) (mounts_in entries) ≡ false
-none_lost world [] all = refl
-none_lost world (entry ∷ entries) all =
-    let parts = and_parts (is_ungrouped entry.mount.propagation) _ all in
-    λ i. not_lost world entry.mount parts.0 i || none_lost world entries parts.1 i
 
 pub nothing_detached : (value : WorldValue) → IsHeld value → (at : meant.Location ℕ) → mounts_on nat_eq (world_of value) at ≡ []
     → without_mounts_on nat_eq (world_of value) at ≡ world_of value
 nothing_detached value held at none =
     ap (trees_taken_away nat_eq (world_of value)) none
     ∙ nothing_taken (world_of value)
-    ∙ ap (λ lost. regrouped_by nat_eq lost (world_of value)) (none_lost (world_of value) value.mounts held.ungrouped)
+    ∙ regrouped_living (world_of value) held.in_world.mounts.groups
 
 module _ (value : WorldValue) (held : IsHeld value) (name : TaskName) (parent : Location) (entry : List ℕ) (directory : Location)
     (small : IsSmall parent) (small_directory : IsSmall directory)

@@ -1,8 +1,7 @@
 -- A task opens a file: open(2).
 use Rattle.std.proofs.Common.{◌≡◌, ◌<◌, refl, sym, ap, subst, ◌∙◌, ℕ, ◌+◌, nat_eq, Bool, true, false, cond, ◌&&◌, List, [], ◌∷◌, ◌++◌, map, find, Option, None, Some, unwrap_or, arith}
 use Rattle.std.specs.Prelude.{nat_lt}
-use Rattle.vt_spec.specs.declared.errors.Rule.TheVariants.{S3, S5}
-use Rattle.vt_spec.specs.Errors.{denial}
+use Rattle.std.proofs.lemmas.Bool.{leb-false}
 use Rattle.std.proofs.lemmas.List.{map-append}
 use Rattle.vt_spec.specs.Language.Calls.{TaskName}
 use Rattle.vt_spec.specs.Language.Calls as spoken
@@ -25,7 +24,7 @@ use Rattle.vt_mount.specs.MountsValue.{MountEntry}
 use Rattle.vt_request.specs.Requests.{access_of}
 use Rattle.vt_tasks.specs.Counts.{locations_in}
 use Rattle.vt_tasks.specs.declared.descriptors.OpenFile.{OpenFile}
-use Rattle.vt_tasks.specs.TasksValue.{Tasks, called, changed_by, changed_called, open_refusal, replaced, with_open}
+use Rattle.vt_tasks.specs.TasksValue.{MayOpenMore, Tasks, called, changed_by, changed_called, replaced, with_open}
 use Rattle.vt_world_laws.proofs.RaisedInUse.{worlds_are_in_use}
 use Rattle.vt_detach.specs.Events.{Permits, supply_of}
 use Rattle.vt_detach.specs.Held.{IsHeld, writes_of_task, writes_on}
@@ -151,11 +150,10 @@ nothing_copied value file access =
         by true later = refl
         by false later = later
 
--- the task may open another file, so only memory was missing
-pub refused_for_memory : (value : WorldValue) → IsHeld value → (name : TaskName) (file : meant.Location ℕ) (access : spoken.Access)
-    → Permits value name (ToOpen file access) → open_refusal (called name value.tasks) ≡ denial S5
-refused_for_memory value whole name file access permits =
-    ap open_refusal permits.called
-    ∙ ap (λ b. denial (cond b S3 S5))
-    (given_permits_are_seen_to (world_of value) (supply_of value (ToOpen file access)) permits.task (ToOpen file access)
-    whole.in_world (files_are_plain value.filesystems) permits.given).1
+-- the task may open another file
+pub may_open_more : (value : WorldValue) → IsHeld value → (name : TaskName) (file : meant.Location ℕ) (access : spoken.Access)
+    → Permits value name (ToOpen file access) → MayOpenMore (called name value.tasks)
+may_open_more value whole name file access permits =
+    subst MayOpenMore (sym permits.called)
+    (leb-false _ _ (given_permits_are_seen_to (world_of value) (supply_of value (ToOpen file access)) permits.task (ToOpen file access)
+    whole.in_world (files_are_plain value.filesystems) permits.given).1)

@@ -1,10 +1,9 @@
 -- A task forks: fork(2).
 use Rattle.std.proofs.Common.{◌≡◌, ◌<◌, refl, sym, ap, subst, ◌∙◌, inl, inr, ℕ, ◌+◌, nat_eq, Bool, true, false, cond, ◌&&◌, ◌||◌, List, [], ◌∷◌, ◌++◌, Some, arith}
+use Rattle.std.proofs.lemmas.Bool.{leb-false}
 use Rattle.std.proofs.lemmas.Grind.{flat_map-append}
 use Rattle.std.proofs.lemmas.List.{append-nil}
 use Rattle.std.proofs.lemmas.Option.{same_Some}
-use Rattle.vt_spec.specs.declared.errors.Rule.TheVariants.{S5, S6}
-use Rattle.vt_spec.specs.Errors.{denial}
 use Rattle.vt_spec.specs.Language.Calls.{TaskName}
 use Rattle.vt_spec.specs.Machine.Mounts as meant
 use Rattle.vt_spec.specs.Machine.Outcome.Tasks.{child_of}
@@ -29,7 +28,7 @@ use Rattle.vt_permit_laws.proofs.SeesTasks.{given_permits_are_seen_to}
 use Rattle.vt_tasks.specs.Counts.{locations_in, one_if}
 use Rattle.vt_tasks.specs.declared.task.Task.{Task as Own}
 use Rattle.vt_tasks.specs.TaskValue.{task_of}
-use Rattle.vt_tasks.specs.TasksValue.{Tasks, called, fork_refusal, forked, forked_by, forked_once, replaced, with_child_behind}
+use Rattle.vt_tasks.specs.TasksValue.{MayFork, Tasks, called, forked, forked_by, forked_once, replaced, with_child_behind}
 use Rattle.vt_world_laws.proofs.RaisedInUse.{worlds_are_in_use}
 use Rattle.vt_letting_go.proofs.UpperUses.{times_append}
 use Rattle.vt_detach.specs.Events.{Permits, supply_of}
@@ -178,13 +177,13 @@ module _ (value : WorldValue) (whole : IsHeld value) (name : TaskName) (task : T
           ∙ ap (with_use task.directory.mount ((mount_at nat_eq (world_of value) task.directory).filesystem, task.directory.node) false)
           (use_at task.root root root_is root_few root_there (kept value.mounts value.filesystems))
 
--- the task may fork, so only memory was missing
-pub fork_refused_for_memory : (value : WorldValue) → IsHeld value → (name : TaskName) (credentials : Credentials)
-    → Permits value name (ToFork credentials) → fork_refusal (called name value.tasks) ≡ denial S5
-fork_refused_for_memory value whole name credentials permits =
+-- the task may fork
+pub may_fork : (value : WorldValue) → IsHeld value → (name : TaskName) (credentials : Credentials)
+    → Permits value name (ToFork credentials) → MayFork (called name value.tasks)
+may_fork value whole name credentials permits =
     let sees = given_permits_are_seen_to (world_of value) (supply_of value (ToFork credentials)) permits.task (ToFork credentials)
     whole.in_world (files_are_plain value.filesystems) permits.given in
-    ap fork_refusal permits.called ∙ (λ i. denial (cond (sees.0 i || sees.1 i) S6 S5))
+    subst MayFork (sym permits.called) (leb-false _ _ sees.0, leb-false _ _ sees.1)
 
 -- the tasks after a fork, with its child counted in its namespace and where it is
 pub task_is_forked : (value : WorldValue) → IsHeld value → (name : TaskName) (credentials : Credentials)

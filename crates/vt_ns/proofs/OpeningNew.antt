@@ -1,9 +1,8 @@
 -- A new file is made in a directory, and opened: open(2) with O_CREAT.
 use Rattle.std.proofs.Common.{◌≡◌, refl, sym, ap, subst, ◌∙◌, inl, inr, true≢false, ℕ, ◌<◌, ◌/◌, ◌&&◌, true, cond, nat_eq, eq-eqb, List, [], ◌∷◌, map, Option, Some, is_some, option_map, unwrap_or, arith}
 use Rattle.std.specs.List.{list_all}
+use Rattle.std.proofs.lemmas.Bool.{leb-false}
 use Rattle.std.proofs.lemmas.Option.{same_Some}
-use Rattle.vt_spec.specs.declared.errors.Rule.TheVariants.{S3, S5}
-use Rattle.vt_spec.specs.Errors.{denial}
 use Rattle.vt_spec.specs.Language.Calls.{TaskName}
 use Rattle.vt_spec.specs.Language.Calls as spoken
 use Rattle.vt_spec.specs.Language.Changes.{Change}
@@ -46,7 +45,7 @@ use Rattle.vt_permit_laws.proofs.SeesTasks.{given_permits_are_seen_to}
 use Rattle.vt_run_laws.specs.Handed.{is_counted_before}
 use Rattle.vt_run_laws.proofs.AlikeSettled.{settled_alike}
 use Rattle.vt_run_laws.proofs.AlikeWorlds.{alike_from_same, same_from_alike, same_worlds_are_plain_alike, sameness_is_an_equivalence}
-use Rattle.vt_tasks.specs.TasksValue.{Tasks, called, changed_by, changed_called, open_refusal, replaced}
+use Rattle.vt_tasks.specs.TasksValue.{MayOpenMore, Tasks, called, changed_by, changed_called, replaced}
 use Rattle.vt_world_laws.specs.Worlds.Kept.{IsWorldButForUse}
 use Rattle.vt_world_laws.specs.Worlds.Permits.{IsFitPermit}
 use Rattle.vt_world_laws.proofs.MountsKept.{mounts_kept}
@@ -60,6 +59,8 @@ use Rattle.vt_detach.specs.Held.{IsHeld}
 use Rattle.vt_detach.specs.Uses.{kept, with_location, with_use}
 use Rattle.vt_detach.specs.WorldValue.{WorldValue, world_of}
 use Rattle.vt_detach.proofs.Bridging.{IsSwept, swept_is_same}
+use Rattle.vt_detach.proofs.Grouped.{left_has}
+use Rattle.vt_group.specs.Grouping.{Has}
 use Rattle.vt_detach.proofs.ChangedFiles.{ChangesFiles, change_is_held, change_is_swept, inodes_after, is_change, partner, with_filesystems}
 use Rattle.vt_detach.proofs.FileEvents.{IsSmall, permit_fits}
 use Rattle.vt_ns.proofs.FileMaking.{new_in_slot, new_is_named}
@@ -113,9 +114,9 @@ module _ (value : WorldValue) (held : IsHeld value) (name : TaskName) (directory
   pub new_in_directory : IsNewIn directory.node.slot node
   new_in_directory = new_in_slot count directory.node.slot small node sees.0.fits
 
-  -- the task may open another file, so only memory was missing
-  pub room_for_one : open_refusal (called name value.tasks) ≡ denial S5
-  room_for_one = ap open_refusal permits.called ∙ ap (λ b. denial (cond b S3 S5)) sees.1
+  -- the task may open another file
+  pub may_open_one : MayOpenMore (called name value.tasks)
+  may_open_one = subst MayOpenMore (sym permits.called) (leb-false _ _ sees.1)
 
   abbrev change : ℕ → Change ℕ
   change number = Make (number_of directory.node) entry number (node_seen count node)
@@ -356,16 +357,19 @@ module _ (value : WorldValue) (held : IsHeld value) (name : TaskName) (directory
           access.writes (kept value.mounts made_in))
 
       swept : IsSwept mid next (inode_at (world_of mid) (location_of file) ∷ []) [] new
-      swept = remains_swept mid mid_held tasks (used_by descriptor ∷ []) [] moves mounts filesystems moved stay left.1
+      swept = remains_swept mid mid_held tasks (used_by descriptor ∷ []) [] moves mounts filesystems moved stay
+
+      has : Has (settled nat_eq next) new.groups
+      has = left_has mid mid_held next refl (λ group. refl)
 
       same : (rest : Fresh ℕ) → SameWorlds (settled nat_eq (opened_at rest)) (world_of new)
       same rest =
           sameness_is_an_equivalence.onward (settled nat_eq (opened_at rest)) (settled nat_eq next) (world_of new) (opened_alike rest)
-          (swept_is_same mid mid_held next (inode_at (world_of mid) (location_of file) ∷ []) [] new swept left.0)
+          (swept_is_same mid mid_held next (inode_at (world_of mid) (location_of file) ∷ []) [] new swept has left)
 
       new_is_opened : IsDone value name permit new
       new_is_opened = record {
-        held = swept_held mid mid_held next left (inode_at (world_of mid) (location_of file) ∷ []) [] new swept
+        held = swept_held mid mid_held next left (inode_at (world_of mid) (location_of file) ∷ []) [] new swept has
             (remains_counted mid mid_held tasks (used_by descriptor ∷ []) [] moves mounts filesystems moved stay
             (opened_tasks mid mid_held name permits.task permits.called descriptor there))
             (same_keeps_to_numbers_too (is_counted_before value.next) (λ k. number_of made) (world_of value) permits.task permit (world_of new)

@@ -3,10 +3,9 @@ use Rattle.std.proofs.Common.{◌≡◌, refl, sym, ap, subst, ◌∙◌, ℕ, n
 use Rattle.vt_spec.specs.Language.Calls.{TaskName}
 use Rattle.vt_spec.specs.Machine.Mounts.{Mount}
 use Rattle.vt_spec.specs.Machine.Permits.{Permit}
-use Rattle.vt_spec.specs.Machine.Settled.{settled, without_dead_mounts}
+use Rattle.vt_spec.specs.Machine.Settled.{without_dead_mounts}
 use Rattle.vt_spec.specs.Machine.World as meant
 use Rattle.vt_spec.specs.Machine.World.{Task, World}
-use Rattle.vt_count_laws.specs.Counted.{IsPlain}
 use Rattle.vt_fs.specs.FilesystemsValue.{Filesystems, Shown}
 use Rattle.vt_letting_go.specs.Counts.{times}
 use Rattle.vt_letting_go.proofs.Lists.{Among, all_from_among, all_pass, among_from_all, passes}
@@ -17,7 +16,8 @@ use Rattle.vt_detach.specs.Held.{CountsItsMounts, CountsItsUses, CountsWhatIsInI
 use Rattle.vt_detach.specs.Uses.{kept}
 use Rattle.vt_detach.specs.WorldValue.{NamespaceEntry, WorldValue, namespace_of, world_of}
 use Rattle.vt_detach.proofs.Bridging.{IsSwept}
-use Rattle.vt_detach.proofs.Finishing.{CountsBeside, IsApplied, finished, is_left}
+use Rattle.vt_detach.proofs.Finishing.{CountsBeside, IsApplied, finished}
+use Rattle.vt_detach.proofs.Grouped.{left_has}
 use Rattle.vt_detach.proofs.Moving.{Moves, Use, entry_counts, inodes_of_uses, moved_kept}
 use Rattle.vt_detach.proofs.Remaining.{entry_was, remade, remains_swept, same_mount, same_mounts, shown_was}
 use Rattle.vt_detach.proofs.Staying.{IsDone, after}
@@ -43,14 +43,12 @@ module _ (value : WorldValue) (whole : IsHeld value) (tasks : Tasks) (more less 
   abbrev new : WorldValue
   new = remade_in value mounts filesystems namespaces tasks
 
-  swept_in : IsPlain (settled nat_eq next) → IsSwept value next (inodes_of_uses (world_of value) more) (inodes_of_uses (world_of value) less) new
-  swept_in plain =
-      let swept = remains_swept value whole tasks more less moves mounts filesystems is_kept stay plain in
+  swept_in : IsSwept value next (inodes_of_uses (world_of value) more) (inodes_of_uses (world_of value) less) new
+  swept_in =
+      let swept = remains_swept value whole tasks more less moves mounts filesystems is_kept stay in
       record {
         plain = swept.plain;
         mounts = swept.mounts;
-        ungrouped = swept.ungrouped;
-        plain_left = swept.plain_left;
         numbers = swept.numbers;
         entries = swept.entries;
         namespaces = ap (map (λ (namespace : meant.Namespace ℕ). record namespace { change = 0 })) (sym inside.same);
@@ -80,4 +78,4 @@ module _ (value : WorldValue) (whole : IsHeld value) (tasks : Tasks) (more less 
       → IsDone value name permit new
   remains_done_in name permit task is =
       finished value whole name permit task next is (inodes_of_uses (world_of value) more) (inodes_of_uses (world_of value) less) new
-      (swept_in (is_left value whole name permit task next is).1) counted_in refl
+      swept_in (left_has value whole next refl (λ group. refl)) counted_in refl

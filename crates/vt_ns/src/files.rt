@@ -16,6 +16,7 @@ use vt_spec::errors::Deny;
 
 impl World {
     /// Sets the owner, group and mode of an inode: chmod(2), chown(2). It takes no memory.
+    #[inline(always)]
     pub fn set_attr(&mut self, name: &TaskName, object: Location, attr: Attr)
         requires { Permits self.old name.now (ToChange (location_of object) (SetAttr (number_of object.node) attr)) }
         ensures { Becomes self.old name.now (ToChange (location_of object) (SetAttr (number_of object.node) attr)) self.new }
@@ -24,6 +25,7 @@ impl World {
     }
 
     /// Sets the whole content of a file: write(2) after open(2) with O_TRUNC. It takes no memory.
+    #[inline(always)]
     pub fn write(&mut self, name: &TaskName, file: Location, bytes: Vec<u8>)
         requires { Permits self.old name.now (ToChange (location_of file) (SetBytes (number_of file.node) bytes.items)) }
         ensures { Becomes self.old name.now
@@ -53,6 +55,7 @@ impl World {
     }
 
     /// Takes a name from an inode that is no directory: unlink(2). With its last use the inode goes. It takes no memory.
+    #[inline(always)]
     pub fn unlink(&mut self, name: &TaskName, directory: Location, entry: &[u8], object: NodeRef)
         requires { Permits self.old name.now
             (ToChange (location_of directory) (Remove (number_of directory.node) entry.now (number_of object))) }
@@ -65,6 +68,7 @@ impl World {
     /// Writes bytes into a file from an offset on, and zeros into a gap before them: pwrite(2). No bytes change nothing.
     ///
     /// S5 (ENOMEM): memory was refused.
+    #[inline(always)]
     pub fn write_part(
         &mut self,
         name: &TaskName,
@@ -87,6 +91,7 @@ impl World {
     /// Makes an inode under a name of a directory: mkdir(2), symlink(2), mknod(2).
     ///
     /// S5 (ENOMEM): memory was refused.
+    #[inline(always)]
     pub fn make(
         &mut self,
         name: &TaskName,

@@ -14,6 +14,7 @@ use vt_request::TaskName;
 
 impl World {
     /// The filesystem that a mount shows. A number that no mount has stands for a mount of the filesystem with that number.
+    #[inline(always)]
     pub(crate) fn shown(&self, mount: MountId) -> FilesystemId
         ensures { counted result.count ≡ (mount_numbered nat_eq (world_of self.now) (counted mount.count)).filesystem }
     {
@@ -24,6 +25,7 @@ impl World {
     }
 
     // Whether an inode is in the filesystem that the mount of a location shows.
+    #[inline(always)]
     fn is_seen(&self, at: Location) -> bool
         ensures { result ≡ is_seen self.now at }
     {
@@ -38,6 +40,7 @@ impl Look for World {
         self.tasks.namespace_called(name)
     }
 
+    #[inline(always)]
     fn mount(&self, id: MountId) -> Option<Mount> {
         self.mounts.get(id)
     }
@@ -46,6 +49,7 @@ impl Look for World {
         self.mounts.len()
     }
 
+    #[inline(always)]
     fn topmost(&self, at: Location) -> Location {
         self.mounts.topmost(at)
     }
@@ -58,6 +62,7 @@ impl Look for World {
         self.is_seen(at) && self.mounts.is_point_anywhere(at.node)
     }
 
+    #[inline(always)]
     fn node(&self, at: Location) -> Option<&Node> {
         if self.is_seen(at) {
             self.filesystems.node(at.node)
@@ -66,6 +71,7 @@ impl Look for World {
         }
     }
 
+    #[inline(always)]
     fn ground(&self, mount: MountId) -> Ground {
         Ground {
             filesystem: self.shown(mount),
@@ -73,6 +79,7 @@ impl Look for World {
         }
     }
 
+    #[inline(always)]
     fn node_on(&self, ground: Ground, at: Location) -> Option<&Node> {
         if ground.filesystem == at.node.filesystem {
             self.filesystems.node(at.node)
@@ -81,6 +88,7 @@ impl Look for World {
         }
     }
 
+    #[inline(always)]
     fn is_removed(&self, at: Location) -> bool {
         !self.is_seen(at) || self.filesystems.is_removed(at.node)
     }

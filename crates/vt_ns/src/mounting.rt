@@ -2,7 +2,7 @@
 ghost use Rattle.std.specs.Prelude.{◌≡◌, ◌++◌, ◌∷◌, [], IfErr, None, OnErr, OnOk, true};
 ghost use Rattle.std.specs.List.{list_all};
 ghost use Rattle.vt_fs.specs.FilesystemsValue.{FilesystemEntry, IsNew, entry_of};
-ghost use Rattle.vt_location.specs.Flags.{flags_of};
+ghost use Rattle.vt_cred.specs.MountFlags.{flags_of};
 ghost use Rattle.vt_location.specs.Locations.{location_of};
 ghost use Rattle.vt_location.specs.MountValue.{mount_of};
 ghost use Rattle.vt_mount.specs.MountsValue.{are_ascending, mounts_in};
@@ -16,8 +16,9 @@ ghost use Rattle.vt_detach.specs.Uses.{kept, with_attached};
 
 use crate::world::World;
 use vt_attach::attaching::attach_all;
+use vt_cred::MountFlags;
 use vt_fs::Filesystems;
-use vt_location::{FilesystemId, Location, Mount, MountFlags, MountId, NodeRef, Propagation};
+use vt_location::{FilesystemId, Location, Mount, MountId, NodeRef, Propagation};
 use vt_mount::Mounts;
 use vt_node::{Attr, Mode};
 use vt_request::TaskName;

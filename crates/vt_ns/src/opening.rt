@@ -12,11 +12,11 @@ use crate::mounting::root_attr;
 use crate::world::World;
 use indexmap::IndexMap;
 use std::alloc::Global;
+use vt_cred::MountFlags;
 use vt_detach::namespaces::Namespace;
 use vt_fs::Filesystems;
-use vt_location::{
-    FilesystemId, Location, Mount, MountFlags, MountId, NamespaceId, NodeRef, Propagation,
-};
+use vt_group::Groups;
+use vt_location::{FilesystemId, Location, Mount, MountId, NamespaceId, NodeRef, Propagation};
 use vt_mount::Mounts;
 use vt_spec::errors::{Deny, Rule};
 use vt_tasks::Tasks;
@@ -56,6 +56,7 @@ impl World {
                     node: root,
                 },
             )?,
+            groups: Groups::new(alloc),
             next: 3,
             alloc,
         })

@@ -30,6 +30,7 @@ impl World {
     }
 
     /// The task of this name.
+    #[inline(always)]
     pub fn task(&self, name: &TaskName) -> Option<&Task>
         ensures { option_map task_of (option_copied result) ≡ task_called (world_of self.now) name.now }
     {
@@ -37,6 +38,7 @@ impl World {
     }
 
     /// Kind, owner, mode and size of an object: stat(2), lstat(2). It takes no memory.
+    #[inline(always)]
     pub fn stat(&self, name: &TaskName, object: Location) -> StatLine
         requires { Permits self.now name.now (ToStat (location_of object)) }
         ensures { stat_line_of result ≡ stat_line (node_at nat_eq (world_of self.now) (location_of object)) }
@@ -50,6 +52,7 @@ impl World {
     /// The bytes of a file, or the text of a symlink: read(2), readlink(2).
     ///
     /// S5 (ENOMEM): memory was refused.
+    #[inline(always)]
     pub fn read(&self, name: &TaskName, file: Location) -> Result<Vec<u8>, Deny>
         requires { Permits self.now name.now (ToRead (location_of file)) }
         ensures ok { IfOk result (λ bytes. bytes.items ≡ bytes_in (node_at nat_eq (world_of self.now) (location_of file))) }
@@ -78,6 +81,7 @@ impl World {
     /// At most `size` bytes of an open file from an offset on: pread(2). Past the end there are none.
     ///
     /// S5 (ENOMEM): memory was refused.
+    #[inline(always)]
     pub fn read_part(
         &self,
         name: &TaskName,

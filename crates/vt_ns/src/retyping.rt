@@ -1,13 +1,14 @@
 //! Events that change one mount where it is: mount(2) with `MS_REMOUNT`, `MS_PRIVATE` or `MS_UNBINDABLE`.
 ghost use Rattle.std.specs.Prelude.{false};
-ghost use Rattle.vt_location.specs.Flags.{flags_of};
+ghost use Rattle.vt_cred.specs.MountFlags.{flags_of};
 ghost use Rattle.vt_location.specs.Numbers.{counted};
 ghost use Rattle.vt_spec.specs.Language.Calls.TypeWord.{ToPrivate, ToUnbindable};
 ghost use Rattle.vt_spec.specs.Machine.Permits.Permit.{ToSetFlags, ToSetType};
 ghost use Rattle.vt_detach.specs.Events.{Becomes, Permits};
 
 use crate::world::World;
-use vt_location::{MountFlags, MountId, Propagation};
+use vt_cred::MountFlags;
+use vt_location::{MountId, Propagation};
 use vt_request::TaskName;
 
 impl World {

@@ -5,6 +5,7 @@ use std::alloc::Global;
 use std::marker::Model;
 use vt_detach::namespaces::Namespace;
 use vt_fs::Filesystems;
+use vt_group::Groups;
 use vt_location::NamespaceId;
 use vt_mount::Mounts;
 use vt_tasks::Tasks;
@@ -12,10 +13,11 @@ use vt_tasks::Tasks;
 /// The most mounts of a namespace: mount-max of proc(5).
 pub const MOST_MOUNTS: u64 = 4096;
 
-/// Filesystems, mounts, namespaces and tasks.
+/// Filesystems, mounts and their peer groups, namespaces and tasks.
 #[derive(Debug, Drop)]
 pub struct World {
     pub(crate) mounts: Mounts,
+    pub(crate) groups: Groups,
     pub(crate) filesystems: Filesystems,
     pub(crate) namespaces: IndexMap<NamespaceId, Namespace>,
     pub(crate) tasks: Tasks,
@@ -32,6 +34,7 @@ impl Model for World {
 
     ghost view = { λ w. record {
       mounts = w.mounts;
+      groups = w.groups;
       filesystems = w.filesystems;
       namespaces = entries_of w.namespaces.entries;
       tasks = w.tasks;
@@ -40,6 +43,7 @@ impl Model for World {
 
     ghost invariant = { λ w. IsHeld (record {
       mounts = w.mounts;
+      groups = w.groups;
       filesystems = w.filesystems;
       namespaces = entries_of w.namespaces.entries;
       tasks = w.tasks;

@@ -23,4 +23,3 @@ pub mod OneTreeTasks
 pub mod OneTreeTexts
 pub mod OneTreeTrees
 pub mod OneTreeWalks
-pub mod SameTexts

@@ -45,23 +45,30 @@ module _ (numbers : List ℕ) (world : World ℕ) (fit : IsFit numbers world) (w
   IsThere here = is_some (world.inodes.inode here.node) ≡ true
 
   -- what an entry leads to is there
-  pub target_there : (directory object : ℕ) (name : List ℕ) → IsDirectory tree directory → entry_at tree directory name ≡ Some object → is_some (world.inodes.inode object) ≡ true
+  pub target_there : (directory object : ℕ) (name : List ℕ) → IsDirectory tree directory
+      → entry_at tree directory name ≡ Some object → is_some (world.inodes.inode object) ≡ true
   target_there directory object name is leads =
-      let found : one_if_some object (entry_named name (entries_in (tree.node directory))) ≤ times_in object (targets (entries_in (tree.node directory))) = found_target object name (entries_in (tree.node directory)) in
-      let own : one_if_some object (entry_named name (entries_in (tree.node directory))) ≡ one_if object object = ap (one_if_some object) leads in
+      let found : one_if_some object (entry_named name (entries_in (tree.node directory))) ≤ times_in object
+      (targets (entries_in (tree.node directory))) = found_target object name (entries_in (tree.node directory)) in
+      let own : one_if_some object (entry_named name (entries_in (tree.node directory))) ≡ one_if object object =
+      ap (one_if_some object) leads in
       let one : one_if object object ≡ 1 = ap (λ b. cond b 1 0) (eq-eqb object object refl) in
-      let once : times_in directory numbers ≡ 1 = fit.each_once directory ∙ ap (λ b. cond b 1 0) (directory_there numbers world fit directory is) in
-      let all : times_in object (targets_in (tree.node directory)) ≤ times_in object (named_by tree.node numbers) = named_of object tree.node directory numbers (omega arith) in
+      let once : times_in directory numbers ≡ 1 =
+      fit.each_once directory ∙ ap (λ b. cond b 1 0) (directory_there numbers world fit directory is) in
+      let all : times_in object (targets_in (tree.node directory)) ≤ times_in object (named_by tree.node numbers) =
+      named_of object tree.node directory numbers (omega arith) in
       let parts = uses_parts numbers world fit object in
       used_is_there numbers world fit object (omega arith)
 
-  named_there : (here : ℕ) (word : LastWord) → IsDirectory tree here → IfOk (stepped tree here word) (λ next. is_some (world.inodes.inode next) ≡ true)
+  named_there : (here : ℕ) (word : LastWord) → IsDirectory tree here
+      → IfOk (stepped tree here word) (λ next. is_some (world.inodes.inode next) ≡ true)
   named_there here NoWord is = directory_there numbers world fit here is
   named_there here Dot is = directory_there numbers world fit here is
   named_there here DotDot is = directory_there numbers world fit (parent_in here (tree.node here)) (parent_is tree fit.whole here is)
   named_there here (Named name) is = by (entry_named name (entries_in (tree.node here))) refl
     where
-      by : (o : Option ℕ) → entry_named name (entries_in (tree.node here)) ≡ o → IfOk (ok_or o (denial W6)) (λ next. is_some (world.inodes.inode next) ≡ true)
+      by : (o : Option ℕ) → entry_named name (entries_in (tree.node here)) ≡ o
+          → IfOk (ok_or o (denial W6)) (λ next. is_some (world.inodes.inode next) ≡ true)
       by None e = tt
       by (Some object) e = target_there here object name is e
 
@@ -79,22 +86,31 @@ module _ (numbers : List ℕ) (world : World ℕ) (fit : IsFit numbers world) (w
       by true e true = step (stepped tree here.node word) (named_there here.node word e)
 
   abbrev EndsThere : Follow ℕ → Type 0
-  EndsThere follow = (directory : ℕ) (link : Here ℕ) (text : List ℕ) → is_some (world.inodes.inode directory) ≡ true → IsThere link → IfOk (follow directory link text) IsThere
+  EndsThere follow =
+      (directory : ℕ) (link : Here ℕ) (text : List ℕ) → is_some (world.inodes.inode directory) ≡ true → IsThere link
+      → IfOk (follow directory link text) IsThere
 
-  words_there : (follow : Follow ℕ) → EndsThere follow → (start : Here ℕ) → IsThere start → (list : List (List ℕ)) → IfOk (words_walked tree who follow start list) IsThere
+  words_there : (follow : Follow ℕ) → EndsThere follow → (start : Here ℕ) → IsThere start → (list : List (List ℕ))
+      → IfOk (words_walked tree who follow start list) IsThere
   words_there follow ends start is [] = is
   words_there follow ends start is (word ∷ front) = by (words_walked tree who follow start front) (words_there follow ends start is front)
     where
-      linked : (from : ℕ) (next : Here ℕ) → is_some (world.inodes.inode from) ≡ true → IsThere next → (text : Option (List ℕ)) → IfOk (if_link next text (follow from next)) IsThere
+      linked : (from : ℕ) (next : Here ℕ) → is_some (world.inodes.inode from) ≡ true → IsThere next → (text : Option (List ℕ))
+          → IfOk (if_link next text (follow from next)) IsThere
       linked from next from_is next_is None = next_is
       linked from next from_is next_is (Some text) = ends from next text from_is next_is
 
-      stepped_there : (reached : Here ℕ) → IsThere reached → (r : Result (Here ℕ) Deny) → IfOk r IsThere → IfOk (and_then r (λ next. if_link next (symlink_text (tree.node next.node)) (follow reached.node next))) IsThere
+      stepped_there : (reached : Here ℕ) → IsThere reached → (r : Result (Here ℕ) Deny) → IfOk r IsThere
+          → IfOk (and_then r (λ next. if_link next (symlink_text (tree.node next.node)) (follow reached.node next))) IsThere
       stepped_there reached reached_is (Ok next) next_is = linked reached.node next reached_is next_is (symlink_text (tree.node next.node))
       stepped_there reached reached_is (Err deny) next_is = tt
 
-      by : (r : Result (Here ℕ) Deny) → IfOk r IsThere → IfOk (and_then r (λ reached. and_then (word_walked tree who reached (last_word word)) (λ next. if_link next (symlink_text (tree.node next.node)) (follow reached.node next)))) IsThere
-      by (Ok reached) reached_is = stepped_there reached reached_is (word_walked tree who reached (last_word word)) (word_there reached (last_word word))
+      by : (r : Result (Here ℕ) Deny) → IfOk r IsThere
+          → IfOk (and_then r
+          (λ reached. and_then (word_walked tree who reached (last_word word))
+          (λ next. if_link next (symlink_text (tree.node next.node)) (follow reached.node next)))) IsThere
+      by (Ok reached) reached_is =
+          stepped_there reached reached_is (word_walked tree who reached (last_word word)) (word_there reached (last_word word))
       by (Err deny) reached_is = tt
 
   root_there : is_some (world.inodes.inode world.inodes.root) ≡ true
@@ -105,7 +121,8 @@ module _ (numbers : List ℕ) (world : World ℕ) (fit : IsFit numbers world) (w
   ruled ((true, rule) ∷ rows) r is = tt
   ruled ((false, rule) ∷ rows) r is = ruled rows r is
 
-  then_there : (r : Result (Here ℕ) Deny) (f : Here ℕ → Result (Here ℕ) Deny) → IfOk r IsThere → ((here : Here ℕ) → IsThere here → IfOk (f here) IsThere) → IfOk (and_then r f) IsThere
+  then_there : (r : Result (Here ℕ) Deny) (f : Here ℕ → Result (Here ℕ) Deny) → IfOk r IsThere
+      → ((here : Here ℕ) → IsThere here → IfOk (f here) IsThere) → IfOk (and_then r f) IsThere
   then_there (Ok here) f is h = h here is
   then_there (Err deny) f is h = tt
 
@@ -113,8 +130,11 @@ module _ (numbers : List ℕ) (world : World ℕ) (fit : IsFit numbers world) (w
   symlink_there zero directory link text from is = tt
   symlink_there (suc depth) directory link text from is =
       ruled (follow_rules link text) _
-      (then_there (words_walked tree who (λ inside next inner. symlink_walked depth tree who inside next inner) (symlink_start tree directory link text) (reverse (words text))) _
-      (words_there (λ inside next inner. symlink_walked depth tree who inside next inner) (symlink_there depth) (symlink_start tree directory link text) (start (is_absolute text)) (reverse (words text)))
+      (then_there
+      (words_walked tree who (λ inside next inner. symlink_walked depth tree who inside next inner)
+      (symlink_start tree directory link text) (reverse (words text))) _
+      (words_there (λ inside next inner. symlink_walked depth tree who inside next inner) (symlink_there depth)
+      (symlink_start tree directory link text) (start (is_absolute text)) (reverse (words text)))
       (λ here here_is. ruled (slash_rules tree text here.node) (Ok here) here_is))
     where
       start : (b : Bool) → is_some (world.inodes.inode (cond b world.inodes.root directory)) ≡ true
@@ -124,7 +144,9 @@ module _ (numbers : List ℕ) (world : World ℕ) (fit : IsFit numbers world) (w
   pub object_there : (path : List ℕ) → IfOk (object_walk tree who path) IsThere
   object_there path =
       ifok_then IsThere (parsed_path path) _ (λ text e.
-      then_there (path_walked tree who text) _ (words_there (followed tree who) (symlink_there 41) (walk_start tree) root_there (reverse (words text))) (λ here here_is. ruled (slash_rules tree text here.node) (Ok here) here_is))
+      then_there (path_walked tree who text) _
+      (words_there (followed tree who) (symlink_there 41) (walk_start tree) root_there (reverse (words text)))
+      (λ here here_is. ruled (slash_rules tree text here.node) (Ok here) here_is))
 
   pub link_walk_there : (path : List ℕ) → IfOk (symlink_walk tree who path) IsThere
   link_walk_there path = by (ends_in_slash path)
@@ -141,7 +163,10 @@ module _ (numbers : List ℕ) (world : World ℕ) (fit : IsFit numbers world) (w
 
       by : (b : Bool) → IfOk (cond b (object_walk tree who path) (and_then (parsed_path path) (unfollowed_walk tree who))) IsThere
       by true = object_there path
-      by false = ifok_then IsThere (parsed_path path) _ (λ text e. then_there (front_walked tree who (walk_start tree) (reverse (words text))) _ (front (reverse (words text))) (λ here here_is. last here here_is (final_word (reverse (words text)))))
+      by false =
+          ifok_then IsThere (parsed_path path) _
+          (λ text e. then_there (front_walked tree who (walk_start tree) (reverse (words text))) _
+          (front (reverse (words text))) (λ here here_is. last here here_is (final_word (reverse (words text)))))
 
 -- The calls
 
@@ -170,7 +195,8 @@ module _ (beside : Beside) (world : World ℕ) (name : TaskName) (task : Task �
 
   -- Link
 
-  linked_at : (from : ℕ) (parent : ℕ) (last : LastWord) (object : Option ℕ) (slash : Bool) (steps : Steps) → is_some (world.inodes.inode from) ≡ true → IsPlaceOf tree_here parent object last
+  linked_at : (from : ℕ) (parent : ℕ) (last : LastWord) (object : Option ℕ) (slash : Bool) (steps : Steps)
+      → is_some (world.inodes.inode from) ≡ true → IsPlaceOf tree_here parent object last
       → Judged (unless (hard_link_rules tree_here who_here from (record { parent = parent; last = last; object = object; slash = slash })) (Ok (ToChange (AddName parent (name_of last) from))))
       (Outcomes.judged there ((is_special last, E1) ∷ []) (Outcomes.judged there
       (Making.hard_link_rules nat_eq there there_task (location_there from) (place_there (record { parent = parent; last = last; object = object; slash = slash }) steps) (AddName parent (name_of last) from))
@@ -178,52 +204,70 @@ module _ (beside : Beside) (world : World ℕ) (name : TaskName) (task : Task �
   linked_at from parent last object slash steps from_is place =
       subst (Judged (unless (hard_link_rules tree_here who_here from (record { parent = parent; last = last; object = object; slash = slash })) (Ok (ToChange (AddName parent (name_of last) from)))))
       (sym (judged_both there ((is_special last, E1) ∷ [])
-      ((is_some (option_map location_there object), E1) ∷ (is_directory_at tree_here from, E7) ∷ (false, F1) ∷ (false, F2) ∷ (false, L1) ∷ (false, P2) ∷ (may_not tree_here who_here parent write_right, C1) ∷ (false, B1) ∷ [])
+      ((is_some (option_map location_there object), E1) ∷ (is_directory_at tree_here from, E7) ∷ (false, F1) ∷ (false, F2) ∷
+      (false, L1) ∷ (false, P2) ∷ (may_not tree_here who_here parent write_right, C1) ∷ (false, B1) ∷ [])
       (Outcomes.granted Done (with_change nat_eq fresh there (location_there parent) (AddName parent (name_of last) from)))))
       (by last object place)
     where
       by : (last : LastWord) (object : Option ℕ) → IsPlaceOf tree_here parent object last
-          → Judged (unless ((is_special last, E1) ∷ (is_some object, E1) ∷ (is_directory_at tree_here from, E7) ∷ (may_not tree_here who_here parent write_right, C1) ∷ []) (Ok (ToChange (AddName parent (name_of last) from))))
-          (Outcomes.judged there ((is_special last, E1) ∷ (is_some (option_map location_there object), E1) ∷ (is_directory_at tree_here from, E7) ∷ (false, F1) ∷ (false, F2) ∷ (false, L1) ∷ (false, P2) ∷ (may_not tree_here who_here parent write_right, C1) ∷ (false, B1) ∷ [])
+          → Judged (unless
+          ((is_special last, E1) ∷ (is_some object, E1) ∷ (is_directory_at tree_here from, E7) ∷
+          (may_not tree_here who_here parent write_right, C1) ∷ []) (Ok (ToChange (AddName parent (name_of last) from))))
+          (Outcomes.judged there
+          ((is_special last, E1) ∷ (is_some (option_map location_there object), E1) ∷ (is_directory_at tree_here from, E7) ∷
+          (false, F1) ∷ (false, F2) ∷ (false, L1) ∷ (false, P2) ∷ (may_not tree_here who_here parent write_right, C1) ∷ (false, B1) ∷ [])
           (Outcomes.granted Done (with_change nat_eq fresh there (location_there parent) (AddName parent (name_of last) from))))
       by NoWord object place = denied (denial E1)
       by Dot object place = denied (denial E1)
       by DotDot object place = denied (denial E1)
       by (Named word) (Some found) place = denied (denial E1)
       by (Named word) None place =
-          judged_when there Judged denied (inl (is_directory_at tree_here from, E7) ∷ inr F1 ∷ inr F2 ∷ inr L1 ∷ inr P2 ∷ inl (may_not tree_here who_here parent write_right, C1) ∷ inr B1 ∷ [])
-          (Ok (ToChange (AddName parent word from))) (Outcomes.granted Done (with_change nat_eq fresh there (location_there parent) (AddName parent word from)))
+          judged_when there Judged denied
+          (inl (is_directory_at tree_here from, E7) ∷ inr F1 ∷ inr F2 ∷ inr L1 ∷ inr P2 ∷ inl
+          (may_not tree_here who_here parent write_right, C1) ∷ inr B1 ∷ [])
+          (Ok (ToChange (AddName parent word from)))
+          (Outcomes.granted Done (with_change nat_eq fresh there (location_there parent) (AddName parent word from)))
           (λ pass. inr (linked_alike beside world name task fit parent word from place.0 (sym place.1) from_is pass.0 fresh))
 
   place_leaf : (path : List ℕ) (place : Place ℕ) → new_leaf_walk tree_here who_here path ≡ Ok place → IsPlace tree_here place
   place_leaf path place e =
       subst (λ r. IfOk r (IsPlace tree_here)) e
-      (ifok_then (IsPlace tree_here) (new_walk tree_here who_here path) (λ place. unless ((place.slash && not (is_some place.object), W6) ∷ []) (Ok place))
-      (λ place e. ifok_unless (IsPlace tree_here) ((place.slash && not (is_some place.object), W6) ∷ []) place (subst (λ r. IfOk r (IsPlace tree_here)) e (new_walk_is beside world (name, task) fit path))))
+      (ifok_then (IsPlace tree_here) (new_walk tree_here who_here path)
+      (λ place. unless ((place.slash && not (is_some place.object), W6) ∷ []) (Ok place))
+      (λ place e. ifok_unless (IsPlace tree_here) ((place.slash && not (is_some place.object), W6) ∷ []) place
+      (subst (λ r. IfOk r (IsPlace tree_here)) e (new_walk_is beside world (name, task) fit path))))
 
-  link_alike : (old new : List ℕ) → Judged (hard_link_permit tree_here task old new) (Making.hard_link_outcome nat_eq fresh there there_task old new)
+  link_alike : (old new : List ℕ)
+      → Judged (hard_link_permit tree_here task old new) (Making.hard_link_outcome nat_eq fresh there there_task old new)
   unfolding hard_link_permit Making.hard_link_outcome
   link_alike old new =
-      after_alike there Judged denied here_there (symlink_walk tree_here who_here old) _ _ _ (link_walk_alike beside world (name, task) fit old)
-      (λ from steps e. after_alike there Judged denied place_there (new_leaf_walk tree_here who_here new) _ _ _ (new_leaf_walk_alike beside world (name, task) fit new)
+      after_alike there Judged denied here_there (symlink_walk tree_here who_here old) _ _ _
+      (link_walk_alike beside world (name, task) fit old)
+      (λ from steps e. after_alike there Judged denied place_there (new_leaf_walk tree_here who_here new) _ _ _
+      (new_leaf_walk_alike beside world (name, task) fit new)
       (λ place met f. linked_at from.node place.parent place.last place.object place.slash met
-      (subst (λ r. IfOk r (λ (here : Here ℕ). is_some (world.inodes.inode here.node) ≡ true)) e (link_walk_there beside.numbers world fit who_here old)) (place_leaf new place f)))
+      (subst (λ r. IfOk r (λ (here : Here ℕ). is_some (world.inodes.inode here.node) ≡ true)) e
+      (link_walk_there beside.numbers world fit who_here old)) (place_leaf new place f)))
 
   -- Unlink and rmdir
 
   pub old_is : (path : List ℕ) → IfOk (old_walk tree_here who_here path) (IsOld tree_here)
   old_is path =
       ifok_then (IsOld tree_here) (new_walk tree_here who_here path) (λ place. unless ((not (is_some place.object), W6) ∷ []) (Ok place))
-      (λ place e. by place (is_some place.object) refl (subst (λ r. IfOk r (IsPlace tree_here)) e (new_walk_is beside world (name, task) fit path)))
+      (λ place e. by place (is_some place.object) refl
+      (subst (λ r. IfOk r (IsPlace tree_here)) e (new_walk_is beside world (name, task) fit path)))
     where
-      by : (place : Place ℕ) (b : Bool) → is_some place.object ≡ b → IsPlace tree_here place → IfOk (unless ((not b, W6) ∷ []) (Ok place)) (IsOld tree_here)
+      by : (place : Place ℕ) (b : Bool) → is_some place.object ≡ b → IsPlace tree_here place
+          → IfOk (unless ((not b, W6) ∷ []) (Ok place)) (IsOld tree_here)
       by place true e is = (is, e)
       by place false e is = tt
 
   pub old_leaf_is : (path : List ℕ) → IfOk (old_leaf_walk tree_here who_here path) (IsOld tree_here)
   old_leaf_is path =
-      ifok_then (IsOld tree_here) (old_walk tree_here who_here path) (λ place. unless ((place.slash && not (is_directory_there tree_here place), W3) ∷ []) (Ok place))
-      (λ place e. ifok_unless (IsOld tree_here) ((place.slash && not (is_directory_there tree_here place), W3) ∷ []) place (subst (λ r. IfOk r (IsOld tree_here)) e (old_is path)))
+      ifok_then (IsOld tree_here) (old_walk tree_here who_here path)
+      (λ place. unless ((place.slash && not (is_directory_there tree_here place), W3) ∷ []) (Ok place))
+      (λ place e. ifok_unless (IsOld tree_here) ((place.slash && not (is_directory_there tree_here place), W3) ∷ []) place
+      (subst (λ r. IfOk r (IsOld tree_here)) e (old_is path)))
 
   not_filled : (object : ℕ) → is_filled tree_here object ≡ false → targets_in (tree_here.node object) ≡ []
   not_filled object e = by (entries_in (tree_here.node object)) e
@@ -232,7 +276,8 @@ module _ (beside : Beside) (world : World ℕ) (name : TaskName) (task : Task �
       by [] e = refl
       by (first ∷ rest) e = cc
 
-  unlinked_at : (parent : ℕ) (last : LastWord) (object : Option ℕ) (slash : Bool) (steps : Steps) → IsPlaceOf tree_here parent object last → is_some object ≡ true
+  unlinked_at : (parent : ℕ) (last : LastWord) (object : Option ℕ) (slash : Bool) (steps : Steps)
+      → IsPlaceOf tree_here parent object last → is_some object ≡ true
       → Judged (unless (unlink_rules tree_here who_here (record { parent = parent; last = last; object = object; slash = slash }) (unwrap_or object parent)) (Ok (ToChange (Remove parent (name_of last) (unwrap_or object parent)))))
       (Outcomes.judged there ((is_special last, E2) ∷ []) (Outcomes.judged there
       (Removing.unlink_rules nat_eq there there_task (place_there (record { parent = parent; last = last; object = object; slash = slash }) steps) (Removing.object_there (place_there (record { parent = parent; last = last; object = object; slash = slash }) steps)))
@@ -242,18 +287,25 @@ module _ (beside : Beside) (world : World ℕ) (name : TaskName) (task : Task �
   unlinked_at parent Dot (Some object) slash steps place some = denied (denial E2)
   unlinked_at parent DotDot (Some object) slash steps place some = denied (denial E2)
   unlinked_at parent (Named word) (Some object) slash steps place some =
-      judged_when there Judged denied (inl (is_directory_at tree_here object, E2) ∷ inr F1 ∷ inr F2 ∷ inr L1 ∷ inl (may_not tree_here who_here parent write_right, C1) ∷ inl (is_kept tree_here who_here parent object, C3) ∷ inr B1 ∷ [])
-      (Ok (ToChange (Remove parent word object))) (Outcomes.granted Done (with_change nat_eq fresh there (location_there parent) (Remove parent word object)))
-      (λ pass. inr (removed_alike beside world name task fit parent word object place.0 (sym place.1) (no_entries beside.numbers world fit object pass.0) fresh))
+      judged_when there Judged denied
+      (inl (is_directory_at tree_here object, E2) ∷ inr F1 ∷ inr F2 ∷ inr L1 ∷ inl
+      (may_not tree_here who_here parent write_right, C1) ∷ inl (is_kept tree_here who_here parent object, C3) ∷ inr B1 ∷ [])
+      (Ok (ToChange (Remove parent word object)))
+      (Outcomes.granted Done (with_change nat_eq fresh there (location_there parent) (Remove parent word object)))
+      (λ pass. inr
+      (removed_alike beside world name task fit parent word object place.0 (sym place.1)
+      (no_entries beside.numbers world fit object pass.0) fresh))
 
   unlink_alike : (path : List ℕ) → Judged (unlink_permit tree_here task path) (Removing.unlink_outcome nat_eq fresh there there_task path)
   unfolding unlink_permit Removing.unlink_outcome
   unlink_alike path =
-      after_alike there Judged denied place_there (old_leaf_walk tree_here who_here path) _ _ _ (old_leaf_walk_alike beside world (name, task) fit path)
+      after_alike there Judged denied place_there (old_leaf_walk tree_here who_here path) _ _ _
+      (old_leaf_walk_alike beside world (name, task) fit path)
       (λ place steps e. let old = subst (λ r. IfOk r (IsOld tree_here)) e (old_leaf_is path) in
       unlinked_at place.parent place.last place.object place.slash steps old.0 old.1)
 
-  removed_at : (parent : ℕ) (last : LastWord) (object : Option ℕ) (slash : Bool) (steps : Steps) → IsPlaceOf tree_here parent object last → is_some object ≡ true
+  removed_at : (parent : ℕ) (last : LastWord) (object : Option ℕ) (slash : Bool) (steps : Steps)
+      → IsPlaceOf tree_here parent object last → is_some object ≡ true
       → Judged (unless (rmdir_rules tree_here who_here (record { parent = parent; last = last; object = object; slash = slash }) (unwrap_or object parent)) (Ok (ToChange (Remove parent (name_of last) (unwrap_or object parent)))))
       (Outcomes.judged there (Removing.rmdir_word_rules (place_there (record { parent = parent; last = last; object = object; slash = slash }) steps)) (Outcomes.judged there
       (Removing.rmdir_rules nat_eq there there_task (place_there (record { parent = parent; last = last; object = object; slash = slash }) steps) (Removing.object_there (place_there (record { parent = parent; last = last; object = object; slash = slash }) steps)))
@@ -265,28 +317,38 @@ module _ (beside : Beside) (world : World ℕ) (name : TaskName) (task : Task �
   removed_at parent DotDot (Some object) slash steps place some = denied (denial E4)
   removed_at parent (Named word) (Some object) slash steps place some =
       judged_when there Judged denied
-      (inl (not (is_directory_at tree_here object), E3) ∷ inl (is_filled tree_here object, E4) ∷ inr F1 ∷ inr F2 ∷ inr L1 ∷ inr P1 ∷ inl (may_not tree_here who_here parent write_right, C1) ∷ inl (is_kept tree_here who_here parent object, C3) ∷ inr B1 ∷ [])
-      (Ok (ToChange (Remove parent word object))) (Outcomes.granted Done (with_change nat_eq fresh there (location_there parent) (Remove parent word object)))
+      (inl (not (is_directory_at tree_here object), E3) ∷ inl
+      (is_filled tree_here object, E4) ∷ inr F1 ∷ inr F2 ∷ inr L1 ∷ inr P1 ∷ inl
+      (may_not tree_here who_here parent write_right, C1) ∷ inl (is_kept tree_here who_here parent object, C3) ∷ inr B1 ∷ [])
+      (Ok (ToChange (Remove parent word object)))
+      (Outcomes.granted Done (with_change nat_eq fresh there (location_there parent) (Remove parent word object)))
       (λ pass. inr (removed_alike beside world name task fit parent word object place.0 (sym place.1) (not_filled object pass.1.0) fresh))
 
   rmdir_alike : (path : List ℕ) → Judged (rmdir_permit tree_here task path) (Removing.rmdir_outcome nat_eq fresh there there_task path)
   unfolding rmdir_permit Removing.rmdir_outcome
   rmdir_alike path =
-      after_alike there Judged denied place_there (old_walk tree_here who_here path) _ _ _ (old_walk_alike beside world (name, task) fit path)
+      after_alike there Judged denied place_there (old_walk tree_here who_here path) _ _ _
+      (old_walk_alike beside world (name, task) fit path)
       (λ place steps e. let old = subst (λ r. IfOk r (IsOld tree_here)) e (old_is path) in
       removed_at place.parent place.last place.object place.slash steps old.0 old.1)
 
 pub links_agree : LinksAgree
 links_agree old new beside world name fresh fit vacant =
     policy_alike beside world name fresh (LinkTo old new) fit (λ task is.
-    judged_finished beside world name task fit (hard_link_permit (tree_of world.inodes) task old new) (Making.hard_link_outcome nat_eq fresh (embedded beside world) (task_there beside world.inodes.root (name, task)) old new) (link_alike beside world name task fit fresh old new))
+    judged_finished beside world name task fit (hard_link_permit (tree_of world.inodes) task old new)
+    (Making.hard_link_outcome nat_eq fresh (embedded beside world) (task_there beside world.inodes.root (name, task)) old new)
+    (link_alike beside world name task fit fresh old new))
 
 pub unlinks_agree : UnlinksAgree
 unlinks_agree path beside world name fresh fit vacant =
     policy_alike beside world name fresh (Unlink path) fit (λ task is.
-    judged_finished beside world name task fit (unlink_permit (tree_of world.inodes) task path) (Removing.unlink_outcome nat_eq fresh (embedded beside world) (task_there beside world.inodes.root (name, task)) path) (unlink_alike beside world name task fit fresh path))
+    judged_finished beside world name task fit (unlink_permit (tree_of world.inodes) task path)
+    (Removing.unlink_outcome nat_eq fresh (embedded beside world) (task_there beside world.inodes.root (name, task)) path)
+    (unlink_alike beside world name task fit fresh path))
 
 pub rmdirs_agree : RmdirsAgree
 rmdirs_agree path beside world name fresh fit vacant =
     policy_alike beside world name fresh (Rmdir path) fit (λ task is.
-    judged_finished beside world name task fit (rmdir_permit (tree_of world.inodes) task path) (Removing.rmdir_outcome nat_eq fresh (embedded beside world) (task_there beside world.inodes.root (name, task)) path) (rmdir_alike beside world name task fit fresh path))
+    judged_finished beside world name task fit (rmdir_permit (tree_of world.inodes) task path)
+    (Removing.rmdir_outcome nat_eq fresh (embedded beside world) (task_there beside world.inodes.root (name, task)) path)
+    (rmdir_alike beside world name task fit fresh path))

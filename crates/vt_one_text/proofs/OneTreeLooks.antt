@@ -24,34 +24,48 @@ use Rattle.vt_one_text.proofs.OneTreeWalks.{directory_walk_alike, link_walk_alik
 
 -- a descriptor is found alike
 find_descriptor : (number : ℕ) (descriptors : List (Descriptor ℕ))
-    → find (λ descriptor. nat_eq number descriptor.number) (map descriptor_there descriptors) ≡ option_map descriptor_there (find (λ descriptor. nat_eq number descriptor.number) descriptors)
+    → find (λ descriptor. nat_eq number descriptor.number) (map descriptor_there descriptors) ≡ option_map descriptor_there
+    (find (λ descriptor. nat_eq number descriptor.number) descriptors)
 find_descriptor number [] = refl
 find_descriptor number (descriptor ∷ rest) = by (nat_eq number descriptor.number) (find_descriptor number rest)
   where
-    by : (b : Bool) → find (λ descriptor. nat_eq number descriptor.number) (map descriptor_there rest) ≡ option_map descriptor_there (find (λ descriptor. nat_eq number descriptor.number) rest)
-        → cond b (Some (descriptor_there descriptor)) (find (λ descriptor. nat_eq number descriptor.number) (map descriptor_there rest)) ≡ option_map descriptor_there (cond b (Some descriptor) (find (λ descriptor. nat_eq number descriptor.number) rest))
+    by : (b : Bool)
+        → find (λ descriptor. nat_eq number descriptor.number) (map descriptor_there rest) ≡ option_map descriptor_there
+        (find (λ descriptor. nat_eq number descriptor.number) rest)
+        → cond b (Some (descriptor_there descriptor))
+        (find (λ descriptor. nat_eq number descriptor.number) (map descriptor_there rest)) ≡ option_map descriptor_there
+        (cond b (Some descriptor) (find (λ descriptor. nat_eq number descriptor.number) rest))
     by true later = refl
     by false later = later
 
 -- what follows a descriptor that serves
-pub descriptor_alike : (there : MachineWorld.World ℕ) (R : Result (Permit ℕ) Deny → Outcomes.Outcome ℕ → Type 0) (refused : (deny : Deny) → R (Err deny) (Outcomes.denied there deny))
-    (beside : Beside) (root : ℕ) (name : TaskName) (task : Task ℕ) (number : ℕ) (fits : Descriptor ℕ → Bool) (serves : MachineWorld.Descriptor ℕ → Bool)
+pub descriptor_alike : (there : MachineWorld.World ℕ) (R : Result (Permit ℕ) Deny → Outcomes.Outcome ℕ → Type 0)
+    (refused : (deny : Deny) → R (Err deny) (Outcomes.denied there deny))
+    (beside : Beside) (root : ℕ) (name : TaskName) (task : Task ℕ) (number : ℕ) (fits : Descriptor ℕ → Bool)
+    (serves : MachineWorld.Descriptor ℕ → Bool)
     → ((descriptor : Descriptor ℕ) → serves (descriptor_there descriptor) ≡ fits descriptor)
     → (f : Descriptor ℕ → Result (Permit ℕ) Deny) (g : MachineWorld.Descriptor ℕ → Outcomes.Outcome ℕ)
-    → ((descriptor : Descriptor ℕ) → find (λ descriptor. nat_eq number descriptor.number) task.descriptors ≡ Some descriptor → R (f descriptor) (g (descriptor_there descriptor)))
-    → R (and_then (descriptor_at task number fits) f) (Outcomes.after there (Descriptors.descriptor_at (task_there beside root (name, task)) number serves) g)
+    → ((descriptor : Descriptor ℕ) → find (λ descriptor. nat_eq number descriptor.number) task.descriptors ≡ Some descriptor
+    → R (f descriptor) (g (descriptor_there descriptor)))
+    → R (and_then (descriptor_at task number fits) f)
+    (Outcomes.after there (Descriptors.descriptor_at (task_there beside root (name, task)) number serves) g)
 descriptor_alike there R refused beside root name task number fits serves same f g h =
-    subst (λ o. R (and_then (descriptor_at task number fits) f) (Outcomes.after there (ok_or (find serves (option_to_list o)) (denial S4)) g))
+    subst (λ o. R (and_then (descriptor_at task number fits) f)
+    (Outcomes.after there (ok_or (find serves (option_to_list o)) (denial S4)) g))
     (sym (find_descriptor number task.descriptors)) (by (find (λ descriptor. nat_eq number descriptor.number) task.descriptors) refl)
   where
     by : (o : Option (Descriptor ℕ)) → find (λ descriptor. nat_eq number descriptor.number) task.descriptors ≡ o
-        → R (and_then (ok_or (find fits (option_to_list o)) (denial S4)) f) (Outcomes.after there (ok_or (find serves (option_to_list (option_map descriptor_there o))) (denial S4)) g)
+        → R (and_then (ok_or (find fits (option_to_list o)) (denial S4)) f)
+        (Outcomes.after there (ok_or (find serves (option_to_list (option_map descriptor_there o))) (denial S4)) g)
     by None e = refused (denial S4)
     by (Some descriptor) e =
-        subst (λ b. R (and_then (ok_or (cond (fits descriptor) (Some descriptor) None) (denial S4)) f) (Outcomes.after there (ok_or (cond b (Some (descriptor_there descriptor)) None) (denial S4)) g))
+        subst (λ b. R (and_then (ok_or (cond (fits descriptor) (Some descriptor) None) (denial S4)) f)
+        (Outcomes.after there (ok_or (cond b (Some (descriptor_there descriptor)) None) (denial S4)) g))
         (sym (same descriptor)) (inside (fits descriptor))
       where
-        inside : (b : Bool) → R (and_then (ok_or (cond b (Some descriptor) None) (denial S4)) f) (Outcomes.after there (ok_or (cond b (Some (descriptor_there descriptor)) None) (denial S4)) g)
+        inside : (b : Bool)
+            → R (and_then (ok_or (cond b (Some descriptor) None) (denial S4)) f)
+            (Outcomes.after there (ok_or (cond b (Some (descriptor_there descriptor)) None) (denial S4)) g)
         inside true = h descriptor e
         inside false = refused (denial S4)
 
@@ -77,18 +91,22 @@ module _ (beside : Beside) (world : World ℕ) (name : TaskName) (task : Task �
   list_alike : (path : List ℕ) → Seen (list_permit tree task path) (Looking.list_outcome nat_eq there there_task path)
   unfolding list_permit Looking.list_outcome
   list_alike path =
-      after_alike there Seen denied here_there (directory_walk tree who path) _ _ _ (directory_walk_alike beside world (name, task) fit path)
-      (λ here steps e. judged_alike there Seen denied (inl (may_not tree who here.node read_right, C1) ∷ inr B1 ∷ []) _ _ (refl, refl, refl))
+      after_alike there Seen denied here_there (directory_walk tree who path) _ _ _
+      (directory_walk_alike beside world (name, task) fit path)
+      (λ here steps e. judged_alike there Seen denied (inl (may_not tree who here.node read_right, C1) ∷ inr B1 ∷ []) _ _
+      (refl, refl, refl))
 
   stat_alike : (path : List ℕ) → Seen (stat_permit tree task path) (Looking.stat_outcome nat_eq there there_task path)
   unfolding stat_permit Looking.stat_outcome
   stat_alike path =
-      after_alike there Seen denied here_there (object_walk tree who path) _ _ _ (object_walk_alike beside world (name, task) fit path) (λ here steps e. (refl, refl, refl))
+      after_alike there Seen denied here_there (object_walk tree who path) _ _ _
+      (object_walk_alike beside world (name, task) fit path) (λ here steps e. (refl, refl, refl))
 
   lstat_alike : (path : List ℕ) → Seen (lstat_permit tree task path) (Looking.lstat_outcome nat_eq there there_task path)
   unfolding lstat_permit Looking.lstat_outcome
   lstat_alike path =
-      after_alike there Seen denied here_there (symlink_walk tree who path) _ _ _ (link_walk_alike beside world (name, task) fit path) (λ here steps e. (refl, refl, refl))
+      after_alike there Seen denied here_there (symlink_walk tree who path) _ _ _
+      (link_walk_alike beside world (name, task) fit path) (λ here steps e. (refl, refl, refl))
 
   readlink_alike : (path : List ℕ) → Seen (readlink_permit tree task path) (Looking.readlink_outcome nat_eq there there_task path)
   unfolding readlink_permit Looking.readlink_outcome
@@ -100,36 +118,49 @@ module _ (beside : Beside) (world : World ℕ) (name : TaskName) (task : Task �
   unfolding read_permit Looking.read_outcome
   read_alike path =
       after_alike there Seen denied here_there (object_walk tree who path) _ _ _ (object_walk_alike beside world (name, task) fit path)
-      (λ here steps e. judged_alike there Seen denied (inl (is_directory_at tree here.node, E2) ∷ inl (is_kind_at tree here.node White, E9) ∷ inl (may_not tree who here.node read_right, C1) ∷ inr B1 ∷ []) _ _ (refl, refl, refl))
+      (λ here steps e. judged_alike there Seen denied
+      (inl (is_directory_at tree here.node, E2) ∷ inl (is_kind_at tree here.node White, E9) ∷ inl
+      (may_not tree who here.node read_right, C1) ∷ inr B1 ∷ []) _ _ (refl, refl, refl))
 
   exec_alike : (path : List ℕ) → Seen (exec_permit tree task path) (Looking.exec_outcome nat_eq there there_task path)
   unfolding exec_permit Looking.exec_outcome
   exec_alike path =
       after_alike there Seen denied here_there (object_walk tree who path) _ _ _ (object_walk_alike beside world (name, task) fit path)
-      (λ here steps e. judged_alike there Seen denied (inl (not (is_kind_at tree here.node File), E8) ∷ inr F3 ∷ inl (may_not tree who here.node execute_right, C1) ∷ inr B1 ∷ []) _ _ (refl, refl, refl))
+      (λ here steps e. judged_alike there Seen denied
+      (inl (not (is_kind_at tree here.node File), E8) ∷ inr F3 ∷ inl
+      (may_not tree who here.node execute_right, C1) ∷ inr B1 ∷ []) _ _ (refl, refl, refl))
 
-  pread_alike : (number offset size : ℕ) → Seen (pread_permit task number offset size) (Descriptors.pread_outcome nat_eq there there_task number offset size)
+  pread_alike : (number offset size : ℕ)
+      → Seen (pread_permit task number offset size) (Descriptors.pread_outcome nat_eq there there_task number offset size)
   unfolding pread_permit Descriptors.pread_outcome
   pread_alike number offset size =
-      descriptor_alike there Seen denied beside world.inodes.root name task number (λ descriptor. descriptor.reads) (λ descriptor. descriptor.reads) (λ descriptor. refl) _ _
+      descriptor_alike there Seen denied beside world.inodes.root name task number (λ descriptor. descriptor.reads)
+      (λ descriptor. descriptor.reads) (λ descriptor. refl) _ _
       (λ descriptor e. (refl, refl, refl))
 
 -- Each call
 
 pub ls_alike : (path : List ℕ) → IsAnsweredAlike (Ls path)
 ls_alike path beside world name fresh fit vacant =
-    policy_alike beside world name fresh (Ls path) fit (λ task e. seen_finished beside world name task fit true _ _ (list_alike beside world name task fit path))
+    policy_alike beside world name fresh (Ls path) fit
+    (λ task e. seen_finished beside world name task fit true _ _ (list_alike beside world name task fit path))
 
 pub looks_agree : LooksAgree
 looks_agree path = (
   ls_alike path,
-  λ beside world name fresh fit vacant. policy_alike beside world name fresh (Stat path) fit (λ task e. seen_finished beside world name task fit true _ _ (stat_alike beside world name task fit path)),
-  λ beside world name fresh fit vacant. policy_alike beside world name fresh (Lstat path) fit (λ task e. seen_finished beside world name task fit true _ _ (lstat_alike beside world name task fit path)),
-  λ beside world name fresh fit vacant. policy_alike beside world name fresh (Readlink path) fit (λ task e. seen_finished beside world name task fit true _ _ (readlink_alike beside world name task fit path)),
-  λ beside world name fresh fit vacant. policy_alike beside world name fresh (Read path) fit (λ task e. seen_finished beside world name task fit true _ _ (read_alike beside world name task fit path)),
-  λ beside world name fresh fit vacant. policy_alike beside world name fresh (Exec path) fit (λ task e. seen_finished beside world name task fit true _ _ (exec_alike beside world name task fit path)),
+  λ beside world name fresh fit vacant. policy_alike beside world name fresh (Stat path) fit
+      (λ task e. seen_finished beside world name task fit true _ _ (stat_alike beside world name task fit path)),
+  λ beside world name fresh fit vacant. policy_alike beside world name fresh (Lstat path) fit
+      (λ task e. seen_finished beside world name task fit true _ _ (lstat_alike beside world name task fit path)),
+  λ beside world name fresh fit vacant. policy_alike beside world name fresh (Readlink path) fit
+      (λ task e. seen_finished beside world name task fit true _ _ (readlink_alike beside world name task fit path)),
+  λ beside world name fresh fit vacant. policy_alike beside world name fresh (Read path) fit
+      (λ task e. seen_finished beside world name task fit true _ _ (read_alike beside world name task fit path)),
+  λ beside world name fresh fit vacant. policy_alike beside world name fresh (Exec path) fit
+      (λ task e. seen_finished beside world name task fit true _ _ (exec_alike beside world name task fit path)),
 )
 
 pub partial_reads_agree : PartialReadsAgree
 partial_reads_agree number offset size beside world name fresh fit vacant =
-    policy_alike beside world name fresh (Pread number offset size) fit (λ task e. seen_finished beside world name task fit true _ _ (pread_alike beside world name task fit number offset size))
+    policy_alike beside world name fresh (Pread number offset size) fit
+    (λ task e. seen_finished beside world name task fit true _ _ (pread_alike beside world name task fit number offset size))

@@ -42,7 +42,8 @@ opening_is_fit root = record {
     found d true e = refl
     found d false e = cc
 
-    only : (d : ℕ) (b : Bool) → is_directory_node (node_in (there b)) ≡ true → ((b ≡ true) × (d ≡ root)) ⊎ ((b ≡ false) × (d ≢ root)) → d ≡ root
+    only : (d : ℕ) (b : Bool) → is_directory_node (node_in (there b)) ≡ true
+        → ((b ≡ true) × (d ≡ root)) ⊎ ((b ≡ false) × (d ≢ root)) → d ≡ root
     only d b e t = ⊎_elim (λ t. t.1) (λ t. absurd (true≢false (sym (found d b e) ∙ t.0))) t
 
     once : (b : Bool) → cond b 1 0 + 0 ≡ cond (is_some (there b)) 1 0
@@ -60,7 +61,8 @@ opening_is_fit root = record {
     used_if true e = omega arith
     used_if false e = cc
 
-    longer : (name : TaskName) (number : ℕ) (rest : TaskName) (task : Task ℕ) → task_called (opening nat_eq root) (name ++ (number ∷ rest)) ≢ Some task
+    longer : (name : TaskName) (number : ℕ) (rest : TaskName) (task : Task ℕ)
+        → task_called (opening nat_eq root) (name ++ (number ∷ rest)) ≢ Some task
     longer [] number rest task e = cc
     longer (first ∷ name) number rest task e = cc
 

@@ -30,7 +30,8 @@ module _ (first second : Renaming ℕ ℕ) where
       let later = entries_alike rest (λ number is. agree number (omega arith)) in
       λ i. (entry.0, here i) ∷ later i
 
-  descriptors_alike : (descriptors : List (Descriptor ℕ)) → ((number : ℕ) → 1 ≤ times_in number (map (λ descriptor. descriptor.file) descriptors) → second.there number ≡ first.there number)
+  descriptors_alike : (descriptors : List (Descriptor ℕ))
+      → ((number : ℕ) → 1 ≤ times_in number (map (λ descriptor. descriptor.file) descriptors) → second.there number ≡ first.there number)
       → map (renamed_descriptor second.there second.back) descriptors ≡ map (renamed_descriptor first.there first.back) descriptors
   descriptors_alike [] agree = refl
   descriptors_alike (descriptor ∷ rest) agree =
@@ -38,7 +39,8 @@ module _ (first second : Renaming ℕ ℕ) where
       let later = descriptors_alike rest (λ number is. agree number (omega arith)) in
       λ i. record { number = descriptor.number; file = here i; reads = descriptor.reads; writes = descriptor.writes } ∷ later i
 
-  tasks_alike : (tasks : List (TaskName × Task ℕ)) → ((number : ℕ) → 1 ≤ times_in number (flat_map files_of tasks) → second.there number ≡ first.there number)
+  tasks_alike : (tasks : List (TaskName × Task ℕ))
+      → ((number : ℕ) → 1 ≤ times_in number (flat_map files_of tasks) → second.there number ≡ first.there number)
       → map (renamed_task second.there second.back) tasks ≡ map (renamed_task first.there first.back) tasks
   tasks_alike [] agree = refl
   tasks_alike (entry ∷ rest) agree =
@@ -67,14 +69,17 @@ module _ (numbers : List ℕ) (world : World ℕ) (fit : IsFit numbers world) wh
   target_there : (place number : ℕ) → IsThere place → 1 ≤ times_in number (targets_in (tree.node place)) → IsThere number
   target_there place number is some =
       let once : times_in place numbers ≡ 1 = fit.each_once place ∙ ap (λ b. cond b 1 0) is in
-      let named : times_in number (targets_in (tree.node place)) ≤ times_in number (named_by tree.node numbers) = named_of number tree.node place numbers (omega arith) in
+      let named : times_in number (targets_in (tree.node place)) ≤ times_in number (named_by tree.node numbers) =
+      named_of number tree.node place numbers (omega arith) in
       used_is_there numbers world fit number (let all = uses_parts numbers world fit number in omega arith)
 
   parent_there : (place : ℕ) → IsDirectory tree place → IsThere (parent_in place (tree.node place))
   parent_there place is = directory_there numbers world fit (parent_in place (tree.node place)) (parent_is tree fit.whole place is)
 
-  module _ (first second : Renaming ℕ ℕ) (agree : (number : ℕ) → is_some (world.inodes.inode number) ≡ true → second.there number ≡ first.there number) where
-    content_alike : (place : ℕ) (inode : Inode ℕ) → world.inodes.inode place ≡ Some inode → (content : Content ℕ) → inode.node.content ≡ content
+  module _ (first second : Renaming ℕ ℕ) (agree : (number : ℕ) → is_some (world.inodes.inode number) ≡ true
+      → second.there number ≡ first.there number) where
+    content_alike : (place : ℕ) (inode : Inode ℕ) → world.inodes.inode place ≡ Some inode → (content : Content ℕ)
+        → inode.node.content ≡ content
         → renamed_content second.there second.back content ≡ renamed_content first.there first.back content
     content_alike place inode is (Directory parent entries opaque) e =
         let contents : entries_in (tree.node place) ≡ entries = ap (λ o. entries_in (node_in o)) is ∙ ap entries_of e in
@@ -101,10 +106,13 @@ module _ (numbers : List ℕ) (world : World ℕ) (fit : IsFit numbers world) wh
         ≡ option_map (renamed_inode first.there first.back) (world.inodes.inode (first.back number))
     inode_alike number = by (world.inodes.inode (first.back number)) refl (world.inodes.inode (second.back number)) refl
       where
-        by : (o : Option (Inode ℕ)) → world.inodes.inode (first.back number) ≡ o → (p : Option (Inode ℕ)) → world.inodes.inode (second.back number) ≡ p
+        by : (o : Option (Inode ℕ)) → world.inodes.inode (first.back number) ≡ o → (p : Option (Inode ℕ))
+            → world.inodes.inode (second.back number) ≡ p
             → option_map (renamed_inode second.there second.back) p ≡ option_map (renamed_inode first.there first.back) o
         by None e None h = refl
-        by None e (Some inode) h = absurd (true≢false (sym (ap is_some h) ∙ ap (λ k. is_some (world.inodes.inode k)) (sym (led_back_again number (ap is_some h))) ∙ ap is_some e))
+        by None e (Some inode) h =
+            absurd (true≢false
+            (sym (ap is_some h) ∙ ap (λ k. is_some (world.inodes.inode k)) (sym (led_back_again number (ap is_some h))) ∙ ap is_some e))
         by (Some inode) e p h =
             ap (option_map (renamed_inode second.there second.back)) (sym h ∙ ap world.inodes.inode (led_back number (ap is_some e)) ∙ e)
             ∙ (λ i. Some (record {

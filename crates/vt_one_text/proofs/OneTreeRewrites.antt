@@ -43,7 +43,8 @@ attr_kept attr = record {
   parent = λ own o. parent own o;
 }
   where
-    directory : (o : Option (Node ℕ)) → Rattle.vt_spec.specs.Tree.is_directory_node (node_with_attr attr o) ≡ Rattle.vt_spec.specs.Tree.is_directory_node o
+    directory : (o : Option (Node ℕ))
+        → Rattle.vt_spec.specs.Tree.is_directory_node (node_with_attr attr o) ≡ Rattle.vt_spec.specs.Tree.is_directory_node o
     directory None = refl
     directory (Some node) = refl
 
@@ -51,7 +52,8 @@ attr_kept attr = record {
     entries None = refl
     entries (Some node) = refl
 
-    parent : (own : ℕ) (o : Option (Node ℕ)) → Rattle.vt_spec.specs.Tree.parent_in own (node_with_attr attr o) ≡ Rattle.vt_spec.specs.Tree.parent_in own o
+    parent : (own : ℕ) (o : Option (Node ℕ))
+        → Rattle.vt_spec.specs.Tree.parent_in own (node_with_attr attr o) ≡ Rattle.vt_spec.specs.Tree.parent_in own o
     parent own None = refl
     parent own (Some node) = refl
 
@@ -64,7 +66,8 @@ bytes_kept bytes = record {
   parent = λ own o. parent own o;
 }
   where
-    directory : (o : Option (Node ℕ)) → Rattle.vt_spec.specs.Tree.is_directory_node (node_with_bytes bytes o) ≡ Rattle.vt_spec.specs.Tree.is_directory_node o
+    directory : (o : Option (Node ℕ))
+        → Rattle.vt_spec.specs.Tree.is_directory_node (node_with_bytes bytes o) ≡ Rattle.vt_spec.specs.Tree.is_directory_node o
     directory None = refl
     directory (Some node) = by node.content
       where
@@ -74,7 +77,8 @@ bytes_kept bytes = record {
         by (Symlink text) = refl
         by Whiteout = refl
 
-    entries : (o : Option (Node ℕ)) → Rattle.vt_spec.specs.Tree.entries_in (node_with_bytes bytes o) ≡ Rattle.vt_spec.specs.Tree.entries_in o
+    entries : (o : Option (Node ℕ))
+        → Rattle.vt_spec.specs.Tree.entries_in (node_with_bytes bytes o) ≡ Rattle.vt_spec.specs.Tree.entries_in o
     entries None = refl
     entries (Some node) = by node.content
       where
@@ -84,7 +88,8 @@ bytes_kept bytes = record {
         by (Symlink text) = refl
         by Whiteout = refl
 
-    parent : (own : ℕ) (o : Option (Node ℕ)) → Rattle.vt_spec.specs.Tree.parent_in own (node_with_bytes bytes o) ≡ Rattle.vt_spec.specs.Tree.parent_in own o
+    parent : (own : ℕ) (o : Option (Node ℕ))
+        → Rattle.vt_spec.specs.Tree.parent_in own (node_with_bytes bytes o) ≡ Rattle.vt_spec.specs.Tree.parent_in own o
     parent own None = refl
     parent own (Some node) = by node.content
       where
@@ -114,53 +119,80 @@ module _ (beside : Beside) (world : World ℕ) (name : TaskName) (task : Task �
   denied = refused beside world name task fit
 
   -- attributes, and bytes
-  pub attr_set : (object : ℕ) (attr : Attr) → IsChanged beside world name task fit (Ok (ToChange (SetAttr object attr))) (Outcomes.granted Done (with_change nat_eq fresh there (location_there object) (SetAttr object attr)))
+  pub attr_set : (object : ℕ) (attr : Attr)
+      → IsChanged beside world name task fit (Ok (ToChange (SetAttr object attr)))
+      (Outcomes.granted Done (with_change nat_eq fresh there (location_there object) (SetAttr object attr)))
   attr_set object attr =
-      let settles = kept_settled beside.numbers world fit object (node_with_attr attr) (attr_kept attr) beside refl beside.filesystem_change in
+      let settles =
+      kept_settled beside.numbers world fit object (node_with_attr attr) (attr_kept attr) beside refl beside.filesystem_change in
       (refl, refl, settles.0, settles.1, settles.2)
 
-  pub bytes_set : (file : ℕ) (bytes : List ℕ) → IsChanged beside world name task fit (Ok (ToChange (SetBytes file bytes))) (Outcomes.granted Done (with_change nat_eq fresh there (location_there file) (SetBytes file bytes)))
+  pub bytes_set : (file : ℕ) (bytes : List ℕ)
+      → IsChanged beside world name task fit (Ok (ToChange (SetBytes file bytes)))
+      (Outcomes.granted Done (with_change nat_eq fresh there (location_there file) (SetBytes file bytes)))
   bytes_set file bytes =
-      let settles = kept_settled beside.numbers world fit file (node_with_bytes bytes) (bytes_kept bytes) beside refl beside.filesystem_change in
+      let settles =
+      kept_settled beside.numbers world fit file (node_with_bytes bytes) (bytes_kept bytes) beside refl beside.filesystem_change in
       (refl, refl, settles.0, settles.1, settles.2)
 
-  chmod_alike : (path : List ℕ) (mode : ℕ) → Judged (chmod_permit tree task path mode) (Attributes.chmod_outcome nat_eq fresh there there_task path mode)
+  chmod_alike : (path : List ℕ) (mode : ℕ)
+      → Judged (chmod_permit tree task path mode) (Attributes.chmod_outcome nat_eq fresh there there_task path mode)
   unfolding chmod_permit Attributes.chmod_outcome
   chmod_alike path mode =
       after_alike there Judged denied here_there (object_walk tree who path) _ _ _ (object_walk_alike beside world (name, task) fit path)
       (λ here steps e. judged_alike there Judged denied (inr F1 ∷ inr F2 ∷ inr L1 ∷ inl (not (owns who (attr_at tree here.node)), C2) ∷ [])
-      (Ok (ToChange (SetAttr here.node (attr_with_mode (attr_at tree here.node) mode)))) (Outcomes.granted Done (with_change nat_eq fresh there (location_there here.node) (SetAttr here.node (attr_with_mode (attr_at tree here.node) mode))))
+      (Ok (ToChange (SetAttr here.node (attr_with_mode (attr_at tree here.node) mode))))
+      (Outcomes.granted Done
+      (with_change nat_eq fresh there (location_there here.node) (SetAttr here.node (attr_with_mode (attr_at tree here.node) mode))))
       (inr (attr_set here.node (attr_with_mode (attr_at tree here.node) mode))))
 
-  chown_alike : (path : List ℕ) (uid gid : Option ℕ) → Judged (chown_permit tree task path uid gid) (Attributes.chown_outcome nat_eq fresh there there_task path uid gid)
+  chown_alike : (path : List ℕ) (uid gid : Option ℕ)
+      → Judged (chown_permit tree task path uid gid) (Attributes.chown_outcome nat_eq fresh there there_task path uid gid)
   unfolding chown_permit Attributes.chown_outcome
   chown_alike path uid gid =
       after_alike there Judged denied here_there (object_walk tree who path) _ _ _ (object_walk_alike beside world (name, task) fit path)
-      (λ here steps e. judged_alike there Judged denied (inr F1 ∷ inr F2 ∷ inr L1 ∷ inl (not (may_chown who (attr_at tree here.node) (attr_with_owner (attr_at tree here.node) uid gid)), C2) ∷ [])
-      (Ok (ToChange (SetAttr here.node (attr_with_owner (attr_at tree here.node) uid gid)))) (Outcomes.granted Done (with_change nat_eq fresh there (location_there here.node) (SetAttr here.node (attr_with_owner (attr_at tree here.node) uid gid))))
+      (λ here steps e. judged_alike there Judged denied
+      (inr F1 ∷ inr F2 ∷ inr L1 ∷ inl
+      (not (may_chown who (attr_at tree here.node) (attr_with_owner (attr_at tree here.node) uid gid)), C2) ∷ [])
+      (Ok (ToChange (SetAttr here.node (attr_with_owner (attr_at tree here.node) uid gid))))
+      (Outcomes.granted Done
+      (with_change nat_eq fresh there (location_there here.node) (SetAttr here.node (attr_with_owner (attr_at tree here.node) uid gid))))
       (inr (attr_set here.node (attr_with_owner (attr_at tree here.node) uid gid))))
 
-  pwrite_alike : (number offset : ℕ) (bytes : List ℕ) → Judged (pwrite_permit tree task number offset bytes) (Descriptors.pwrite_outcome nat_eq fresh there there_task number offset bytes)
+  pwrite_alike : (number offset : ℕ) (bytes : List ℕ)
+      → Judged (pwrite_permit tree task number offset bytes) (Descriptors.pwrite_outcome nat_eq fresh there there_task number offset bytes)
   unfolding pwrite_permit Descriptors.pwrite_outcome
   pwrite_alike number offset bytes =
-      descriptor_alike there Judged denied beside world.inodes.root name task number (λ descriptor. descriptor.writes) (λ descriptor. descriptor.writes) (λ descriptor. refl) _ _
-      (λ descriptor e. judged_alike there Judged denied (inl (not (is_empty bytes) && nat_lt largest_file (offset + length bytes), E6) ∷ inr L1 ∷ [])
-      (Ok (pwriting tree descriptor.file offset bytes)) (Outcomes.granted Done (Descriptors.pwritten nat_eq fresh there (location_there descriptor.file) offset bytes))
+      descriptor_alike there Judged denied beside world.inodes.root name task number (λ descriptor. descriptor.writes)
+      (λ descriptor. descriptor.writes) (λ descriptor. refl) _ _
+      (λ descriptor e. judged_alike there Judged denied
+      (inl (not (is_empty bytes) && nat_lt largest_file (offset + length bytes), E6) ∷ inr L1 ∷ [])
+      (Ok (pwriting tree descriptor.file offset bytes))
+      (Outcomes.granted Done (Descriptors.pwritten nat_eq fresh there (location_there descriptor.file) offset bytes))
       (by descriptor.file bytes))
     where
-      by : (file : ℕ) (bytes : List ℕ) → Judged (Ok (pwriting tree file offset bytes)) (Outcomes.granted Done (Descriptors.pwritten nat_eq fresh there (location_there file) offset bytes))
+      by : (file : ℕ) (bytes : List ℕ)
+          → Judged (Ok (pwriting tree file offset bytes))
+          (Outcomes.granted Done (Descriptors.pwritten nat_eq fresh there (location_there file) offset bytes))
       by file [] = inl (refl, refl, refl)
       by file (byte ∷ bytes) = inr (bytes_set file (overwritten offset (byte ∷ bytes) (bytes_in (tree.node file))))
 
 pub attributes_agree : AttributesAgree
 attributes_agree path = (
   λ mode beside world name fresh fit vacant. policy_alike beside world name fresh (Chmod path mode) fit (λ task is.
-      judged_finished beside world name task fit (chmod_permit (tree_of world.inodes) task path mode) (Attributes.chmod_outcome nat_eq fresh (embedded beside world) (task_there beside world.inodes.root (name, task)) path mode) (chmod_alike beside world name task fit fresh path mode)),
+      judged_finished beside world name task fit (chmod_permit (tree_of world.inodes) task path mode)
+      (Attributes.chmod_outcome nat_eq fresh (embedded beside world)
+      (task_there beside world.inodes.root (name, task)) path mode) (chmod_alike beside world name task fit fresh path mode)),
   λ uid gid beside world name fresh fit vacant. policy_alike beside world name fresh (Chown path uid gid) fit (λ task is.
-      judged_finished beside world name task fit (chown_permit (tree_of world.inodes) task path uid gid) (Attributes.chown_outcome nat_eq fresh (embedded beside world) (task_there beside world.inodes.root (name, task)) path uid gid) (chown_alike beside world name task fit fresh path uid gid)),
+      judged_finished beside world name task fit (chown_permit (tree_of world.inodes) task path uid gid)
+      (Attributes.chown_outcome nat_eq fresh (embedded beside world)
+      (task_there beside world.inodes.root (name, task)) path uid gid) (chown_alike beside world name task fit fresh path uid gid)),
 )
 
 pub partial_writes_agree : PartialWritesAgree
 partial_writes_agree number offset bytes beside world name fresh fit vacant =
     policy_alike beside world name fresh (Pwrite number offset bytes) fit (λ task is.
-    judged_finished beside world name task fit (pwrite_permit (tree_of world.inodes) task number offset bytes) (Descriptors.pwrite_outcome nat_eq fresh (embedded beside world) (task_there beside world.inodes.root (name, task)) number offset bytes) (pwrite_alike beside world name task fit fresh number offset bytes))
+    judged_finished beside world name task fit (pwrite_permit (tree_of world.inodes) task number offset bytes)
+    (Descriptors.pwrite_outcome nat_eq fresh (embedded beside world)
+    (task_there beside world.inodes.root
+    (name, task)) number offset bytes) (pwrite_alike beside world name task fit fresh number offset bytes))

@@ -38,7 +38,8 @@ pub request_answered : (line : List ℕ) → RequestAnswered (Script.request_of 
 unfolding Script.request_of
 request_answered line = by (Script.each_of Script.token_text (Script.raw_tokens line))
   where
-    called : (task : TaskName) (o : Option Call) → Rattle.vt_one_text.proofs.OneTreeLanguage.Answered o → RequestAnswered (option_map (Script.Request.Calling task) (then_some o (λ call. Some call)))
+    called : (task : TaskName) (o : Option Call) → Rattle.vt_one_text.proofs.OneTreeLanguage.Answered o
+        → RequestAnswered (option_map (Script.Request.Calling task) (then_some o (λ call. Some call)))
     called task None is = tt
     called task (Some call) is = is
 
@@ -47,7 +48,11 @@ request_answered line = by (Script.each_of Script.token_text (Script.raw_tokens 
     asked (Some (Script.Who.Someone task)) [] = tt
     asked (Some (Script.Who.Someone task)) (name ∷ words) = known (Script.files.knows name) refl
       where
-        known : (b : Bool) → Script.files.knows name ≡ b → RequestAnswered (cond b (option_map (Script.Request.Calling task) (then_some (Script.call_words Script.Version.One name words) (λ call. Some call))) None)
+        known : (b : Bool) → Script.files.knows name ≡ b
+            → RequestAnswered
+            (cond b
+            (option_map (Script.Request.Calling task)
+            (then_some (Script.call_words Script.Version.One name words) (λ call. Some call))) None)
         known true e = called task (Script.call_words Script.Version.One name words) (files_answered words name e)
         known false e = tt
     asked (Some Script.Who.Nobody) [] = tt
@@ -72,10 +77,12 @@ not_above number [] above = refl
 not_above number (first ∷ rest) above =
     ⊎_elim
     (λ t. absurd (let same : number ≡ first = t.1 in omega arith))
-    (λ t. let here : one_if number first ≡ 0 = ap (λ b. cond b 1 0) t.0 in let later : times_in number rest ≡ 0 = not_above number rest (omega arith) in omega arith)
+    (λ t. let here : one_if number first ≡ 0 = ap (λ b. cond b 1 0) t.0 in
+    let later : times_in number rest ≡ 0 = not_above number rest (omega arith) in omega arith)
     (eqb_tells number first)
 
-pub vacant_if : (numbers : List ℕ) (world : World ℕ) → IsFit numbers world → (number : ℕ) → times_in number numbers ≡ 0 → world.inodes.inode number ≡ None
+pub vacant_if : (numbers : List ℕ) (world : World ℕ) → IsFit numbers world → (number : ℕ) → times_in number numbers ≡ 0
+    → world.inodes.inode number ≡ None
 vacant_if numbers world fit number none = by (world.inodes.inode number) (fit.each_once number)
   where
     by : (o : Option (Inode ℕ)) → times_in number numbers ≡ cond (is_some o) 1 0 → o ≡ None
@@ -83,7 +90,8 @@ vacant_if numbers world fit number none = by (world.inodes.inode number) (fit.ea
     by (Some inode) e = absurd (let h : times_in number numbers ≡ 1 = e in omega arith)
 
 -- what nothing uses in the whole machine
-vacant_there : (beside : Beside) (world : World ℕ) → IsFit beside.numbers world → (fresh : ℕ) → is_among nat_eq fresh (Machine.numbers_in_use (embedded beside world)) ≡ false → world.inodes.inode fresh ≡ None
+vacant_there : (beside : Beside) (world : World ℕ) → IsFit beside.numbers world → (fresh : ℕ)
+    → is_among nat_eq fresh (Machine.numbers_in_use (embedded beside world)) ≡ false → world.inodes.inode fresh ≡ None
 vacant_there beside world fit fresh unused = vacant_if beside.numbers world fit fresh (by (times_in fresh beside.numbers) refl)
   where
     later : (a b : Bool) → b ≡ true → (a || b) ≡ true
@@ -93,18 +101,25 @@ vacant_there beside world fit fresh unused = vacant_if beside.numbers world fit 
     found : is_among nat_eq fresh beside.numbers ≡ true → is_among nat_eq fresh (Machine.numbers_in_use (embedded beside world)) ≡ true
     found e =
         later (nat_eq fresh 0) _ (later (nat_eq fresh 2) _
-        (list_any-append (nat_eq fresh) (beside.numbers ++ []) (1 ∷ []) ∙ ap (λ b. b || list_any (nat_eq fresh) (1 ∷ [])) (list_any-append (nat_eq fresh) beside.numbers [] ∙ ap (λ b. b || false) e)))
+        (list_any-append (nat_eq fresh) (beside.numbers ++ []) (1 ∷ [])
+        ∙ ap (λ b. b || list_any (nat_eq fresh) (1 ∷ [])) (list_any-append (nat_eq fresh) beside.numbers [] ∙ ap (λ b. b || false) e)))
 
     by : (k : ℕ) → times_in fresh beside.numbers ≡ k → times_in fresh beside.numbers ≡ 0
     by zero e = e
     by (suc k) e = absurd (true≢false (sym (found (times_among fresh beside.numbers (omega arith))) ∙ unused))
 
 -- where no task is left nobody calls
-nobody_calls : (world : World ℕ) (there : MachineWorld.World ℕ) (name : TaskName) (call : Call) (number : ℕ) (fresh : Fresh ℕ) → world.tasks ≡ [] → there.tasks ≡ []
-    → (policy nat_eq world name call number ≡ denied world (denial S2)) × (MachinePolicy.policy nat_eq fresh there name call ≡ Outcomes.denied there (denial S2))
+nobody_calls : (world : World ℕ) (there : MachineWorld.World ℕ) (name : TaskName) (call : Call) (number : ℕ) (fresh : Fresh ℕ)
+    → world.tasks ≡ [] → there.tasks ≡ []
+    → (policy nat_eq world name call number ≡ denied world (denial S2))
+    × (MachinePolicy.policy nat_eq fresh there name call ≡ Outcomes.denied there (denial S2))
 nobody_calls world there name call number fresh none none_there = (
-  ap (λ tasks. after world (ok_or (option_map (λ entry. entry.1) (find (is_called name) tasks)) (denial S2)) (λ task. after world (judge nat_eq number world.inodes name task call) (spent nat_eq world name task))) none,
-  ap (λ tasks. Outcomes.after there (ok_or (find (λ task. MachineWorldLanguage.same_name name task.name) tasks) (denial S2)) (λ task. MachinePolicy.finished nat_eq there name call (MachinePolicy.filesystems_changed_by nat_eq there (judge_in nat_eq fresh there task call)) (MachinePolicy.call_outcome nat_eq fresh there task call))) none_there,
+  ap (λ tasks. after world (ok_or (option_map (λ entry. entry.1) (find (is_called name) tasks)) (denial S2))
+      (λ task. after world (judge nat_eq number world.inodes name task call) (spent nat_eq world name task))) none,
+  ap (λ tasks. Outcomes.after there (ok_or (find (λ task. MachineWorldLanguage.same_name name task.name) tasks) (denial S2))
+      (λ task. MachinePolicy.finished nat_eq there name call
+      (MachinePolicy.filesystems_changed_by nat_eq there (judge_in nat_eq fresh there task call))
+      (MachinePolicy.call_outcome nat_eq fresh there task call))) none_there,
 )
 
 -- One line
@@ -112,59 +127,79 @@ nobody_calls world there name call number fresh none none_there = (
 module _ (world : World ℕ) (there : MachineWorld.World ℕ) (place : ℕ) (line : List ℕ) where
   -- the same text, and the same world
   abbrev IsSameStep : Tree.Step ℕ → Machine.Step ℕ → Type 0
-  IsSameStep step other = (Machine.step_text place other ≡ Tree.step_text place step) × IsImage (Tree.step_world world step) (Machine.step_world there other)
+  IsSameStep step other =
+      (Machine.step_text place other ≡ Tree.step_text place step) × IsImage (Tree.step_world world step) (Machine.step_world there other)
 
-  answered : (outcome : Outcome ℕ) (other : Outcomes.Outcome ℕ) → IsSameOutcome outcome other → IsSameStep (Tree.Step.Answered outcome) (Machine.Step.Answered other)
+  answered : (outcome : Outcome ℕ) (other : Outcomes.Outcome ℕ) → IsSameOutcome outcome other
+      → IsSameStep (Tree.Step.Answered outcome) (Machine.Step.Answered other)
   answered outcome other same = (ap (reply_line place) same.0, same.1)
 
-  refused_same : IsImage world there → IsSameStep (Tree.line_step nat_eq world line None) (Machine.line_step nat_eq Script.files there line None)
+  refused_same : IsImage world there
+      → IsSameStep (Tree.line_step nat_eq world line None) (Machine.line_step nat_eq Script.files there line None)
   refused_same image = by (nat_lt ScriptLanguage.longest_line (length line)) (Script.is_silent line)
     where
-      by : (long silent : Bool) → IsSameStep (Tree.line_step_by nat_eq long silent world line None) (Machine.line_step_by nat_eq long silent Script.files there line None)
+      by : (long silent : Bool)
+          → IsSameStep (Tree.line_step_by nat_eq long silent world line None)
+          (Machine.line_step_by nat_eq long silent Script.files there line None)
       by true silent = (refl, image)
       by false true = (refl, image)
       by false false = (refl, image)
 
   -- a number is at hand, and the line's step is the same
   step_same : (fresh : Fresh ℕ) → Machine.Serves nat_eq there fresh → IsImage world there
-      → (number : ℕ) × (world.inodes.inode number ≡ None) × IsSameStep (Tree.line_step nat_eq world line (Some number)) (Machine.line_step nat_eq Script.files there line (Some fresh))
+      → (number : ℕ) × (world.inodes.inode number ≡ None) × IsSameStep (Tree.line_step nat_eq world line (Some number))
+      (Machine.line_step nat_eq Script.files there line (Some fresh))
   step_same fresh serves (inl image) =
       (fresh 0, vacant, by (nat_lt ScriptLanguage.longest_line (length line)) (Script.is_silent line))
     where
       vacant : world.inodes.inode (fresh 0) ≡ None
-      vacant = vacant_there image.0 world image.1 (fresh 0) (subst (λ w. is_among nat_eq (fresh 0) (Machine.numbers_in_use w) ≡ false) image.2 (serves.unused 0))
+      vacant =
+          vacant_there image.0 world image.1 (fresh 0)
+          (subst (λ w. is_among nat_eq (fresh 0) (Machine.numbers_in_use w) ≡ false) image.2 (serves.unused 0))
 
-      asked : (request : Option Script.Request) → RequestAnswered request → IsSameOutcome (Tree.requested nat_eq world request (fresh 0)) (Machine.requested nat_eq there request fresh)
+      asked : (request : Option Script.Request) → RequestAnswered request
+          → IsSameOutcome (Tree.requested nat_eq world request (fresh 0)) (Machine.requested nat_eq there request fresh)
       asked None is = (refl, inl image)
       asked (Some (Script.Request.Calling task call)) is =
-          subst (λ w. IsSameOutcome (policy nat_eq world task call (fresh 0)) (MachinePolicy.policy nat_eq fresh w task call)) (sym image.2) (is image.0 world task fresh image.1 vacant)
+          subst (λ w. IsSameOutcome (policy nat_eq world task call (fresh 0)) (MachinePolicy.policy nat_eq fresh w task call))
+          (sym image.2) (is image.0 world task fresh image.1 vacant)
       asked (Some (Script.Request.Asking directive)) is = absurd is
 
-      by : (long silent : Bool) → IsSameStep (Tree.line_step_by nat_eq long silent world line (Some (fresh 0))) (Machine.line_step_by nat_eq long silent Script.files there line (Some fresh))
+      by : (long silent : Bool)
+          → IsSameStep (Tree.line_step_by nat_eq long silent world line (Some (fresh 0)))
+          (Machine.line_step_by nat_eq long silent Script.files there line (Some fresh))
       by true silent = (refl, inl image)
       by false true = (refl, inl image)
       by false false = answered _ _ (asked (Script.request_of Script.files line) (request_answered line))
-  step_same fresh serves (inr image) =
-      (number, vacant_if image.2 world image.3 number (not_above number image.2 (omega arith)), by (nat_lt ScriptLanguage.longest_line (length line)) (Script.is_silent line))
+  step_same fresh serves (inr image) = (
+    number,
+    vacant_if image.2 world image.3 number (not_above number image.2 (omega arith)),
+    by
+        (nat_lt ScriptLanguage.longest_line (length line)) (Script.is_silent line),
+  )
     where
       number : ℕ
       number = sum_of image.2 + 1
 
-      asked : (request : Option Script.Request) → RequestAnswered request → IsSameOutcome (Tree.requested nat_eq world request (sum_of image.2 + 1)) (Machine.requested nat_eq there request fresh)
+      asked : (request : Option Script.Request) → RequestAnswered request
+          → IsSameOutcome (Tree.requested nat_eq world request (sum_of image.2 + 1)) (Machine.requested nat_eq there request fresh)
       asked None is = (refl, inr image)
       asked (Some (Script.Request.Calling task call)) is =
           let nobody = nobody_calls world there task call (sum_of image.2 + 1) fresh image.0 image.1 in
-          subst (λ o. IsSameOutcome o (MachinePolicy.policy nat_eq fresh there task call)) (sym nobody.0) (subst (IsSameOutcome (denied world (denial S2))) (sym nobody.1) (refl, inr image))
+          subst (λ o. IsSameOutcome o (MachinePolicy.policy nat_eq fresh there task call)) (sym nobody.0)
+          (subst (IsSameOutcome (denied world (denial S2))) (sym nobody.1) (refl, inr image))
       asked (Some (Script.Request.Asking directive)) is = absurd is
 
-      by : (long silent : Bool) → IsSameStep (Tree.line_step_by nat_eq long silent world line (Some (sum_of image.2 + 1))) (Machine.line_step_by nat_eq long silent Script.files there line (Some fresh))
+      by : (long silent : Bool) → IsSameStep (Tree.line_step_by nat_eq long silent world line (Some (sum_of image.2 + 1)))
+          (Machine.line_step_by nat_eq long silent Script.files there line (Some fresh))
       by true silent = (refl, inr image)
       by false true = (refl, inr image)
       by false false = answered _ _ (asked (Script.request_of Script.files line) (request_answered line))
 
 -- All lines
 
-told : (lines : List (List ℕ)) (refused : List Bool) (number : ℕ) (world : World ℕ) (there : MachineWorld.World ℕ) → IsImage world there → (text : List ℕ)
+told : (lines : List (List ℕ)) (refused : List Bool) (number : ℕ) (world : World ℕ) (there : MachineWorld.World ℕ)
+    → IsImage world there → (text : List ℕ)
     → Machine.Tells nat_eq Script.files there number lines refused text → Tree.Tells nat_eq world number lines refused text
 told [] refused number world there image text tells = tells
 told (line ∷ lines) [] number world there image text tells = absurd tells
@@ -192,26 +227,31 @@ files_are_told script refused text tells =
     (inl (record { numbers = 3 ∷ []; filesystem_change = 0; task_change = λ name. 0; change = 0 }, opening_is_fit 3, opening_there)) text tells
 
 -- a line that asks for the same in two grammars is answered the same
-step_in_both : (one other : Script.Grammar) (world : MachineWorld.World ℕ) (line : List ℕ) (fresh : Option (Fresh ℕ)) → Script.request_of one line ≡ Script.request_of other line
+step_in_both : (one other : Script.Grammar) (world : MachineWorld.World ℕ) (line : List ℕ) (fresh : Option (Fresh ℕ))
+    → Script.request_of one line ≡ Script.request_of other line
     → Machine.line_step nat_eq one world line fresh ≡ Machine.line_step nat_eq other world line fresh
 step_in_both one other world line fresh same = by (nat_lt ScriptLanguage.longest_line (length line)) (Script.is_silent line) fresh
   where
-    by : (long silent : Bool) (fresh : Option (Fresh ℕ)) → Machine.line_step_by nat_eq long silent one world line fresh ≡ Machine.line_step_by nat_eq long silent other world line fresh
+    by : (long silent : Bool) (fresh : Option (Fresh ℕ))
+        → Machine.line_step_by nat_eq long silent one world line fresh ≡ Machine.line_step_by nat_eq long silent other world line fresh
     by true silent fresh = refl
     by false true fresh = refl
     by false false None = refl
     by false false (Some fresh) = ap (λ request. Machine.Step.Answered (Machine.requested nat_eq world request fresh)) same
 
 -- and so are lines
-told_in_both : (one other : Script.Grammar) (lines : List (List ℕ)) (refused : List Bool) (number : ℕ) (world : MachineWorld.World ℕ) → All (λ line. Script.request_of one line ≡ Script.request_of other line) lines
-    → (text : List ℕ) → Machine.Tells nat_eq one world number lines refused text → Machine.Tells nat_eq other world number lines refused text
+told_in_both : (one other : Script.Grammar) (lines : List (List ℕ)) (refused : List Bool) (number : ℕ)
+    (world : MachineWorld.World ℕ) → All (λ line. Script.request_of one line ≡ Script.request_of other line) lines
+    → (text : List ℕ) → Machine.Tells nat_eq one world number lines refused text
+    → Machine.Tells nat_eq other world number lines refused text
 told_in_both one other [] refused number world same text tells = tells
 told_in_both one other (line ∷ lines) [] number world same text tells = absurd tells
 told_in_both one other (line ∷ lines) (true ∷ refused) number world same text tells =
     let step = step_in_both one other world line None (same 0 line (let less : 0 < suc (length lines) = omega arith in less)) in (
       tells.0,
       tells.1 ∙ (λ i. Machine.step_text number (step i) ++ tells.0),
-      told_in_both one other lines refused (number + 1) _ (λ k d below. same (suc k) d (let less : suc k < suc (length lines) = omega arith in less)) tells.0
+      told_in_both one other lines refused (number + 1) _
+          (λ k d below. same (suc k) d (let less : suc k < suc (length lines) = omega arith in less)) tells.0
           (subst (λ s. Machine.Tells nat_eq one (Machine.step_world world s) (number + 1) lines refused tells.0) step tells.2),
     )
 told_in_both one other (line ∷ lines) (false ∷ refused) number world same text tells =
@@ -220,10 +260,12 @@ told_in_both one other (line ∷ lines) (false ∷ refused) number world same te
       tells.1,
       tells.2,
       tells.3 ∙ (λ i. Machine.step_text number (step i) ++ tells.2),
-      told_in_both one other lines refused (number + 1) _ (λ k d below. same (suc k) d (let less : suc k < suc (length lines) = omega arith in less)) tells.2
+      told_in_both one other lines refused (number + 1) _
+          (λ k d below. same (suc k) d (let less : suc k < suc (length lines) = omega arith in less)) tells.2
           (subst (λ s. Machine.Tells nat_eq one (Machine.step_world world s) (number + 1) lines refused tells.2) step tells.4),
     )
 
 pub language_is_told : LanguageIsTold
 language_is_told version script refused text same tells =
-    files_are_told script refused text (told_in_both (Script.whole version) Script.files (Script.lines_of script) refused 1 Machine.first_world same text tells)
+    files_are_told script refused text
+    (told_in_both (Script.whole version) Script.files (Script.lines_of script) refused 1 Machine.first_world same text tells)

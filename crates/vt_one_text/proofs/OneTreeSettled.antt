@@ -33,7 +33,9 @@ tasks_there beside root entries = map (task_there beside root) entries
 
 -- What the whole machine has before it settles, where it then is to have this world: the nodes, some of which have no use.
 pub record IsBefore (numbers : List ℕ) (node : ℕ → Option (Node ℕ)) (world : World ℕ) : Type 0 where
-  pub uses : (number : ℕ) → uses_in (world.inodes.inode number) ≡ times_in number (world.inodes.root ∷ (flat_map (λ directory. targets_in (node directory)) numbers ++ opened_in world))
+  pub uses : (number : ℕ)
+      → uses_in (world.inodes.inode number) ≡ times_in number
+      (world.inodes.root ∷ (flat_map (λ directory. targets_in (node directory)) numbers ++ opened_in world))
   pub in_use : (number : ℕ) → is_some (world.inodes.inode number) ≡ true → 1 ≤ uses_in (world.inodes.inode number)
   pub kept : (number : ℕ) → is_some (world.inodes.inode number) ≡ true → node number ≡ node_in (world.inodes.inode number)
   pub once : (number : ℕ) → times_in number numbers ≡ cond (is_some (node number)) 1 0
@@ -46,7 +48,8 @@ filter_all : (p : ℕ → Bool) (list : List ℕ) → list_all p list ≡ true �
 filter_all p [] e = refl
 filter_all p (first ∷ rest) e = by (p first) e (filter_all p rest)
   where
-    by : (b : Bool) → (b && list_all p rest) ≡ true → (list_all p rest ≡ true → filter p rest ≡ rest) → cond b (first ∷ filter p rest) (filter p rest) ≡ first ∷ rest
+    by : (b : Bool) → (b && list_all p rest) ≡ true → (list_all p rest ≡ true → filter p rest ≡ rest)
+        → cond b (first ∷ filter p rest) (filter p rest) ≡ first ∷ rest
     by true e later = ap (λ l. first ∷ l) (later e)
     by false e later = cc
 
@@ -55,7 +58,8 @@ all_among p number [] e found = absurd (omega arith)
 all_among p number (first ∷ rest) e found =
     ⊎_elim
     (λ t. ap p t.1 ∙ (both (p first) (list_all p rest) e).0)
-    (λ t. all_among p number rest (both (p first) (list_all p rest) e).1 (let h : 1 ≤ 0 + times_in number rest = subst (λ b. 1 ≤ cond b 1 0 + times_in number rest) t.0 found in omega arith))
+    (λ t. all_among p number rest (both (p first) (list_all p rest) e).1
+    (let h : 1 ≤ 0 + times_in number rest = subst (λ b. 1 ≤ cond b 1 0 + times_in number rest) t.0 found in omega arith))
     (eqb_tells number first)
   where
     both : (a b : Bool) → (a && b) ≡ true → (a ≡ true) × (b ≡ true)
@@ -75,17 +79,22 @@ times_filter p number (first ∷ rest) =
     (eqb_tells number first)
   where
     here : (a b : Bool) → b ≡ a → nat_eq number first ≡ true → times_in number (filter p rest) ≡ cond b (times_in number rest) 0
-        → times_in number (cond a (first ∷ filter p rest) (filter p rest)) ≡ cond b (cond (nat_eq number first) 1 0 + times_in number rest) 0
+        → times_in number (cond a (first ∷ filter p rest) (filter p rest)) ≡ cond b
+        (cond (nat_eq number first) 1 0 + times_in number rest) 0
     here true true e same h = ap (λ n. cond (nat_eq number first) 1 0 + n) h
     here true false e same h = cc
     here false true e same h = cc
     here false false e same h = h
 
     later : (a b : Bool) → nat_eq number first ≡ false → times_in number (filter p rest) ≡ cond b (times_in number rest) 0
-        → times_in number (cond a (first ∷ filter p rest) (filter p rest)) ≡ cond b (cond (nat_eq number first) 1 0 + times_in number rest) 0
+        → times_in number (cond a (first ∷ filter p rest) (filter p rest)) ≡ cond b
+        (cond (nat_eq number first) 1 0 + times_in number rest) 0
     later true true e h = ap (λ n. cond (nat_eq number first) 1 0 + n) h
-    later true false e h = ap (λ c. cond c 1 0 + times_in number (filter p rest)) e ∙ (let g : times_in number (filter p rest) ≡ 0 = h in omega arith)
-    later false true e h = h ∙ (let g : times_in number rest ≡ 0 + times_in number rest = omega arith in g) ∙ ap (λ c. cond c 1 0 + times_in number rest) (sym e)
+    later true false e h =
+        ap (λ c. cond c 1 0 + times_in number (filter p rest)) e ∙ (let g : times_in number (filter p rest) ≡ 0 = h in omega arith)
+    later false true e h =
+        h ∙ (let g : times_in number rest ≡ 0 + times_in number rest = omega arith in g)
+        ∙ ap (λ c. cond c 1 0 + times_in number rest) (sym e)
     later false false e h = h
 
 -- the uses of inodes by tasks
@@ -110,14 +119,17 @@ module _ (beside : Beside) (world : World ℕ) (node : ℕ → Option (Node ℕ)
   by_descriptors [] rest = refl
   by_descriptors (descriptor ∷ descriptors) rest =
       ap (λ b. nat_eq number descriptor.file || b) (by_descriptors descriptors rest)
-      ∙ or_again (nat_eq number descriptor.file) (is_among nat_eq number (map (λ descriptor. descriptor.file) descriptors)) (is_among nat_eq number (nodes_of rest))
+      ∙ or_again (nat_eq number descriptor.file) (is_among nat_eq number (map (λ descriptor. descriptor.file) descriptors))
+      (is_among nat_eq number (nodes_of rest))
     where
       or_again : (a b c : Bool) → (a || (b || c)) ≡ ((a || b) || c)
       or_again true b c = refl
       or_again false b c = refl
 
   abbrev located : List (TaskName × Task ℕ) → List (Location ℕ)
-  located entries = flat_map MachineWorld.locations_of (map (task_there beside world.inodes.root) entries) ++ (location_there world.inodes.root ∷ []) ++ []
+  located entries =
+      flat_map MachineWorld.locations_of (map (task_there beside world.inodes.root) entries) ++
+      (location_there world.inodes.root ∷ []) ++ []
 
   append_again : (a b c : List (Location ℕ)) → (a ++ b) ++ c ≡ a ++ (b ++ c)
   append_again [] b c = refl
@@ -132,8 +144,12 @@ module _ (beside : Beside) (world : World ℕ) (node : ℕ → Option (Node ℕ)
       by false = refl
   by_tasks (entry ∷ entries) =
       ap (λ l. is_root || (is_root || is_among nat_eq number (nodes_of l)))
-      (ap (λ l. l ++ []) (append_again (map (λ descriptor. descriptor.location) (map descriptor_there entry.1.descriptors)) (flat_map MachineWorld.locations_of (map (task_there beside world.inodes.root) entries)) (location_there world.inodes.root ∷ []))
-      ∙ append_again (map (λ descriptor. descriptor.location) (map descriptor_there entry.1.descriptors)) (flat_map MachineWorld.locations_of (map (task_there beside world.inodes.root) entries) ++ (location_there world.inodes.root ∷ [])) [])
+      (ap (λ l. l ++ [])
+      (append_again (map (λ descriptor. descriptor.location) (map descriptor_there entry.1.descriptors))
+      (flat_map MachineWorld.locations_of (map (task_there beside world.inodes.root) entries)) (location_there world.inodes.root ∷ []))
+      ∙ append_again (map (λ descriptor. descriptor.location) (map descriptor_there entry.1.descriptors))
+      (flat_map MachineWorld.locations_of (map (task_there beside world.inodes.root) entries) ++
+      (location_there world.inodes.root ∷ [])) [])
       ∙ ap (λ b. is_root || (is_root || b)) (by_descriptors entry.1.descriptors (located entries))
       ∙ ap (λ b. is_root || (is_root || (is_among nat_eq number (files_of entry) || b))) (by_tasks entries)
       ∙ by is_root (is_among nat_eq number (files_of entry)) (is_among nat_eq number (flat_map files_of entries))
@@ -156,12 +172,16 @@ module _ (beside : Beside) (world : World ℕ) (node : ℕ → Option (Node ℕ)
   used_is : is_among nat_eq number used ≡ is_among nat_eq number used_here
   used_is =
       ap (λ b. is_root || b)
-      (list_any-append (nat_eq number) (flat_map (λ directory. targets_in (node directory)) numbers ++ nodes_of (located world.tasks) ++ []) []
-      ∙ ap (λ b. b || false) (list_any-append (nat_eq number) (flat_map (λ directory. targets_in (node directory)) numbers ++ nodes_of (located world.tasks)) []
-      ∙ ap (λ b. b || false) (list_any-append (nat_eq number) (flat_map (λ directory. targets_in (node directory)) numbers) (nodes_of (located world.tasks)))))
+      (list_any-append (nat_eq number)
+      (flat_map (λ directory. targets_in (node directory)) numbers ++ nodes_of (located world.tasks) ++ []) []
+      ∙ ap (λ b. b || false)
+      (list_any-append (nat_eq number) (flat_map (λ directory. targets_in (node directory)) numbers ++ nodes_of (located world.tasks)) []
+      ∙ ap (λ b. b || false)
+      (list_any-append (nat_eq number) (flat_map (λ directory. targets_in (node directory)) numbers) (nodes_of (located world.tasks)))))
       ∙ ap (λ b. is_root || (((named || b) || false) || false)) (by_tasks world.tasks)
       ∙ by is_root named (is_among nat_eq number (opened_in world))
-      ∙ ap (λ b. is_root || b) (sym (list_any-append (nat_eq number) (flat_map (λ directory. targets_in (node directory)) numbers) (opened_in world)))
+      ∙ ap (λ b. is_root || b)
+      (sym (list_any-append (nat_eq number) (flat_map (λ directory. targets_in (node directory)) numbers) (opened_in world)))
     where
       named : Bool
       named = is_among nat_eq number (flat_map (λ directory. targets_in (node directory)) numbers)
@@ -177,14 +197,20 @@ module _ (beside : Beside) (world : World ℕ) (node : ℕ → Option (Node ℕ)
   used_there : (number : ℕ) → is_among nat_eq number (used beside world node numbers number) ≡ is_some (world.inodes.inode number)
   used_there number = used_is beside world node numbers number ∙ by (world.inodes.inode number) (is.uses number) (is.in_use number)
     where
-      none : (b : Bool) → is_among nat_eq number (used_here beside world node numbers number) ≡ b → times_in number (used_here beside world node numbers number) ≡ 0 → b ≡ false
-      none true e zero_times = absurd (let some : 1 ≤ times_in number (used_here beside world node numbers number) = among_times number (used_here beside world node numbers number) e in omega arith)
+      none : (b : Bool) → is_among nat_eq number (used_here beside world node numbers number) ≡ b
+          → times_in number (used_here beside world node numbers number) ≡ 0 → b ≡ false
+      none true e zero_times =
+          absurd (let some : 1 ≤ times_in number (used_here beside world node numbers number) = among_times number
+          (used_here beside world node numbers number) e in omega arith)
       none false e zero_times = refl
 
-      by : (o : Option (Inode ℕ)) → uses_in o ≡ times_in number (used_here beside world node numbers number) → (is_some o ≡ true → 1 ≤ uses_in o)
+      by : (o : Option (Inode ℕ)) → uses_in o ≡ times_in number (used_here beside world node numbers number)
+          → (is_some o ≡ true → 1 ≤ uses_in o)
           → is_among nat_eq number (used_here beside world node numbers number) ≡ is_some o
       by None uses in_use = none (is_among nat_eq number (used_here beside world node numbers number)) refl (sym uses)
-      by (Some inode) uses in_use = times_among number (used_here beside world node numbers number) (let some : 1 ≤ inode.uses = in_use refl in let same : inode.uses ≡ times_in number (used_here beside world node numbers number) = uses in omega arith)
+      by (Some inode) uses in_use =
+          times_among number (used_here beside world node numbers number) (let some : 1 ≤ inode.uses = in_use refl in
+          let same : inode.uses ≡ times_in number (used_here beside world node numbers number) = uses in omega arith)
 
   abbrev stays : ℕ → Bool
   stays number = is_some (world.inodes.inode number)
@@ -208,7 +234,8 @@ module _ (beside : Beside) (world : World ℕ) (node : ℕ → Option (Node ℕ)
       by false e = sym (missing (world.inodes.inode number) e)
 
   abbrev with_files : (ℕ → Option (Node ℕ)) → List ℕ → MachineWorld.World ℕ
-  with_files some_node some_numbers = raw world.inodes.root some_node some_numbers beside.filesystem_change (tasks_there beside world.inodes.root world.tasks) beside.change
+  with_files some_node some_numbers =
+      raw world.inodes.root some_node some_numbers beside.filesystem_change (tasks_there beside world.inodes.root world.tasks) beside.change
 
   -- so the whole machine settles to that world
   pub settled_is : Settled.settled nat_eq (before beside world node numbers 0) ≡ embedded beside_after world
@@ -221,13 +248,16 @@ module _ (beside : Beside) (world : World ℕ) (node : ℕ → Option (Node ℕ)
           none None e = refl
           none (Some n) e = cc
 
-      all_kept : list_all (λ number. is_among nat_eq number (used beside world node numbers 0)) numbers ≡ true → (number : ℕ) → node number ≡ node_in (world.inodes.inode number)
+      all_kept : list_all (λ number. is_among nat_eq number (used beside world node numbers 0)) numbers ≡ true → (number : ℕ)
+          → node number ≡ node_in (world.inodes.inode number)
       all_kept all number = found (is_some (node number)) refl
         where
           found : (b : Bool) → is_some (node number) ≡ b → node number ≡ node_in (world.inodes.inode number)
           found true e =
-              is.kept number (sym (used_there number) ∙ all_among (λ n. is_among nat_eq n (used beside world node numbers 0)) number numbers all
-              (let one : times_in number numbers ≡ cond (is_some (node number)) 1 0 = is.once number in let two : times_in number numbers ≡ 1 = one ∙ ap (λ b. cond b 1 0) e in omega arith))
+              is.kept number
+              (sym (used_there number) ∙ all_among (λ n. is_among nat_eq n (used beside world node numbers 0)) number numbers all
+              (let one : times_in number numbers ≡ cond (is_some (node number)) 1 0 = is.once number in
+              let two : times_in number numbers ≡ 1 = one ∙ ap (λ b. cond b 1 0) e in omega arith))
           found false e = absent number e ∙ sym (there (stays number) refl)
             where
               there : (b : Bool) → stays number ≡ b → node_in (world.inodes.inode number) ≡ None
@@ -245,12 +275,18 @@ module _ (beside : Beside) (world : World ℕ) (node : ℕ → Option (Node ℕ)
           (filter (λ n. used_there n i) numbers)
 
   -- and what is beside it is fit for it
-  named_same : (list : List ℕ) → flat_map (λ directory. targets_in (node_in (world.inodes.inode directory))) (filter stays list) ≡ flat_map (λ directory. targets_in (node directory)) list
+  named_same : (list : List ℕ)
+      → flat_map (λ directory. targets_in (node_in (world.inodes.inode directory))) (filter stays list) ≡ flat_map
+      (λ directory. targets_in (node directory)) list
   named_same [] = refl
   named_same (first ∷ rest) = by (stays first) refl (named_same rest)
     where
-      by : (b : Bool) → stays first ≡ b → flat_map (λ directory. targets_in (node_in (world.inodes.inode directory))) (filter stays rest) ≡ flat_map (λ directory. targets_in (node directory)) rest
-          → flat_map (λ directory. targets_in (node_in (world.inodes.inode directory))) (cond b (first ∷ filter stays rest) (filter stays rest)) ≡ targets_in (node first) ++ flat_map (λ directory. targets_in (node directory)) rest
+      by : (b : Bool) → stays first ≡ b
+          → flat_map (λ directory. targets_in (node_in (world.inodes.inode directory))) (filter stays rest) ≡ flat_map
+          (λ directory. targets_in (node directory)) rest
+          → flat_map (λ directory. targets_in (node_in (world.inodes.inode directory)))
+          (cond b (first ∷ filter stays rest) (filter stays rest)) ≡ targets_in (node first) ++ flat_map
+          (λ directory. targets_in (node directory)) rest
       by true e later = λ i. targets_in (sym (is.kept first e) i) ++ later i
       by false e later = later ∙ ap (λ l. l ++ flat_map (λ directory. targets_in (node directory)) rest) (sym (is.emptied first e))
 
@@ -268,7 +304,8 @@ module _ (beside : Beside) (world : World ℕ) (node : ℕ → Option (Node ℕ)
   pub fit_after : IsWhole (tree_of world.inodes) → world.inodes.count ≡ length numbers_after
       → ((directory : ℕ) → IsDirectory (tree_of world.inodes) directory → uses_in (world.inodes.inode directory) ≡ 1)
       → AreApart world.tasks
-      → ((name rest : TaskName) (number : ℕ) (task forker : Task ℕ) → task_called world (name ++ (number ∷ rest)) ≡ Some task → task_called world name ≡ Some forker → number ≤ forker.forks)
+      → ((name rest : TaskName) (number : ℕ) (task forker : Task ℕ) → task_called world (name ++ (number ∷ rest)) ≡ Some task
+      → task_called world name ≡ Some forker → number ≤ forker.forks)
       → ((name : TaskName) (task : Task ℕ) → task_called world name ≡ Some task → AreInOrder 0 task.descriptors)
       → IsFit numbers_after world
   fit_after whole counted one_use apart forked descriptors = record {
@@ -288,29 +325,51 @@ module _ (beside : Beside) (world : World ℕ) (node : ℕ → Option (Node ℕ)
 -- the numbers that a call raises
 abbrev pub beside_raised : TaskName → List ℕ → Beside → Beside
 beside_raised name changed beside = record beside {
-  filesystem_change = cond (list_any (λ number. nat_eq number 2) changed) (Rattle.vt_spec.specs.Machine.Filesystems.raised beside.filesystem_change) beside.filesystem_change;
-  task_change = λ other. cond (same_name name other) (Rattle.vt_spec.specs.Machine.Filesystems.raised (beside.task_change other)) (beside.task_change other);
+  filesystem_change =
+      cond (list_any (λ number. nat_eq number 2) changed)
+      (Rattle.vt_spec.specs.Machine.Filesystems.raised beside.filesystem_change) beside.filesystem_change;
+  task_change =
+      λ other. cond (same_name name other) (Rattle.vt_spec.specs.Machine.Filesystems.raised (beside.task_change other))
+      (beside.task_change other);
   change = Rattle.vt_spec.specs.Machine.Filesystems.raised beside.change;
 }
 
-pub raised_is : (name : TaskName) (changed : List ℕ) (beside : Beside) (world : World ℕ) (root : ℕ) (node : ℕ → Option (Node ℕ)) (numbers : List ℕ) (some_change : ℕ) (tasks : List (MachineWorld.Task ℕ)) (change : ℕ)
-    → Machine.numbers_raised nat_eq (raw root node numbers some_change tasks change) name changed (embedded beside world) ≡ embedded (beside_raised name changed beside) world
+pub raised_is : (name : TaskName) (changed : List ℕ) (beside : Beside) (world : World ℕ) (root : ℕ) (node : ℕ → Option (Node ℕ))
+    (numbers : List ℕ) (some_change : ℕ) (tasks : List (MachineWorld.Task ℕ)) (change : ℕ)
+    → Machine.numbers_raised nat_eq (raw root node numbers some_change tasks change) name changed
+    (embedded beside world) ≡ embedded (beside_raised name changed beside) world
 raised_is name changed beside world root node numbers some_change tasks change =
     λ i. record (embedded (beside_raised name changed beside) world) { filesystems = tree (list_any (λ number. nat_eq number 2) changed) i ∷ []; tasks = by world.tasks i }
   where
     tree : (b : Bool) → cond b (record (filesystem_there beside world.inodes) { change = Rattle.vt_spec.specs.Machine.Filesystems.raised beside.filesystem_change }) (filesystem_there beside world.inodes)
-        ≡ record (filesystem_there beside world.inodes) { change = cond b (Rattle.vt_spec.specs.Machine.Filesystems.raised beside.filesystem_change) beside.filesystem_change }
+        ≡ record (filesystem_there beside world.inodes) {
+          change = cond b
+              (Rattle.vt_spec.specs.Machine.Filesystems.raised beside.filesystem_change) beside.filesystem_change;
+        }
     tree true = refl
     tree false = refl
 
-    one : (entry : TaskName × Task ℕ) → Machine.raised_task name (task_there beside world.inodes.root entry) ≡ task_there (beside_raised name changed beside) world.inodes.root entry
+    one : (entry : TaskName × Task ℕ)
+        → Machine.raised_task name (task_there beside world.inodes.root entry) ≡ task_there
+        (beside_raised name changed beside) world.inodes.root entry
     one entry = inside (same_name name entry.0)
       where
-        inside : (b : Bool) → cond b (record (task_there beside world.inodes.root entry) { change = Rattle.vt_spec.specs.Machine.Filesystems.raised (beside.task_change entry.0) }) (task_there beside world.inodes.root entry)
-            ≡ record (task_there beside world.inodes.root entry) { change = cond b (Rattle.vt_spec.specs.Machine.Filesystems.raised (beside.task_change entry.0)) (beside.task_change entry.0) }
+        inside : (b : Bool)
+            → cond b
+            (record
+            (task_there beside world.inodes.root entry) {
+              change = Rattle.vt_spec.specs.Machine.Filesystems.raised
+                  (beside.task_change entry.0);
+            }) (task_there beside world.inodes.root entry)
+            ≡ record (task_there beside world.inodes.root entry) {
+              change = cond b
+                  (Rattle.vt_spec.specs.Machine.Filesystems.raised (beside.task_change entry.0)) (beside.task_change entry.0);
+            }
         inside true = refl
         inside false = refl
 
-    by : (entries : List (TaskName × Task ℕ)) → map (Machine.raised_task name) (map (task_there beside world.inodes.root) entries) ≡ map (task_there (beside_raised name changed beside) world.inodes.root) entries
+    by : (entries : List (TaskName × Task ℕ))
+        → map (Machine.raised_task name) (map (task_there beside world.inodes.root) entries) ≡ map
+        (task_there (beside_raised name changed beside) world.inodes.root) entries
     by [] = refl
     by (entry ∷ entries) = λ i. one entry i ∷ by entries i

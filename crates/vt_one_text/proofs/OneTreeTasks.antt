@@ -18,47 +18,62 @@ pub same_self : (a : TaskName) → same_name a a ≡ true
 same_self a = (bytes_decides a a).1 refl
 
 -- what is found by a name has it
-pub found_name : (name : TaskName) (entries : List Entry) (entry : Entry) → find (is_called name) entries ≡ Some entry → same_name name entry.0 ≡ true
+pub found_name : (name : TaskName) (entries : List Entry) (entry : Entry) → find (is_called name) entries ≡ Some entry
+    → same_name name entry.0 ≡ true
 found_name name [] entry e = cc
 found_name name (first ∷ rest) entry e = by (is_called name first) refl e (found_name name rest entry)
   where
-    by : (b : Bool) → is_called name first ≡ b → cond b (Some first) (find (is_called name) rest) ≡ Some entry → (find (is_called name) rest ≡ Some entry → same_name name entry.0 ≡ true) → same_name name entry.0 ≡ true
+    by : (b : Bool) → is_called name first ≡ b → cond b (Some first) (find (is_called name) rest) ≡ Some entry
+        → (find (is_called name) rest ≡ Some entry → same_name name entry.0 ≡ true) → same_name name entry.0 ≡ true
     by true is e later = let same : first ≡ entry = cc in ap (is_called name) (sym same) ∙ is
     by false is e later = later e
 
-pub found_is : (name : TaskName) (entries : List Entry) (entry : Entry) → find (is_called name) entries ≡ Some entry → entry ≡ (name, entry.1)
+pub found_is : (name : TaskName) (entries : List Entry) (entry : Entry) → find (is_called name) entries ≡ Some entry
+    → entry ≡ (name, entry.1)
 found_is name entries entry e = λ i. (sym (same_is name entry.0 (found_name name entries entry e)) i, entry.1)
 
 -- a task is found alike
 pub find_there : (beside : Beside) (root : ℕ) (name : TaskName) (entries : List Entry)
-    → find (λ task. same_name name task.name) (map (task_there beside root) entries) ≡ option_map (task_there beside root) (find (is_called name) entries)
+    → find (λ task. same_name name task.name) (map (task_there beside root) entries) ≡ option_map (task_there beside root)
+    (find (is_called name) entries)
 find_there beside root name [] = refl
 find_there beside root name (entry ∷ rest) = by (is_called name entry) (find_there beside root name rest)
   where
-    by : (b : Bool) → find (λ task. same_name name task.name) (map (task_there beside root) rest) ≡ option_map (task_there beside root) (find (is_called name) rest)
-        → cond b (Some (task_there beside root entry)) (find (λ task. same_name name task.name) (map (task_there beside root) rest)) ≡ option_map (task_there beside root) (cond b (Some entry) (find (is_called name) rest))
+    by : (b : Bool) → find (λ task. same_name name task.name) (map (task_there beside root) rest) ≡ option_map
+        (task_there beside root) (find (is_called name) rest)
+        → cond b (Some (task_there beside root entry))
+        (find (λ task. same_name name task.name) (map (task_there beside root) rest)) ≡ option_map (task_there beside root)
+        (cond b (Some entry) (find (is_called name) rest))
     by true later = refl
     by false later = later
 
 -- a task is changed alike
 pub changed_there : (beside : Beside) (root : ℕ) (name : TaskName) (task : Task ℕ) (entries : List Entry)
-    → map (MachineWorld.replaced_if_called (task_there beside root (name, task))) (map (task_there beside root) entries) ≡ map (task_there beside root) (map (changed_if_called name task) entries)
+    → map (MachineWorld.replaced_if_called (task_there beside root (name, task))) (map (task_there beside root) entries) ≡ map
+    (task_there beside root) (map (changed_if_called name task) entries)
 changed_there beside root name task [] = refl
 changed_there beside root name task (entry ∷ rest) = λ i. by (is_called name entry) refl i ∷ changed_there beside root name task rest i
   where
-    by : (b : Bool) → is_called name entry ≡ b → cond b (task_there beside root (name, task)) (task_there beside root entry) ≡ task_there beside root (cond b (entry.0, task) entry)
+    by : (b : Bool) → is_called name entry ≡ b
+        → cond b (task_there beside root (name, task)) (task_there beside root entry) ≡ task_there beside root
+        (cond b (entry.0, task) entry)
     by true e = ap (λ n. task_there beside root (n, task)) (same_is name entry.0 e)
     by false e = refl
 
 -- and leaves alike
 pub without_there : (beside : Beside) (root : ℕ) (name : TaskName) (entries : List Entry)
-    → filter (λ task. not (same_name name task.name)) (map (task_there beside root) entries) ≡ map (task_there beside root) (filter (λ entry. not (is_called name entry)) entries)
+    → filter (λ task. not (same_name name task.name)) (map (task_there beside root) entries) ≡ map (task_there beside root)
+    (filter (λ entry. not (is_called name entry)) entries)
 without_there beside root name [] = refl
 without_there beside root name (entry ∷ rest) = by (is_called name entry) (without_there beside root name rest)
   where
-    by : (b : Bool) → filter (λ task. not (same_name name task.name)) (map (task_there beside root) rest) ≡ map (task_there beside root) (filter (λ entry. not (is_called name entry)) rest)
-        → cond (not b) (task_there beside root entry ∷ filter (λ task. not (same_name name task.name)) (map (task_there beside root) rest)) (filter (λ task. not (same_name name task.name)) (map (task_there beside root) rest))
-        ≡ map (task_there beside root) (cond (not b) (entry ∷ filter (λ entry. not (is_called name entry)) rest) (filter (λ entry. not (is_called name entry)) rest))
+    by : (b : Bool) → filter (λ task. not (same_name name task.name)) (map (task_there beside root) rest) ≡ map
+        (task_there beside root) (filter (λ entry. not (is_called name entry)) rest)
+        → cond (not b)
+        (task_there beside root entry ∷ filter (λ task. not (same_name name task.name)) (map (task_there beside root) rest))
+        (filter (λ task. not (same_name name task.name)) (map (task_there beside root) rest))
+        ≡ map (task_there beside root)
+        (cond (not b) (entry ∷ filter (λ entry. not (is_called name entry)) rest) (filter (λ entry. not (is_called name entry)) rest))
     by true later = later
     by false later = ap (λ l. task_there beside root entry ∷ l) later
 
@@ -73,14 +88,20 @@ module _ (name : TaskName) (task : Task ℕ) where
       by true = refl
       by false = refl
 
-  pub find_changed : (other : TaskName) (entries : List Entry) → find (is_called other) (map (changed_if_called name task) entries) ≡ option_map (changed_if_called name task) (find (is_called other) entries)
+  pub find_changed : (other : TaskName) (entries : List Entry)
+      → find (is_called other) (map (changed_if_called name task) entries) ≡ option_map (changed_if_called name task)
+      (find (is_called other) entries)
   find_changed other [] = refl
   find_changed other (entry ∷ rest) =
-      ap (λ b. cond b (Some (changed_if_called name task entry)) (find (is_called other) (map (changed_if_called name task) rest))) (called_changed other entry)
+      ap (λ b. cond b (Some (changed_if_called name task entry))
+      (find (is_called other) (map (changed_if_called name task) rest))) (called_changed other entry)
       ∙ by (is_called other entry) (find_changed other rest)
     where
-      by : (b : Bool) → find (is_called other) (map (changed_if_called name task) rest) ≡ option_map (changed_if_called name task) (find (is_called other) rest)
-          → cond b (Some (changed_if_called name task entry)) (find (is_called other) (map (changed_if_called name task) rest)) ≡ option_map (changed_if_called name task) (cond b (Some entry) (find (is_called other) rest))
+      by : (b : Bool)
+          → find (is_called other) (map (changed_if_called name task) rest) ≡ option_map (changed_if_called name task)
+          (find (is_called other) rest)
+          → cond b (Some (changed_if_called name task entry)) (find (is_called other) (map (changed_if_called name task) rest))
+          ≡ option_map (changed_if_called name task) (cond b (Some entry) (find (is_called other) rest))
       by true later = refl
       by false later = later
 
@@ -97,17 +118,22 @@ module _ (name : TaskName) (task : Task ℕ) where
       by false = none
 
   -- what is found then is the changed task, or another as it was
-  pub task_changed : (entries : List Entry) (was : Task ℕ) → find (is_called name) entries ≡ Some (name, was) → (other : TaskName) (now : Task ℕ)
+  pub task_changed : (entries : List Entry) (was : Task ℕ) → find (is_called name) entries ≡ Some (name, was)
+      → (other : TaskName) (now : Task ℕ)
       → option_map (λ entry. entry.1) (find (is_called other) (map (changed_if_called name task) entries)) ≡ Some now
-      → ((option_map (λ entry. entry.1) (find (is_called other) entries) ≡ Some now) ⊎ ((option_map (λ entry. entry.1) (find (is_called other) entries) ≡ Some was) × (now ≡ task)))
-  task_changed entries was is other now e = by (find (is_called other) entries) refl (sym (ap (option_map (λ entry. entry.1)) (find_changed other entries)) ∙ e)
+      → ((option_map (λ entry. entry.1) (find (is_called other) entries) ≡ Some now)
+      ⊎ ((option_map (λ entry. entry.1) (find (is_called other) entries) ≡ Some was) × (now ≡ task)))
+  task_changed entries was is other now e =
+      by (find (is_called other) entries) refl (sym (ap (option_map (λ entry. entry.1)) (find_changed other entries)) ∙ e)
     where
-      by : (o : Option Entry) → find (is_called other) entries ≡ o → option_map (λ entry. entry.1) (option_map (changed_if_called name task) o) ≡ Some now
+      by : (o : Option Entry) → find (is_called other) entries ≡ o
+          → option_map (λ entry. entry.1) (option_map (changed_if_called name task) o) ≡ Some now
           → ((option_map (λ entry. entry.1) o ≡ Some now) ⊎ ((option_map (λ entry. entry.1) o ≡ Some was) × (now ≡ task)))
       by None f e = inl e
       by (Some entry) f e = inside (is_called name entry) refl e
         where
-          inside : (b : Bool) → is_called name entry ≡ b → Some (cond b (entry.0, task) entry).1 ≡ Some now → (Some entry.1 ≡ Some now) ⊎ ((Some entry.1 ≡ Some was) × (now ≡ task))
+          inside : (b : Bool) → is_called name entry ≡ b → Some (cond b (entry.0, task) entry).1 ≡ Some now
+              → (Some entry.1 ≡ Some now) ⊎ ((Some entry.1 ≡ Some was) × (now ≡ task))
           inside false c e = inl e
           inside true c e =
               let one : name ≡ entry.0 = same_is name entry.0 c in
@@ -121,34 +147,54 @@ module _ (name : TaskName) (task : Task ℕ) where
   none_changed [] e = refl
   none_changed (entry ∷ rest) e = by (is_called name entry) e (none_changed rest)
     where
-      by : (b : Bool) → cond b (Some entry) (find (is_called name) rest) ≡ None → (find (is_called name) rest ≡ None → map (changed_if_called name task) rest ≡ rest)
+      by : (b : Bool) → cond b (Some entry) (find (is_called name) rest) ≡ None
+          → (find (is_called name) rest ≡ None → map (changed_if_called name task) rest ≡ rest)
           → cond b (entry.0, task) entry ∷ map (changed_if_called name task) rest ≡ entry ∷ rest
       by true e later = cc
       by false e later = ap (λ l. entry ∷ l) (later e)
 
   -- the uses by descriptors are those of the changed task in place of what it had
-  pub uses_changed : (number : ℕ) (was : Task ℕ) (entries : List Entry) → AreApart entries → find (is_called name) entries ≡ Some (name, was)
-      → times_in number (flat_map files_of (map (changed_if_called name task) entries)) + times_in number (files_of (name, was)) ≡ times_in number (flat_map files_of entries) + times_in number (files_of (name, task))
+  pub uses_changed : (number : ℕ) (was : Task ℕ) (entries : List Entry) → AreApart entries
+      → find (is_called name) entries ≡ Some (name, was)
+      → times_in number (flat_map files_of (map (changed_if_called name task) entries)) + times_in number
+      (files_of (name, was)) ≡ times_in number (flat_map files_of entries) + times_in number (files_of (name, task))
   uses_changed number was [] apart e = cc
   uses_changed number was (entry ∷ rest) apart e = by (is_called name entry) refl e (uses_changed number was rest apart.1)
     where
       by : (b : Bool) → is_called name entry ≡ b → cond b (Some entry) (find (is_called name) rest) ≡ Some (name, was)
-          → (find (is_called name) rest ≡ Some (name, was) → times_in number (flat_map files_of (map (changed_if_called name task) rest)) + times_in number (files_of (name, was)) ≡ times_in number (flat_map files_of rest) + times_in number (files_of (name, task)))
-          → times_in number (files_of (cond b (entry.0, task) entry) ++ flat_map files_of (map (changed_if_called name task) rest)) + times_in number (files_of (name, was)) ≡ times_in number (files_of entry ++ flat_map files_of rest) + times_in number (files_of (name, task))
+          → (find (is_called name) rest ≡ Some (name, was)
+          → times_in number (flat_map files_of (map (changed_if_called name task) rest)) + times_in number
+          (files_of (name, was)) ≡ times_in number (flat_map files_of rest) + times_in number (files_of (name, task)))
+          → times_in number
+          (files_of (cond b (entry.0, task) entry) ++ flat_map files_of
+          (map (changed_if_called name task) rest)) + times_in number (files_of
+          (name, was)) ≡ times_in number (files_of entry ++ flat_map files_of rest) + times_in number (files_of (name, task))
       by true is e later =
           let same : entry ≡ (name, was) = cc in
           let none : find (is_called name) rest ≡ None = ap (λ n. find (is_called n) rest) (same_is name entry.0 is) ∙ apart.0 in
           let rest_same : map (changed_if_called name task) rest ≡ rest = none_changed rest none in
-          let left : times_in number (files_of (name, task) ++ flat_map files_of (map (changed_if_called name task) rest)) ≡ times_in number (files_of (name, task)) + times_in number (flat_map files_of rest)
-          = ap (λ l. times_in number (files_of (name, task) ++ flat_map files_of l)) rest_same ∙ times_append number (files_of (name, task)) (flat_map files_of rest) in
-          let right : times_in number (files_of entry ++ flat_map files_of rest) ≡ times_in number (files_of (name, was)) + times_in number (flat_map files_of rest)
-          = ap (λ x. times_in number (files_of x ++ flat_map files_of rest)) same ∙ times_append number (files_of (name, was)) (flat_map files_of rest) in
+          let left : times_in number (files_of (name, task) ++ flat_map files_of (map (changed_if_called name task) rest))
+          ≡ times_in number (files_of (name, task)) + times_in number (flat_map files_of rest)
+          =
+          ap (λ l. times_in number (files_of (name, task) ++ flat_map files_of l)) rest_same
+          ∙ times_append number (files_of (name, task)) (flat_map files_of rest) in
+          let right : times_in number (files_of entry ++ flat_map files_of rest) ≡ times_in number
+          (files_of (name, was)) + times_in number (flat_map files_of rest)
+          =
+          ap (λ x. times_in number (files_of x ++ flat_map files_of rest)) same
+          ∙ times_append number (files_of (name, was)) (flat_map files_of rest) in
           (λ i. left i + times_in number (files_of (name, was)))
-          ∙ (let aside : (times_in number (files_of (name, task)) + times_in number (flat_map files_of rest)) + times_in number (files_of (name, was)) ≡ (times_in number (files_of (name, was)) + times_in number (flat_map files_of rest)) + times_in number (files_of (name, task)) = omega arith in aside)
+          ∙ (let aside : (times_in number (files_of (name, task)) + times_in number (flat_map files_of rest)) + times_in number
+          (files_of (name, was)) ≡
+          (times_in number (files_of (name, was)) + times_in number (flat_map files_of rest)) + times_in number
+          (files_of (name, task)) = omega arith in aside)
           ∙ (λ i. sym right i + times_in number (files_of (name, task)))
       by false is e later =
-          let h : times_in number (flat_map files_of (map (changed_if_called name task) rest)) + times_in number (files_of (name, was)) ≡ times_in number (flat_map files_of rest) + times_in number (files_of (name, task)) = later e in
-          let left : times_in number (files_of entry ++ flat_map files_of (map (changed_if_called name task) rest)) ≡ times_in number (files_of entry) + times_in number (flat_map files_of (map (changed_if_called name task) rest))
+          let h : times_in number (flat_map files_of (map (changed_if_called name task) rest)) + times_in number
+          (files_of (name, was)) ≡ times_in number (flat_map files_of rest) + times_in number (files_of (name, task)) = later e in
+          let left : times_in number (files_of entry ++ flat_map files_of (map (changed_if_called name task) rest))
+          ≡ times_in number (files_of entry) + times_in number (flat_map files_of (map (changed_if_called name task) rest))
           = times_append number (files_of entry) (flat_map files_of (map (changed_if_called name task) rest)) in
-          let right : times_in number (files_of entry ++ flat_map files_of rest) ≡ times_in number (files_of entry) + times_in number (flat_map files_of rest) = times_append number (files_of entry) (flat_map files_of rest) in
+          let right : times_in number (files_of entry ++ flat_map files_of rest) ≡ times_in number
+          (files_of entry) + times_in number (flat_map files_of rest) = times_append number (files_of entry) (flat_map files_of rest) in
           omega arith

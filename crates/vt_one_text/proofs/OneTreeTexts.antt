@@ -12,12 +12,13 @@ use Rattle.vt_laws.specs.Renaming.{Leaves, Renaming}
 use Rattle.vt_one_text.specs.OneTree.{IsAnsweredAlike, IsFit, IsImage}
 use Rattle.vt_one_text.specs.OneTreeNumbers.{renamed_outcome, renamed_world}
 use Rattle.vt_one_text.specs.OneTreeTexts.{LanguageTextIsTheText, LinesKeepFit, OneTreeHasOneText, OneTreeHasSomeText, RefusedLinesKeepFit, WholeTextIsTheText}
-use Rattle.vt_one_text.proofs.OneTreeNumbers.{outcome_itself, world_itself}
+use Rattle.vt_one_text.proofs.OneTreeNumbers.{world_itself}
 use Rattle.vt_one_text.proofs.OneTreeOpening.{opening_is_fit}
 use Rattle.vt_one_text.proofs.OneTreeRenamed.{renamed_alike}
 use Rattle.vt_one_text.proofs.OneTreeRuns.{RequestAnswered, files_are_told, language_is_told, not_above, request_answered, sum_of, vacant_if}
 use Rattle.vt_laws.proofs.Commuting.{Named, commutes_nat, stay_apart}
 use Rattle.vt_laws.proofs.Exchanges.{exchange, exchange_leaves, swapped, swapped_first, swapped_other, swapped_twice}
+use Rattle.vt_one_text.proofs.OneTreeNumbers.{outcome_itself}
 
 -- Lines do not see numbers
 
@@ -52,7 +53,8 @@ module _ (renaming : Renaming ℕ ℕ) where
   renamed world = renamed_world renaming.there renaming.back world
 
   line_renamed : (world : World ℕ) (line : List ℕ) (handed : Option ℕ)
-      → line_step nat_eq (renamed world) line (option_map renaming.there handed) ≡ renamed_step renaming.there renaming.back (line_step nat_eq world line handed)
+      → line_step nat_eq (renamed world) line (option_map renaming.there handed) ≡ renamed_step renaming.there renaming.back
+      (line_step nat_eq world line handed)
   line_renamed world line handed =
       commutes_nat HandedLine Step named_line named_step (λ A eq given. line_step eq given.1 line given.0) renaming (handed, world)
 
@@ -60,20 +62,23 @@ module _ (renaming : Renaming ℕ ℕ) where
   text_renamed place Silent = refl
   text_renamed place (Answered outcome) = refl
 
-  world_renamed : (world : World ℕ) (step : Step ℕ) → step_world (renamed world) (renamed_step renaming.there renaming.back step) ≡ renamed (step_world world step)
+  world_renamed : (world : World ℕ) (step : Step ℕ)
+      → step_world (renamed world) (renamed_step renaming.there renaming.back step) ≡ renamed (step_world world step)
   world_renamed world Silent = refl
   world_renamed world (Answered outcome) = refl
 
   -- a line writes the same in a renamed world,
   line_alike : (world other : World ℕ) → renamed world ≡ other → (place : ℕ) (line : List ℕ) (handed : Option ℕ)
-      → step_text place (line_step nat_eq other line (option_map renaming.there handed)) ≡ step_text place (line_step nat_eq world line handed)
+      → step_text place (line_step nat_eq other line (option_map renaming.there handed)) ≡ step_text place
+      (line_step nat_eq world line handed)
   line_alike world other same place line handed =
       ap (λ w. step_text place (line_step nat_eq w line (option_map renaming.there handed))) (sym same)
       ∙ ap (step_text place) (line_renamed world line handed) ∙ text_renamed place (line_step nat_eq world line handed)
 
   -- and leads to the renamed world
   line_leads : (world other : World ℕ) → renamed world ≡ other → (line : List ℕ) (handed : Option ℕ)
-      → renamed (step_world world (line_step nat_eq world line handed)) ≡ step_world other (line_step nat_eq other line (option_map renaming.there handed))
+      → renamed (step_world world (line_step nat_eq world line handed)) ≡ step_world other
+      (line_step nat_eq other line (option_map renaming.there handed))
   line_leads world other same line handed =
       sym (world_renamed world (line_step nat_eq world line handed))
       ∙ ap (step_world (renamed world)) (sym (line_renamed world line handed))
@@ -92,19 +97,22 @@ line_keeps named world line handed keeps stays renaming leaves =
 
 -- A fit world stays fit
 
-fit_called : (numbers : List ℕ) (world : World ℕ) → IsFit numbers world → (name : TaskName) (call : Call) (number : ℕ) → world.inodes.inode number ≡ None
+fit_called : (numbers : List ℕ) (world : World ℕ) → IsFit numbers world → (name : TaskName) (call : Call) (number : ℕ)
+    → world.inodes.inode number ≡ None
     → IsAnsweredAlike call → (now : List ℕ) × IsFit now (policy nat_eq world name call number).world
 fit_called numbers world fit name call number vacant answered =
     by _ (answered (record { numbers = numbers; filesystem_change = 0; task_change = λ name. 0; change = 0 }) world name (λ k. number) fit vacant).1
   where
-    by : (there : _) → IsImage (policy nat_eq world name call number).world there → (now : List ℕ) × IsFit now (policy nat_eq world name call number).world
+    by : (there : _) → IsImage (policy nat_eq world name call number).world there
+        → (now : List ℕ) × IsFit now (policy nat_eq world name call number).world
     by there image = ⊎_elim (λ one. (one.0.numbers, one.1)) (λ none. (none.2, none.3)) image
 
 fit_line : (numbers : List ℕ) (world : World ℕ) → IsFit numbers world → (line : List ℕ) (number : ℕ) → world.inodes.inode number ≡ None
     → (now : List ℕ) × IsFit now (step_world world (line_step nat_eq world line (Some number)))
 fit_line numbers world fit line number vacant = by (nat_lt ScriptLanguage.longest_line (length line)) (Script.is_silent line)
   where
-    asked : (request : Option Script.Request) → RequestAnswered request → (now : List ℕ) × IsFit now (requested nat_eq world request number).world
+    asked : (request : Option Script.Request) → RequestAnswered request
+        → (now : List ℕ) × IsFit now (requested nat_eq world request number).world
     asked None is = (numbers, fit)
     asked (Some (Script.Request.Calling task call)) is = fit_called numbers world fit task call number vacant is
     asked (Some (Script.Request.Asking directive)) is = absurd is
@@ -140,9 +148,12 @@ later_leaves renaming number leaves other is =
 -- a number that the world does not keep to might be any other, and so it is vacant
 ready_vacant : (world : World ℕ) (number : ℕ) → IsReady world number → world.inodes.inode number ≡ None
 ready_vacant world number ready =
-    sym (ap (λ w. w.inodes.inode number) (ready.keeps (exchange number far) (exchange_leaves (is_earlier number) number far (not_earlier number (omega arith)) (not_earlier far (omega arith)))))
+    sym (ap (λ w. w.inodes.inode number)
+    (ready.keeps (exchange number far)
+    (exchange_leaves (is_earlier number) number far (not_earlier number (omega arith)) (not_earlier far (omega arith)))))
     ∙ ap (λ k. option_map (renamed_inode (swapped number far) (swapped number far)) (world.inodes.inode k)) (swapped_first number far)
-    ∙ ap (option_map (renamed_inode (swapped number far) (swapped number far))) (vacant_if ready.numbers world ready.fit far (not_above far ready.numbers (omega arith)))
+    ∙ ap (option_map (renamed_inode (swapped number far) (swapped number far)))
+    (vacant_if ready.numbers world ready.fit far (not_above far ready.numbers (omega arith)))
   where
     far : ℕ
     far = sum_of ready.numbers + (number + 1)
@@ -150,7 +161,8 @@ ready_vacant world number ready =
     not_earlier : (other : ℕ) → number ≤ other → nat_lt other number ≡ false
     not_earlier other h = grind arith
 
-ready_step : (world : World ℕ) (number : ℕ) (line : List ℕ) → IsReady world number → IsReady (step_world world (line_step nat_eq world line (Some number))) (number + 1)
+ready_step : (world : World ℕ) (number : ℕ) (line : List ℕ) → IsReady world number
+    → IsReady (step_world world (line_step nat_eq world line (Some number))) (number + 1)
 ready_step world number line ready =
     let next = fit_line ready.numbers world ready.fit line number (ready_vacant world number ready) in
     record {
@@ -161,7 +173,8 @@ ready_step world number line ready =
           (λ renaming leaves. ap Some (leaves number (lt-ltb number (number + 1) (omega arith))));
     }
 
-ready_refused : (world : World ℕ) (number : ℕ) (line : List ℕ) → IsReady world number → IsReady (step_world world (line_step nat_eq world line None)) (number + 1)
+ready_refused : (world : World ℕ) (number : ℕ) (line : List ℕ) → IsReady world number
+    → IsReady (step_world world (line_step nat_eq world line None)) (number + 1)
 ready_refused world number line ready =
     subst (λ w. IsReady w (number + 1)) (sym (refused_same world line))
     (record {
@@ -178,7 +191,8 @@ ready_opening = record {
   numbers = 0 ∷ [];
   fit = opening_is_fit 0;
   keeps = λ renaming leaves.
-      renamed_alike (0 ∷ []) (opening nat_eq 0) (opening_is_fit 0) nothing_renamed renaming (λ number is. stays renaming leaves number (only_root (nat_eq number 0) _ is))
+      renamed_alike (0 ∷ []) (opening nat_eq 0) (opening_is_fit 0) nothing_renamed renaming
+      (λ number is. stays renaming leaves number (only_root (nat_eq number 0) _ is))
       ∙ world_itself (opening nat_eq 0);
 }
   where
@@ -186,7 +200,8 @@ ready_opening = record {
     only_root true a e = refl
     only_root false a e = e
 
-    stays : (renaming : Renaming ℕ ℕ) → Leaves renaming (is_earlier 1) → (number : ℕ) → nat_eq number 0 ≡ true → renaming.there number ≡ number
+    stays : (renaming : Renaming ℕ ℕ) → Leaves renaming (is_earlier 1) → (number : ℕ) → nat_eq number 0 ≡ true
+        → renaming.there number ≡ number
     stays renaming leaves number is = let root : number ≡ 0 = eqb-true number 0 is in ap renaming.there root ∙ leaves 0 refl ∙ sym root
 
 -- Texts
@@ -198,7 +213,9 @@ module _ (renaming : Renaming ℕ ℕ) (world other : World ℕ) (same : renamed
   fresh_renaming = record {
     there = λ k. swapped (renaming.there number) fresh (renaming.there k);
     back = λ k. renaming.back (swapped (renaming.there number) fresh k);
-    there_back = λ k. ap (swapped (renaming.there number) fresh) (renaming.there_back (swapped (renaming.there number) fresh k)) ∙ swapped_twice (renaming.there number) fresh k;
+    there_back =
+        λ k. ap (swapped (renaming.there number) fresh) (renaming.there_back (swapped (renaming.there number) fresh k))
+        ∙ swapped_twice (renaming.there number) fresh k;
     back_there = λ k. ap renaming.back (swapped_twice (renaming.there number) fresh (renaming.there k)) ∙ renaming.back_there k;
   }
 
@@ -227,20 +244,27 @@ module _ (renaming : Renaming ℕ ℕ) (world other : World ℕ) (same : renamed
 
 -- What may be written from a world is what is written from another that differs in its numbers alone.
 texts_alike : (lines : List (List ℕ)) (refused : List Bool) (number : ℕ) (renaming : Renaming ℕ ℕ) (world other : World ℕ)
-    → renamed renaming world ≡ other → IsReady world number → (text : List ℕ) → Tells nat_eq other number lines refused text → text ≡ text_from world number lines refused
+    → renamed renaming world ≡ other → IsReady world number → (text : List ℕ) → Tells nat_eq other number lines refused text
+    → text ≡ text_from world number lines refused
 texts_alike [] refused number renaming world other same ready text tells = tells
 texts_alike (line ∷ lines) [] number renaming world other same ready text tells = absurd tells
 texts_alike (line ∷ lines) (true ∷ refused) number renaming world other same ready text tells =
     let alike = line_alike renaming world other same number line None in
-    let rest = texts_alike lines refused (number + 1) renaming _ _ (line_leads renaming world other same line None) (ready_refused world number line ready) tells.0 tells.2 in
+    let rest =
+    texts_alike lines refused (number + 1) renaming _ _ (line_leads renaming world other same line None)
+    (ready_refused world number line ready) tells.0 tells.2 in
     tells.1 ∙ (λ i. alike i ++ rest i)
 texts_alike (line ∷ lines) (false ∷ refused) number renaming world other same ready text tells =
     let vacant = ready_vacant world number ready in
     let next = fresh_renaming renaming world other same number tells.0 vacant tells.1 in
     let next_same = fresh_same renaming world other same number tells.0 vacant tells.1 ready.numbers ready.fit in
     let next_there = fresh_there renaming world other same number tells.0 vacant tells.1 in
-    let alike = ap (λ n. step_text number (line_step nat_eq other line (Some n))) (sym next_there) ∙ line_alike next world other next_same number line (Some number) in
-    let leads = line_leads next world other next_same line (Some number) ∙ ap (λ n. step_world other (line_step nat_eq other line (Some n))) next_there in
+    let alike =
+    ap (λ n. step_text number (line_step nat_eq other line (Some n))) (sym next_there)
+    ∙ line_alike next world other next_same number line (Some number) in
+    let leads =
+    line_leads next world other next_same line (Some number)
+    ∙ ap (λ n. step_world other (line_step nat_eq other line (Some n))) next_there in
     let rest = texts_alike lines refused (number + 1) next _ _ leads (ready_step world number line ready) tells.2 tells.4 in
     tells.3 ∙ (λ i. alike i ++ rest i)
 
@@ -261,10 +285,12 @@ opening_renamed root =
 pub one_tree_has_one_text : OneTreeHasOneText
 unfolding script_text
 one_tree_has_one_text script refused root text tells =
-    texts_alike (Script.lines_of script) refused 1 (exchange 0 root) (opening nat_eq 0) (opening nat_eq root) (opening_renamed root) ready_opening text tells
+    texts_alike (Script.lines_of script) refused 1 (exchange 0 root) (opening nat_eq 0) (opening nat_eq root)
+    (opening_renamed root) ready_opening text tells
 
 -- what is written may be written
-text_told : (lines : List (List ℕ)) (refused : List Bool) (number : ℕ) (world : World ℕ) → IsReady world number → length refused ≡ length lines → Tells nat_eq world number lines refused (text_from world number lines refused)
+text_told : (lines : List (List ℕ)) (refused : List Bool) (number : ℕ) (world : World ℕ) → IsReady world number
+    → length refused ≡ length lines → Tells nat_eq world number lines refused (text_from world number lines refused)
 text_told [] refused number world ready long = refl
 text_told (line ∷ lines) [] number world ready long = cc
 text_told (line ∷ lines) (true ∷ refused) number world ready long =

@@ -17,7 +17,8 @@ pub among_times : (number : ℕ) (list : List ℕ) → is_among nat_eq number li
 among_times number [] e = cc
 among_times number (other ∷ rest) e = by (nat_eq number other) e (among_times number rest)
   where
-    by : (b : Bool) → (b || is_among nat_eq number rest) ≡ true → (is_among nat_eq number rest ≡ true → 1 ≤ times_in number rest) → 1 ≤ cond b 1 0 + times_in number rest
+    by : (b : Bool) → (b || is_among nat_eq number rest) ≡ true
+        → (is_among nat_eq number rest ≡ true → 1 ≤ times_in number rest) → 1 ≤ cond b 1 0 + times_in number rest
     by true e later = omega arith
     by false e later = let h : 1 ≤ times_in number rest = later e in omega arith
 
@@ -25,7 +26,8 @@ pub times_among : (number : ℕ) (list : List ℕ) → 1 ≤ times_in number lis
 times_among number [] e = absurd (omega arith)
 times_among number (other ∷ rest) e = by (nat_eq number other) e (times_among number rest)
   where
-    by : (b : Bool) → 1 ≤ cond b 1 0 + times_in number rest → (1 ≤ times_in number rest → is_among nat_eq number rest ≡ true) → (b || is_among nat_eq number rest) ≡ true
+    by : (b : Bool) → 1 ≤ cond b 1 0 + times_in number rest → (1 ≤ times_in number rest → is_among nat_eq number rest ≡ true)
+        → (b || is_among nat_eq number rest) ≡ true
     by true e later = refl
     by false e later = later (omega arith)
 
@@ -39,15 +41,19 @@ times_removed number z [] e = absurd (omega arith)
 times_removed number z (other ∷ rest) e = ⊎_elim here (later (times_removed number z rest)) (eqb_tells number other)
   where
     here : (nat_eq number other ≡ true) × (number ≡ other) → times_in z (number ∷ removed number (other ∷ rest)) ≡ times_in z (other ∷ rest)
-    here t = ap (λ b. cond (nat_eq z number) 1 0 + times_in z (cond b rest (other ∷ removed number rest))) t.0 ∙ ap (λ n. cond (nat_eq z n) 1 0 + times_in z rest) t.1
+    here t =
+        ap (λ b. cond (nat_eq z number) 1 0 + times_in z (cond b rest (other ∷ removed number rest))) t.0
+        ∙ ap (λ n. cond (nat_eq z n) 1 0 + times_in z rest) t.1
 
-    later : (1 ≤ times_in number rest → times_in z (number ∷ removed number rest) ≡ times_in z rest) → (nat_eq number other ≡ false) × (number ≢ other)
+    later : (1 ≤ times_in number rest → times_in z (number ∷ removed number rest) ≡ times_in z rest)
+        → (nat_eq number other ≡ false) × (number ≢ other)
         → times_in z (number ∷ removed number (other ∷ rest)) ≡ times_in z (other ∷ rest)
     later rec t =
         let more : 1 ≤ 0 + times_in number rest = subst (λ b. 1 ≤ cond b 1 0 + times_in number rest) t.0 e in
         let same : cond (nat_eq z number) 1 0 + times_in z (removed number rest) ≡ times_in z rest = rec (omega arith) in
         ap (λ b. cond (nat_eq z number) 1 0 + times_in z (cond b rest (other ∷ removed number rest))) t.0
-        ∙ (let aside : cond (nat_eq z number) 1 0 + (cond (nat_eq z other) 1 0 + times_in z (removed number rest)) ≡ cond (nat_eq z other) 1 0 + times_in z rest = omega arith in aside)
+        ∙ (let aside : cond (nat_eq z number) 1 0 + (cond (nat_eq z other) 1 0 + times_in z (removed number rest)) ≡ cond
+        (nat_eq z other) 1 0 + times_in z rest = omega arith in aside)
 
 pub length_removed : (number : ℕ) (list : List ℕ) → 1 ≤ times_in number list → suc (length (removed number list)) ≡ length list
 length_removed number [] e = absurd (omega arith)
@@ -64,10 +70,12 @@ no_longer [] other less = omega arith
 no_longer (first ∷ list) other less =
     let own : nat_eq first first ≡ true = eq-eqb first first refl in
     let here : cond (nat_eq first first) 1 0 + times_in first list ≤ times_in first other = less first in
-    let there : 1 + times_in first list ≤ times_in first other = subst (λ b. cond b 1 0 + times_in first list ≤ times_in first other) own here in
+    let there : 1 + times_in first list ≤ times_in first other =
+    subst (λ b. cond b 1 0 + times_in first list ≤ times_in first other) own here in
     let found : 1 ≤ times_in first other = omega arith in
     let shorter : length list ≤ length (removed first other) = no_longer list (removed first other) (λ number.
-    let same : cond (nat_eq number first) 1 0 + times_in number (removed first other) ≡ times_in number other = times_removed first number other found in
+    let same : cond (nat_eq number first) 1 0 + times_in number (removed first other) ≡ times_in number other =
+    times_removed first number other found in
     let all : cond (nat_eq number first) 1 0 + times_in number list ≤ times_in number other = less number in omega arith) in
     let long : suc (length (removed first other)) ≡ length other = length_removed first other found in
     omega arith
@@ -85,21 +93,24 @@ times_append number (first ∷ list) other =
     let e : times_in number (list ++ other) ≡ times_in number list + times_in number other = times_append number list other in omega arith
 
 -- what is found, and not first, is found later
-pub later_found : (number other : ℕ) (rest : List ℕ) → nat_eq number other ≡ false → 1 ≤ times_in number (other ∷ rest) → 1 ≤ times_in number rest
+pub later_found : (number other : ℕ) (rest : List ℕ) → nat_eq number other ≡ false → 1 ≤ times_in number (other ∷ rest)
+    → 1 ≤ times_in number rest
 later_found number other rest apart found =
     let h : 1 ≤ 0 + times_in number rest = subst (λ b. 1 ≤ cond b 1 0 + times_in number rest) apart found in omega arith
 
 -- Going up
 
 -- what has entries is a directory
-pub has_entry_directory : (tree : Tree ℕ) (directory object : ℕ) → has_entry_to nat_eq tree directory object ≡ true → IsDirectory tree directory
+pub has_entry_directory : (tree : Tree ℕ) (directory object : ℕ) → has_entry_to nat_eq tree directory object ≡ true
+    → IsDirectory tree directory
 has_entry_directory tree directory object e = by (tree.node directory) e
   where
     by : (o : Option (Node ℕ)) → list_any (nat_eq object) (targets_in o) ≡ true → is_directory_node o ≡ true
     by None e = cc
     by (Some node) e = inside node.content e
       where
-        inside : (content : Rattle.vt_spec.specs.Tree.Content ℕ) → list_any (nat_eq object) (map (λ entry. entry.1) (Rattle.vt_spec.specs.Tree.entries_of content)) ≡ true
+        inside : (content : Rattle.vt_spec.specs.Tree.Content ℕ)
+            → list_any (nat_eq object) (map (λ entry. entry.1) (Rattle.vt_spec.specs.Tree.entries_of content)) ≡ true
             → Rattle.vt_spec.specs.Rights.is_directory (Rattle.vt_spec.specs.Tree.kind_of content) ≡ true
         inside (Rattle.vt_spec.specs.Tree.Content.Directory parent entries opaque) e = refl
         inside (Rattle.vt_spec.specs.Tree.Content.Regular bytes) e = cc
@@ -135,7 +146,8 @@ length_way tree zero directory = refl
 length_way tree (suc steps) directory = ap suc (length_way tree steps (parent_in directory (tree.node directory)))
 
 -- each on the way is nearer to the root
-pub way_away : (tree : Tree ℕ) (steps directory number : ℕ) → IsAway tree steps directory → 1 ≤ times_in number (way_up tree steps directory)
+pub way_away : (tree : Tree ℕ) (steps directory number : ℕ) → IsAway tree steps directory
+    → 1 ≤ times_in number (way_up tree steps directory)
     → (some : ℕ) × (some ≤ steps) × IsAway tree some number
 way_away tree zero directory number is found =
     ⊎_elim
@@ -145,12 +157,14 @@ way_away tree zero directory number is found =
 way_away tree (suc steps) directory number is found =
     ⊎_elim
     (λ t. (suc steps, omega arith, subst (IsAway tree (suc steps)) (sym t.1) is))
-    (λ t. let later = way_away tree steps (parent_in directory (tree.node directory)) number is.1 (later_found number directory (way_up tree steps (parent_in directory (tree.node directory))) t.0 found) in
+    (λ t. let later = way_away tree steps (parent_in directory (tree.node directory)) number is.1
+    (later_found number directory (way_up tree steps (parent_in directory (tree.node directory))) t.0 found) in
     (later.0, (let h : later.0 ≤ steps = later.1 in omega arith), later.2))
     (eqb_tells number directory)
 
 -- so each is there once
-pub way_once : (tree : Tree ℕ) (steps directory number : ℕ) → IsAway tree steps directory → times_in number (way_up tree steps directory) ≤ 1
+pub way_once : (tree : Tree ℕ) (steps directory number : ℕ) → IsAway tree steps directory
+    → times_in number (way_up tree steps directory) ≤ 1
 way_once tree zero directory number is = by (nat_eq number directory)
   where
     by : (b : Bool) → cond b 1 0 + 0 ≤ 1
@@ -159,7 +173,8 @@ way_once tree zero directory number is = by (nat_eq number directory)
 way_once tree (suc steps) directory number is =
     ⊎_elim
     (λ t. ⊎_elim
-    (λ (few : times_in number (way_up tree steps (parent_in directory (tree.node directory))) ≡ 0). subst (λ b. cond b 1 0 + times_in number (way_up tree steps (parent_in directory (tree.node directory))) ≤ 1) (sym t.0) (omega arith))
+    (λ (few : times_in number (way_up tree steps (parent_in directory (tree.node directory))) ≡ 0). subst
+    (λ b. cond b 1 0 + times_in number (way_up tree steps (parent_in directory (tree.node directory))) ≤ 1) (sym t.0) (omega arith))
     (λ (some : 1 ≤ times_in number (way_up tree steps (parent_in directory (tree.node directory)))).
     let near = way_away tree steps (parent_in directory (tree.node directory)) number is.1 some in
     let far : near.0 ≡ suc steps = away_once tree near.0 (suc steps) number near.2 (subst (IsAway tree (suc steps)) (sym t.1) is) in
@@ -167,7 +182,8 @@ way_once tree (suc steps) directory number is =
     absurd (omega arith))
     (some_or_none (times_in number (way_up tree steps (parent_in directory (tree.node directory))))))
     (λ t. subst (λ b. cond b 1 0 + times_in number (way_up tree steps (parent_in directory (tree.node directory))) ≤ 1) (sym t.0)
-    (let h : times_in number (way_up tree steps (parent_in directory (tree.node directory))) ≤ 1 = way_once tree steps (parent_in directory (tree.node directory)) number is.1 in omega arith))
+    (let h : times_in number (way_up tree steps (parent_in directory (tree.node directory))) ≤ 1 = way_once tree steps
+    (parent_in directory (tree.node directory)) number is.1 in omega arith))
     (eqb_tells number directory)
   where
     some_or_none : (n : ℕ) → (n ≡ 0) ⊎ (1 ≤ n)
@@ -179,12 +195,14 @@ module _ (tree : Tree ℕ) (whole : IsWhole tree) where
   pub parent_is : (directory : ℕ) → IsDirectory tree directory → IsDirectory tree (parent_in directory (tree.node directory))
   parent_is directory is =
       ⊎_elim
-      (λ t. subst (λ d. IsDirectory tree (parent_in d (tree.node d))) (sym t.1) (subst (IsDirectory tree) (sym whole.root_parent) whole.root_directory))
+      (λ t. subst (λ d. IsDirectory tree (parent_in d (tree.node d))) (sym t.1)
+      (subst (IsDirectory tree) (sym whole.root_parent) whole.root_directory))
       (λ t. has_entry_directory tree (parent_in directory (tree.node directory)) directory (whole.in_parent directory is t.1))
       (eqb_tells directory tree.root)
 
   -- those on the way are directories
-  pub way_is : (steps directory number : ℕ) → IsDirectory tree directory → 1 ≤ times_in number (way_up tree steps directory) → IsDirectory tree number
+  pub way_is : (steps directory number : ℕ) → IsDirectory tree directory → 1 ≤ times_in number (way_up tree steps directory)
+      → IsDirectory tree number
   way_is zero directory number is found =
       ⊎_elim
       (λ t. subst (IsDirectory tree) (sym t.1) is)
@@ -193,17 +211,22 @@ module _ (tree : Tree ℕ) (whole : IsWhole tree) where
   way_is (suc steps) directory number is found =
       ⊎_elim
       (λ t. subst (IsDirectory tree) (sym t.1) is)
-      (λ t. way_is steps (parent_in directory (tree.node directory)) number (parent_is directory is) (later_found number directory (way_up tree steps (parent_in directory (tree.node directory))) t.0 found))
+      (λ t. way_is steps (parent_in directory (tree.node directory)) number (parent_is directory is)
+      (later_found number directory (way_up tree steps (parent_in directory (tree.node directory))) t.0 found))
       (eqb_tells number directory)
 
   -- the parent that a directory has a name in
-  pub parent_named : (directory : ℕ) → IsDirectory tree directory → directory ≢ tree.root → named_parent nat_eq tree directory ≡ Some (parent_in directory (tree.node directory))
+  pub parent_named : (directory : ℕ) → IsDirectory tree directory → directory ≢ tree.root
+      → named_parent nat_eq tree directory ≡ Some (parent_in directory (tree.node directory))
   parent_named directory is other =
-      ap (λ b. cond b None (when (has_entry_to nat_eq tree (parent_in directory (tree.node directory)) directory) (parent_in directory (tree.node directory)))) (ne_eqb directory tree.root other)
+      ap (λ b. cond b None
+      (when (has_entry_to nat_eq tree (parent_in directory (tree.node directory)) directory)
+      (parent_in directory (tree.node directory)))) (ne_eqb directory tree.root other)
       ∙ ap (λ b. when b (parent_in directory (tree.node directory))) (whole.in_parent directory is other)
 
   -- no directory is a removed one
-  pub not_removed : (directory : ℕ) → IsDirectory tree directory → not (nat_eq directory tree.root || is_some (named_parent nat_eq tree directory)) ≡ false
+  pub not_removed : (directory : ℕ) → IsDirectory tree directory
+      → not (nat_eq directory tree.root || is_some (named_parent nat_eq tree directory)) ≡ false
   not_removed directory is =
       ⊎_elim
       (λ t. ap (λ b. not (b || is_some (named_parent nat_eq tree directory))) t.0)
@@ -211,7 +234,8 @@ module _ (tree : Tree ℕ) (whole : IsWhole tree) where
       (eqb_tells directory tree.root)
 
   -- a chain of parents has the root, if it is long enough
-  pub root_above : (most steps directory : ℕ) → IsDirectory tree directory → IsAway tree steps directory → steps ≤ most → list_any (nat_eq tree.root) (chain most (named_parent nat_eq tree) directory) ≡ true
+  pub root_above : (most steps directory : ℕ) → IsDirectory tree directory → IsAway tree steps directory → steps ≤ most
+      → list_any (nat_eq tree.root) (chain most (named_parent nat_eq tree) directory) ≡ true
   root_above zero zero directory is far less = ap (λ b. b || false) (eq-eqb tree.root directory (sym far))
   root_above zero (suc steps) directory is far less = absurd (omega arith)
   root_above (suc most) zero directory is far less = by (named_parent nat_eq tree directory)
@@ -219,12 +243,16 @@ module _ (tree : Tree ℕ) (whole : IsWhole tree) where
       begins : (rest : List ℕ) → list_any (nat_eq tree.root) (directory ∷ rest) ≡ true
       begins rest = ap (λ b. b || list_any (nat_eq tree.root) rest) (eq-eqb tree.root directory (sym far))
 
-      by : (o : Option ℕ) → list_any (nat_eq tree.root) (elim o [ None ↦ directory ∷ [] | Some b ↦ directory ∷ chain most (named_parent nat_eq tree) b ]) ≡ true
+      by : (o : Option ℕ)
+          → list_any (nat_eq tree.root)
+          (elim o [ None ↦ directory ∷ [] | Some b ↦ directory ∷ chain most (named_parent nat_eq tree) b ]) ≡ true
       by None = begins []
       by (Some b) = begins (chain most (named_parent nat_eq tree) b)
   root_above (suc most) (suc steps) directory is far less =
-      ap (λ o. list_any (nat_eq tree.root) (elim o [ None ↦ directory ∷ [] | Some b ↦ directory ∷ chain most (named_parent nat_eq tree) b ])) (parent_named directory is far.0)
-      ∙ either (nat_eq tree.root directory) _ (root_above most steps (parent_in directory (tree.node directory)) (parent_is directory is) far.1 (omega arith))
+      ap (λ o. list_any (nat_eq tree.root)
+      (elim o [ None ↦ directory ∷ [] | Some b ↦ directory ∷ chain most (named_parent nat_eq tree) b ])) (parent_named directory is far.0)
+      ∙ either (nat_eq tree.root directory) _
+      (root_above most steps (parent_in directory (tree.node directory)) (parent_is directory is) far.1 (omega arith))
     where
       either : (a b : Bool) → b ≡ true → (a || b) ≡ true
       either true b e = refl
@@ -239,7 +267,8 @@ module _ (numbers : List ℕ) (world : World ℕ) (fit : IsFit numbers world) wh
   pub directory_once : (directory : ℕ) → IsDirectory tree directory → times_in directory numbers ≡ 1
   directory_once directory is = fit.each_once directory ∙ ap (λ b. cond b 1 0) (by (world.inodes.inode directory) is)
     where
-      by : (o : Option (Rattle.vt_spec.specs.Inodes.Inode ℕ)) → is_directory_node (Rattle.vt_spec.specs.Inodes.node_in o) ≡ true → is_some o ≡ true
+      by : (o : Option (Rattle.vt_spec.specs.Inodes.Inode ℕ)) → is_directory_node (Rattle.vt_spec.specs.Inodes.node_in o) ≡ true
+          → is_some o ≡ true
       by None e = cc
       by (Some inode) e = refl
 
@@ -269,4 +298,5 @@ module _ (numbers : List ℕ) (world : World ℕ) (fit : IsFit numbers world) wh
   lies_under directory is =
       let under = fit.whole.under_root directory is in
       let far = away tree under.0 directory under.1 in
-      root_above tree fit.whole (length numbers) far.0 directory is far.1 (let h : suc far.0 ≤ length numbers = near far.0 directory is far.1 in omega arith)
+      root_above tree fit.whole (length numbers) far.0 directory is far.1
+      (let h : suc far.0 ≤ length numbers = near far.0 directory is far.1 in omega arith)

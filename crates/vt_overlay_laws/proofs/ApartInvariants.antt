@@ -18,13 +18,14 @@ use Rattle.vt_tree_laws.specs.Trees.Sizes.{is_fit_tree}
 use Rattle.vt_tree_laws.proofs.TreesOfWorlds.{numbered_anyhow}
 use Rattle.vt_overlay_laws.proofs.UpperLimits.{sizes_stay}
 use Rattle.vt_layer_laws.specs.Layers.Locked.{AreNoInodes}
-use Rattle.vt_layer_laws.proofs.LockedApart.{layer_among, layer_plain, no_overlay_in}
-use Rattle.vt_layer_laws.proofs.ShownAtPath.{none_is_some}
+use Rattle.vt_layer_laws.proofs.LockedApart.{layer_among, layer_plain, no_overlay_in, upper_in_layers}
+use Rattle.vt_layer_laws.proofs.ShownAtPath.{none_is_some, some_is_one}
 use Rattle.vt_layer_laws.proofs.UpperLine.{and_first, and_second}
 use Rattle.vt_layer_laws.proofs.ViewsNames.{alike_kept}
 use Rattle.vt_overlay_laws.specs.LayersApart.{OverlayInvariantsStay, TreeInvariantsStay, TreesAfter, TreesStay}
 use Rattle.vt_overlay_laws.specs.WholeChanges.{IsAskedWell}
 use Rattle.vt_overlay_laws.proofs.ApartLater
+use Rattle.vt_overlay_laws.proofs.ApartReached.{still_reached}
 use Rattle.vt_overlay_laws.proofs.UpperWhole.{merged_trees_stay, upper_trees_stay}
 use Rattle.vt_overlay_laws.proofs.WholeGrown.{directory_alike}
 use Rattle.vt_overlay_laws.proofs.WholeLater
@@ -32,7 +33,7 @@ use Rattle.vt_overlay_laws.proofs.WholeLater.{changed_overlay_is_merged}
 use Rattle.vt_overlay_laws.proofs.WholeOthers.{other_overlays_stay_merged}
 
 -- numbers are those that they were
-pair_same : (r : Filesystem ℕ → Filesystem ℕ) (fs : List (Filesystem ℕ)) → ((f : Filesystem ℕ) → (r f).number ≡ f.number)
+pub pair_same : (r : Filesystem ℕ → Filesystem ℕ) (fs : List (Filesystem ℕ)) → ((f : Filesystem ℕ) → (r f).number ≡ f.number)
     → any_pair (λ (a b : Filesystem ℕ). nat_eq a.number b.number) (map r fs) ≡ any_pair (λ (a b : Filesystem ℕ). nat_eq a.number b.number) fs
 pair_same r [] same = refl
 pair_same r (f ∷ fs) same =
@@ -48,7 +49,6 @@ pair_same r (f ∷ fs) same =
 
 module _ (fresh : Fresh ℕ) (world : World ℕ) (location : Location ℕ) (change : Change ℕ) (overlay : Overlay ℕ) (upper : Layer ℕ) (conditions : IsWorld nat_eq world)
     (is : (filesystem_at nat_eq world location).overlay ≡ Some overlay) (has : overlay.upper ≡ Some upper)
-    (reached : IsReached (filesystem_numbered nat_eq world upper.filesystem).files.tree upper.directory)
     (distinct : (j k : ℕ) → fresh j ≡ fresh k → j ≡ k) (none : (filesystem : ℕ) → AreNoInodes fresh world filesystem)
     (asked : IsAskedWell (stack_of nat_eq world overlay upper) (merge_of nat_eq world (filesystem_at nat_eq world location) overlay upper) change) where
   abbrev number : ℕ
@@ -58,19 +58,19 @@ module _ (fresh : Fresh ℕ) (world : World ℕ) (location : Location ℕ) (chan
   later = with_change nat_eq fresh world location change
 
   abbrev changed : Filesystem ℕ
-  changed = ApartLater.changed fresh world location change overlay upper conditions is has reached distinct none asked
+  changed = ApartLater.changed fresh world location change overlay upper conditions is has distinct none asked
 
   abbrev changed_upper : Filesystem ℕ
-  changed_upper = ApartLater.changed_upper fresh world location change overlay upper conditions is has reached distinct none asked
+  changed_upper = ApartLater.changed_upper fresh world location change overlay upper conditions is has distinct none asked
 
-  later_is : later ≡ WholeLater.later fresh world location change overlay upper conditions is has reached distinct none asked
-  later_is = ApartLater.later_is fresh world location change overlay upper conditions is has reached distinct none asked
+  later_is : later ≡ WholeLater.later fresh world location change overlay upper conditions is has distinct none asked
+  later_is = ApartLater.later_is fresh world location change overlay upper conditions is has distinct none asked
 
   upper_later : filesystem_numbered nat_eq later upper.filesystem ≡ changed_upper
-  upper_later = ApartLater.upper_later fresh world location change overlay upper conditions is has reached distinct none asked
+  upper_later = ApartLater.upper_later fresh world location change overlay upper conditions is has distinct none asked
 
   upper_none : changed_upper.overlay ≡ None
-  upper_none = no_overlay_in world conditions upper (ApartLater.upper_plain fresh world location change overlay upper conditions is has reached distinct none asked)
+  upper_none = no_overlay_in world conditions upper (ApartLater.upper_plain fresh world location change overlay upper conditions is has distinct none asked)
 
   -- the filesystems afterwards
   pub filesystem_then : (f : Filesystem ℕ) → Among f later.filesystems → (f ≡ changed) ⊎ ((f ≡ changed_upper) ⊎ Among f world.filesystems)
@@ -103,7 +103,7 @@ module _ (fresh : Fresh ℕ) (world : World ℕ) (location : Location ℕ) (chan
       here : (nat_eq n number ≡ true) × (n ≡ number) → IsMerged nat_eq later (filesystem_numbered nat_eq later n) other
       here t =
           subst (λ k. IsMerged nat_eq later (filesystem_numbered nat_eq later k) other) (sym t.1)
-          (changed_overlay_is_merged fresh world location change overlay other upper conditions is has reached distinct none asked
+          (changed_overlay_is_merged fresh world location change overlay other upper conditions is has distinct none asked
           (ap (λ k. (filesystem_numbered nat_eq later k).overlay) (sym t.1) ∙ e))
 
       at_upper : n ≢ number → (nat_eq n upper.filesystem ≡ true) × (n ≡ upper.filesystem) → IsMerged nat_eq later (filesystem_numbered nat_eq later n) other
@@ -112,15 +112,15 @@ module _ (fresh : Fresh ℕ) (world : World ℕ) (location : Location ℕ) (chan
 
       elsewhere : n ≢ number → (nat_eq n upper.filesystem ≡ false) × (n ≢ upper.filesystem) → IsMerged nat_eq later (filesystem_numbered nat_eq later n) other
       elsewhere differ t =
-          let same = ApartLater.stays fresh world location change overlay upper conditions is has reached distinct none asked n differ t.1 in
+          let same = ApartLater.stays fresh world location change overlay upper conditions is has distinct none asked n differ t.1 in
           subst (λ f. IsMerged nat_eq later f other) (sym same)
           (other_overlays_stay_merged fresh world location change overlay other upper n conditions is has none
           (WholeLater.spoken (stack_of nat_eq world overlay upper) (merge_of nat_eq world (filesystem_at nat_eq world location) overlay upper) change
-          (ApartLater.whole fresh world location change overlay upper conditions is has reached distinct none asked).tree asked)
+          (ApartLater.whole fresh world location change overlay upper conditions is has distinct none asked).tree asked)
           differ (sym (ap (λ f. f.overlay) same) ∙ e)).1
 
   -- layers are directories of plain trees
-  still_plain : (layer : Layer ℕ) → (layer ≡ upper) ⊎ ApartLater.IsOther fresh world location change overlay upper conditions is has reached distinct none asked layer
+  still_plain : (layer : Layer ℕ) → (layer ≡ upper) ⊎ ApartLater.IsOther fresh world location change overlay upper conditions is has distinct none asked layer
       → is_plain_layer nat_eq later layer ≡ true
   still_plain layer live =
       both (not (is_overlay (filesystem_numbered nat_eq later layer.filesystem))) _ (no_overlay (eqb_tells layer.filesystem upper.filesystem)) (directory live)
@@ -130,8 +130,8 @@ module _ (fresh : Fresh ℕ) (world : World ℕ) (location : Location ℕ) (chan
 
       was_plain : is_plain_layer nat_eq world layer ≡ true
       was_plain =
-          ⊎_elim (λ same. ap (is_plain_layer nat_eq world) same ∙ ApartLater.upper_plain fresh world location change overlay upper conditions is has reached distinct none asked)
-          (λ other. ApartLater.other_plain fresh world location change overlay upper conditions is has reached distinct none asked layer other) live
+          ⊎_elim (λ same. ap (is_plain_layer nat_eq world) same ∙ ApartLater.upper_plain fresh world location change overlay upper conditions is has distinct none asked)
+          (λ other. ApartLater.other_plain fresh world location change overlay upper conditions is has distinct none asked layer other) live
 
       no_overlay : ((nat_eq layer.filesystem upper.filesystem ≡ true) × (layer.filesystem ≡ upper.filesystem))
           ⊎ ((nat_eq layer.filesystem upper.filesystem ≡ false) × (layer.filesystem ≢ upper.filesystem))
@@ -140,29 +140,86 @@ module _ (fresh : Fresh ℕ) (world : World ℕ) (location : Location ℕ) (chan
           ap (λ n. not (is_overlay (filesystem_numbered nat_eq later n))) t.1 ∙ ap (λ f. not (is_overlay f)) upper_later ∙ ap (λ o. not (is_some o)) upper_none
       no_overlay (inr t) =
           ap (λ f. not (is_overlay f))
-          (ApartLater.stays fresh world location change overlay upper conditions is has reached distinct none asked layer.filesystem
-          (ApartLater.plain_elsewhere fresh world location change overlay upper conditions is has reached distinct none asked layer was_plain) t.1)
+          (ApartLater.stays fresh world location change overlay upper conditions is has distinct none asked layer.filesystem
+          (ApartLater.plain_elsewhere fresh world location change overlay upper conditions is has distinct none asked layer was_plain) t.1)
           ∙ and_first (not (is_overlay (filesystem_numbered nat_eq world layer.filesystem))) _ was_plain
 
-      directory : (layer ≡ upper) ⊎ ApartLater.IsOther fresh world location change overlay upper conditions is has reached distinct none asked layer
+      directory : (layer ≡ upper) ⊎ ApartLater.IsOther fresh world location change overlay upper conditions is has distinct none asked layer
           → is_directory_node ((filesystem_numbered nat_eq later layer.filesystem).files.tree.node layer.directory) ≡ true
       directory (inl same) =
           ap (λ l. is_directory_node ((filesystem_numbered nat_eq later l.filesystem).files.tree.node l.directory)) same
           ∙ ap (λ f. is_directory_node (f.files.tree.node upper.directory)) upper_later
-          ∙ (ApartLater.goes fresh world location change overlay upper conditions is has reached distinct none asked).good.directory
+          ∙ (ApartLater.goes fresh world location change overlay upper conditions is has distinct none asked).good.directory
       directory (inr other) =
           directory_alike _ _
-          (alike_kept _ _ (ApartLater.other_leads fresh world location change overlay upper conditions is has reached distinct none asked layer other []).1)
+          (alike_kept _ _ (ApartLater.other_leads fresh world location change overlay upper conditions is has distinct none asked layer other []).1)
           ∙ and_second (not (is_overlay (filesystem_numbered nat_eq world layer.filesystem))) _ was_plain
 
   live : (n : ℕ) (v : Overlay ℕ) → (filesystem_numbered nat_eq world n).overlay ≡ Some v → (layer : Layer ℕ) → Among layer (layers_of v)
-      → (layer ≡ upper) ⊎ ApartLater.IsOther fresh world location change overlay upper conditions is has reached distinct none asked layer
+      → (layer ≡ upper) ⊎ ApartLater.IsOther fresh world location change overlay upper conditions is has distinct none asked layer
   live n v e layer m =
       ⊎_elim
       (λ up. ⊎_elim inl (λ differ. inr (inl (layer_among world conditions upper_and_work n v e layer up, differ)))
-      (ApartLater.same_layer fresh world location change overlay upper conditions is has reached distinct none asked layer upper))
+      (ApartLater.same_layer fresh world location change overlay upper conditions is has distinct none asked layer upper))
       (λ low. inr (inr (layer_among world conditions (λ o. o.lowers) n v e layer low)))
       (among-append (upper_and_work v) v.lowers layer m)
+
+  -- names lead to the directories of upper layers
+  upper_reached : IsReached (filesystem_numbered nat_eq later upper.filesystem).files.tree upper.directory
+  upper_reached =
+      subst (λ (f : Filesystem ℕ). IsReached f.files.tree upper.directory) (sym upper_later)
+      (ApartLater.goes fresh world location change overlay upper conditions is has distinct none asked).good.reached
+
+  other_reached : (layer : Layer ℕ) → ApartLater.IsOther fresh world location change overlay upper conditions is has distinct none asked layer
+      → IsReached (filesystem_numbered nat_eq world layer.filesystem).files.tree layer.directory
+      → IsReached (filesystem_numbered nat_eq later layer.filesystem).files.tree layer.directory
+  other_reached layer other was = ⊎_elim beside elsewhere (eqb_tells layer.filesystem upper.filesystem)
+    where
+      beside : (nat_eq layer.filesystem upper.filesystem ≡ true) × (layer.filesystem ≡ upper.filesystem)
+          → IsReached (filesystem_numbered nat_eq later layer.filesystem).files.tree layer.directory
+      beside t =
+          subst (λ n. IsReached (filesystem_numbered nat_eq later n).files.tree layer.directory) (sym t.1)
+          (subst (λ (f : Filesystem ℕ). IsReached f.files.tree layer.directory) (sym upper_later)
+          (still_reached fresh world location change overlay upper conditions is has distinct none asked layer other t.1
+          (subst (λ n. IsReached (filesystem_numbered nat_eq world n).files.tree layer.directory) t.1 was)))
+
+      elsewhere : (nat_eq layer.filesystem upper.filesystem ≡ false) × (layer.filesystem ≢ upper.filesystem)
+          → IsReached (filesystem_numbered nat_eq later layer.filesystem).files.tree layer.directory
+      elsewhere t =
+          subst (λ (f : Filesystem ℕ). IsReached f.files.tree layer.directory)
+          (sym (ApartLater.stays fresh world location change overlay upper conditions is has distinct none asked layer.filesystem
+          (ApartLater.plain_elsewhere fresh world location change overlay upper conditions is has distinct none asked layer
+          (ApartLater.other_plain fresh world location change overlay upper conditions is has distinct none asked layer other)) t.1)) was
+
+  uppers_later : (n : ℕ) (v : Overlay ℕ) (u : Layer ℕ) → (filesystem_numbered nat_eq later n).overlay ≡ Some v → v.upper ≡ Some u
+      → IsReached (filesystem_numbered nat_eq later u.filesystem).files.tree u.directory
+  uppers_later n v u e f = ⊎_elim here (λ t. ⊎_elim (at_upper t.1) (elsewhere t.1) (eqb_tells n upper.filesystem)) (eqb_tells n number)
+    where
+      as_upper : u ≡ upper → IsReached (filesystem_numbered nat_eq later u.filesystem).files.tree u.directory
+      as_upper same =
+          subst (λ (l : Layer ℕ). IsReached (filesystem_numbered nat_eq later l.filesystem).files.tree l.directory) (sym same) upper_reached
+
+      here : (nat_eq n number ≡ true) × (n ≡ number) → IsReached (filesystem_numbered nat_eq later u.filesystem).files.tree u.directory
+      here t =
+          as_upper (some_is_one u upper (sym f ∙ ap (λ (o : Overlay ℕ). o.upper)
+          (sym (some_is_one _ v (sym (ap (λ (x : Filesystem ℕ). x.overlay)
+          (ap (λ w. filesystem_numbered nat_eq w number) later_is
+          ∙ WholeLater.overlay_later fresh world location change overlay upper conditions is has distinct none asked))
+          ∙ ap (λ k. (filesystem_numbered nat_eq later k).overlay) (sym t.1) ∙ e))) ∙ has))
+
+      at_upper : n ≢ number → (nat_eq n upper.filesystem ≡ true) × (n ≡ upper.filesystem)
+          → IsReached (filesystem_numbered nat_eq later u.filesystem).files.tree u.directory
+      at_upper differ t =
+          none_is_some v (sym upper_none ∙ sym (ap (λ (x : Filesystem ℕ). x.overlay) upper_later)
+          ∙ ap (λ k. (filesystem_numbered nat_eq later k).overlay) (sym t.1) ∙ e)
+
+      elsewhere : n ≢ number → (nat_eq n upper.filesystem ≡ false) × (n ≢ upper.filesystem)
+          → IsReached (filesystem_numbered nat_eq later u.filesystem).files.tree u.directory
+      elsewhere differ t =
+          let was = sym (ap (λ (x : Filesystem ℕ). x.overlay)
+          (ApartLater.stays fresh world location change overlay upper conditions is has distinct none asked n differ t.1)) ∙ e in
+          ⊎_elim as_upper (λ other. other_reached u other (conditions.overlays.uppers_reached n v u was f))
+          (live n v was u (upper_in_layers world conditions n v was u f))
 
   each_overlay : (test : Overlay ℕ → Bool) → ((v : Overlay ℕ) (real : ℕ → Option (Rattle.vt_spec.specs.Machine.World.Real ℕ)) → test (record v { real = real }) ≡ test v)
       → ((n : ℕ) (v : Overlay ℕ) → (filesystem_numbered nat_eq world n).overlay ≡ Some v → test v ≡ true)
@@ -173,7 +230,7 @@ module _ (fresh : Fresh ℕ) (world : World ℕ) (location : Location ℕ) (chan
       old : (f : Filesystem ℕ) → Among f world.filesystems → (o : Option (Overlay ℕ)) → f.overlay ≡ o → overlay_or true test o ≡ true
       old f m None e = refl
       old f m (Some v) e =
-          holds f.number v (ap (λ x. x.overlay) (ApartLater.own_number fresh world location change overlay upper conditions is has reached distinct none asked f m) ∙ e)
+          holds f.number v (ap (λ x. x.overlay) (ApartLater.own_number fresh world location change overlay upper conditions is has distinct none asked f m) ∙ e)
 
       by : (f : Filesystem ℕ) → (f ≡ changed) ⊎ ((f ≡ changed_upper) ⊎ Among f world.filesystems) → of_overlay true test f ≡ true
       by f (inl same) = ap (of_overlay true test) same ∙ ignores overlay _ ∙ holds number overlay is
@@ -182,7 +239,7 @@ module _ (fresh : Fresh ℕ) (world : World ℕ) (location : Location ℕ) (chan
 
   pub overlay_invariants : OverlayInvariants nat_eq later
   overlay_invariants =
-      let stand = ApartLater.stand_apart fresh world location change overlay upper conditions is has reached distinct none asked in
+      let stand = ApartLater.stand_apart fresh world location change overlay upper conditions is has distinct none asked in
       record {
         overlays_merge = merges;
         fit_layers = each_overlay has_fit_layers (λ v real. refl) (λ n v e. fit n v e);
@@ -190,6 +247,7 @@ module _ (fresh : Fresh ℕ) (world : World ℕ) (location : Location ℕ) (chan
             (λ n v e. list_all_from_among (is_plain_layer nat_eq later) (layers_of v) (λ layer m. still_plain layer (live n v e layer m)));
         changed_apart = stand.changed;
         lowers_apart = stand.lowers;
+        uppers_reached = uppers_later;
       }
     where
       fit : (n : ℕ) (v : Overlay ℕ) → (filesystem_numbered nat_eq world n).overlay ≡ Some v → has_fit_layers v ≡ true
@@ -216,8 +274,8 @@ module _ (fresh : Fresh ℕ) (world : World ℕ) (location : Location ℕ) (chan
 
   pub trees_after : TreesAfter later upper
   trees_after =
-      let whole = ApartLater.whole fresh world location change overlay upper conditions is has reached distinct none asked in
-      let new = ApartLater.new fresh world location change overlay upper conditions is has reached distinct none asked in
+      let whole = ApartLater.whole fresh world location change overlay upper conditions is has distinct none asked in
+      let new = ApartLater.new fresh world location change overlay upper conditions is has distinct none asked in
       let stack = stack_of nat_eq world overlay upper in
       let before = merge_of nat_eq world (filesystem_at nat_eq world location) overlay upper in
       record {
@@ -235,8 +293,7 @@ module _ (fresh : Fresh ℕ) (world : World ℕ) (location : Location ℕ) (chan
             ∙ pair_same (replaced_if_numbered nat_eq changed_upper) (map (replaced_if_numbered nat_eq changed) world.filesystems) (λ f. one_number changed_upper f)
             ∙ pair_same (replaced_if_numbered nat_eq changed) world.filesystems (λ f. one_number changed f)
             ∙ conditions.files.one_filesystem;
-        reached = subst (λ f. IsReached f.files.tree upper.directory) (sym upper_later)
-            (ApartLater.goes fresh world location change overlay upper conditions is has reached distinct none asked).good.reached;
+        reached = upper_reached;
       }
     where
       one_number : (new f : Filesystem ℕ) → (replaced_if_numbered nat_eq new f).number ≡ f.number
@@ -247,17 +304,17 @@ module _ (fresh : Fresh ℕ) (world : World ℕ) (location : Location ℕ) (chan
           by false e = refl
 
 pub overlay_invariants_stay : OverlayInvariantsStay
-overlay_invariants_stay fresh world location change overlay upper conditions is has reached distinct none asked =
-    overlay_invariants fresh world location change overlay upper conditions is has reached distinct none asked
+overlay_invariants_stay fresh world location change overlay upper conditions is has distinct none asked =
+    overlay_invariants fresh world location change overlay upper conditions is has distinct none asked
 
 pub trees_stay : TreesStay
-trees_stay fresh world location change overlay upper conditions is has reached distinct none asked =
-    trees_after fresh world location change overlay upper conditions is has reached distinct none asked
+trees_stay fresh world location change overlay upper conditions is has distinct none asked =
+    trees_after fresh world location change overlay upper conditions is has distinct none asked
 
 -- With what it gives within the limits
 pub tree_invariants_stay : TreeInvariantsStay
-tree_invariants_stay fresh world location change overlay upper conditions is has reached distinct none asked fit =
-    let after = trees_after fresh world location change overlay upper conditions is has reached distinct none asked in
+tree_invariants_stay fresh world location change overlay upper conditions is has distinct none asked fit =
+    let after = trees_after fresh world location change overlay upper conditions is has distinct none asked in
     let later = with_change nat_eq fresh world location change in
     record {
       trees = All-weaker (λ (f : Filesystem ℕ). IsFileTree f.files) (λ f. IsTree f.files.tree) (λ f t. t.tree) later.filesystems after.trees;
@@ -265,7 +322,7 @@ tree_invariants_stay fresh world location change overlay upper conditions is has
       numbers = All-weaker (λ (f : Filesystem ℕ). IsFileTree f.files) (λ f. ListsNumbers nat_eq f.files) (λ f t. t.numbers) later.filesystems after.trees;
       one_filesystem = after.one_filesystem;
       fit_filesystems = list_all_from_among is_fit_filesystem later.filesystems (λ f m.
-          by f (filesystem_then fresh world location change overlay upper conditions is has reached distinct none asked f m));
+          by f (filesystem_then fresh world location change overlay upper conditions is has distinct none asked f m));
     }
   where
     fit_numbered : (n : ℕ) → is_fit_tree (filesystem_numbered nat_eq world n).files ≡ true
@@ -274,17 +331,17 @@ tree_invariants_stay fresh world location change overlay upper conditions is has
         (all_from_among (λ (f : Filesystem ℕ). is_fit_filesystem f ≡ true) world.filesystems
         (λ f m. among_from_list_all is_fit_filesystem world.filesystems conditions.files.fit_filesystems f m)) refl
 
-    sizes : (is_fit_tree (ApartLater.merge fresh world location change overlay upper conditions is has reached distinct none asked).files ≡ true)
-        × (is_fit_tree (ApartLater.merge fresh world location change overlay upper conditions is has reached distinct none asked).upper ≡ true)
+    sizes : (is_fit_tree (ApartLater.merge fresh world location change overlay upper conditions is has distinct none asked).files ≡ true)
+        × (is_fit_tree (ApartLater.merge fresh world location change overlay upper conditions is has distinct none asked).upper ≡ true)
     sizes =
         sizes_stay fresh (stack_of nat_eq world overlay upper) (merge_of nat_eq world (filesystem_at nat_eq world location) overlay upper) change
-        (ApartLater.whole fresh world location change overlay upper conditions is has reached distinct none asked)
-        (ApartLater.new fresh world location change overlay upper conditions is has reached distinct none asked) asked fit
+        (ApartLater.whole fresh world location change overlay upper conditions is has distinct none asked)
+        (ApartLater.new fresh world location change overlay upper conditions is has distinct none asked) asked fit
         (fit_numbered (mount_at nat_eq world location).filesystem) (fit_numbered upper.filesystem)
 
     by : (f : Filesystem ℕ)
-        → (f ≡ ApartLater.changed fresh world location change overlay upper conditions is has reached distinct none asked)
-        ⊎ ((f ≡ ApartLater.changed_upper fresh world location change overlay upper conditions is has reached distinct none asked) ⊎ Among f world.filesystems)
+        → (f ≡ ApartLater.changed fresh world location change overlay upper conditions is has distinct none asked)
+        ⊎ ((f ≡ ApartLater.changed_upper fresh world location change overlay upper conditions is has distinct none asked) ⊎ Among f world.filesystems)
         → is_fit_filesystem f ≡ true
     by f (inl same) = ap is_fit_filesystem same ∙ sizes.0
     by f (inr (inl same)) = ap is_fit_filesystem same ∙ sizes.1

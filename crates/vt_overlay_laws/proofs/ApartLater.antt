@@ -14,7 +14,7 @@ use Rattle.vt_spec.specs.Machine.Mounts.{Location}
 use Rattle.vt_spec.specs.Machine.World.{Filesystem, Layer, Overlay, Real, World, filesystem_at, filesystem_numbered, is_overlay, layers_of, mount_at, open_layer, replaced_if_numbered, upper_object}
 use Rattle.vt_spec.specs.Machine.World.Real.{Below, Upper}
 use Rattle.vt_spec.specs.Tree.{is_directory_node}
-use Rattle.vt_spec.specs.TreeLaws.{IsReached, IsTree, entry_at, led}
+use Rattle.vt_spec.specs.TreeLaws.{IsTree, entry_at, led}
 use Rattle.vt_spec.proofs.Lists.{Among, among-append_left, among-append_right, among-filter, among-flat_map, among-from_filter, among-from_flat_map, among-from_map, among_from_list_all, among_numbers, any_among, any_from_among, none_among, none_from_among}
 use Rattle.vt_spec.proofs.Nodes.{directory_used}
 use Rattle.vt_tree_laws.proofs.TreesOfWorlds.{numbered_anyhow}
@@ -40,7 +40,7 @@ use Rattle.vt_overlay_laws.proofs.WholeLater
 use Rattle.vt_overlay_laws.proofs.WholeOthers.{inode_kept}
 use Rattle.vt_overlay_laws.proofs.WholeWorlds.{overlays_are_whole}
 
-or_cases : (a b : Bool) → (a || b) ≡ true → (a ≡ true) ⊎ (b ≡ true)
+pub or_cases : (a b : Bool) → (a || b) ≡ true → (a ≡ true) ⊎ (b ≡ true)
 or_cases true b e = inl refl
 or_cases false b e = inr e
 
@@ -64,7 +64,7 @@ two_apart test (x ∷ xs) e a b m n differ =
     second false q e = e
 
 -- no pair passes where each that does passed another test of which none does
-no_pair_later : {A : Type 0} (test later : A → A → Bool) (xs : List A)
+pub no_pair_later : {A : Type 0} (test later : A → A → Bool) (xs : List A)
     → ((a b : A) → Among a xs → Among b xs → later a b ≡ true → test a b ≡ true) → any_pair test xs ≡ false → any_pair later xs ≡ false
 no_pair_later test later [] h e = refl
 no_pair_later test later (x ∷ xs) h e =
@@ -81,7 +81,6 @@ no_pair_later test later (x ∷ xs) h e =
 
 module _ (fresh : Fresh ℕ) (world : World ℕ) (location : Location ℕ) (change : Change ℕ) (overlay : Overlay ℕ) (upper : Layer ℕ) (conditions : IsWorld nat_eq world)
     (is : (filesystem_at nat_eq world location).overlay ≡ Some overlay) (has : overlay.upper ≡ Some upper)
-    (reached : IsReached (filesystem_numbered nat_eq world upper.filesystem).files.tree upper.directory)
     (distinct : (j k : ℕ) → fresh j ≡ fresh k → j ≡ k) (none : (filesystem : ℕ) → AreNoInodes fresh world filesystem)
     (asked : IsAskedWell (stack_of nat_eq world overlay upper) (merge_of nat_eq world (filesystem_at nat_eq world location) overlay upper) change) where
   abbrev pub number : ℕ
@@ -94,33 +93,33 @@ module _ (fresh : Fresh ℕ) (world : World ℕ) (location : Location ℕ) (chan
   stack = stack_of nat_eq world overlay upper
 
   abbrev pub before : Merge ℕ
-  before = WholeLater.before fresh world location change overlay upper conditions is has reached distinct none asked
+  before = WholeLater.before fresh world location change overlay upper conditions is has distinct none asked
 
   abbrev pub merge : Merge ℕ
-  merge = WholeLater.merge fresh world location change overlay upper conditions is has reached distinct none asked
+  merge = WholeLater.merge fresh world location change overlay upper conditions is has distinct none asked
 
   abbrev pub changed : Filesystem ℕ
-  changed = WholeLater.changed_filesystem fresh world location change overlay upper conditions is has reached distinct none asked
+  changed = WholeLater.changed_filesystem fresh world location change overlay upper conditions is has distinct none asked
 
   abbrev pub changed_upper : Filesystem ℕ
-  changed_upper = WholeLater.changed_upper fresh world location change overlay upper conditions is has reached distinct none asked
+  changed_upper = WholeLater.changed_upper fresh world location change overlay upper conditions is has distinct none asked
 
-  pub later_is : later ≡ WholeLater.later fresh world location change overlay upper conditions is has reached distinct none asked
-  later_is = WholeLater.later_is fresh world location change overlay upper conditions is has reached distinct none asked
+  pub later_is : later ≡ WholeLater.later fresh world location change overlay upper conditions is has distinct none asked
+  later_is = WholeLater.later_is fresh world location change overlay upper conditions is has distinct none asked
 
   pub apart : upper.filesystem ≢ number
-  apart = WholeLater.apart fresh world location change overlay upper conditions is has reached distinct none asked
+  apart = WholeLater.apart fresh world location change overlay upper conditions is has distinct none asked
 
   pub upper_later : filesystem_numbered nat_eq later upper.filesystem ≡ changed_upper
   upper_later =
       ap (λ w. filesystem_numbered nat_eq w upper.filesystem) later_is
-      ∙ WholeLater.upper_later fresh world location change overlay upper conditions is has reached distinct none asked
+      ∙ WholeLater.upper_later fresh world location change overlay upper conditions is has distinct none asked
 
   pub new : AreNew fresh before
   new = record { distinct = distinct; unused = λ k. none upper.filesystem k }
 
   pub whole : IsWhole stack before
-  whole = overlays_are_whole world number overlay upper conditions is has reached
+  whole = overlays_are_whole world number overlay upper conditions is has
 
   pub goes : Goes upper.directory before.upper merge.upper
   goes = change_goes fresh stack before whole new change asked
@@ -166,7 +165,7 @@ module _ (fresh : Fresh ℕ) (world : World ℕ) (location : Location ℕ) (chan
   listed : (n object : ℕ) → is_some (inode_in world n object) ≡ true → Among object (filesystem_numbered nat_eq world n).files.numbers
   listed n object there = among_numbers (filesystem_numbered nat_eq world n).files.numbers object (numbers_in n object ∙ there)
 
-  abbrev Lies : Layer ℕ → ℕ → ℕ → Type 0
+  abbrev pub Lies : Layer ℕ → ℕ → ℕ → Type 0
   Lies layer n object = lies_or_counts_under nat_eq world n object layer ≡ true
 
   overlap_of : (a b : Layer ℕ) (n object : ℕ) → n ≡ a.filesystem → is_some (inode_in world n object) ≡ true → Lies a n object → Lies b n object
@@ -178,7 +177,7 @@ module _ (fresh : Fresh ℕ) (world : World ℕ) (location : Location ℕ) (chan
       (filesystem_numbered nat_eq world n).files.numbers object (listed n object there)
       (both_hold _ _ in_a (left_holds _ false in_b)))
 
-  clash : (layer : Layer ℕ) → IsOther layer → (n object : ℕ) → is_some (inode_in world n object) ≡ true → Lies upper n object → Lies layer n object → ⊥
+  pub clash : (layer : Layer ℕ) → IsOther layer → (n object : ℕ) → is_some (inode_in world n object) ≡ true → Lies upper n object → Lies layer n object → ⊥
   clash layer (inl m) n object there in_upper in_layer =
       ⊎_elim
       (λ e. true≢false (sym (overlap_of layer upper n object (lies_there world object n layer in_layer) there in_layer in_upper) ∙ e))
@@ -245,7 +244,7 @@ module _ (fresh : Fresh ℕ) (world : World ℕ) (location : Location ℕ) (chan
             (and_second (nat_eq n layer.filesystem) _ e)),
       )
 
-  led_lies : (layer : Layer ℕ) → is_plain_layer nat_eq world layer ≡ true → (n object : ℕ) → n ≡ layer.filesystem → LedIn world layer object
+  pub led_lies : (layer : Layer ℕ) → is_plain_layer nat_eq world layer ≡ true → (n object : ℕ) → n ≡ layer.filesystem → LedIn world layer object
       → lies_in_layer nat_eq world n object layer ≡ true
   led_lies layer plain n object same way =
       both_hold _ _ (eq-eqb n layer.filesystem same)
@@ -253,7 +252,7 @@ module _ (fresh : Fresh ℕ) (world : World ℕ) (location : Location ℕ) (chan
       (led_under (filesystem_numbered nat_eq world layer.filesystem).files (layer_tree world conditions layer plain) layer.directory
       (numbers_in layer.filesystem) (and_second (not (is_overlay (filesystem_numbered nat_eq world layer.filesystem))) _ plain) object way))
 
-  lies_first : (layer : Layer ℕ) (n object : ℕ) → lies_in_layer nat_eq world n object layer ≡ true → Lies layer n object
+  pub lies_first : (layer : Layer ℕ) (n object : ℕ) → lies_in_layer nat_eq world n object layer ≡ true → Lies layer n object
   lies_first layer n object e = left_holds (lies_in_layer nat_eq world n object layer) _ e
 
   -- under the others lies what lay there
@@ -306,7 +305,7 @@ module _ (fresh : Fresh ℕ) (world : World ℕ) (location : Location ℕ) (chan
   overlay_then : (f : Filesystem ℕ) → Among f (overlays later)
       → (f ≡ changed) ⊎ (Among f (overlays world) × (f.number ≢ number))
   overlay_then f m =
-      let kept = among-from_filter is_overlay (WholeLater.later fresh world location change overlay upper conditions is has reached distinct none asked).filesystems f
+      let kept = among-from_filter is_overlay (WholeLater.later fresh world location change overlay upper conditions is has distinct none asked).filesystems f
       (subst (λ w. Among f (overlays w)) later_is m) in
       let one = among-from_map (replaced_if_numbered nat_eq changed_upper) (map (replaced_if_numbered nat_eq changed) world.filesystems) f kept.0 in
       let two = among-from_map (replaced_if_numbered nat_eq changed) world.filesystems one.0 one.1 in
@@ -432,10 +431,10 @@ module _ (fresh : Fresh ℕ) (world : World ℕ) (location : Location ℕ) (chan
           (sym (ap (holds_of (λ l. is_there nat_eq world l.filesystem object)) parts.has_it)
           ∙ (overlay_merges world conditions g.number parts.overlay_of of_it).upper_there real.1.0 object real.1.1)
 
-  upper_itself : lies_in_layer nat_eq world upper.filesystem upper.directory upper ≡ true
+  pub upper_itself : lies_in_layer nat_eq world upper.filesystem upper.directory upper ≡ true
   upper_itself = led_lies upper upper_plain upper.filesystem upper.directory refl ([], refl)
 
-  directory_there : (layer : Layer ℕ) → is_plain_layer nat_eq world layer ≡ true → is_some (inode_in world layer.filesystem layer.directory) ≡ true
+  pub directory_there : (layer : Layer ℕ) → is_plain_layer nat_eq world layer ≡ true → is_some (inode_in world layer.filesystem layer.directory) ≡ true
   directory_there layer plain =
       directory_used (filesystem_numbered nat_eq world layer.filesystem).files.tree layer.directory
       (and_second (not (is_overlay (filesystem_numbered nat_eq world layer.filesystem))) _ plain)
@@ -719,5 +718,5 @@ module _ (fresh : Fresh ℕ) (world : World ℕ) (location : Location ℕ) (chan
   stand_apart = record { changed = changed_stay; lowers = lowers_stay }
 
 pub layers_stay_apart : LayersStayApart
-layers_stay_apart fresh world location change overlay upper conditions is has reached distinct none asked =
-    stand_apart fresh world location change overlay upper conditions is has reached distinct none asked
+layers_stay_apart fresh world location change overlay upper conditions is has distinct none asked =
+    stand_apart fresh world location change overlay upper conditions is has distinct none asked

@@ -3,6 +3,7 @@ pub mod UpperSizes
 pub mod ApartInvariants
 pub mod ApartLater
 pub mod ApartPaths
+pub mod ApartReached
 pub mod UpperOwn
 pub mod UpperTold
 pub mod UpperWhole

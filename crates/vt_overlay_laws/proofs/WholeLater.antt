@@ -50,7 +50,6 @@ in_list (first ∷ list) layer m = ⊎_elim (λ e. inl (sym e)) (λ l. inr (in_l
 
 module _ (fresh : Fresh ℕ) (world : World ℕ) (location : Location ℕ) (change : Change ℕ) (overlay : Overlay ℕ) (upper : Layer ℕ) (conditions : IsWorld nat_eq world)
     (is : (filesystem_at nat_eq world location).overlay ≡ Some overlay) (has : overlay.upper ≡ Some upper)
-    (reached : IsReached (filesystem_numbered nat_eq world upper.filesystem).files.tree upper.directory)
     (distinct : (j k : ℕ) → fresh j ≡ fresh k → j ≡ k) (none : (filesystem : ℕ) → AreNoInodes fresh world filesystem)
     (asked : IsAskedWell (stack_of nat_eq world overlay upper) (merge_of nat_eq world (filesystem_at nat_eq world location) overlay upper) change) where
   abbrev pub number : ℕ
@@ -143,7 +142,7 @@ module _ (fresh : Fresh ℕ) (world : World ℕ) (location : Location ℕ) (chan
       (λ lower m. subst (λ w. LeadsAsBefore world w lower) later_is (lower_leads lower (in_list overlay.lowers lower m)))
       upper.directory overlay.mounter merge
       (changes_keep_shown fresh (stack_of nat_eq world overlay upper) before change
-      (overlays_are_whole world number overlay upper conditions is has reached) distinct (λ k. none upper.filesystem k) asked)
+      (overlays_are_whole world number overlay upper conditions is has) distinct (λ k. none upper.filesystem k) asked)
 
   merge_is : merge_of nat_eq later (filesystem_numbered nat_eq later number) changed_overlay upper ≡ merge
   merge_is = λ i. record { files = (overlay_later i).files; real = merge.real; upper = (upper_later i).files }
@@ -159,5 +158,5 @@ module _ (fresh : Fresh ℕ) (world : World ℕ) (location : Location ℕ) (chan
       (subst (IsWhatIsShown (stack_of nat_eq later changed_overlay upper)) (sym merge_is) shown_later)))
 
 pub changed_overlay_is_merged : ChangedOverlayIsMerged
-changed_overlay_is_merged fresh world location change overlay after upper conditions is has reached distinct none asked e =
-    later_is_merged fresh world location change overlay upper conditions is has reached distinct none asked after e
+changed_overlay_is_merged fresh world location change overlay after upper conditions is has distinct none asked e =
+    later_is_merged fresh world location change overlay upper conditions is has distinct none asked after e

@@ -70,13 +70,13 @@ shown_is_merged world filesystem overlay upper has is =
     subst (IsMerged nat_eq world filesystem) (sym (is_with_upper world filesystem overlay upper has)) (from_shown world filesystem overlay upper is)
 
 pub overlays_are_whole : OverlaysAreWhole
-overlays_are_whole world number overlay upper conditions is has reached = record {
+overlays_are_whole world number overlay upper conditions is has = record {
   tree = overlay_tree world conditions number overlay is;
   numbers = overlay_numbers world conditions number overlay is;
   layers =
       subst (λ o. AreOpen (map (open_layer nat_eq world) (option_to_list o ++ overlay.lowers))) has
       (are_open world conditions overlay (overlay_layers world conditions number overlay is));
-  reached = reached;
+  reached = conditions.overlays.uppers_reached number overlay upper is has;
   shown = to_shown world (filesystem_numbered nat_eq world number) overlay upper
       (subst (IsMerged nat_eq world (filesystem_numbered nat_eq world number)) (is_with_upper world (filesystem_numbered nat_eq world number) overlay upper has)
       (overlay_merges world conditions number overlay is));

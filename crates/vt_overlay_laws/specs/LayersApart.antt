@@ -20,14 +20,12 @@ pub record StandApart (world : World ℕ) : Type 0 where
   pub changed : any_pair (overlap nat_eq world) (live_upper_and_work world) ≡ false
   pub lowers : list_any (overlaps_one_of nat_eq world (live_lowers nat_eq world)) (live_upper_and_work world) ≡ false
 
--- They stand apart after a change of an overlay that asks for what it may, by numbers that no inode has, where names lead to the
--- directory of its upper layer from the root of its tree.
+-- They stand apart after a change of an overlay that asks for what it may, by numbers that no inode has.
 abbrev pub LayersStayApart : Type 0
 LayersStayApart =
     (fresh : Fresh ℕ) (world : World ℕ) (location : Location ℕ) (change : Change ℕ) (overlay : Overlay ℕ) (upper : Layer ℕ)
     → IsWorld nat_eq world
     → (filesystem_at nat_eq world location).overlay ≡ Some overlay → overlay.upper ≡ Some upper
-    → IsReached (filesystem_numbered nat_eq world upper.filesystem).files.tree upper.directory
     → ((j k : ℕ) → fresh j ≡ fresh k → j ≡ k) → ((filesystem : ℕ) → AreNoInodes fresh world filesystem)
     → IsAskedWell (stack_of nat_eq world overlay upper) (merge_of nat_eq world (filesystem_at nat_eq world location) overlay upper) change
     → StandApart (with_change nat_eq fresh world location change)
@@ -38,7 +36,6 @@ OverlayInvariantsStay =
     (fresh : Fresh ℕ) (world : World ℕ) (location : Location ℕ) (change : Change ℕ) (overlay : Overlay ℕ) (upper : Layer ℕ)
     → IsWorld nat_eq world
     → (filesystem_at nat_eq world location).overlay ≡ Some overlay → overlay.upper ≡ Some upper
-    → IsReached (filesystem_numbered nat_eq world upper.filesystem).files.tree upper.directory
     → ((j k : ℕ) → fresh j ≡ fresh k → j ≡ k) → ((filesystem : ℕ) → AreNoInodes fresh world filesystem)
     → IsAskedWell (stack_of nat_eq world overlay upper) (merge_of nat_eq world (filesystem_at nat_eq world location) overlay upper) change
     → OverlayInvariants nat_eq (with_change nat_eq fresh world location change)
@@ -55,7 +52,6 @@ TreesStay =
     (fresh : Fresh ℕ) (world : World ℕ) (location : Location ℕ) (change : Change ℕ) (overlay : Overlay ℕ) (upper : Layer ℕ)
     → IsWorld nat_eq world
     → (filesystem_at nat_eq world location).overlay ≡ Some overlay → overlay.upper ≡ Some upper
-    → IsReached (filesystem_numbered nat_eq world upper.filesystem).files.tree upper.directory
     → ((j k : ℕ) → fresh j ≡ fresh k → j ≡ k) → ((filesystem : ℕ) → AreNoInodes fresh world filesystem)
     → IsAskedWell (stack_of nat_eq world overlay upper) (merge_of nat_eq world (filesystem_at nat_eq world location) overlay upper) change
     → TreesAfter (with_change nat_eq fresh world location change) upper
@@ -66,7 +62,6 @@ TreeInvariantsStay =
     (fresh : Fresh ℕ) (world : World ℕ) (location : Location ℕ) (change : Change ℕ) (overlay : Overlay ℕ) (upper : Layer ℕ)
     → IsWorld nat_eq world
     → (filesystem_at nat_eq world location).overlay ≡ Some overlay → overlay.upper ≡ Some upper
-    → IsReached (filesystem_numbered nat_eq world upper.filesystem).files.tree upper.directory
     → ((j k : ℕ) → fresh j ≡ fresh k → j ≡ k) → ((filesystem : ℕ) → AreNoInodes fresh world filesystem)
     → IsAskedWell (stack_of nat_eq world overlay upper) (merge_of nat_eq world (filesystem_at nat_eq world location) overlay upper) change
     → IsFitChange change → TreeInvariants nat_eq (with_change nat_eq fresh world location change)

@@ -14,7 +14,7 @@ use Rattle.vt_spec.specs.Machine.Layers.{has_lower_directory, shown}
 use Rattle.vt_spec.specs.Machine.World.{Filesystem, Layer, Overlay, Task, World, files_at, filesystem_at, filesystem_numbered, mount_at, task_called}
 use Rattle.vt_spec.specs.Machine.Invariants.{IsMerged, IsWorld}
 use Rattle.vt_spec.specs.Tree.{kind_of}
-use Rattle.vt_spec.specs.TreeLaws.{IsDirectory, IsReached}
+use Rattle.vt_spec.specs.TreeLaws.{IsDirectory}
 use Rattle.vt_tree_laws.specs.Trees.{MayAddName, MayMake, MayMove, MayRemove}
 use Rattle.vt_spec.specs.Machine.Mounts.{Location}
 use Rattle.vt_layer_laws.specs.Layers.Locked.{AreNoInodes, GoesThrough}
@@ -55,13 +55,12 @@ ShownIsMerged =
     → IsWhatIsShown (stack_of nat_eq world overlay upper) (merge_of nat_eq world filesystem overlay upper)
     → IsMerged nat_eq world filesystem overlay
 
--- and each overlay of a world with an upper layer is whole, if names lead to the directory of that layer.
+-- and each overlay of a world with an upper layer is whole.
 abbrev pub OverlaysAreWhole : Type 0
 OverlaysAreWhole =
     (world : World ℕ) (number : ℕ) (overlay : Overlay ℕ) (upper : Layer ℕ)
     → IsWorld nat_eq world
     → (filesystem_numbered nat_eq world number).overlay ≡ Some overlay → overlay.upper ≡ Some upper
-    → IsReached (filesystem_numbered nat_eq world upper.filesystem).files.tree upper.directory
     → IsWhole (stack_of nat_eq world overlay upper) (merge_of nat_eq world (filesystem_numbered nat_eq world number) overlay upper)
 
 -- What a lower layer shows at a path after a change it showed there before: what is hidden by a whiteout, an opaque mark or an
@@ -81,7 +80,6 @@ ChangedOverlayIsMerged =
     (upper : Layer ℕ)
     → IsWorld nat_eq world
     → (filesystem_at nat_eq world location).overlay ≡ Some overlay → overlay.upper ≡ Some upper
-    → IsReached (filesystem_numbered nat_eq world upper.filesystem).files.tree upper.directory
     → ((j k : ℕ) → fresh j ≡ fresh k → j ≡ k) → ((filesystem : ℕ) → AreNoInodes fresh world filesystem)
     → IsAskedWell (stack_of nat_eq world overlay upper) (merge_of nat_eq world (filesystem_at nat_eq world location) overlay upper) change
     → (filesystem_numbered nat_eq (with_change nat_eq fresh world location change) (mount_at nat_eq world location).filesystem).overlay ≡ Some later

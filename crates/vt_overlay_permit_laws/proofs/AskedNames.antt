@@ -47,7 +47,7 @@ use Rattle.vt_permit_laws.proofs.SeesGiven.{Gives, ends_both, gives_unless, give
 use Rattle.vt_overlay_permit_laws.specs.Asked.{AsksWellIf, change_asked}
 
 -- a word that is no word that stands for a directory is a name
-no_special : (last : LastWord) → is_dot_dot last ≡ false → is_dot last ≡ false → is_no_word last ≡ false → is_special last ≡ false
+pub no_special : (last : LastWord) → is_dot_dot last ≡ false → is_dot last ≡ false → is_no_word last ≡ false → is_special last ≡ false
 no_special NoWord a b c = c
 no_special Dot a b c = b
 no_special DotDot a b c = a
@@ -265,7 +265,7 @@ module _ (world : World ℕ) (whole : IsWorld nat_eq world) (task : Task ℕ) (c
       (λ place is. ends_unless NewPlace place.steps ((place.slash && not old_is_directory, W3) ∷ []) place (λ passed. is))
 
   -- the object of an old place is seen through its directory's mount
-  through : (place : Place ℕ) → is_special place.last ≡ false → IsOldPlace world task place → (object_there place).mount ≡ place.parent.mount
+  pub through : (place : Place ℕ) → is_special place.last ≡ false → IsOldPlace world task place → (object_there place).mount ≡ place.parent.mount
   through place plain is =
       by place.object is.1 (entry_named (name_of place.last) (entries_in (node_at nat_eq world place.parent)))
       (place_named world place.parent place.last place.object plain is.0).1
@@ -276,7 +276,7 @@ module _ (world : World ℕ) (whole : IsWorld nat_eq world) (task : Task ℕ) (c
       by object there None e = absurd (true≢false (sym there ∙ ap is_some e))
       by object there (Some number) e = ap (λ x. (unwrap_or x place.parent).mount) e
 
-  seen_in : (place : Place ℕ) (plain : is_special place.last ≡ false) (is : IsOldPlace world task place)
+  pub seen_in : (place : Place ℕ) (plain : is_special place.last ≡ false) (is : IsOldPlace world task place)
       → node_at nat_eq world (object_there place) ≡ (files_at nat_eq world place.parent).tree.node (object_there place).node
   seen_in place plain is =
       ap (λ m. node_at nat_eq world (record { mount = m; node = (object_there place).node })) (through place plain is)

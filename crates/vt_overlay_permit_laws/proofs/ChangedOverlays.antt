@@ -44,11 +44,11 @@ name_there stack merge (SetMark d opaque) asked = tt
 name_there stack merge (CopyUp object) asked = tt
 
 pub asked_changes_can_be_made : AskedChangesCanBeMade
-asked_changes_can_be_made fresh world location change overlay upper conditions is has reached distinct unused asked =
+asked_changes_can_be_made fresh world location change overlay upper conditions is has distinct unused asked =
     let number = (mount_at nat_eq world location).filesystem in
     let stack = stack_of nat_eq world overlay upper in
     let merge = merge_of nat_eq world (Rattle.vt_spec.specs.Machine.World.filesystem_at nat_eq world location) overlay upper in
-    let whole = overlays_are_whole world number overlay upper conditions is has reached in
+    let whole = overlays_are_whole world number overlay upper conditions is has in
     let goes = change_goes fresh stack merge whole (record { distinct = distinct; unused = unused }) change asked in
     record {
       overlay_there = is;
@@ -121,8 +121,8 @@ module _ (world : World ℕ) (fresh : Fresh ℕ) (conditions : IsWorld nat_eq wo
   are_left ToListMounts = all
 
 pub permits_can_change : PermitsCanChange
-permits_can_change world fresh task call permit location change overlay upper conditions serves called judged asks is has reached =
+permits_can_change world fresh task call permit location change overlay upper conditions serves called judged asks is has =
     let left = are_left world fresh conditions serves permit in
-    asked_changes_can_be_made (numbers_left fresh permit) world location change overlay upper conditions is has reached left.0
+    asked_changes_can_be_made (numbers_left fresh permit) world location change overlay upper conditions is has left.0
     (left.1 upper.filesystem)
     (permits_ask_overlays_well world fresh task call permit location change overlay upper conditions serves called judged asks is has)

@@ -141,6 +141,7 @@ overlays_in a b same is =
       plain_layers = is.plain_layers;
       changed_apart = is.changed_apart;
       lowers_apart = is.lowers_apart;
+      uppers_reached = is.uppers_reached;
     })
 
 pub trees_in : (a b : World ℕ) → a.filesystems ≡ b.filesystems → TreeInvariants nat_eq b → TreeInvariants nat_eq a
@@ -154,23 +155,15 @@ trees_in a b same is =
       fit_filesystems = is.fit_filesystems;
     })
 
-pub reached_in : (a b : World ℕ) (upper : Layer ℕ) → a.filesystems ≡ b.filesystems
-    → IsReached (filesystem_numbered nat_eq b upper.filesystem).files.tree upper.directory
-    → IsReached (filesystem_numbered nat_eq a upper.filesystem).files.tree upper.directory
-reached_in a b upper same reached =
-    subst (λ fs. IsReached (filesystem_numbered nat_eq (record a { filesystems = fs }) upper.filesystem).files.tree upper.directory) (sym same) reached
-
 pub permits_keep_overlay_invariants : PermitsKeepOverlayInvariants
-permits_keep_overlay_invariants world fresh task call permit location change overlay upper conditions serves called judged asks is has reached =
+permits_keep_overlay_invariants world fresh task call permit location change overlay upper conditions serves called judged asks is has =
     let left = are_left world fresh conditions serves permit in
     let asked = permits_ask_overlays_well world fresh task call permit location change overlay upper conditions serves called judged asks is has in
     let fit = (permits_ask_properly world fresh task call permit location change conditions serves called judged asks).1 in
     let same = permits_make_their_change world fresh task permit location change asks in
-    let then = with_change nat_eq (numbers_left fresh permit) world location change in
-    let trees = trees_stay (numbers_left fresh permit) world location change overlay upper conditions is has reached left.0 left.1 asked in (
+    let then = with_change nat_eq (numbers_left fresh permit) world location change in (
       overlays_in (apply nat_eq fresh world task permit).world then same
-          (overlay_invariants_stay (numbers_left fresh permit) world location change overlay upper conditions is has reached left.0 left.1 asked),
+          (overlay_invariants_stay (numbers_left fresh permit) world location change overlay upper conditions is has left.0 left.1 asked),
       trees_in (apply nat_eq fresh world task permit).world then same
-          (tree_invariants_stay (numbers_left fresh permit) world location change overlay upper conditions is has reached left.0 left.1 asked fit),
-      reached_in (apply nat_eq fresh world task permit).world then upper same trees.reached,
+          (tree_invariants_stay (numbers_left fresh permit) world location change overlay upper conditions is has left.0 left.1 asked fit),
     )

@@ -3,3 +3,14 @@ pub mod AskedOthers
 pub mod AskedOverlays
 pub mod ChangedOverlays
 pub mod KeptOverlays
+pub mod UnlockedNames
+pub mod UnlockedOthers
+pub mod OverlaysGoOn
+pub mod PlainChanges
+pub mod SweptTrees
+pub mod SweptOverlays
+pub mod SweptInodes
+pub mod NewPlain
+pub mod SweptWorlds
+pub mod EveryCall
+pub mod EveryScript

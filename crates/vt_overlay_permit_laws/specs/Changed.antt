@@ -17,12 +17,11 @@ use Rattle.vt_overlay_laws.specs.WholeChanges.{IsAskedWell}
 use Rattle.vt_overlays_let_go.specs.OverlayChanges.{CanChange}
 use Rattle.vt_overlay_permit_laws.specs.Asked.{change_asked}
 
--- The change of an overlay that asks for what it may leaves both trees trees, where names lead to the directory of its upper layer.
+-- The change of an overlay that asks for what it may leaves both trees trees.
 abbrev pub AskedChangesCanBeMade : Type 0
 AskedChangesCanBeMade =
     (fresh : Fresh ℕ) (world : World ℕ) (location : Location ℕ) (change : Change ℕ) (overlay : Overlay ℕ) (upper : Layer ℕ)
     → IsWorld nat_eq world → (filesystem_at nat_eq world location).overlay ≡ Some overlay → overlay.upper ≡ Some upper
-    → IsReached (filesystem_numbered nat_eq world upper.filesystem).files.tree upper.directory
     → ((j k : ℕ) → fresh j ≡ fresh k → j ≡ k) → ((k : ℕ) → inode_in world upper.filesystem (fresh k) ≡ None)
     → IsAskedWell (stack_of nat_eq world overlay upper) (merge_of nat_eq world (filesystem_at nat_eq world location) overlay upper) change
     → CanChange fresh world location change overlay upper
@@ -41,5 +40,4 @@ PermitsCanChange =
     → IsWorld nat_eq world → Serves nat_eq world fresh → task_called world task.name ≡ Some task
     → judge_in nat_eq fresh world task call ≡ Ok permit → change_asked fresh world permit ≡ Some (location, change)
     → (filesystem_at nat_eq world location).overlay ≡ Some overlay → overlay.upper ≡ Some upper
-    → IsReached (filesystem_numbered nat_eq world upper.filesystem).files.tree upper.directory
     → CanChange (numbers_left fresh permit) world location change overlay upper

@@ -25,7 +25,7 @@ PermitsMakeTheirChange =
     ≡ (with_change nat_eq (numbers_left fresh permit) world location change).filesystems
 
 -- In a world that has all invariants a granted call that changes an overlay, before the sweep, leaves all invariants of overlays
--- and of trees, where names lead to the directory of its upper layer; and names lead there still.
+-- and of trees.
 abbrev pub PermitsKeepOverlayInvariants : Type 0
 PermitsKeepOverlayInvariants =
     (world : World ℕ) (fresh : Fresh ℕ) (task : Task ℕ) (call : Call) (permit : Permit ℕ) (location : Location ℕ) (change : Change ℕ)
@@ -33,7 +33,5 @@ PermitsKeepOverlayInvariants =
     → IsWorld nat_eq world → Serves nat_eq world fresh → task_called world task.name ≡ Some task
     → judge_in nat_eq fresh world task call ≡ Ok permit → change_asked fresh world permit ≡ Some (location, change)
     → (filesystem_at nat_eq world location).overlay ≡ Some overlay → overlay.upper ≡ Some upper
-    → IsReached (filesystem_numbered nat_eq world upper.filesystem).files.tree upper.directory
     → OverlayInvariants nat_eq (apply nat_eq fresh world task permit).world
     × TreeInvariants nat_eq (apply nat_eq fresh world task permit).world
-    × IsReached (filesystem_numbered nat_eq (apply nat_eq fresh world task permit).world upper.filesystem).files.tree upper.directory

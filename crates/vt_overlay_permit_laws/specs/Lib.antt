@@ -1,3 +1,5 @@
 pub mod Asked
 pub mod Changed
 pub mod Kept
+pub mod Unlocked
+pub mod EveryWorld

@@ -2,8 +2,8 @@
 ghost use Rattle.vt_overlay_permit_laws.specs.Kept.{PermitsKeepOverlayInvariants, PermitsMakeTheirChange};
 
 /// In a world that has all invariants a granted call that changes an overlay leaves all invariants of overlays: each is what its
-/// layers show, and layers of live overlays stand apart. It leaves all invariants of trees, within the limits of names, texts and
-/// files; and names still lead to the directory of the upper layer, as they must have before.
+/// layers show, layers of live overlays stand apart, and names lead to the directories of upper layers. It leaves all invariants of
+/// trees, within the limits of names, texts and files.
 pub fn permits_keep_overlay_invariants()
     ensures change { PermitsMakeTheirChange }
     ensures kept { PermitsKeepOverlayInvariants }

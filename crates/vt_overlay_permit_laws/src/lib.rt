@@ -1,4 +1,5 @@
-//! Laws of calls through overlays: what is permitted asks for what an overlay can do.
+//! Laws of calls through overlays and beside them: what is permitted asks for what an overlay can do, and every call keeps the
+//! invariants of a world.
 //!
 //! Each public function is a theorem of the written policy, and does nothing.
 #![tactic(auto)]
@@ -6,3 +7,4 @@
 pub mod asked;
 pub mod changed;
 pub mod kept;
+pub mod worlds;

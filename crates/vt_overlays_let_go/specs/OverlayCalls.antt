@@ -1,17 +1,19 @@
 -- What goes after calls that change an overlay and, at once, take mounts away or open what they made: rmdir(2), rename(2),
 -- open(2).
-use Rattle.std.specs.Prelude.{Bool, Contains, List, Some, map, nat_eq, true, ℕ, ◌≡◌}
-use Rattle.vt_spec.specs.Language.Calls.{Access}
+use Rattle.std.specs.Prelude.{Bool, Contains, List, Ok, Some, false, map, nat_eq, not, true, ℕ, ◌&&◌, ◌||◌, ◌≡◌}
+use Rattle.std.specs.List.{list_any}
+use Rattle.vt_spec.specs.Language.Calls.{Access, Call}
 use Rattle.vt_spec.specs.Language.Changes.{Change}
 use Rattle.vt_spec.specs.Language.Changes.Change.{Make, Move, Remove}
 use Rattle.vt_spec.specs.Lists.{Fresh, evens, is_among, odds}
 use Rattle.vt_spec.specs.Machine.Apply.{apply}
 use Rattle.vt_spec.specs.Machine.Detach.{mounts_on, taken_away}
 use Rattle.vt_spec.specs.Machine.Filesystems.{with_change}
+use Rattle.vt_spec.specs.Machine.Judge.{judge_in}
 use Rattle.vt_spec.specs.Machine.Mounts.{Location}
 use Rattle.vt_spec.specs.Machine.Permits.Permit.{ToMake, ToOpenNew, ToRemoveDirectory, ToRename}
-use Rattle.vt_spec.specs.Machine.Settled.{is_mounted, settled, without_dead_mounts}
-use Rattle.vt_spec.specs.Machine.World.{Layer, Overlay, Task, World, mount_at}
+use Rattle.vt_spec.specs.Machine.Settled.{is_located, settled}
+use Rattle.vt_spec.specs.Machine.World.{Layer, Overlay, Task, World, mount_at, task_called}
 use Rattle.vt_spec.specs.Machine.Invariants.{IsWorld}
 use Rattle.vt_spec.specs.Tree.{Node}
 use Rattle.vt_letting_go.specs.MountingOverlays.{used_by_gone_with_layers}
@@ -30,29 +32,48 @@ MadeInOverlaysLetsGo =
     ≡ let_go_all_inodes (apply nat_eq fresh world task (ToMake directory name node)).world
     (inodes_lost_with_upper (odds fresh) world directory overlay upper (Make directory.node name (evens fresh 0) node))
 
--- the filesystem at a location is mounted still, by a mount in use, when these are gone
-abbrev pub stays_mounted : World ℕ → List ℕ → Location ℕ → Bool
-stays_mounted world gone location =
-    is_mounted nat_eq (without_dead_mounts nat_eq (taken_away nat_eq world gone)) (mount_at nat_eq world location).filesystem
+-- a mount shows the filesystem that is not among these, or that a task is on
+abbrev pub keeps_a_mount : World ℕ → List ℕ → ℕ → Bool
+keeps_a_mount world gone filesystem =
+    list_any (λ mount. nat_eq filesystem mount.filesystem
+    && (not (is_among nat_eq mount.number gone) || is_located nat_eq world mount.number)) world.mounts
 
--- Where mounts are taken away and an overlay changes that stays mounted, that goes of what both took uses from which nothing
+-- Where mounts are taken away and an overlay changes that keeps a mount, that goes of what both took uses from which nothing
 -- uses any more.
 abbrev pub TakenAndOverlayChangesLetGo : Type 0
 TakenAndOverlayChangesLetGo =
     (fresh : Fresh ℕ) (world : World ℕ) (gone : List ℕ) (location : Location ℕ) (change : Change ℕ) (overlay : Overlay ℕ)
     (upper : Layer ℕ) → IsWorld nat_eq world → CanChange fresh world location change overlay upper
-    → stays_mounted world gone location ≡ true
+    → keeps_a_mount world gone (mount_at nat_eq world location).filesystem ≡ true
     → settled nat_eq (with_change nat_eq fresh (taken_away nat_eq world gone) location change)
     ≡ let_go_all (with_change nat_eq fresh (taken_away nat_eq world gone) location change)
     (with_lost (used_by_gone_with_layers world gone) (inodes_lost_with_upper fresh world location overlay upper change))
 
--- So it is of rmdir,
+-- A granted rmdir takes away no mount that the caller is on: none of its namespace stands on the directory (P1), and its walk
+-- led through no other. So the mount of the parent stays.
+abbrev pub RemovingKeepsTheMount : Type 0
+RemovingKeepsTheMount =
+    (fresh : Fresh ℕ) (world : World ℕ) (task : Task ℕ) (call : Call) (parent : Location ℕ) (name : List ℕ)
+    (directory : Location ℕ) → IsWorld nat_eq world → task_called world task.name ≡ Some task
+    → judge_in nat_eq fresh world task call ≡ Ok (ToRemoveDirectory parent name directory)
+    → is_among nat_eq parent.mount (numbers_of_trees world (mounts_on nat_eq world directory)) ≡ false
+
+-- Nor does a rename that replaces an object.
+abbrev pub ReplacingKeepsTheMount : Type 0
+ReplacingKeepsTheMount =
+    (fresh : Fresh ℕ) (world : World ℕ) (task : Task ℕ) (call : Call) (from : Location ℕ) (old : List ℕ) (to : Location ℕ)
+    (new : List ℕ) (object replaced : Location ℕ) → IsWorld nat_eq world → task_called world task.name ≡ Some task
+    → judge_in nat_eq fresh world task call ≡ Ok (ToRename from old to new object (Some replaced))
+    → is_among nat_eq from.mount (numbers_of_trees world (mounts_on nat_eq world replaced)) ≡ false
+
+-- So the overlay keeps a mount, and what goes is that of a granted rmdir,
 abbrev pub RemovedFromOverlaysLetGo : Type 0
 RemovedFromOverlaysLetGo =
-    (fresh : Fresh ℕ) (world : World ℕ) (task : Task ℕ) (parent : Location ℕ) (name : List ℕ) (directory : Location ℕ)
-    (overlay : Overlay ℕ) (upper : Layer ℕ) → IsWorld nat_eq world
+    (fresh : Fresh ℕ) (world : World ℕ) (task : Task ℕ) (call : Call) (parent : Location ℕ) (name : List ℕ)
+    (directory : Location ℕ) (overlay : Overlay ℕ) (upper : Layer ℕ) → IsWorld nat_eq world
+    → task_called world task.name ≡ Some task
+    → judge_in nat_eq fresh world task call ≡ Ok (ToRemoveDirectory parent name directory)
     → CanChange fresh world parent (Remove parent.node name directory.node) overlay upper
-    → stays_mounted world (numbers_of_trees world (mounts_on nat_eq world directory)) parent ≡ true
     → settled nat_eq (apply nat_eq fresh world task (ToRemoveDirectory parent name directory)).world
     ≡ let_go_all (apply nat_eq fresh world task (ToRemoveDirectory parent name directory)).world
     (with_lost (used_by_gone_with_layers world (numbers_of_trees world (mounts_on nat_eq world directory)))
@@ -61,10 +82,11 @@ RemovedFromOverlaysLetGo =
 -- and of a rename that replaces an object.
 abbrev pub ReplacedInOverlaysLetGo : Type 0
 ReplacedInOverlaysLetGo =
-    (fresh : Fresh ℕ) (world : World ℕ) (task : Task ℕ) (from : Location ℕ) (old : List ℕ) (to : Location ℕ) (new : List ℕ)
-    (object replaced : Location ℕ) (overlay : Overlay ℕ) (upper : Layer ℕ) → IsWorld nat_eq world
+    (fresh : Fresh ℕ) (world : World ℕ) (task : Task ℕ) (call : Call) (from : Location ℕ) (old : List ℕ) (to : Location ℕ)
+    (new : List ℕ) (object replaced : Location ℕ) (overlay : Overlay ℕ) (upper : Layer ℕ) → IsWorld nat_eq world
+    → task_called world task.name ≡ Some task
+    → judge_in nat_eq fresh world task call ≡ Ok (ToRename from old to new object (Some replaced))
     → CanChange fresh world from (Move from.node old to.node new object.node) overlay upper
-    → stays_mounted world (numbers_of_trees world (mounts_on nat_eq world replaced)) from ≡ true
     → settled nat_eq (apply nat_eq fresh world task (ToRename from old to new object (Some replaced))).world
     ≡ let_go_all (apply nat_eq fresh world task (ToRename from old to new object (Some replaced))).world
     (with_lost (used_by_gone_with_layers world (numbers_of_trees world (mounts_on nat_eq world replaced)))

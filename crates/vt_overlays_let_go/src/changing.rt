@@ -1,5 +1,5 @@
 //! What goes when an overlay changes.
-ghost use Rattle.vt_overlays_let_go.specs.OverlayCalls.{MadeInOverlaysLetsGo, OpenedNewInOverlaysLetsGo, RemovedFromOverlaysLetGo, ReplacedInOverlaysLetGo, TakenAndOverlayChangesLetGo};
+ghost use Rattle.vt_overlays_let_go.specs.OverlayCalls.{MadeInOverlaysLetsGo, OpenedNewInOverlaysLetsGo, RemovedFromOverlaysLetGo, RemovingKeepsTheMount, ReplacedInOverlaysLetGo, ReplacingKeepsTheMount, TakenAndOverlayChangesLetGo};
 ghost use Rattle.vt_overlays_let_go.specs.OverlayChanges.{OverlayChangesLetGo};
 ghost use Rattle.vt_overlays_let_go.specs.OverlayNames.{OnlyTheseLoseNames, OpenedCopiesKeepAll, OverlayChangesKeepAll};
 
@@ -14,6 +14,13 @@ pub fn what_a_change_of_an_overlay_leaves_goes()
     ensures with_mounts { TakenAndOverlayChangesLetGo }
     ensures rmdir { RemovedFromOverlaysLetGo }
     ensures rename { ReplacedInOverlaysLetGo }
+{}
+
+/// A granted `rmdir`, or `rename` that replaces an object, detaches the mounts on what it removes, in other namespaces
+/// alone. The mount that it goes through is none of them: so an overlay that it changes is mounted still.
+pub fn a_removal_keeps_the_mount_that_it_goes_through()
+    ensures rmdir { RemovingKeepsTheMount }
+    ensures rename { ReplacingKeepsTheMount }
 {}
 
 /// After a call that made a file in an overlay and opened it, at the most those inodes go. After one that copied it up

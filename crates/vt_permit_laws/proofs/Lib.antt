@@ -11,8 +11,6 @@ pub mod SeesFit
 pub mod SeesGiven
 pub mod SeesNames
 pub mod SeesTasks
-pub mod StepsKept
-pub mod StepsUngrouped
 pub mod TakenAttached
 pub mod TakenFirst
 pub mod TakenGiven

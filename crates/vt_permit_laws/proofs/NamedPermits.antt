@@ -1,9 +1,10 @@
 -- Permits with other numbers.
-use Rattle.std.proofs.Common.{◌≡◌, refl, ap, sym, true≢false, ℕ, Bool, true, false, ◌&&◌, List, [], ◌∷◌, Option, Some, None}
+use Rattle.std.proofs.Common.{◌≡◌, refl, ap, sym, true≢false, ℕ, Bool, true, ◌&&◌, List, [], ◌∷◌, Option, Some, None}
 use Rattle.std.specs.Prelude.{map, option_map}
 use Rattle.std.specs.List.{list_all}
 use Rattle.vt_laws.specs.Numbers.{content_named, location_named, node_named, none_or}
-use Rattle.vt_laws.proofs.Commuting.{Named, map_itself, node_itself, option_itself}
+use Rattle.vt_laws.proofs.Commuting.{Named, node_itself, option_itself}
+use Rattle.vt_laws.proofs.Renamings.{overlay_itself}
 use Rattle.vt_laws.specs.Renaming.{Leaves, Renaming}
 use Rattle.vt_permit_laws.specs.Named.{change_named, permit_named, renamed_change, renamed_permit}
 use Rattle.vt_spec.specs.Language.Changes.{Change}
@@ -11,11 +12,10 @@ use Rattle.vt_spec.specs.Language.Changes.Change.{AddName, CopyUp, Make, Move, R
 use Rattle.vt_spec.specs.Machine.Mounts.{Location}
 use Rattle.vt_spec.specs.Machine.Permits.{Permit}
 use Rattle.vt_spec.specs.Machine.Permits.Permit.{Allowed, ToBind, ToChange, ToClose, ToEnterNamespace, ToExit, ToFork, ToList, ToListMounts, ToMake, ToMountOverlay, ToMountPlain, ToMove, ToOpen, ToOpenNew, ToPivot, ToRead, ToReadPart, ToRemoveDirectory, ToRename, ToSetCredentials, ToSetDirectory, ToSetFlags, ToSetRoot, ToSetType, ToSetUmask, ToStat, ToUnmount, ToUnmountLazily, ToUnshare, ToWritePart}
-use Rattle.vt_spec.specs.Machine.Renaming.{renamed_content, renamed_entry, renamed_layer, renamed_location, renamed_node, renamed_overlay, renamed_real}
-use Rattle.vt_spec.specs.Machine.World.{Overlay, Real}
-use Rattle.vt_spec.specs.Machine.World.Real.{Below, Upper}
+use Rattle.vt_spec.specs.Machine.Renaming.{renamed_content, renamed_entry, renamed_location, renamed_node}
 use Rattle.vt_spec.specs.Tree.{Content, Node}
 use Rattle.vt_spec.specs.Tree.Content.{Directory, Regular, Symlink, Whiteout}
+use Rattle.std.proofs.lemmas.Bool.{and_parts}
 
 -- With each number for itself nothing is renamed.
 module _ {N : Type 0} where
@@ -28,19 +28,6 @@ module _ {N : Type 0} where
   change_itself (SetAttr object attr) = refl
   change_itself (SetMark directory opaque) = refl
   change_itself (CopyUp object) = refl
-
-  real_itself : (real : Real N) → renamed_real (λ n. n) (λ n. n) real ≡ real
-  real_itself (Upper object) = refl
-  real_itself (Below layer path) = refl
-
-  overlay_itself : (overlay : Overlay N) → renamed_overlay (λ n. n) (λ n. n) overlay ≡ overlay
-  overlay_itself overlay = λ i. record {
-    upper = option_itself (renamed_layer (λ n. n) (λ n. n)) (λ layer. refl) overlay.upper i;
-    work = option_itself (renamed_layer (λ n. n) (λ n. n)) (λ layer. refl) overlay.work i;
-    lowers = map_itself (renamed_layer (λ n. n) (λ n. n)) (λ layer. refl) overlay.lowers i;
-    mounter = overlay.mounter;
-    real = λ number. option_itself (renamed_real (λ n. n) (λ n. n)) real_itself (overlay.real number) i;
-  }
 
   pub permit_itself : (permit : Permit N) → renamed_permit (λ n. n) (λ n. n) permit ≡ permit
   permit_itself Allowed = refl
@@ -81,11 +68,6 @@ abbrev pub named_permit : Named Permit
 named_permit =
     record { rename = λ A B there back permit. renamed_permit there back permit; itself = λ A permit. permit_itself permit }
 
--- What has only numbers that a renaming leaves is left as it is.
-both : (a b : Bool) → (a && b) ≡ true → (a ≡ true) × (b ≡ true)
-both true b e = (refl, e)
-both false b e = absurd (true≢false (sym e))
-
 module _ (named : ℕ → Bool) (renaming : Renaming ℕ ℕ) (leaves : Leaves renaming named) where
   abbrev there : ℕ → ℕ
   there = renaming.there
@@ -96,7 +78,7 @@ module _ (named : ℕ → Bool) (renaming : Renaming ℕ ℕ) (leaves : Leaves r
   place_left : (location : Location ℕ) → location_named named location ≡ true
       → renamed_location there back location ≡ location
   place_left location e =
-      let parts = both (named location.mount) (named location.node) e in
+      let parts = and_parts (named location.mount) (named location.node) e in
       λ i. record { mount = leaves location.mount parts.0 i; node = leaves location.node parts.1 i }
 
   places_left : (location : Option (Location ℕ)) → none_or (location_named named) location ≡ true
@@ -108,13 +90,13 @@ module _ (named : ℕ → Bool) (renaming : Renaming ℕ ℕ) (leaves : Leaves r
       → map (renamed_entry there back) entries ≡ entries
   entries_left [] e = refl
   entries_left (entry ∷ rest) e =
-      let parts = both (named entry.1) (list_all (λ (other : List ℕ × ℕ). named other.1) rest) e in
+      let parts = and_parts (named entry.1) (list_all (λ (other : List ℕ × ℕ). named other.1) rest) e in
       λ i. (entry.0, leaves entry.1 parts.0 i) ∷ entries_left rest parts.1 i
 
   content_left : (content : Content ℕ) → content_named named content ≡ true
       → renamed_content there back content ≡ content
   content_left (Directory parent entries opaque) e =
-      let parts = both (named parent) (list_all (λ (entry : List ℕ × ℕ). named entry.1) entries) e in
+      let parts = and_parts (named parent) (list_all (λ (entry : List ℕ × ℕ). named entry.1) entries) e in
       λ i. Directory (leaves parent parts.0 i) (entries_left entries parts.1 i) opaque
   content_left (Regular bytes) e = refl
   content_left (Symlink text) e = refl
@@ -125,18 +107,18 @@ module _ (named : ℕ → Bool) (renaming : Renaming ℕ ℕ) (leaves : Leaves r
 
   change_left : (change : Change ℕ) → change_named named change ≡ true → renamed_change there back change ≡ change
   change_left (Make directory name number node) e =
-      let last = both (named directory && named number) (node_named named node) e in
-      let first = both (named directory) (named number) last.0 in
+      let last = and_parts (named directory && named number) (node_named named node) e in
+      let first = and_parts (named directory) (named number) last.0 in
       λ i. Make (leaves directory first.0 i) name (leaves number first.1 i) (node_left node last.1 i)
   change_left (AddName directory name object) e =
-      let parts = both (named directory) (named object) e in
+      let parts = and_parts (named directory) (named object) e in
       λ i. AddName (leaves directory parts.0 i) name (leaves object parts.1 i)
   change_left (Remove directory name object) e =
-      let parts = both (named directory) (named object) e in
+      let parts = and_parts (named directory) (named object) e in
       λ i. Remove (leaves directory parts.0 i) name (leaves object parts.1 i)
   change_left (Move from old to new object) e =
-      let last = both (named from && named to) (named object) e in
-      let first = both (named from) (named to) last.0 in
+      let last = and_parts (named from && named to) (named object) e in
+      let first = and_parts (named from) (named to) last.0 in
       λ i. Move (leaves from first.0 i) old (leaves to first.1 i) new (leaves object last.1 i)
   change_left (SetBytes file bytes) e = λ i. SetBytes (leaves file e i) bytes
   change_left (SetAttr object attr) e = λ i. SetAttr (leaves object e i) attr
@@ -150,25 +132,25 @@ module _ (named : ℕ → Bool) (renaming : Renaming ℕ ℕ) (leaves : Leaves r
   permit_left (ToRead file) e = ap ToRead (place_left file e)
   permit_left (ToReadPart file offset size) e = λ i. ToReadPart (place_left file e i) offset size
   permit_left (ToChange location change) e =
-      let parts = both (location_named named location) (change_named named change) e in
+      let parts = and_parts (location_named named location) (change_named named change) e in
       λ i. ToChange (place_left location parts.0 i) (change_left change parts.1 i)
   permit_left (ToMake directory name node) e =
-      let parts = both (location_named named directory) (node_named named node) e in
+      let parts = and_parts (location_named named directory) (node_named named node) e in
       λ i. ToMake (place_left directory parts.0 i) name (node_left node parts.1 i)
   permit_left (ToRemoveDirectory parent name directory) e =
-      let parts = both (location_named named parent) (location_named named directory) e in
+      let parts = and_parts (location_named named parent) (location_named named directory) e in
       λ i. ToRemoveDirectory (place_left parent parts.0 i) name (place_left directory parts.1 i)
   permit_left (ToRename from old to new object replaced) e =
       let last =
-      both (location_named named from && location_named named to && location_named named object)
+      and_parts (location_named named from && location_named named to && location_named named object)
       (none_or (location_named named) replaced) e in
-      let next = both (location_named named from && location_named named to) (location_named named object) last.0 in
-      let first = both (location_named named from) (location_named named to) next.0 in
+      let next = and_parts (location_named named from && location_named named to) (location_named named object) last.0 in
+      let first = and_parts (location_named named from) (location_named named to) next.0 in
       λ i. ToRename (place_left from first.0 i) old (place_left to first.1 i) new (place_left object next.1 i)
       (places_left replaced last.1 i)
   permit_left (ToOpen file access) e = λ i. ToOpen (place_left file e i) access
   permit_left (ToOpenNew directory name node access) e =
-      let parts = both (location_named named directory) (node_named named node) e in
+      let parts = and_parts (location_named named directory) (node_named named node) e in
       λ i. ToOpenNew (place_left directory parts.0 i) name (node_left node parts.1 i) access
   permit_left (ToWritePart file offset bytes) e = λ i. ToWritePart (place_left file e i) offset bytes
   permit_left (ToClose descriptor) e = refl
@@ -183,16 +165,16 @@ module _ (named : ℕ → Bool) (renaming : Renaming ℕ ℕ) (leaves : Leaves r
   permit_left (ToMountPlain place flags) e = λ i. ToMountPlain (place_left place e i) flags
   permit_left (ToMountOverlay place overlay flags) e = absurd (true≢false (sym e))
   permit_left (ToBind source place recursive) e =
-      let parts = both (location_named named source) (location_named named place) e in
+      let parts = and_parts (location_named named source) (location_named named place) e in
       λ i. ToBind (place_left source parts.0 i) (place_left place parts.1 i) recursive
   permit_left (ToMove mount place) e =
-      let parts = both (named mount) (location_named named place) e in
+      let parts = and_parts (named mount) (location_named named place) e in
       λ i. ToMove (leaves mount parts.0 i) (place_left place parts.1 i)
   permit_left (ToUnmount mount) e = ap ToUnmount (leaves mount e)
   permit_left (ToUnmountLazily mount) e = ap ToUnmountLazily (leaves mount e)
   permit_left (ToSetFlags mount flags) e = λ i. ToSetFlags (leaves mount e i) flags
   permit_left (ToSetType mount word recursive) e = λ i. ToSetType (leaves mount e i) word recursive
   permit_left (ToPivot new put) e =
-      let parts = both (named new) (location_named named put) e in
+      let parts = and_parts (named new) (location_named named put) e in
       λ i. ToPivot (leaves new parts.0 i) (place_left put parts.1 i)
   permit_left ToListMounts e = refl

@@ -1,7 +1,6 @@
 -- Each change of a tree that a permit asks for is proper, and fits whoever keeps that tree alone.
-use Rattle.std.proofs.Common.{eq-eqb, le-leb, leb-true, ltb-false, ne_eqb, ◌≡◌, ◌≢◌, refl, sym, ap, subst, ◌∙◌, ⊎_elim, true≢false, ℕ, zero, suc, ◌+◌, ◌*◌, ◌≤◌, nat_eq, nat_le, nat_lt, Bool, true, false, not, cond, List, [], ◌∷◌, ◌++◌, ◌&&◌, ◌||◌, length, take, drop, Option, Some, None, is_some, option_map, option_and_then, arith}
+use Rattle.std.proofs.Common.{eq-eqb, le-leb, leb-true, ltb-false, ne_eqb, ◌≡◌, ◌≢◌, refl, sym, ap, subst, ◌∙◌, ⊎_elim, true≢false, ℕ, zero, suc, ◌+◌, ◌*◌, nat_eq, nat_le, nat_lt, Bool, true, false, not, cond, List, [], ◌∷◌, ◌&&◌, ◌||◌, length, Option, Some, None, is_some, option_map, option_and_then}
 use Rattle.std.specs.Prelude.{⊤}
-use Rattle.std.proofs.lemmas.List.{length-append, length-drop, length-take}
 use Rattle.vt_call_laws.specs.Inodes.{change_of, written_if_some}
 use Rattle.vt_letting_go.proofs.Lists.{all_from_among, among_from_all, among_numbers, passes}
 use Rattle.vt_permit_laws.proofs.SeesNames.{tree_here}
@@ -15,7 +14,7 @@ use Rattle.vt_spec.specs.Language.Changes.Change.{AddName, CopyUp, Make, Move, R
 use Rattle.vt_spec.specs.Language.Limits.{largest_file}
 use Rattle.vt_spec.specs.Lists.{Fresh, chain, evens, is_among}
 use Rattle.vt_spec.specs.Machine.Mounts.{Location}
-use Rattle.vt_spec.specs.Machine.Outcome.Descriptors.{overwritten, padded}
+use Rattle.vt_spec.specs.Machine.Outcome.Descriptors.{overwritten}
 use Rattle.vt_spec.specs.Machine.Permits.{Permit}
 use Rattle.vt_spec.specs.Machine.Permits.Permit.{Allowed, ToBind, ToChange, ToClose, ToEnterNamespace, ToExit, ToFork, ToList, ToListMounts, ToMake, ToMountOverlay, ToMountPlain, ToMove, ToOpen, ToOpenNew, ToPivot, ToRead, ToReadPart, ToRemoveDirectory, ToRename, ToSetCredentials, ToSetDirectory, ToSetFlags, ToSetRoot, ToSetType, ToSetUmask, ToStat, ToUnmount, ToUnmountLazily, ToUnshare, ToWritePart}
 use Rattle.vt_spec.specs.Machine.World.{Filesystem, Task, World, files_at, mount_at, node_at}
@@ -24,7 +23,7 @@ use Rattle.vt_spec.specs.Fits.{Fits, MayReplace}
 use Rattle.vt_spec.specs.Inodes.{Inode, Inodes, parent_above, tree_of}
 use Rattle.vt_spec.specs.PathText.{is_empty}
 use Rattle.vt_spec.specs.Rights.{is_directory}
-use Rattle.vt_spec.specs.Tree.{Content, Node, Tree, bytes_in, entries_in, is_directory_node, kind_of, parent_in}
+use Rattle.vt_spec.specs.Tree.{Content, Node, Tree, bytes_in, is_directory_node, kind_of, parent_in}
 use Rattle.vt_spec.specs.Tree.Content.{Directory, Regular, Symlink, Whiteout}
 use Rattle.vt_spec.specs.TreeLaws.{HasName, IsDirectory, IsReached, IsTree, entry_at, led}
 use Rattle.vt_spec.proofs.Lists.{chain_ends, chain_goes_on}
@@ -33,6 +32,7 @@ use Rattle.vt_tree_laws.specs.Trees.{IsProper}
 use Rattle.vt_tree_laws.specs.Trees.Sizes.{IsFitChange}
 use Rattle.vt_tree_laws.proofs.ChangesOfCalls.{mapped_none}
 use Rattle.vt_tree_laws.proofs.TreesOfWorlds.{new_at, numbered_all}
+use Rattle.vt_tree_laws.proofs.ChangesWithinSizes.{overwritten_length}
 use Rattle.vt_world_laws.proofs.CallsKept.{new_numbers}
 use Rattle.vt_world_laws.proofs.FitPermitsNamed.{permits_fit}
 use Rattle.vt_world_laws.specs.Worlds.Kept.{IsPlain}
@@ -127,20 +127,6 @@ module _ (inodes : Inodes ℕ) where
   fits (SetAttr object attr) facts = tt
   fits (SetMark directory opaque) facts = facts.1
   fits (CopyUp object) facts = tt
-
--- bytes written into a file end where they end, or where it ended
-overwritten_length : (offset : ℕ) (more bytes : List ℕ) (most : ℕ) → offset + length more ≤ most → length bytes ≤ most
-    → length (overwritten offset more bytes) ≤ most
-overwritten_length offset more bytes most short old =
-    omega (
-      arith,
-      length-append (take offset (padded offset bytes) ++ more) (drop (offset + length more) bytes),
-      length-append (take offset (padded offset bytes)) more,
-      length-drop (offset + length more) bytes,
-      length-take offset (padded offset bytes),
-      short,
-      old,
-    )
 
 -- a regular file is no directory
 file_is_no_directory : (o : Option (Node ℕ)) → is_kind_in File o ≡ true → is_directory_node o ≡ false

@@ -1,14 +1,14 @@
 -- Calls that make, write, remove and rename: what their judgement sees to.
 use Rattle.std.proofs.Common.{eqb-true, le-leb, ◌≡◌, refl, sym, ap, ◌∙◌, ⊎_elim, inl, inr, true≢false, ℕ, nat_eq, nat_le, nat_lt, Bool, true, false, not, List, [], ◌∷◌, ◌++◌, ◌&&◌, length, Option, Some, None, is_some, option_map, arith}
 use Rattle.std.specs.Prelude.{⊤, unwrap_or}
-use Rattle.vt_permit_laws.proofs.SeesGiven.{Gives, ends_both, gives_unless, gives_walk}
+use Rattle.vt_tree_laws.proofs.Given.{Gives, ends_both, gives_unless, gives_walk}
 use Rattle.vt_permit_laws.specs.Sees.{HasRoom, MayBeMade, SeesTo}
 use Rattle.vt_spec.specs.declared.errors.Rule.TheVariants.{E1, E2, E6, W3}
 use Rattle.vt_spec.specs.Language.Calls.{Access, Creation}
 use Rattle.vt_spec.specs.Language.Calls.Creation.{Exclusive, NoCreation, OrCreate}
 use Rattle.vt_spec.specs.Language.Limits.{largest_file, longest_path}
 use Rattle.vt_spec.specs.Laws.Trees.{IsNewIn}
-use Rattle.vt_spec.specs.Lists.{holds_of, is_empty_list}
+use Rattle.vt_spec.specs.Lists.{holds_of}
 use Rattle.vt_spec.specs.Machine.Judge.{Judgement, create_file_permit, hard_link_permit, made_permit, mkdir_permit, open_by_permit, open_file_permit, open_permit, opened_or_created_permit, rename_permit, renamed_permit, rmdir_permit, symlink_permit, unlink_permit, unnumbered, whiteout_permit, write_permit, written_permit}
 use Rattle.vt_spec.specs.Machine.Looks.{Looks, looks_of}
 use Rattle.vt_spec.specs.Machine.Mounts.{Location}
@@ -17,20 +17,19 @@ use Rattle.vt_spec.specs.Machine.Rows.{exact_attr, new_attr}
 use Rattle.vt_spec.specs.Machine.Rules.Descriptors.{descriptor_rules, exclusive_word_rules, open_rules}
 use Rattle.vt_spec.specs.Machine.Rules.Making.{file_word_rules, hard_link_rules, link_text_rules, make_rules, new_word_rules, rewrite_rules, whiteout_rules}
 use Rattle.vt_spec.specs.Machine.Rules.Removing.{is_one_object, object_there, old_word_rules, rename_new_walk, rename_rules, rmdir_rules, rmdir_word_rules, same_object_rules, unlink_rules}
-use Rattle.vt_spec.specs.Machine.Walk.{LastWord, Place, entry_location, is_dot, is_dot_dot, is_no_word, is_special, name_of, new_name_rules}
-use Rattle.vt_spec.specs.Machine.Walk.LastWord.{Dot, DotDot, Named, NoWord}
+use Rattle.vt_spec.specs.Machine.Walk.{Place, entry_location, is_special, name_of, new_name_rules}
 use Rattle.vt_spec.specs.Machine.Walking.{file_walk, is_directory_there, new_leaf_walk, new_walk, object_walk, old_leaf_walk, old_walk, symlink_walk}
 use Rattle.vt_spec.specs.Machine.World.{Filesystem, Task, World, files_at, is_directory_at, mount_at, node_at}
 use Rattle.vt_spec.specs.Machine.Invariants.{IsWorld}
 use Rattle.vt_spec.specs.PathText.{is_empty}
-use Rattle.vt_spec.specs.Tree.{Entries, Node, entries_in, entry_named, is_directory_node, new_directory}
+use Rattle.vt_spec.specs.Tree.{Node, entries_in, entry_named, is_directory_node, new_directory}
 use Rattle.vt_spec.specs.Tree.Content.{Symlink, Whiteout}
 use Rattle.vt_spec.proofs.Nodes.{none_is_not}
 use Rattle.vt_tree_laws.specs.Trees.{IsFileTree}
 use Rattle.vt_tree_laws.specs.Trees.Calls.{IsWorldOfTrees}
 use Rattle.vt_tree_laws.specs.Trees.Sizes.{is_fit_node}
 use Rattle.vt_tree_laws.proofs.ChangesByLinks.{may_link}
-use Rattle.vt_tree_laws.proofs.ChangesByRemoving.{may_move, no_directory_empty, old_removable}
+use Rattle.vt_tree_laws.proofs.ChangesByRemoving.{empty_list, may_move, no_directory_empty, old_removable}
 use Rattle.vt_tree_laws.proofs.ChangesOfCalls.{place_is_free}
 use Rattle.vt_tree_laws.proofs.TreesEntered.{ends_link_walk}
 use Rattle.vt_tree_laws.proofs.TreesOfMounts.{worlds_are_standing}
@@ -41,25 +40,12 @@ use Rattle.vt_tree_laws.proofs.TreesWalked.{Ends, IsFilePlace, IsNewFilePlace, I
 use Rattle.vt_world_laws.proofs.RaisedInUse.{unsettled_of}
 use Rattle.vt_world_laws.proofs.SettledTasks.{file_trees}
 use Rattle.vt_world_laws.specs.Worlds.Kept.{IsPlain}
-
--- a word that is no word that stands for a directory is a name
-no_special : (last : LastWord) → is_dot_dot last ≡ false → is_dot last ≡ false → is_no_word last ≡ false
-    → is_special last ≡ false
-no_special NoWord a b c = c
-no_special Dot a b c = b
-no_special DotDot a b c = a
-no_special (Named name) a b c = refl
-
-empty_list : (entries : Entries ℕ) → not (is_empty_list entries) ≡ false → entries ≡ []
-empty_list [] e = refl
-empty_list (entry ∷ entries) e = absurd (true≢false e)
+use Rattle.vt_call_laws.proofs.EffectsRights.{no_special}
+use Rattle.std.proofs.lemmas.Option.{same_Some}
 
 some_is : (o : Option (Location ℕ)) (default : Location ℕ) → is_some o ≡ true → o ≡ Some (unwrap_or o default)
 some_is None default e = absurd (true≢false (sym e))
 some_is (Some location) default e = refl
-
-same_locations : (a b : Location ℕ) → Some a ≡ Some b → a ≡ b
-same_locations a b e = ap (λ o. unwrap_or o a) e
 
 module _ (world : World ℕ) (whole : IsWorld nat_eq world) (plain : IsPlain world) (task : Task ℕ) where
   abbrev looks : Looks ℕ
@@ -246,7 +232,7 @@ module _ (world : World ℕ) (whole : IsWorld nat_eq world) (plain : IsPlain wor
       by None h = none_is_not None object refl (sym h)
       by (Some number) h =
           ap (λ (l : Location ℕ). l.mount)
-          (same_locations object (record { mount = parent.mount; node = number }) h)
+          (same_Some object (record { mount = parent.mount; node = number }) h)
 
   old_mount : (place : Place ℕ) → IsOldPlace world task place → is_special place.last ≡ false
       → (object_there place).mount ≡ place.parent.mount

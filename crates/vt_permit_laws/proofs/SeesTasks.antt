@@ -2,7 +2,8 @@
 use Rattle.std.proofs.Common.{◌≡◌, refl, true≢false, sym, ℕ, nat_eq, nat_le, Bool, true, false, [], ◌∷◌, ◌||◌, length, List, Option, Some, None, is_some, ok_or, ap, arith}
 use Rattle.std.proofs.Math.Nat.{mod-lt}
 use Rattle.std.specs.Prelude.{⊤}
-use Rattle.vt_permit_laws.proofs.SeesGiven.{Gives, found_there, given_is, gives_then, gives_unless, gives_walk}
+use Rattle.vt_tree_laws.proofs.Given.{Gives, given_is, gives_then, gives_unless, gives_walk}
+use Rattle.vt_permit_laws.proofs.SeesGiven.{found_there}
 use Rattle.vt_permit_laws.proofs.SeesNames.{link_seen, mkdir_seen, open_seen, rename_seen, rmdir_seen, symlink_seen, unlink_seen, whiteout_seen, write_seen}
 use Rattle.vt_permit_laws.specs.Sees.{GivenPermitsAreSeenTo, SeesTo}
 use Rattle.vt_spec.specs.declared.attributes.Attr.{Attr}
@@ -36,9 +37,10 @@ use Rattle.vt_spec.specs.Tree.{Content, Node, is_directory_node, kind_of}
 use Rattle.vt_spec.specs.Tree.Content.{Directory, Regular, Symlink, Whiteout}
 use Rattle.vt_spec.specs.declared.attributes.Kind.TheVariants.{Symlink as SymlinkKind}
 use Rattle.vt_tree_laws.specs.Trees.Calls.{mounts_overlay}
-use Rattle.vt_tree_laws.proofs.TreesWalked.{ends_anyhow, first_false, not_true, second_false}
+use Rattle.vt_tree_laws.proofs.TreesWalked.{ends_anyhow, first_false, not_true}
 use Rattle.vt_world_laws.proofs.ReachedWalks.{FoundDirectory, directory_walk_end}
 use Rattle.vt_world_laws.specs.Worlds.Kept.{IsPlain}
+use Rattle.std.proofs.lemmas.Bool.{or_parts}
 
 -- a symlink is no directory
 link_is_no_directory : (o : Option (Node ℕ)) → is_kind_in SymlinkKind o ≡ true → is_directory_node o ≡ false
@@ -179,7 +181,7 @@ module _ (world : World ℕ) (whole : IsWorld nat_eq world) (plain : IsPlain wor
   fork_seen words =
       gives_unless (SeesTo world task) (fork_rules task (child_credentials task.credentials words)) _ (λ passed. (
         first_false (nat_le most_forks task.forks) (nat_le deepest_name (length task.name)) passed.0,
-        second_false (nat_le most_forks task.forks) (nat_le deepest_name (length task.name)) passed.0,
+        (or_parts (nat_le most_forks task.forks) (nat_le deepest_name (length task.name)) passed.0).1,
       ))
 
   unshare_seen : Seen (unshare_permit task)

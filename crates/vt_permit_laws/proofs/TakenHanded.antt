@@ -60,8 +60,10 @@ module _ (next inode : ℕ) (even : inode % 2 ≡ 0) (world : World ℕ) (task :
   taken (ToRead file) k low = counted_here next (numbers_taken world task (ToRead file)) k low
   taken (ToReadPart file offset size) k low = counted_here next (numbers_taken world task (ToReadPart file offset size)) k low
   taken (ToChange location change) k low = counted_here next (numbers_taken world task (ToChange location change)) k low
-  taken (ToRemoveDirectory parent name directory) k low = counted_here next (numbers_taken world task (ToRemoveDirectory parent name directory)) k low
-  taken (ToRename from old to new object replaced) k low = counted_here next (numbers_taken world task (ToRename from old to new object replaced)) k low
+  taken (ToRemoveDirectory parent name directory) k low =
+      counted_here next (numbers_taken world task (ToRemoveDirectory parent name directory)) k low
+  taken (ToRename from old to new object replaced) k low =
+      counted_here next (numbers_taken world task (ToRename from old to new object replaced)) k low
   taken (ToOpen file access) k low = counted_here next (numbers_taken world task (ToOpen file access)) k low
   taken (ToWritePart file offset bytes) k low = counted_here next (numbers_taken world task (ToWritePart file offset bytes)) k low
   taken (ToClose descriptor) k low = counted_here next (numbers_taken world task (ToClose descriptor)) k low

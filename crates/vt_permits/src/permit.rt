@@ -1,7 +1,7 @@
 //! Permits: each names all that the call acts on.
 
-use vt_cred::{Caps, Cred, Mode};
-use vt_location::{Location, MountFlags, MountId, NamespaceId, NodeRef};
+use vt_cred::{Caps, Cred, Mode, MountFlags};
+use vt_location::{Location, MountId, NamespaceId, NodeRef};
 use vt_node::{Attr, Node};
 use vt_request::{Access, TypeWord};
 

@@ -61,6 +61,7 @@ pub fn judge<L: LookAtMounts>(
 }
 
 // A call on files by their paths.
+#[inline(always)]
 fn judge_on_file<L: LookAtMounts>(
     alloc: Global,
     world: &L,
@@ -94,6 +95,7 @@ fn judge_on_file<L: LookAtMounts>(
 }
 
 // A call on open files.
+#[inline(always)]
 fn judge_on_descriptor<L: LookAtMounts>(
     alloc: Global,
     world: &L,
@@ -128,6 +130,7 @@ fn judge_on_descriptor<L: LookAtMounts>(
 }
 
 // A call on tasks and their namespaces.
+#[inline(always)]
 fn judge_on_task<L: LookAtMounts>(world: &L, who: &Task, call: Call) -> Result<Permit, Deny>
     requires { is_on_task (call_of call) ≡ true }
     ensures judged { JudgesByReceivers (task_of who.now)
@@ -153,6 +156,7 @@ fn judge_on_task<L: LookAtMounts>(world: &L, who: &Task, call: Call) -> Result<P
 }
 
 // A call on mounts.
+#[inline(always)]
 fn judge_on_mount<L: LookAtMounts>(world: &L, who: &Task, call: Call) -> Result<Permit, Deny>
     requires { is_on_mount (call_of call) ≡ true }
     ensures judged { JudgesByReceivers (task_of who.now)

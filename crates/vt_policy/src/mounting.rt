@@ -1,15 +1,15 @@
 //! Mount calls: mount(2) in its forms, umount(2).
 ghost use Rattle.std.specs.Prelude.{◌≡◌, nat_eq, Err, IfErr, IfOk};
 ghost use Rattle.vt_spec.specs.Machine.Judge.{bind_permit, lazy_permit, mount_plain_permit, move_permit, remount_permit, type_permit, umount_permit};
-ghost use Rattle.vt_location.specs.Flags.{flags_of};
+ghost use Rattle.vt_cred.specs.MountFlags.{flags_of};
 ghost use Rattle.vt_permits.specs.Memory.{JudgesAlike, JudgesByReceivers};
 ghost use Rattle.vt_request.specs.Requests.{type_word_of};
 ghost use Rattle.vt_tasks.specs.TaskValue.{task_of};
 ghost use Rattle.vt_policy.specs.Ends.{IsRootAt, root_walk};
 
 use crate::paths::{destination_at, directory_at, source_at};
-use vt_cred::Caps;
-use vt_location::{Location, MountFlags};
+use vt_cred::{Caps, MountFlags};
+use vt_location::Location;
 use vt_looks::{Attachment, Look, LookAtMounts};
 use vt_permits::Permit;
 use vt_request::TypeWord;

@@ -1,21 +1,24 @@
 -- An attachment is what its plans say.
-use Rattle.std.proofs.Common.{◌≡◌, ℕ, false, List, [], ◌∷◌, ◌++◌, map, nat_eq, refl, sym, ap, ◌∙◌, arith, length, ◌+◌, ◌*◌}
+use Rattle.std.proofs.Common.{◌≡◌, ℕ, false, List, [], ◌∷◌, ◌++◌, map, nat_eq, refl, sym, ap, ◌∙◌, arith, drop, length, take, ◌+◌, ◌*◌}
 use Rattle.std.proofs.lemmas.List.{append_assoc, length-append, length-map}
+use Rattle.std.proofs.Math.Seq.{drop-append_seam, take-append_seam}
 use Rattle.std.specs.Prelude.{None, Option, flat_map, if◌then◌else◌, option_map}
 use Rattle.vt_spec.specs.Lists.{first_of_list, folded, holds_of, rest_of}
 use Rattle.vt_spec.specs.Machine.Attach.{added_mounts, copies_at, masters_with, parts_of, pushed_up, with_moved_mounts}
-use Rattle.vt_spec.specs.Machine.Mounts.{Location, Mount}
+use Rattle.vt_spec.specs.Machine.Mounts.{Location, Mount, with_mount}
 use Rattle.vt_spec.specs.Machine.World.{World, mount_at}
 use Rattle.vt_spec.proofs.Lists.{contains_from_among}
 use Rattle.vt_group.proofs.Together.{map_alike}
 use Rattle.vt_location.specs.Locations.{location_of}
+use Rattle.vt_location.specs.MountValue.{mount_of}
 use Rattle.vt_location.specs.Numbers.{counted}
 use Rattle.vt_propagate.specs.declared.copying.Counts.{Counts}
 use Rattle.vt_propagate.specs.declared.copying.Graft.{Graft}
 use Rattle.vt_propagate.specs.Attaching.{AttachesBy}
 use Rattle.vt_propagate.specs.Falling.{moved_by}
 use Rattle.vt_propagate.specs.Planned.{graft_in, numbers_at, planned_copies, planned_groups}
-use Rattle.vt_propagate.specs.Pushing.{PushesBy, leaver}
+use Rattle.vt_propagate.specs.Pushing.{KeepsLeaver, PushesBy, leaver}
+use Rattle.vt_propagate.proofs.Moved.{all_pushed}
 
 pub length-rows : {A B C : Type 0} (f : A → B → C) (row : List B) (list : List A)
     → length (flat_map (λ a. map (f a) row) list) ≡ length list * length row
@@ -32,8 +35,8 @@ pub attached_by_plans : (world : World ℕ) (graft : Graft) (counts : Counts) (c
     (ℕ × Option ℕ))
     (points : List (ℕ × Location ℕ)) → copies ≡ planned_copies world graft counts → new
     ≡ planned_groups world graft counts
-    → PushesBy world graft counts points → AttachesBy world graft counts copies new points
-attached_by_plans world graft counts copies new points copies_are groups_are pushes = record {
+    → PushesBy world graft counts points → KeepsLeaver graft points → AttachesBy world graft counts copies new points
+attached_by_plans world graft counts copies new points copies_are groups_are pushes keeps = record {
   copies_are = copies_are;
   groups_are = groups_are;
   pushes = pushes;
@@ -45,6 +48,16 @@ attached_by_plans world graft counts copies new points copies_are groups_are pus
         ∙ ap (λ mounts. mounts ++ (moved ++ elsewhere)) (map_alike pushed (moved_by points) world.mounts (λ mount m.
         pushes mount mount (contains_from_among world.mounts mount m) (stays mount.number binds) refl refl))
         ∙ ap (λ more. map (moved_by points) world.mounts ++ more) (sym copies_are)) i;
+    master = folded (masters_with nat_eq) world.master (sym groups_are i);
+  };
+  move = λ moves is i. record world {
+    mounts = (append_assoc (map pushed (with_moved_mounts nat_eq graft.moves world.mounts moved))
+        (added_mounts graft.moves moved) elsewhere
+        ∙ (λ j. map pushed (with_moved_mounts nat_eq (moves j) world.mounts moved) ++ (added_mounts
+        (moves j) moved ++ elsewhere))
+        ∙ ap (λ mounts. mounts ++ elsewhere) (map_alike pushed (moved_by points) (folded (with_mount nat_eq) world.mounts moved)
+        (all_pushed world graft counts points pushes keeps moves is))
+        ∙ (λ j. map (moved_by points) (folded (with_mount nat_eq) world.mounts (sym first_copies j)) ++ sym other_copies j)) i;
     master = folded (masters_with nat_eq) world.master (sym groups_are i);
   };
 }
@@ -66,3 +79,13 @@ attached_by_plans world graft counts copies new points copies_are groups_are pus
     stays : (number : ℕ) → graft.moves ≡ false → holds_of (nat_eq number) (leaver graft) ≡ false
     stays number binds = ap (λ b. holds_of (nat_eq number) (if b then option_map (λ top. counted top.number.count)
         (first_of_list graft.tree.now) else None)) binds
+
+    sized : length moved ≡ length graft.tree.now
+    sized = length-map (graft_in world graft counts).twigs _ ∙ length-map (map mount_of graft.tree.now) _
+        ∙ length-map graft.tree.now mount_of
+
+    first_copies : take (length graft.tree.now) copies ≡ moved
+    first_copies = (λ i. take (sym sized i) (copies_are i)) ∙ take-append_seam moved elsewhere
+
+    other_copies : drop (length graft.tree.now) copies ≡ elsewhere
+    other_copies = (λ i. drop (sym sized i) (copies_are i)) ∙ drop-append_seam moved elsewhere

@@ -1,9 +1,9 @@
 -- Where a mount stands in a list, by its number or by its group.
-use Rattle.std.proofs.Common.{◌≡◌, ℕ, Bool, true, false, cond, ◌+◌, ◌||◌, suc, List, [], ◌∷◌, map, nat_eq, Option, Some, refl, sym, ap, ◌∙◌, eq-eqb, ne_eqb}
-use Rattle.std.specs.List.{list_any, position_from}
+use Rattle.std.proofs.Common.{◌≡◌, ℕ, Bool, true, false, cond, ◌||◌, suc, List, [], ◌∷◌, map, nat_eq, Option, Some, refl, sym, ap, ◌∙◌, eq-eqb, ne_eqb}
+use Rattle.std.specs.List.{list_any}
 use Rattle.std.proofs.lemmas.Bool.{eqb-false, eqb-true}
 use Rattle.std.specs.Prelude.{find as seek}
-use Rattle.vt_spec.specs.Lists.{chain, place_from}
+use Rattle.vt_spec.specs.Lists.{chain}
 use Rattle.vt_spec.proofs.Lists.{chain_goes_on}
 use Rattle.vt_location.specs.Numbers.{counted}
 use Rattle.vt_mount.proofs.EntryLemmas.{same_count}
@@ -20,11 +20,6 @@ turned_count a b = turned ∙ sym (same_count b a)
         by false is apart = ne_eqb a b (λ is. apart refl (sym is))
 
 module _ {A B : Type 0} (f : A → B) (test : A → Bool) (seen : B → Bool) (agree : (a : A) → test a ≡ seen (f a)) where
-  pub place-map : (k : ℕ) (list : List A) → position_from test k list ≡ place_from seen k (map f list)
-  place-map k [] = refl
-  place-map k (a ∷ list) =
-      λ i. cond (agree a i) (Some k) (place-map (k + 1) list i)
-
   pub any-seen : (list : List A) → list_any test list ≡ list_any seen (map f list)
   any-seen [] = refl
   any-seen (a ∷ list) = λ i. agree a i || any-seen list i

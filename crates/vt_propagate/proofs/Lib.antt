@@ -7,3 +7,7 @@ pub mod Planning
 pub mod Fallen
 pub mod Pushed
 pub mod Attached
+pub mod Retyped
+pub mod Seeing
+pub mod Moved
+pub mod Places

@@ -239,7 +239,7 @@ module _ (world : World ℕ) (one_child : OneChild world) (up : are_ascending wo
 eqb-turned : (a b : ℕ) → nat_eq b a ≡ false → nat_eq a b ≡ false
 eqb-turned a b e = ne_eqb a b (λ same. eqb-false b a e (sym same))
 
-number_at : (mounts : List (Mount ℕ)) (number : ℕ) → (mount_in nat_eq mounts number).number ≡ number
+pub number_at : (mounts : List (Mount ℕ)) (number : ℕ) → (mount_in nat_eq mounts number).number ≡ number
 number_at mounts number = by (seek (λ mount. nat_eq number mount.number) mounts) refl
   where
     by : (o : Option (Mount ℕ)) → seek (λ mount. nat_eq number mount.number) mounts ≡ o
@@ -247,6 +247,19 @@ number_at mounts number = by (seek (λ mount. nat_eq number mount.number) mounts
     by None e = refl
     by (Some mount) e = sym (eqb-true number mount.number (found_one
         (λ mount. nat_eq number mount.number) mounts mount e).1)
+
+-- no receiver that takes part is the destination's mount
+pub receivers_apart : (world : World ℕ) (place : Location ℕ) (part : Mount ℕ)
+    → Among part (filter (takes_part nat_eq world place) (receivers_of nat_eq world (mount_at nat_eq world place)))
+    → nat_eq part.number place.mount ≡ false
+receivers_apart world place part m =
+    let takes = (among-from_filter (takes_part nat_eq world place) (receivers_of nat_eq world (mount_at nat_eq world place)) part m).1 in
+    turned (nat_eq place.mount part.number) refl (and_parts (not (nat_eq place.mount part.number)) _
+    (and_parts _ _ (and_parts _ _ takes).0).0).0
+  where
+    turned : (b : Bool) → nat_eq place.mount part.number ≡ b → not (nat_eq place.mount part.number) ≡ true
+        → nat_eq part.number place.mount ≡ false
+    turned b is e = eqb-turned part.number place.mount (not-true (nat_eq place.mount part.number) e)
 
 pub all_pushed : (world : World ℕ) → OneChild world → are_ascending world.mounts ≡ true
     → (graft : Graft) (counts : Counts)
@@ -278,15 +291,7 @@ all_pushed world one_child up graft counts before mount there stays number point
         ∙ length-map graft.tree.now mount_of
 
     apart : (part : Mount ℕ) → Among part receivers → nat_eq part.number place.mount ≡ false
-    apart part m =
-        let takes = (among-from_filter (takes_part nat_eq world (location_of graft.place))
-        (receivers_of nat_eq world (mount_at nat_eq world (location_of graft.place))) part m).1 in
-        turned (nat_eq place.mount part.number) refl (and_parts (not (nat_eq place.mount part.number)) _
-        (and_parts _ _ (and_parts _ _ takes).0).0).0
-      where
-        turned : (b : Bool) → nat_eq place.mount part.number ≡ b → not (nat_eq place.mount part.number) ≡ true
-            → nat_eq part.number place.mount ≡ false
-        turned b is e = eqb-turned part.number place.mount (not-true (nat_eq place.mount part.number) e)
+    apart = receivers_apart world (location_of graft.place)
 
     -- the first part is the destination
     found_at : lookup (nat_eq mount.number) (pushes_from world.mounts (leaver graft) place size
@@ -325,3 +330,38 @@ all_pushed world one_child up graft counts before mount there stays number point
         (copies (mount_at nat_eq world place) ++ flat_map copies receivers)) mount
     onto None e = λ i. record mount { mount_point = or_else (sym e i) mount.mount_point }
     onto (Some part) e = λ i. record mount { mount_point = or_else (sym e i) mount.mount_point }
+
+-- the mount that leaves its place is not among those that are pushed
+module _ (mounts : List (Mount ℕ)) (left : Option ℕ) (place : Location ℕ) (size number : ℕ)
+    (leaves : holds_of (nat_eq number) left ≡ true) where
+  other_stands : (child : Option (Mount ℕ)) (top : Location ℕ) (rest : List (ℕ × Location ℕ))
+      → lookup (nat_eq number) (cons_option (option_map (λ n. (n, top)) (then_some (option_map (λ (child : Mount ℕ). child.number) child)
+      (λ n. if holds_of (nat_eq n) left then None else Some n))) rest)
+      ≡ lookup (nat_eq number) rest
+  other_stands None top rest = refl
+  other_stands (Some child) top rest = by (holds_of (nat_eq child.number) left) refl (nat_eq number child.number) refl
+    where
+      by : (b : Bool) → holds_of (nat_eq child.number) left ≡ b → (c : Bool) → nat_eq number child.number ≡ c
+          → lookup (nat_eq number) (cons_option (option_map (λ n. (n, top)) (if b then None else Some child.number)) rest)
+          ≡ lookup (nat_eq number) rest
+      by true e c is = refl
+      by false e true is =
+          absurd (true≢false (sym leaves ∙ ap (λ n. holds_of (nat_eq n) left) (eqb-true number child.number is) ∙ e))
+      by false e false is = ap (λ c. cond c (Some top) (lookup (nat_eq number) rest)) is
+
+  pub leaver_stays : (parts copies : List (Mount ℕ)) → lookup (nat_eq number) (pushes_from mounts left place size parts copies) ≡ None
+  leaver_stays [] copies = refl
+  leaver_stays (part ∷ parts) copies =
+      by (nat_eq part.number place.mount)
+      ∙ leaver_stays parts (drop size copies)
+    where
+      by : (b : Bool) → lookup (nat_eq number) (cons_option (if b then None
+          else option_map (λ n. (n, top_of_copies nat_eq (take size copies) place))
+          (stander mounts left (record { mount = part.number; node = place.node })))
+          (pushes_from mounts left place size parts (drop size copies)))
+          ≡ lookup (nat_eq number) (pushes_from mounts left place size parts (drop size copies))
+      by true = refl
+      by false =
+          other_stands (child_at nat_eq mounts (record { mount = part.number; node = place.node }))
+          (top_of_copies nat_eq (take size copies) place)
+          (pushes_from mounts left place size parts (drop size copies))

@@ -16,6 +16,7 @@ use Rattle.vt_mount.specs.MountsValue.{MountEntry, mounts_in}
 use Rattle.vt_propagate.specs.declared.copying.Counts.{Counts}
 use Rattle.vt_propagate.specs.declared.copying.Graft.{Graft}
 use Rattle.vt_propagate.specs.declared.numbering.Copying.{Copying}
+use Rattle.vt_propagate.specs.Indexes.{IsIndexed}
 
 -- the numbers of counts, each as far from the one before
 abbrev pub counts_from : Counts → Fresh ℕ
@@ -49,8 +50,10 @@ abbrev pub HasRoomFor : Graft → Counts → Type 0
 HasRoomFor graft counts =
     (0 < counts.step) × (counts.first + counts.step * (2 * (length graft.parts.now * length graft.tree.now)) < 18446744073709551616)
 
-abbrev pub HasRoom : Copying → Type 0
-HasRoom copying = HasRoomFor copying.graft copying.counts
+-- and the indexes are those of the graft
+pub record IsReady (copying : Copying) : Type 0 where
+  pub room : HasRoomFor copying.graft copying.counts
+  pub indexed : IsIndexed copying.indexes.now copying.graft
 
 -- a copy at a part
 abbrev pub copied : World ℕ → Copying → Mount ℕ → Mount ℕ → Mount ℕ

@@ -1,6 +1,7 @@
 -- Which mounts move onto a copied tree, since they stood at its place.
-use Rattle.std.specs.Prelude.{Contains, List, None, Option, Some, [], drop, false, if◌then◌else◌, nat_eq, option_map, take, ℕ, ◌≡◌, ◌∷◌}
+use Rattle.std.specs.Prelude.{Contains, List, None, Option, Some, [], drop, false, if◌then◌else◌, nat_eq, option_map, take, true, ℕ, ◌≡◌, ◌∷◌}
 use Rattle.std.specs.List.{cons_option}
+use Rattle.std.specs.Map.{lookup}
 use Rattle.vt_spec.specs.Lists.{any_pair, first_of_list, holds_of, then_some}
 use Rattle.vt_spec.specs.Machine.Attach.{parts_of, pushed_up, top_of_copies}
 use Rattle.vt_spec.specs.Machine.Invariants.{share_a_mount_point}
@@ -23,8 +24,13 @@ abbrev pub PushesBy : World ℕ → Graft → Counts → List (ℕ × Location �
 PushesBy world graft counts points =
     (before mount : Mount ℕ) → Contains world.mounts before → holds_of (nat_eq before.number) (leaver graft) ≡ false
     → mount.number ≡ before.number → mount.mount_point ≡ before.mount_point
-    → pushed_up nat_eq world (numbers_at world graft counts) (graft_in world graft counts) (parts_of nat_eq world (location_of graft.place)) mount
+    → pushed_up nat_eq world (numbers_at world graft counts) (graft_in world graft counts)
+    (parts_of nat_eq world (location_of graft.place)) mount
     ≡ moved_by points mount
+
+-- the mount that leaves gets no new mount point here
+abbrev pub KeepsLeaver : Graft → List (ℕ × Location ℕ) → Type 0
+KeepsLeaver graft points = (number : ℕ) → holds_of (nat_eq number) (leaver graft) ≡ true → lookup (nat_eq number) points ≡ None
 
 -- no two mounts have one mount point
 abbrev pub OneChild : World ℕ → Type 0
@@ -42,7 +48,8 @@ stander mounts left place =
 abbrev pub pushed_at : List (Mount ℕ) → Option ℕ → Location ℕ → ℕ → List (Mount ℕ) → Option (ℕ × Location ℕ)
 pushed_at mounts left place part copies =
     if nat_eq part place.mount then None
-    else option_map (λ number. (number, top_of_copies nat_eq copies place)) (stander mounts left (record { mount = part; node = place.node }))
+    else option_map (λ number. (number, top_of_copies nat_eq copies place))
+    (stander mounts left (record { mount = part; node = place.node }))
 
 -- at all these parts, each of which has so many of the copies
 abbrev pub pushes_from : List (Mount ℕ) → Option ℕ → Location ℕ → ℕ → List (Mount ℕ) → List (Mount ℕ) → List (ℕ × Location ℕ)

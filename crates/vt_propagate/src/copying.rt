@@ -9,11 +9,12 @@ ghost use Rattle.vt_group.specs.Steps.{group_number};
 ghost use Rattle.vt_location.specs.Locations.{location_of};
 ghost use Rattle.vt_location.specs.MountValue.{mount_of, propagation_of};
 ghost use Rattle.vt_location.specs.Numbers.{counted};
-ghost use Rattle.vt_propagate.specs.Copying.{HasRoom, HasRoomFor, as_kept, copied, graft_seen, made, new_group};
+ghost use Rattle.vt_propagate.specs.Copying.{IsReady, HasRoomFor, as_kept, copied, graft_seen, made, new_group};
 ghost use Rattle.vt_propagate.specs.Copying.{parts_seen, supply, tree_seen, twig};
 ghost use Rattle.vt_propagate.specs.Planned.{planned_copies, planned_groups};
 ghost use Rattle.vt_propagate.specs.Seen.{IsSeen};
 
+use crate::indexes::Indexes;
 use crate::numbering::{Copying, is_member};
 use std::alloc::{AllocError, Global};
 use vt_group::{Groups, NewGroup};
@@ -43,7 +44,7 @@ pub struct Counts {
 
 /// The copies that are attached, with their types: all at the destination, in the order of the tree, then all at each receiver.
 /// Where a tree moves, those at the destination are the mounts themselves, as they are there. The copy at the i-th part of the
-/// j-th mount of n, both from 0, is the `2·(n·i + j)`-th of the counts. For each copy all parts and the whole tree are passed over.
+/// j-th mount of n, both from 0, is the `2·(n·i + j)`-th of the counts.
 ///
 /// S5 (ENOMEM): an allocation failed.
 pub fn copies(
@@ -63,10 +64,14 @@ pub fn copies(
     let Some(destination) = graft.parts.first() else {
         return Ok(Vec::new(alloc));
     };
+    let Ok(indexes) = Indexes::new(alloc, graft) else {
+        return Err(Rule::S5.denial());
+    };
     let copying = Copying {
         graft: *graft,
         destination: *destination,
         counts,
+        indexes: &indexes,
     };
     let Ok(copies) = copying.all_copies(alloc, mounts, groups) else {
         return Err(Rule::S5.denial());
@@ -95,10 +100,14 @@ pub fn new_groups(
     let Some(destination) = graft.parts.first() else {
         return Ok(Vec::new(alloc));
     };
+    let Ok(indexes) = Indexes::new(alloc, graft) else {
+        return Err(Rule::S5.denial());
+    };
     let copying = Copying {
         graft: *graft,
         destination: *destination,
         counts,
+        indexes: &indexes,
     };
     let Ok(new) = copying.all_groups(alloc, mounts, groups) else {
         return Err(Rule::S5.denial());
@@ -114,7 +123,7 @@ impl<'a> Copying<'a> {
         mounts: &Mounts,
         groups: &Groups,
     ) -> Result<Vec<Mount>, AllocError>
-        requires { HasRoom self.now }
+        requires { IsReady self.now }
         ensures { IfOk result (λ copies. map mount_of copies.items
             ≡ flat_map (λ part. map (copied (as_kept mounts.now groups.now) self.now part) (tree_seen self.now)) (parts_seen self.now)) }
     {
@@ -133,7 +142,7 @@ impl<'a> Copying<'a> {
         part: &Mount,
         copies: &mut Vec<Mount>,
     ) -> Result<(), AllocError>
-        requires room { HasRoom self.now }
+        requires ready { IsReady self.now }
         requires parts { 0 < length self.now.graft.parts.now }
         ensures { OnOk result (map mount_of copies.new.items ≡ map mount_of copies.old.items
             ++ map (copied (as_kept mounts.now groups.now) self.now (mount_of part.now)) (tree_seen self.now)) }
@@ -146,7 +155,7 @@ impl<'a> Copying<'a> {
 
     // The copy of a mount at a part.
     fn copy(&self, mounts: &Mounts, groups: &Groups, part: &Mount, origin: &Mount) -> Mount
-        requires room { HasRoom self.now }
+        requires ready { IsReady self.now }
         requires parts { 0 < length self.now.graft.parts.now }
         requires tree { 0 < length self.now.graft.tree.now }
         ensures { mount_of result ≡ copied (as_kept mounts.now groups.now) self.now (mount_of part.now) (mount_of origin.now) }
@@ -167,7 +176,7 @@ impl<'a> Copying<'a> {
 
     // Where the copy of a mount at a part stands: the first of the tree at the destination, each other one on the copy of its parent.
     fn copy_place(&self, part: MountId, origin: &Mount) -> Location
-        requires room { HasRoom self.now }
+        requires ready { IsReady self.now }
         requires parts { 0 < length self.now.graft.parts.now }
         requires tree { 0 < length self.now.graft.tree.now }
         ensures { location_of result
@@ -205,7 +214,7 @@ impl<'a> Copying<'a> {
         mounts: &Mounts,
         groups: &Groups,
     ) -> Result<Vec<NewGroup>, AllocError>
-        requires { HasRoom self.now }
+        requires { IsReady self.now }
         ensures { IfOk result (λ new. map new_group new.items
             ≡ flat_map (λ part. filter_map (made (as_kept mounts.now groups.now) self.now part) (tree_seen self.now))
             (parts_seen self.now)) }
@@ -225,7 +234,7 @@ impl<'a> Copying<'a> {
         part: &Mount,
         new: &mut Vec<NewGroup>,
     ) -> Result<(), AllocError>
-        requires room { HasRoom self.now }
+        requires ready { IsReady self.now }
         requires parts { 0 < length self.now.graft.parts.now }
         ensures { OnOk result (map new_group new.new.items ≡ map new_group new.old.items
             ++ filter_map (made (as_kept mounts.now groups.now) self.now (mount_of part.now)) (tree_seen self.now)) }
@@ -246,7 +255,7 @@ impl<'a> Copying<'a> {
         part: &Mount,
         origin: &Mount,
     ) -> Option<NewGroup>
-        requires room { HasRoom self.now }
+        requires ready { IsReady self.now }
         requires parts { 0 < length self.now.graft.parts.now }
         requires tree { 0 < length self.now.graft.tree.now }
         ensures { option_map new_group result ≡ made (as_kept mounts.now groups.now) self.now (mount_of part.now) (mount_of origin.now) }
@@ -268,7 +277,7 @@ impl<'a> Copying<'a> {
 
     // The group that a mount joins at the destination, if that is a new one. A slave's master becomes the master of the group.
     fn group_at_destination(&self, origin: &Mount) -> Option<NewGroup>
-        requires room { HasRoom self.now }
+        requires ready { IsReady self.now }
         requires parts { 0 < length self.now.graft.parts.now }
         requires tree { 0 < length self.now.graft.tree.now }
         ensures { option_map new_group result ≡ twig_master (twig self.now (mount_of origin.now)) }

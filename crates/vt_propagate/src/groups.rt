@@ -5,7 +5,7 @@ ghost use Rattle.vt_spec.specs.Machine.Receives.{groups_up, has_members};
 ghost use Rattle.vt_group.specs.Steps.{group_number};
 ghost use Rattle.vt_location.specs.MountValue.{mount_of, propagation_of};
 ghost use Rattle.vt_location.specs.Numbers.{counted};
-ghost use Rattle.vt_propagate.specs.Copying.{HasRoom, as_kept, parts_seen, supply, twig};
+ghost use Rattle.vt_propagate.specs.Copying.{IsReady, as_kept, parts_seen, supply, twig};
 
 use crate::numbering::{Copying, is_member};
 use vt_group::Groups;
@@ -15,7 +15,7 @@ use vt_mount::Mounts;
 impl<'a> Copying<'a> {
     /// The type of a mount of the tree at the destination: if that is shared, a mount that is not joins a new group there.
     pub(crate) fn type_at(&self, origin: &Mount) -> Propagation
-        requires room { HasRoom self.now }
+        requires ready { IsReady self.now }
         requires parts { 0 < length self.now.graft.parts.now }
         requires tree { 0 < length self.now.graft.tree.now }
         ensures { propagation_of result ≡ (twig self.now (mount_of origin.now)).propagation }
@@ -31,7 +31,7 @@ impl<'a> Copying<'a> {
 
     /// The group that the copies of a mount form at the members of a group: for the destination's, the group of the mount there.
     pub(crate) fn image(&self, origin: &Mount, group: GroupId) -> GroupId
-        requires room { HasRoom self.now }
+        requires ready { IsReady self.now }
         requires parts { 0 < length self.now.graft.parts.now }
         requires tree { 0 < length self.now.graft.tree.now }
         ensures { counted result.count
@@ -54,7 +54,7 @@ impl<'a> Copying<'a> {
         origin: &Mount,
         group: Option<GroupId>,
     ) -> Option<GroupId>
-        requires room { HasRoom self.now }
+        requires ready { IsReady self.now }
         requires parts { 0 < length self.now.graft.parts.now }
         requires tree { 0 < length self.now.graft.tree.now }
         ensures { option_map group_number result
@@ -62,7 +62,7 @@ impl<'a> Copying<'a> {
             (mount_of self.now.destination)
             (twig self.now (mount_of origin.now)) (option_map group_number group) }
     {
-        let nearest = nearest(mounts, groups, self.graft.parts, group?)?;
+        let nearest = self.nearest(mounts, groups, group?)?;
         Some(self.image(origin, nearest))
     }
 
@@ -74,7 +74,7 @@ impl<'a> Copying<'a> {
         origin: &Mount,
         receiver: Propagation,
     ) -> Propagation
-        requires room { HasRoom self.now }
+        requires ready { IsReady self.now }
         requires parts { 0 < length self.now.graft.parts.now }
         requires tree { 0 < length self.now.graft.tree.now }
         ensures { propagation_of result
@@ -93,26 +93,28 @@ impl<'a> Copying<'a> {
             Propagation::Unbindable => Propagation::Unbindable,
         }
     }
-}
 
-// The nearest group that has a part, from this one up the masters.
-fn nearest(mounts: &Mounts, groups: &Groups, parts: &[Mount], group: GroupId) -> Option<GroupId>
-    ensures { option_map group_number result
-        ≡ find (has_members nat_eq (map mount_of parts.now)) (groups_up (as_kept mounts.now groups.now) (counted group.count)) }
-{
-    let mut here = group;
-    for _ in 0..mounts.len() {
-        if has_part(parts, here) {
-            return Some(here);
+    // The nearest group that has a part, from this one up the masters.
+    fn nearest(&self, mounts: &Mounts, groups: &Groups, group: GroupId) -> Option<GroupId>
+        requires { IsReady self.now }
+        ensures { option_map group_number result
+            ≡ find (has_members nat_eq (parts_seen self.now)) (groups_up (as_kept mounts.now groups.now) (counted group.count)) }
+    {
+        let mut here = group;
+        for _ in 0..mounts.len() {
+            if self.has_part(here) {
+                return Some(here);
+            }
+            here = groups.master_of(here)?;
         }
-        here = groups.master_of(here)?;
+        self.has_part(here).then_some(here)
     }
-    has_part(parts, here).then_some(here)
-}
 
-// Whether a part is a member of a group.
-fn has_part(parts: &[Mount], group: GroupId) -> bool
-    ensures { result ≡ has_members nat_eq (map mount_of parts.now) (counted group.count) }
-{
-    parts.iter().any(|part| is_member(part.propagation, group))
+    // Whether a part is a member of a group.
+    fn has_part(&self, group: GroupId) -> bool
+        requires { IsReady self.now }
+        ensures { result ≡ has_members nat_eq (parts_seen self.now) (counted group.count) }
+    {
+        self.indexes.groups.contains_key(&group)
+    }
 }

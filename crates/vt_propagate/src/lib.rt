@@ -7,10 +7,13 @@ mod detaching;
 mod falling;
 mod filling;
 mod groups;
+mod indexes;
+pub mod laws;
 mod numbering;
 mod pushing;
 mod reach;
 mod receiving;
+pub mod retyping;
 mod unmounting;
 
 pub use attaching::{Plan, attachment};

@@ -5,23 +5,25 @@ ghost use Rattle.vt_spec.specs.Lists.{holds_of};
 ghost use Rattle.vt_spec.specs.Machine.Mounts.{group_of, index_of as index_of_in};
 ghost use Rattle.vt_location.specs.MountValue.{mount_of, propagation_of};
 ghost use Rattle.vt_location.specs.Numbers.{counted};
-ghost use Rattle.vt_propagate.specs.Copying.{HasRoom, graft_seen, supply};
+ghost use Rattle.vt_propagate.specs.Copying.{IsReady, graft_seen, parts_seen, supply, tree_seen};
 
 use crate::copying::{Counts, Graft};
+use crate::indexes::Indexes;
 use vt_location::{GroupId, Mount, MountId, Propagation};
 
-/// What is copied and where: a graft, the mount at its destination, and the counts of the new numbers.
+/// What is copied and where: a graft, the mount at its destination, the counts of the new numbers, and the indexes of the graft.
 #[derive(Clone, Copy, Debug)]
 pub(crate) struct Copying<'a> {
     pub(crate) graft: Graft<'a>,
     pub(crate) destination: Mount,
     pub(crate) counts: Counts,
+    pub(crate) indexes: &'a Indexes,
 }
 
 impl<'a> Copying<'a> {
     /// The number of a copy at a part. Mounts that move keep theirs at the destination.
     pub(crate) fn copy_number(&self, part: MountId, origin: MountId) -> MountId
-        requires room { HasRoom self.now }
+        requires ready { IsReady self.now }
         requires parts { 0 < length self.now.graft.parts.now }
         requires tree { 0 < length self.now.graft.tree.now }
         ensures { counted result.count
@@ -30,30 +32,22 @@ impl<'a> Copying<'a> {
         if self.graft.moves && part == self.graft.place.mount {
             return origin;
         }
-        MountId::new(self.count(
-            index_of(self.graft.parts, part),
-            index_of(self.graft.tree, origin),
-            0,
-        ))
+        MountId::new(self.count(self.part_index(part), self.tree_index(origin), 0))
     }
 
     /// The new group that the copies of a mount form at the members of a group.
     pub(crate) fn new_image(&self, group: GroupId, origin: MountId) -> GroupId
-        requires room { HasRoom self.now }
+        requires ready { IsReady self.now }
         requires parts { 0 < length self.now.graft.parts.now }
         requires tree { 0 < length self.now.graft.tree.now }
         ensures { counted result.count ≡ (supply self.now).image (counted group.count) (counted origin.count) }
     {
-        GroupId::new(self.count(
-            index_of_group(self.graft.parts, group),
-            index_of(self.graft.tree, origin),
-            1,
-        ))
+        GroupId::new(self.count(self.group_index(group), self.tree_index(origin), 1))
     }
 
     // The count of the copy at a part of a mount of the tree, or of the group that stands for it.
     fn count(&self, part: usize, origin: usize, group: u64) -> u64
-        requires room { HasRoom self.now }
+        requires ready { IsReady self.now }
         requires part { part < length self.now.graft.parts.now }
         requires origin { origin < length self.now.graft.tree.now }
         requires group { group < 2 }
@@ -63,28 +57,33 @@ impl<'a> Copying<'a> {
         let index = part * self.graft.tree.len() + origin;
         self.counts.first + self.counts.step * (2 * index as u64 + group)
     }
-}
 
-// The index of the mount with this number, or 0.
-fn index_of(mounts: &[Mount], id: MountId) -> usize
-    ensures value { result ≡ index_of_in nat_eq (map mount_of mounts.now) (counted id.count) }
-    ensures within { 0 < length mounts.now → result < length mounts.now }
-{
-    mounts
-        .iter()
-        .position(|mount| mount.number == id)
-        .unwrap_or(0)
-}
+    // The index of the part with this number, or 0.
+    fn part_index(&self, part: MountId) -> usize
+        requires { IsReady self.now }
+        ensures value { result ≡ index_of_in nat_eq (parts_seen self.now) (counted part.count) }
+        ensures within { 0 < length self.now.graft.parts.now → result < length self.now.graft.parts.now }
+    {
+        self.indexes.parts.get(&part).copied().unwrap_or(0)
+    }
 
-// The index of the first member of this group, or 0.
-fn index_of_group(parts: &[Mount], group: GroupId) -> usize
-    ensures value { result ≡ index_of_group_in nat_eq (map mount_of parts.now) (counted group.count) }
-    ensures within { 0 < length parts.now → result < length parts.now }
-{
-    parts
-        .iter()
-        .position(|part| is_member(part.propagation, group))
-        .unwrap_or(0)
+    // The index of the mount of the tree with this number, or 0.
+    fn tree_index(&self, origin: MountId) -> usize
+        requires { IsReady self.now }
+        ensures value { result ≡ index_of_in nat_eq (tree_seen self.now) (counted origin.count) }
+        ensures within { 0 < length self.now.graft.tree.now → result < length self.now.graft.tree.now }
+    {
+        self.indexes.tree.get(&origin).copied().unwrap_or(0)
+    }
+
+    // The index of the first part that is a member of this group, or 0.
+    fn group_index(&self, group: GroupId) -> usize
+        requires { IsReady self.now }
+        ensures value { result ≡ index_of_group_in nat_eq (parts_seen self.now) (counted group.count) }
+        ensures within { 0 < length self.now.graft.parts.now → result < length self.now.graft.parts.now }
+    {
+        self.indexes.groups.get(&group).copied().unwrap_or(0)
+    }
 }
 
 /// Whether a mount of this type is a member of this group.

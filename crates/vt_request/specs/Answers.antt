@@ -2,7 +2,7 @@
 use Rattle.std.specs.Prelude.{map, option_map, Result, Ok, Err}
 use Rattle.vt_spec.specs.Language.Answers as spec
 use Rattle.vt_spec.specs.declared.errors.Deny.{Deny}
-use Rattle.vt_location.specs.Flags.{flags_of}
+use Rattle.vt_cred.specs.MountFlags.{flags_of}
 use Rattle.vt_request.specs.declared.answer.MountLine.{MountLine}
 use Rattle.vt_request.specs.declared.answer.Spot.{Spot}
 use Rattle.vt_request.specs.declared.answer.Spot.TheVariants.{Gone, Reached}

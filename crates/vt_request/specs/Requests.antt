@@ -1,7 +1,7 @@
 -- What requests ask for, in the policy's words, free of capacities.
 use Rattle.vt_spec.specs.Language.Calls as spec
 use Rattle.vt_cred.specs.Caps.{capability_bits}
-use Rattle.vt_location.specs.Flags.{flags_of}
+use Rattle.vt_cred.specs.MountFlags.{flags_of}
 use Rattle.std.specs.Prelude.{false, option_map, true}
 use Rattle.vt_request.specs.declared.request.CapsWord.{CapsWord}
 use Rattle.vt_request.specs.declared.request.CapsWord.TheVariants.{Held, Named}

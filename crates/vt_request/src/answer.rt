@@ -1,7 +1,7 @@
 //! What a call answers.
 
 use crate::task::TaskName;
-use vt_location::MountFlags;
+use vt_cred::MountFlags;
 use vt_spec::attributes::{Attr, Kind};
 
 /// What stat(2) and lstat(2) tell of an object.

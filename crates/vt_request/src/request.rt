@@ -3,8 +3,7 @@ ghost use Rattle.std.specs.Prelude.{◌≤◌, vec_len};
 ghost use Rattle.vt_cred.specs.declared.credentials.TheConstants.{MAX_GROUPS};
 
 use crate::task::TaskName;
-use vt_cred::Caps;
-use vt_location::MountFlags;
+use vt_cred::{Caps, MountFlags};
 use vt_spec::attributes::Mode;
 
 /// The capabilities that a call names.

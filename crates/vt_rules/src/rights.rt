@@ -26,6 +26,7 @@ use vt_tasks::Task;
 
 /// Whether the caller has these rights at a location, asked as one request. Nobody has any where there is no
 /// inode.
+#[inline(always)]
 pub fn may<L: Look>(world: &L, who: &Task, at: Location, wanted: Rights) -> bool
     ensures { result
         ≡ may (L.looks world.now) (task_of who.now) (location_of at) (right_bits wanted) }
@@ -37,6 +38,7 @@ pub fn may<L: Look>(world: &L, who: &Task, at: Location, wanted: Rights) -> bool
 }
 
 /// Whether a directory is there.
+#[inline(always)]
 pub fn is_directory<L: Look>(world: &L, at: Location) -> bool
     ensures { result ≡ is_directory_at (L.looks world.now) (location_of at) }
 {
@@ -47,6 +49,7 @@ pub fn is_directory<L: Look>(world: &L, at: Location) -> bool
 }
 
 /// Whether a directory with entries is there.
+#[inline(always)]
 pub fn is_filled<L: Look>(world: &L, at: Location) -> bool
     ensures { result ≡ is_filled (L.looks world.now) (location_of at) }
 {
@@ -57,6 +60,7 @@ pub fn is_filled<L: Look>(world: &L, at: Location) -> bool
 }
 
 /// Whether an object of a kind is there.
+#[inline(always)]
 pub fn is_kind<L: Look>(world: &L, at: Location, kind: Kind) -> bool
     ensures { result ≡ kind_at (L.looks world.now) (location_of at) kind }
 {
@@ -67,6 +71,7 @@ pub fn is_kind<L: Look>(world: &L, at: Location, kind: Kind) -> bool
 }
 
 /// The owner, group and mode of an object; where no inode is all are 0.
+#[inline(always)]
 pub fn attr_at<L: Look>(world: &L, at: Location) -> Attr
     ensures { result ≡ attr_at (L.looks world.now) (location_of at) }
 {
@@ -93,6 +98,7 @@ pub(crate) fn is_kept<L: Look>(world: &L, who: &Task, directory: Location, objec
 }
 
 /// Whether nothing may be changed through the mount of a location: `MS_RDONLY`.
+#[inline(always)]
 pub fn is_read_only<L: Look>(world: &L, at: Location) -> bool
     ensures { result ≡ is_read_only (L.looks world.now) (location_of at) }
 {
@@ -103,6 +109,7 @@ pub fn is_read_only<L: Look>(world: &L, at: Location) -> bool
 }
 
 /// Whether no file may be executed through the mount of a location: `MS_NOEXEC`.
+#[inline(always)]
 pub fn is_noexec<L: Look>(world: &L, at: Location) -> bool
     ensures { result ≡ (mount_at (L.looks world.now) (location_of at)).flags.noexec }
 {
@@ -113,6 +120,7 @@ pub fn is_noexec<L: Look>(world: &L, at: Location) -> bool
 }
 
 /// Whether the mount of a location is not in the caller's namespace.
+#[inline(always)]
 pub fn is_elsewhere<L: Look>(world: &L, who: &Task, at: Location) -> bool
     ensures { result ≡ is_elsewhere nat_eq (L.looks world.now) (task_of who.now) (location_of at) }
 {
@@ -123,6 +131,7 @@ pub fn is_elsewhere<L: Look>(world: &L, who: &Task, at: Location) -> bool
 }
 
 // The filesystem that a location is in.
+#[inline(always)]
 fn filesystem_at<L: Look>(world: &L, at: Location) -> FilesystemId
     ensures { counted result.count ≡ (mount_at (L.looks world.now) (location_of at)).filesystem }
 {
@@ -142,6 +151,7 @@ pub(crate) fn is_same_filesystem<L: Look>(world: &L, one: Location, other: Locat
 }
 
 /// Whether a location is not the root of its mount.
+#[inline(always)]
 pub fn is_no_root<L: Look>(world: &L, at: Location) -> bool
     ensures { result ≡ is_no_root nat_eq (L.looks world.now) (location_of at) }
 {

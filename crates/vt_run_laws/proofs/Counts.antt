@@ -1,17 +1,12 @@
 -- Counts are a supply with room.
 use Rattle.std.proofs.Common.{◌≡◌, refl, sym, ap, ◌∙◌, true≢false, ℕ, nat_le, nat_lt, ◌==◌, ◌+◌, ◌-◌, ◌*◌, ◌/◌, ◌%◌, ◌<◌, ◌≤◌, Bool, true, false, cond, not, ◌&&◌, ◌||◌, arith, ◌⊎◌, inl, inr, ⊎_elim, eq-eqb, ne_eqb, eqb-true, ltb-true}
-use Rattle.std.proofs.lemmas.Bool.{le-leb, leb-true}
+use Rattle.std.proofs.lemmas.Bool.{and_parts, le-leb, leb-true}
 use Rattle.vt_laws.proofs.NamedWorlds.{named_is_kept}
 use Rattle.vt_laws.specs.Numbers.{Allotment, Lot, is_in_hand, is_in_hand_lot, is_kept, is_kept_lot}
 use Rattle.vt_laws.specs.Numbers.Lot.{Kept, LeftOver, New}
 use Rattle.vt_run_laws.proofs.RunsTold.{runs_have_one_text}
 use Rattle.vt_run_laws.specs.Handed.{CountsAreAllotted, CountsServe, CountsServeNamed, ProgramsHaveOneText, counts_from, is_counted_before, is_counted_from, lot_of_counts, may_be_given, never_given}
 use Rattle.vt_run_laws.specs.Runs.{LeavesEndless}
-
-both : (p q : Bool) → (p && q) ≡ true → (p ≡ true) × (q ≡ true)
-both true true e = (refl, refl)
-both true false e = absurd (true≢false (sym e))
-both false q e = absurd (true≢false (sym e))
 
 module _ (next : ℕ) where
   -- what becomes of a number, by what is tested of it
@@ -46,7 +41,7 @@ module _ (next : ℕ) where
   -- what is counted from the next on
   counted : (number : ℕ) → is_counted_from next number ≡ true → (number % 4 ≡ 1) × (next ≤ number / 4)
   counted number is =
-      let tests = both (number % 4 == 1) (nat_le next (number / 4)) is in
+      let tests = and_parts (number % 4 == 1) (nat_le next (number / 4)) is in
       (eqb-true (number % 4) 1 tests.0, leb-true next (number / 4) tests.1)
 
   pub lot_new : (number k : ℕ) → lot_of_counts next number ≡ New k → counts_from next k ≡ number

@@ -1,13 +1,13 @@
 -- A run that goes on from worlds that are the same writes a text that may be written, and so the one text.
-use Rattle.std.proofs.Common.{◌≡◌, refl, sym, ap, ◌∙◌, subst, true≢false, ℕ, suc, nat_eq, ◌+◌, ◌≤◌, Bool, true, false, cond, List, [], ◌∷◌, ◌++◌, Some, None, arith, ltb-true}
+use Rattle.std.proofs.Common.{◌≡◌, refl, sym, ap, ◌∙◌, subst, true≢false, ℕ, suc, nat_eq, ◌+◌, ◌≤◌, Bool, true, false, cond, List, [], ◌∷◌, ◌++◌, Some, None, arith}
 use Rattle.std.specs.Prelude.{All}
 use Rattle.std.proofs.lemmas.List.Elements.{All-cons, All-head, All-tail}
 use Rattle.vt_laws.proofs.Allotments.{agree, allotted_kept, allotted_new, joined, kept_lot}
 use Rattle.vt_laws.proofs.Renamings.{named_world}
-use Rattle.vt_laws.proofs.Rows.{row, row-spread, row_first, spread}
+use Rattle.vt_laws.proofs.Rows.{row, row-spread, spread}
 use Rattle.vt_laws.proofs.Stages.{stage, stage_keeps, stage_new, stage_rows}
-use Rattle.vt_laws.proofs.Supports.{opening_keeps_to_four}
-use Rattle.vt_laws.proofs.Texts.{line_alike, line_leads, refused_alike, refused_leads, whole_machine_has_one_text, worlds_keep_to_hand}
+use Rattle.vt_laws.proofs.Supports.{opening_alike, opening_keeps_to_four}
+use Rattle.vt_laws.proofs.Texts.{first_early, line_alike, line_leads, refused_alike, refused_leads, whole_machine_has_one_text, worlds_keep_to_hand}
 use Rattle.vt_laws.specs.Numbers.{Allotment, KeepsTo, Lot, ServesWithRoom, TellsWithRoom, first_four, is_in_hand, is_in_hand_lot, is_kept, is_kept_lot}
 use Rattle.vt_laws.specs.Numbers.Lot.{Kept, LeftOver, New}
 use Rattle.vt_laws.proofs.Commuting.{Named, commutes_nat}
@@ -162,11 +162,6 @@ named_supply = record { rename = λ A B there back fresh k. there (fresh k); its
 four : ℕ → ℕ → ℕ → ℕ → Fresh ℕ
 four a b c d k = cond (nat_eq k 0) a (cond (nat_eq k 1) b (cond (nat_eq k 2) c d))
 
-opening_alike : (f g : Fresh ℕ) → f 0 ≡ g 0 → f 1 ≡ g 1 → f 2 ≡ g 2 → f 3 ≡ g 3 → opening nat_eq f ≡ opening nat_eq g
-unfolding four
-opening_alike f g mount namespace filesystem root =
-    λ i. opening nat_eq (four (mount i) (namespace i) (filesystem i) (root i))
-
 opening_renamed : (renaming : Renaming ℕ ℕ) (fresh : Fresh ℕ)
     → opening nat_eq (λ k. renaming.there (fresh k)) ≡ renamed renaming.there renaming.back (opening nat_eq fresh)
 unfolding named_supply
@@ -181,11 +176,6 @@ first_plain =
 first_alike : Alike first_world first_world
 first_alike =
     alike_from_same first_world first_world (sameness_is_an_equivalence.itself first_world) first_plain
-
-first_early : (number : ℕ) → first_four number ≡ true → row number ≤ 0
-first_early number is =
-    let first : row number ≡ 0 = row_first number (ltb-true number 4 is) in
-    omega arith
 
 pub runs_have_one_text : RunsHaveOneText
 runs_have_one_text grammar refused script text in_hand fresh leaves opens asks tells =

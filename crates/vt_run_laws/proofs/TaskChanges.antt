@@ -37,11 +37,13 @@ module _ (looks : Looks ℕ) (task : Task ℕ) where
   unfolding exec_permit
   exec_bare path = refl
 
-  mkdir_bare : (path : List ℕ) (mode : Option ℕ) → mkdir_permit nat_eq looks (bare_task task) path mode ≡ mkdir_permit nat_eq looks task path mode
+  mkdir_bare : (path : List ℕ) (mode : Option ℕ)
+      → mkdir_permit nat_eq looks (bare_task task) path mode ≡ mkdir_permit nat_eq looks task path mode
   unfolding mkdir_permit
   mkdir_bare path mode = refl
 
-  symlink_made_bare : (text : List ℕ) (path : List ℕ) → symlink_permit nat_eq looks (bare_task task) text path ≡ symlink_permit nat_eq looks task text path
+  symlink_made_bare : (text : List ℕ) (path : List ℕ)
+      → symlink_permit nat_eq looks (bare_task task) text path ≡ symlink_permit nat_eq looks task text path
   unfolding symlink_permit
   symlink_made_bare text path = refl
 
@@ -49,7 +51,8 @@ module _ (looks : Looks ℕ) (task : Task ℕ) where
   unfolding whiteout_permit
   whiteout_bare path = refl
 
-  write_bare : (path : List ℕ) (bytes : List ℕ) → write_permit nat_eq looks (bare_task task) path bytes ≡ write_permit nat_eq looks task path bytes
+  write_bare : (path : List ℕ) (bytes : List ℕ)
+      → write_permit nat_eq looks (bare_task task) path bytes ≡ write_permit nat_eq looks task path bytes
   unfolding write_permit
   write_bare path bytes = refl
 
@@ -65,19 +68,23 @@ module _ (looks : Looks ℕ) (task : Task ℕ) where
   unfolding chmod_permit
   chmod_bare path mode = refl
 
-  chown_bare : (path : List ℕ) (uid : Option ℕ) (gid : Option ℕ) → chown_permit nat_eq looks (bare_task task) path uid gid ≡ chown_permit nat_eq looks task path uid gid
+  chown_bare : (path : List ℕ) (uid : Option ℕ) (gid : Option ℕ)
+      → chown_permit nat_eq looks (bare_task task) path uid gid ≡ chown_permit nat_eq looks task path uid gid
   unfolding chown_permit
   chown_bare path uid gid = refl
 
-  opaque_bare : (path : List ℕ) (mark : Bool) → opaque_permit nat_eq looks (bare_task task) path mark ≡ opaque_permit nat_eq looks task path mark
+  opaque_bare : (path : List ℕ) (mark : Bool)
+      → opaque_permit nat_eq looks (bare_task task) path mark ≡ opaque_permit nat_eq looks task path mark
   unfolding opaque_permit
   opaque_bare path mark = refl
 
-  pread_bare : (number : ℕ) (offset : ℕ) (size : ℕ) → pread_permit (bare_task task) number offset size ≡ pread_permit task number offset size
+  pread_bare : (number : ℕ) (offset : ℕ) (size : ℕ)
+      → pread_permit (bare_task task) number offset size ≡ pread_permit task number offset size
   unfolding pread_permit
   pread_bare number offset size = refl
 
-  pwrite_bare : (number : ℕ) (offset : ℕ) (bytes : List ℕ) → pwrite_permit looks (bare_task task) number offset bytes ≡ pwrite_permit looks task number offset bytes
+  pwrite_bare : (number : ℕ) (offset : ℕ) (bytes : List ℕ)
+      → pwrite_permit looks (bare_task task) number offset bytes ≡ pwrite_permit looks task number offset bytes
   unfolding pwrite_permit
   pwrite_bare number offset bytes = refl
 
@@ -113,11 +120,13 @@ module _ (looks : Looks ℕ) (task : Task ℕ) where
   unfolding lazy_permit
   lazy_bare path = refl
 
-  remount_bare : (path : List ℕ) (flags : MountFlags) → remount_permit nat_eq looks (bare_task task) path flags ≡ remount_permit nat_eq looks task path flags
+  remount_bare : (path : List ℕ) (flags : MountFlags)
+      → remount_permit nat_eq looks (bare_task task) path flags ≡ remount_permit nat_eq looks task path flags
   unfolding remount_permit
   remount_bare path flags = refl
 
-  type_bare : (path : List ℕ) (word : TypeWord) (recursive : Bool) → type_permit nat_eq looks (bare_task task) path word recursive ≡ type_permit nat_eq looks task path word recursive
+  type_bare : (path : List ℕ) (word : TypeWord) (recursive : Bool)
+      → type_permit nat_eq looks (bare_task task) path word recursive ≡ type_permit nat_eq looks task path word recursive
   unfolding type_permit
   type_bare path word recursive = refl
 

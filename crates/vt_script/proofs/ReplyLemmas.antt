@@ -22,7 +22,6 @@ use Rattle.vt_laws.proofs.OwnRules.{denial_changes_nothing}
 use Rattle.vt_run_laws.specs.Handed.{may_be_given}
 use Rattle.vt_run_laws.specs.Runs.{ServesInHand}
 use Rattle.vt_run_laws.proofs.AlikeWorlds.{sameness_is_an_equivalence}
-use Rattle.vt_run_laws.proofs.Counts.{counts_serve}
 use Rattle.vt_io.specs.declared.output.Sink.{Ghosts}
 use Rattle.vt_io.specs.Sink.{Wrote, WroteFront, Prints}
 use Rattle.vt_io.specs.LineBuffer.{LineSoFar, Holds}
@@ -30,9 +29,8 @@ use Rattle.vt_io.proofs.Printing.{Wrote-nothing}
 use Rattle.vt_request.specs.declared.answer.Answer.{Answer}
 use Rattle.vt_request.specs.Answers.{result_of}
 use Rattle.vt_line.specs.Lines.{IsSilent, IsSpoken}
-use Rattle.vt_detach.specs.Held.{IsHeld}
-use Rattle.vt_detach.specs.WorldValue.{WorldValue, world_of}
-use Rattle.vt_calls.specs.Meets.{Ends, Meets}
+use Rattle.vt_answers.specs.Ends.{Ends, Meets}
+use Rattle.vt_answers.specs.Numbers.{HasNumbers}
 use Rattle.vt_script.specs.Session.{IsHanded, Replied, Replies, step_of}
 
 -- a line that is not too long is kept whole
@@ -40,12 +38,6 @@ pub kept_whole : (line : List ℕ) (kept : LineSoFar) → Holds line kept → ke
 kept_whole line kept held short =
     let fits : nat_lt 8192 (length line) ≡ false = sym held.overlong ∙ short in
     held.bytes ∙ take_all 8192 line (grind (arith, nat_tests, fits))
-
--- there are numbers for what a line may make
-pub some_serve : (value : WorldValue) → IsHeld value → (allotment : Allotment) × ServesInHand may_be_given (world_of value) allotment
-some_serve value held =
-    let counts = counts_serve value.next (world_of value) held.given in
-    (counts.0, counts.2)
 
 not_long : (line : List ℕ) → length line ≤ longest_line → nat_lt longest_line (length line) ≡ false
 not_long line fits = grind (arith, nat_tests)
@@ -108,13 +100,11 @@ module _ {W : Type 0} (sink : Ghosts W) where
       replies_denied r world line number None (denial S1) x y tt (step_too_long world line None (sym held.overlong ∙ long)) wrote
 
   -- the reply to a line that is no request, or was refused memory
-  pub replies_unread : {T E : Type 0} (r : Result T E) (value : WorldValue) (line : List ℕ) (number : ℕ) (deny : Deny) (x y : W) → IsHeld value →
+  pub replies_unread : {T E : Type 0} (r : Result T E) (world : World ℕ) (line : List ℕ) (number : ℕ) (deny : Deny) (x y : W) → HasNumbers world →
       (deny ≡ denial S1) ⊎ (deny ≡ denial S5) →
       (deny ≡ denial S1 → (longest_line < length line) ⊎ (IsSpoken line × (request_of namespaces line ≡ None))) → (deny ≡ denial S5 → IsSpoken line) →
-      Prints sink (reply_line number (Err deny)) r x y → Replies sink (world_of value) line number r (world_of value) x y
-  replies_unread r value line number deny x y held refused bad memory wrote =
-      let world = world_of value in
-      let some = some_serve value held in
+      Prints sink (reply_line number (Err deny)) r x y → Replies sink world line number r world x y
+  replies_unread r world line number deny x y some refused bad memory wrote =
       elim refused [
         | inl is ↦ elim (bad is) [
           | inl long ↦ replies_denied r world line number None deny x y tt (step_too_long world line None (grind (arith, nat_tests)) ∙ ap (λ d. Answered (denied world d)) (sym is)) wrote
@@ -123,36 +113,37 @@ module _ {W : Type 0} (sink : Ghosts W) where
         | inr is ↦ replies_denied r world line number None deny x y tt (step_refused world line (memory is) ∙ ap (λ d. Answered (denied world d)) (sym is)) wrote
       ]
 
-  -- the reply to a call that met its outcome
-  replies_met : {T E : Type 0} (r : Result T E) (old new : WorldValue) (line : List ℕ) (number : ℕ) (allotment : Allotment) (task : TaskName) (call : Call) (answer : Result Answer Deny) (x y : W) →
-      ServesInHand may_be_given (world_of old) allotment → IsSpoken line → request_of namespaces line ≡ Some (Calling task call) →
-      Meets (policy nat_eq allotment.new (world_of old) task call) answer old new →
-      Prints sink (reply_line number (result_of answer)) r x y → Replies sink (world_of old) line number r (world_of new) x y
-  replies_met r old new line number allotment task call (Ok answer) x y serves spoken asks meets wrote =
-      let step = step_spoken (world_of old) line allotment.new _ spoken asks in
-      replies_step r (world_of old) (world_of new) line _ number (Some allotment) x y serves
-      (ap (reply_line number) (sym meets.0) ∙ ap (step_text number) (sym step))
-      (subst (λ step. SameWorlds (step_world (world_of old) step) (world_of new)) (sym step) meets.1) wrote
-  replies_met r old new line number allotment task call (Err deny) x y serves spoken asks meets wrote =
-      elim meets.0 [
-        | inl is ↦
-            let step = step_spoken (world_of old) line allotment.new _ spoken asks in
-            let left = denial_changes_nothing allotment.new (world_of old) task call deny is in
-            replies_step r (world_of old) (world_of new) line _ number (Some allotment) x y serves
-            (ap (reply_line number) (sym is) ∙ ap (step_text number) (sym step))
-            (same_worlds (step_world (world_of old) (step_of (world_of old) line (Some allotment))) (world_of new)
-            (ap (step_world (world_of old)) step ∙ left ∙ ap world_of (sym meets.1))) wrote
-        | inr memory ↦
-            let step = step_refused (world_of old) line spoken in
-            replies_step r (world_of old) (world_of new) line _ number None x y tt
-            (ap (λ d. reply_line number (Err d)) memory.0 ∙ ap (step_text number) (sym step))
-            (same_worlds (step_world (world_of old) (step_of (world_of old) line None)) (world_of new)
-            (ap (step_world (world_of old)) step ∙ ap world_of (sym meets.1))) wrote
-      ]
+  module _ {V : Type 0} (seen : V → World ℕ) where
+    -- the reply to a call that met its outcome
+    replies_met : {T E : Type 0} (r : Result T E) (old new : V) (line : List ℕ) (number : ℕ) (allotment : Allotment) (task : TaskName) (call : Call) (answer : Result Answer Deny) (x y : W) →
+        ServesInHand may_be_given (seen old) allotment → IsSpoken line → request_of namespaces line ≡ Some (Calling task call) →
+        Meets seen (policy nat_eq allotment.new (seen old) task call) answer old new →
+        Prints sink (reply_line number (result_of answer)) r x y → Replies sink (seen old) line number r (seen new) x y
+    replies_met r old new line number allotment task call (Ok answer) x y serves spoken asks meets wrote =
+        let step = step_spoken (seen old) line allotment.new _ spoken asks in
+        replies_step r (seen old) (seen new) line _ number (Some allotment) x y serves
+        (ap (reply_line number) (sym meets.0) ∙ ap (step_text number) (sym step))
+        (subst (λ step. SameWorlds (step_world (seen old) step) (seen new)) (sym step) meets.1) wrote
+    replies_met r old new line number allotment task call (Err deny) x y serves spoken asks meets wrote =
+        elim meets.0 [
+          | inl is ↦
+              let step = step_spoken (seen old) line allotment.new _ spoken asks in
+              let left = denial_changes_nothing allotment.new (seen old) task call deny is in
+              replies_step r (seen old) (seen new) line _ number (Some allotment) x y serves
+              (ap (reply_line number) (sym is) ∙ ap (step_text number) (sym step))
+              (same_worlds (step_world (seen old) (step_of (seen old) line (Some allotment))) (seen new)
+              (ap (step_world (seen old)) step ∙ left ∙ ap seen (sym meets.1))) wrote
+          | inr memory ↦
+              let step = step_refused (seen old) line spoken in
+              replies_step r (seen old) (seen new) line _ number None x y tt
+              (ap (λ d. reply_line number (Err d)) memory.0 ∙ ap (step_text number) (sym step))
+              (same_worlds (step_world (seen old) (step_of (seen old) line None)) (seen new)
+              (ap (step_world (seen old)) step ∙ ap seen (sym meets.1))) wrote
+        ]
 
-  -- the reply to a call
-  pub replies_call : {T E : Type 0} (r : Result T E) (old new : WorldValue) (line : List ℕ) (number : ℕ) (task : TaskName) (call : Call) (answer : Result Answer Deny) (x y : W) →
-      IsSpoken line → request_of namespaces line ≡ Some (Calling task call) → Ends old task call answer new →
-      Prints sink (reply_line number (result_of answer)) r x y → Replies sink (world_of old) line number r (world_of new) x y
-  replies_call r old new line number task call answer x y spoken asks ends wrote =
-      replies_met r old new line number ends.allotment task call answer x y ends.serves spoken asks ends.outcome wrote
+    -- the reply to a call
+    pub replies_call : {T E : Type 0} (r : Result T E) (old new : V) (line : List ℕ) (number : ℕ) (task : TaskName) (call : Call) (answer : Result Answer Deny) (x y : W) →
+        IsSpoken line → request_of namespaces line ≡ Some (Calling task call) → Ends seen old task call answer new →
+        Prints sink (reply_line number (result_of answer)) r x y → Replies sink (seen old) line number r (seen new) x y
+    replies_call r old new line number task call answer x y spoken asks ends wrote =
+        replies_met r old new line number ends.allotment task call answer x y ends.serves spoken asks ends.outcome wrote

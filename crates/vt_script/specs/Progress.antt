@@ -1,10 +1,10 @@
 -- How far a run has come: what was read and written between two moments of it.
 use Rattle.std.specs.Prelude.{◌≡◌, ℕ, ◌+◌, ◌==◌, nat_eq, Bool, true, false, List, [], ◌∷◌, ◌++◌, length}
 use Rattle.vt_spec.specs.Language.Script.{lines_of, namespaces}
+use Rattle.vt_spec.specs.Lists.{Fresh}
 use Rattle.vt_spec.specs.Machine.World.{World, opening}
 use Rattle.vt_run_laws.specs.Handed.{may_be_given}
-use Rattle.vt_run_laws.specs.Runs.{TellsAlike}
-use Rattle.vt_attach.specs.Opening.{opening_numbers}
+use Rattle.vt_run_laws.specs.Runs.{OpensInHand, TellsAlike}
 
 -- a text up to its last newline
 abbrev pub whole_with : Bool → ℕ → List ℕ → List ℕ
@@ -22,9 +22,13 @@ pub record Moment : Type 0 where
   pub answered : ℕ
   pub line : List ℕ
 
+-- nothing is read yet, in an opening world of these numbers
+abbrev pub opening_moment : Fresh ℕ → Moment
+opening_moment fresh = record { world = opening nat_eq fresh; answered = 0; line = [] }
+
 -- nothing is read yet
-abbrev pub opening_moment : Moment
-opening_moment = record { world = opening nat_eq opening_numbers; answered = 0; line = [] }
+abbrev pub IsOpening : Moment → Type 0
+IsOpening moment = (fresh : Fresh ℕ) × OpensInHand may_be_given fresh × (moment ≡ opening_moment fresh)
 
 -- From one moment to another these bytes were read and this text was written. The lines that ended among them, with what stood before,
 -- are told by the text: whatever is told of more, is told behind it.

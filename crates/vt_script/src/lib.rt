@@ -5,14 +5,13 @@ mod script;
 mod session;
 
 pub use script::run;
-pub use vt_calls::Calls;
+pub use vt_answers::Calls;
 pub use vt_io::adapters::{ReadSource, WriteSink};
 pub use vt_io::input::{Source, SourceFailed};
 pub use vt_io::output::{Sink, SinkFailed};
 pub use vt_line::fault::RunFault;
 pub use vt_line::line::Line;
 pub use vt_line::print::write_reply;
-pub use vt_ns::World;
 pub use vt_request::{
     Access, Answer, Call, CapsWord, Creation, ForkWords, MountLine, Spot, StatLine, TaskName,
     TypeLine, TypeWord,

@@ -1,12 +1,13 @@
 //! A script is answered line by line, in whatever pieces its bytes come.
 ghost use Rattle.std.specs.Prelude.{◌≡◌, ◌⊎◌, ◌+◌, ◌<◌, ◌^◌, [], IfErr, IsErrOf, OnOk};
-ghost use Rattle.vt_script.specs.Progress.{opening_moment};
+ghost use Rattle.vt_script.specs.Progress.{IsOpening};
 ghost use Rattle.vt_script.specs.Session.{AnswersScript, AnswersWholeLines, BeginsToAnswer};
 ghost use Rattle.vt_script.specs.Session.{IsReading, lines_begun, moment};
 ghost use Rattle.vt_script.specs.SessionValue.{state_of};
 
 use crate::session::Session;
 use std::alloc::Global;
+use vt_answers::Calls;
 use vt_io::input::Source;
 use vt_io::output::Sink;
 use vt_line::fault::RunFault;
@@ -15,16 +16,16 @@ use vt_line::fault::RunFault;
 const CHUNK: usize = 8192;
 
 // Answers a script in a new session. `Read` and `Write`: that device failed.
-fn answer_all<R: Source, W: Sink>(
-    session: &mut Session,
+fn answer_all<C: Calls + Drop, R: Source, W: Sink>(
+    session: &mut Session<C>,
     source: &mut R,
     sink: &mut W,
 ) -> Result<(), RunFault>
     requires source_countable { R.failures source.old + 1 < 2 ^ 64 }
     requires sink_countable { W.failures sink.old + 1 < 2 ^ 64 }
-    requires opening { moment (state_of session.old) [] ≡ opening_moment }
-    requires reading { IsReading (state_of session.old) [] }
-    requires begun { lines_begun (state_of session.old) ≡ 0 }
+    requires opening { IsOpening (moment (state_of C.world session.old) []) }
+    requires reading { IsReading (state_of C.world session.old) [] }
+    requires begun { lines_begun (state_of C.world session.old) ≡ 0 }
 
     ensures ok { OnOk result (R.tells source.old → W.tells sink.old
         → AnswersScript W.Sink (R.rest source.old) sink.old sink.new) }
@@ -55,7 +56,7 @@ fn answer_all<R: Source, W: Sink>(
     session.finish(sink)
 }
 
-/// Answers a script: reads it from the source, and writes a line for each line that has an answer.
+/// Answers a script in a new world: reads it from the source, and writes a line for each line that has an answer.
 ///
 /// For every script, what the sink is handed is the text of the policy's answers to the script's calls in their order, each
 /// denial with the error number and the rule that the policy names first; which lines were refused memory is all that is open.
@@ -63,7 +64,11 @@ fn answer_all<R: Source, W: Sink>(
 /// Each line is answered before the next is looked at. A line that was refused memory answers
 /// `deny 12 ENOMEM S5` and counts as no call. `Read` and `Write` come where that device failed, and
 /// `Memory` where the opening world or the line's buffer was refused, before anything was read.
-pub fn run<R: Source, W: Sink>(alloc: Global, source: &mut R, sink: &mut W) -> Result<(), RunFault>
+pub fn run<C: Calls + Drop, R: Source, W: Sink>(
+    alloc: Global,
+    source: &mut R,
+    sink: &mut W,
+) -> Result<(), RunFault>
     requires source_countable { R.failures source.old + 1 < 2 ^ 64 }
     requires sink_countable { W.failures sink.old + 1 < 2 ^ 64 }
 
@@ -93,7 +98,7 @@ pub fn run<R: Source, W: Sink>(alloc: Global, source: &mut R, sink: &mut W) -> R
     ensures source_tells { R.tells source.old → R.tells source.new }
     ensures sink_tells { W.tells sink.old → W.tells sink.new }
 {
-    let mut session = Session::new(alloc)?;
+    let mut session = Session::<C>::new(alloc)?;
     let outcome = answer_all(&mut session, source, sink);
     // By a call: the proof of a function that drops a world itself takes minutes.
     drop(session);

@@ -1,25 +1,24 @@
 //! What is kept from one piece of a script to the next.
 ghost use Rattle.std.specs.Prelude.{◌≡◌, ◌+◌, ◌<◌, ◌≤◌, ◌^◌, ◌++◌, ◌∷◌, [], List, ℕ, length, IfOk, IfErr, MatchOption, OnOk, OnErr};
 ghost use Rattle.vt_io.specs.LineBuffer.{Holds};
-ghost use Rattle.vt_script.specs.Progress.{opening_moment, HasNoNewline};
+ghost use Rattle.vt_script.specs.Progress.{HasNoNewline, IsOpening};
 ghost use Rattle.vt_script.specs.Session.{moment, lines_begun, IsReading, Feeds, Closes, Replies};
-ghost use Rattle.vt_script.specs.SessionValue.{state_of, world_seen};
+ghost use Rattle.vt_script.specs.SessionValue.{state_of};
 
 use memchr::memchr;
 use std::alloc::Global;
-use vt_calls::Calls;
+use vt_answers::Calls;
 use vt_io::line::LineBuffer;
 use vt_io::output::Sink;
 use vt_line::fault::RunFault;
 use vt_line::line::Line;
 use vt_line::print::write_reply;
-use vt_ns::World;
 use vt_spec::errors::Rule;
 
 /// The world, how many lines are answered, and the line that is being read.
 #[derive(Drop)]
-pub struct Session {
-    pub world: World,
+pub struct Session<C> {
+    pub world: C,
     /// How many lines have ended, also those that have no answer.
     pub answered: u64,
     /// What was read of the next line.
@@ -38,22 +37,22 @@ fn split_line(bytes: &[u8]) -> Option<(&[u8], &[u8])>
 }
 
 // Answers the line of this number.
-fn answer<W: Sink>(
+fn answer<C: Calls, W: Sink>(
     alloc: Global,
-    world: &mut World,
+    world: &mut C,
     number: u64,
     line: &LineBuffer,
     sink: &mut W,
 ) -> Result<(), RunFault>
     requires { W.failures sink.old + 1 < 2 ^ 64 }
     ensures replies { (text : List ℕ) → Holds text line.now
-        → Replies W.Sink (world_seen world.old) text number result (world_seen world.new) sink.old sink.new }
+        → Replies W.Sink (C.world world.old) text number result (C.world world.new) sink.old sink.new }
     ensures kept { OnOk result (W.failures sink.new ≡ W.failures sink.old) }
     ensures counted { OnErr result (W.failures sink.new ≡ W.failures sink.old + 1) }
     ensures fault { IfErr result (λ fault. fault ≡ RunFault.Write) }
 {
     // By its clause there are numbers for what the line may make.
-    world.is_held();
+    world.has_numbers();
     if line.is_overlong() {
         return write_reply(sink, number, &Err(Rule::S1.denial()));
     }
@@ -67,18 +66,18 @@ fn answer<W: Sink>(
     }
 }
 
-impl Session {
+impl<C: Calls + Drop> Session<C> {
     /// The opening world, before the first byte. `Memory`: the world or the line's buffer was refused.
-    pub fn new(alloc: Global) -> Result<Session, RunFault>
-        ensures opening { IfOk result (λ session. moment (state_of session) [] ≡ opening_moment) }
-        ensures reading { IfOk result (λ session. IsReading (state_of session) []) }
-        ensures begun { IfOk result (λ session. lines_begun (state_of session) ≡ 0) }
+    pub fn new(alloc: Global) -> Result<Self, RunFault>
+        ensures opening { IfOk result (λ session. IsOpening (moment (state_of C.world session) [])) }
+        ensures reading { IfOk result (λ session. IsReading (state_of C.world session) []) }
+        ensures begun { IfOk result (λ session. lines_begun (state_of C.world session) ≡ 0) }
         ensures memory { IfErr result (λ fault. fault ≡ RunFault.Memory) }
     {
         let Ok(line) = LineBuffer::new(alloc) else {
             return Err(RunFault::Memory);
         };
-        let Ok(world) = World::new(alloc) else {
+        let Ok(world) = C::opening(alloc) else {
             return Err(RunFault::Memory);
         };
         Ok(Session {
@@ -92,10 +91,10 @@ impl Session {
     // Answers the line that a newline ends.
     fn end_line<W: Sink>(&mut self, sink: &mut W) -> Result<(), RunFault>
         requires countable { W.failures sink.old + 1 < 2 ^ 64 }
-        requires lines { lines_begun (state_of self.old) + 1 < 2 ^ 64 }
-        ensures feeds { (line : List ℕ) → IsReading (state_of self.old) line
-            → Feeds W.Sink (moment (state_of self.old) line) (10 ∷ []) result (state_of self.new) sink.old sink.new }
-        ensures begun { OnOk result (lines_begun (state_of self.new) ≤ lines_begun (state_of self.old) + 1) }
+        requires lines { lines_begun (state_of C.world self.old) + 1 < 2 ^ 64 }
+        ensures feeds { (line : List ℕ) → IsReading (state_of C.world self.old) line
+            → Feeds W.Sink (moment (state_of C.world self.old) line) (10 ∷ []) result (state_of C.world self.new) sink.old sink.new }
+        ensures begun { OnOk result (lines_begun (state_of C.world self.new) ≤ lines_begun (state_of C.world self.old) + 1) }
         ensures kept { OnOk result (W.failures sink.new ≡ W.failures sink.old) }
         ensures counted { OnErr result (W.failures sink.new ≡ W.failures sink.old + 1) }
         ensures fault { IfErr result (λ fault. fault ≡ RunFault.Write) }
@@ -110,11 +109,11 @@ impl Session {
     // Takes the rest of a line, without its newline, and answers the line.
     fn take_line<W: Sink>(&mut self, rest: &[u8], sink: &mut W) -> Result<(), RunFault>
         requires countable { W.failures sink.old + 1 < 2 ^ 64 }
-        requires lines { lines_begun (state_of self.old) + length rest.now + 1 < 2 ^ 64 }
+        requires lines { lines_begun (state_of C.world self.old) + length rest.now + 1 < 2 ^ 64 }
         requires one { HasNoNewline rest.now }
-        ensures feeds { (line : List ℕ) → IsReading (state_of self.old) line
-            → Feeds W.Sink (moment (state_of self.old) line) (rest.now ++ 10 ∷ []) result (state_of self.new) sink.old sink.new }
-        ensures begun { OnOk result (lines_begun (state_of self.new) ≤ lines_begun (state_of self.old) + length rest.now + 1) }
+        ensures feeds { (line : List ℕ) → IsReading (state_of C.world self.old) line
+            → Feeds W.Sink (moment (state_of C.world self.old) line) (rest.now ++ 10 ∷ []) result (state_of C.world self.new) sink.old sink.new }
+        ensures begun { OnOk result (lines_begun (state_of C.world self.new) ≤ lines_begun (state_of C.world self.old) + length rest.now + 1) }
         ensures kept { OnOk result (W.failures sink.new ≡ W.failures sink.old) }
         ensures counted { OnErr result (W.failures sink.new ≡ W.failures sink.old + 1) }
         ensures fault { IfErr result (λ fault. fault ≡ RunFault.Write) }
@@ -126,10 +125,10 @@ impl Session {
     /// Takes the next bytes of the script, and answers each line that ends among them. `Write`: the sink failed.
     pub fn feed<W: Sink>(&mut self, bytes: &[u8], sink: &mut W) -> Result<(), RunFault>
         requires countable { W.failures sink.old + 1 < 2 ^ 64 }
-        requires lines { lines_begun (state_of self.old) + length bytes.now < 2 ^ 64 }
-        ensures feeds { (line : List ℕ) → IsReading (state_of self.old) line
-            → Feeds W.Sink (moment (state_of self.old) line) bytes.now result (state_of self.new) sink.old sink.new }
-        ensures begun { OnOk result (lines_begun (state_of self.new) ≤ lines_begun (state_of self.old) + length bytes.now) }
+        requires lines { lines_begun (state_of C.world self.old) + length bytes.now < 2 ^ 64 }
+        ensures feeds { (line : List ℕ) → IsReading (state_of C.world self.old) line
+            → Feeds W.Sink (moment (state_of C.world self.old) line) bytes.now result (state_of C.world self.new) sink.old sink.new }
+        ensures begun { OnOk result (lines_begun (state_of C.world self.new) ≤ lines_begun (state_of C.world self.old) + length bytes.now) }
         ensures kept { OnOk result (W.failures sink.new ≡ W.failures sink.old) }
         ensures counted { OnErr result (W.failures sink.new ≡ W.failures sink.old + 1) }
         ensures fault { IfErr result (λ fault. fault ≡ RunFault.Write) }
@@ -146,9 +145,9 @@ impl Session {
     /// Answers a last line that ends without a newline. `Write`: the sink failed.
     pub fn finish<W: Sink>(&mut self, sink: &mut W) -> Result<(), RunFault>
         requires countable { W.failures sink.old + 1 < 2 ^ 64 }
-        requires lines { lines_begun (state_of self.old) < 2 ^ 64 }
-        ensures closes { (line : List ℕ) → IsReading (state_of self.old) line
-            → Closes W.Sink (moment (state_of self.old) line) result sink.old sink.new }
+        requires lines { lines_begun (state_of C.world self.old) < 2 ^ 64 }
+        ensures closes { (line : List ℕ) → IsReading (state_of C.world self.old) line
+            → Closes W.Sink (moment (state_of C.world self.old) line) result sink.old sink.new }
         ensures counted { OnErr result (W.failures sink.new ≡ W.failures sink.old + 1) }
         ensures fault { IfErr result (λ fault. fault ≡ RunFault.Write) }
     {

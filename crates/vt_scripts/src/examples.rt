@@ -1,24 +1,22 @@
-//! The examples: `NAME.vt`, run as `vtree run` runs it, and its answers in `NAME.out`.
+//! The examples: `NAME.vt`, read as a file, and its answers in `NAME.out`.
 use crate::compare::compare;
 use anyhow::Result;
-use std::fs;
+use std::fs::{self, File};
 use std::rt::Files;
-use vt_program::obey;
+use vt_calls::Kernel;
+use vt_script::{ReadSource, WriteSink, run};
 
-// What `vtree run FILE` writes.
-fn answers<R: Files + Input + AllocGlobal>(rt: &R, file: &str) -> Result<Vec<u8>> {
+// The answers to the script in a file.
+fn answers<R: Files + AllocGlobal>(rt: &R, file: &str) -> Result<Vec<u8>> {
     let alloc = rt.alloc();
-    let mut words = Vec::new(alloc);
-    for word in ["vtree", "run", file] {
-        words.push(word.to_string(alloc)?)?;
-    }
-    let mut output = Vec::new(alloc);
-    obey(rt, words.as_slice(), &mut output)?;
-    Ok(output)
+    let mut source = ReadSource::new(File::open(rt, file)?);
+    let mut sink = WriteSink::new(Vec::new(alloc));
+    run::<Kernel, _, _>(alloc, &mut source, &mut sink)?;
+    Ok(sink.into_inner())
 }
 
 /// An error if an answer is not the one in `NAME.out`.
-pub fn check<R: Files + Input + AllocGlobal>(rt: &R, name: &str) -> Result<()> {
+pub fn check<R: Files + AllocGlobal>(rt: &R, name: &str) -> Result<()> {
     let alloc = rt.alloc();
     let file = format!(in alloc; "examples/{name}.vt")?;
     let answers = answers(rt, file.as_str())?;

@@ -8,6 +8,7 @@ use std::alloc::{AllocError, Global};
 use std::fmt::Write;
 use std::fs;
 use std::rt::Files;
+use vt_calls::Kernel;
 use vt_io::memory::{BytesSink, BytesSource};
 use vt_script::run;
 
@@ -54,7 +55,7 @@ impl Script {
             for piece in PIECES {
                 let mut source = BytesSource::new(text, piece);
                 let mut sink = BytesSink::new(alloc, piece);
-                run(alloc, &mut source, &mut sink)?;
+                run::<Kernel, _, _>(alloc, &mut source, &mut sink)?;
                 compare(self.name.as_str(), sink.bytes(), self.answers.as_str())?;
             }
         }

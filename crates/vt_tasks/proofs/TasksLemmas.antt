@@ -1,20 +1,17 @@
 -- Tasks as the map keeps them, each under its name, and as contracts see them.
-use Rattle.std.proofs.Common.{◌<◌, ◌||◌, Result, Ok, Err, IfOk, IfErr, OnOk, OnErr, if◌then◌else◌, le-leb, ◌≡◌, ℕ, ◌+◌, ◌≤◌, Bool, true, false, cond, List, [], ◌∷◌, ◌++◌, not, length, map, nat_eq, Option, Some, None, option_map, refl, sym, ap, ◌∙◌, true≢false, subst}
-use Rattle.std.specs.Prelude.{nat_le}
+use Rattle.std.proofs.Common.{Bor, MutBor, Result, Ok, Err, IfOk, IfErr, OnOk, OnErr, if◌then◌else◌, ◌≡◌, ℕ, ◌+◌, ◌≤◌, Bool, true, false, cond, List, [], ◌∷◌, ◌++◌, not, map, nat_eq, Option, Some, None, option_map, refl, sym, ap, ◌∙◌, true≢false, subst}
+use Rattle.std.specs.Prelude.{IsSomeAnd, is_some, option_copied}
+use Rattle.std.specs.Option.{option_copied_mut}
 use Rattle.std.specs.declared.vec.Vec.{Vec}
 use Rattle.std.specs.Cmp.Lexicographic.{pointwise}
 use Rattle.std.proofs.lemmas.Cmp.{nat_list_eq_equiv}
-use Rattle.std.proofs.lemmas.Bool.{lt-leb}
 use Rattle.std.specs.List.{AllByRecursion, IsDistinct, list_all}
 use Rattle.std.proofs.lemmas.Map.Keys.{IsDistinct-head, IsDistinct-tail}
 use Rattle.std.specs.Map.{keys_of, lookup, remove_entry, set_value, values_of}
 use Rattle.indexmap.specs.IndexMap.{IndexMap, IsUnique, WritesThrough, get_by, insert_entry}
 use Rattle.indexmap.proofs.CallerLemmas.{insert_entry-new}
 use Rattle.vt_spec.specs.declared.errors.Deny.{Deny}
-use Rattle.vt_spec.specs.declared.errors.Rule.TheVariants.{S3, S5, S6}
-use Rattle.vt_spec.specs.Errors.{denial}
 use Rattle.vt_spec.specs.Language.Calls.{TaskName, same_name}
-use Rattle.vt_spec.specs.Language.Limits.{deepest_name, most_descriptors, most_forks}
 use Rattle.vt_spec.specs.Machine.Outcome.Descriptors.{free_from, inserted}
 use Rattle.vt_spec.specs.Machine.Outcome.Tasks.{child_name, child_of}
 use Rattle.vt_spec.specs.Machine.World.{Descriptor, Task, replaced_if_called}
@@ -26,7 +23,7 @@ use Rattle.vt_tasks.specs.declared.descriptors.OpenFile.{OpenFile}
 use Rattle.vt_tasks.specs.declared.task.Task.{Task as Held}
 use Rattle.vt_tasks.specs.Open.{numbered}
 use Rattle.vt_tasks.specs.TaskValue.{task_of}
-use Rattle.vt_tasks.specs.TasksValue.{AreFit, AreKeyed, AreNamedApart, Tasks, are_given_once, called, changed_by, changed_called, fork_refusal, forked, forked_by, forked_once, has_files_in_order, open_refusal, replaced, tasks_of, with_child_behind, without_called}
+use Rattle.vt_tasks.specs.TasksValue.{AreFit, AreKeyed, AreNamedApart, Tasks, are_given_once, called, changed_by, changed_called, forked, forked_by, forked_once, has_files_in_order, replaced, tasks_of, with_child_behind, without_called}
 
 -- the tasks with this one in the place of the one of a name
 abbrev pub put_if : TaskName → Task ℕ → Task ℕ → Task ℕ
@@ -292,29 +289,22 @@ opened-in_order (Ok number) held old new here is same rising =
     ap (are_ascending_from 0) is ∙ rising-inserted (numbered number held) 0 old rising (sym here)
 opened-in_order (Err e) held old new here is same rising = ap (are_ascending_from 0) same ∙ rising
 
--- Why a call is refused
+-- A task that may open one file more, or have one child more, is there
 
-pub refused-full : (task : Task ℕ) → most_descriptors ≤ length task.descriptors → denial S3 ≡ open_refusal (Some task)
-refused-full task full = sym (ap (λ b. denial (if b then S3 else S5)) (le-leb most_descriptors (length task.descriptors) full))
+pub granted-there : (P : Task ℕ → Type 0) (found : Option (Task ℕ)) → IsSomeAnd found P → found ≡ None → ⊥
+granted-there P None may absent = may
+granted-there P (Some task) may absent = absurd cc
 
-pub refused-room : (task : Task ℕ) → length task.descriptors < most_descriptors → denial S5 ≡ open_refusal (Some task)
-refused-room task room = sym (ap (λ b. denial (if b then S3 else S5)) (lt-leb most_descriptors (length task.descriptors) room))
+pub granted-so : (P : Task ℕ → Type 0) (found : Option (Task ℕ)) (task : Task ℕ) → IsSomeAnd found P → found ≡ Some task → P task
+granted-so P found task may is = subst (λ one. IsSomeAnd one P) is may
 
-either : (a b : Bool) → b ≡ true → (a || b) ≡ true
-either true b e = refl
-either false b e = e
+pub there-shared : (held : Option (Bor Held)) → (option_copied held ≡ None → ⊥) → is_some held ≡ true
+there-shared None never = absurd (never refl)
+there-shared (Some held) never = refl
 
-pub refused-forks : (task : Task ℕ) → most_forks ≤ task.forks → denial S6 ≡ fork_refusal (Some task)
-refused-forks task full =
-    sym (ap (λ b. denial (if b || nat_le deepest_name (length task.name) then S6 else S5)) (le-leb most_forks task.forks full))
-
-pub refused-depth : (task : Task ℕ) → deepest_name ≤ length task.name → denial S6 ≡ fork_refusal (Some task)
-refused-depth task deep =
-    sym (ap (λ b. denial (if b then S6 else S5)) (either (nat_le most_forks task.forks) _ (le-leb deepest_name (length task.name) deep)))
-
-pub refused-memory : (task : Task ℕ) → task.forks < most_forks → length task.name < deepest_name → denial S5 ≡ fork_refusal (Some task)
-refused-memory task few short =
-    sym (λ i. denial (if lt-leb most_forks task.forks few i || lt-leb deepest_name (length task.name) short i then S6 else S5))
+pub there-mut : (held : Option (MutBor Held)) → (option_copied_mut held ≡ None → ⊥) → is_some held ≡ true
+there-mut None never = absurd (never refl)
+there-mut (Some held) never = refl
 
 -- A child behind all other tasks
 

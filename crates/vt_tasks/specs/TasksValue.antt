@@ -1,10 +1,7 @@
 -- What contracts see of tasks: a list, as the worlds of the definitions have it.
-use Rattle.std.specs.Prelude.{Bool, List, None, Option, Some, [], false, filter, find, if◌then◌else◌, length, map, nat_eq, nat_le, not, true, ℕ, ◌+◌, ◌++◌, ◌==◌, ◌||◌, ◌∷◌, ◌≡◌}
+use Rattle.std.specs.Prelude.{Bool, IsSomeAnd, List, None, Option, Some, [], false, filter, find, if◌then◌else◌, length, map, nat_eq, nat_le, not, true, ℕ, ◌<◌, ◌+◌, ◌++◌, ◌==◌, ◌∷◌, ◌≡◌}
 use Rattle.std.specs.List.{AllByRecursion, list_all}
 use Rattle.std.specs.declared.vec.Vec.{Vec}
-use Rattle.vt_spec.specs.declared.errors.Deny.{Deny}
-use Rattle.vt_spec.specs.declared.errors.Rule.TheVariants.{S2, S3, S5, S6}
-use Rattle.vt_spec.specs.Errors.{denial}
 use Rattle.vt_spec.specs.Language.Calls.{TaskName, same_name}
 use Rattle.vt_spec.specs.Language.Limits.{deepest_name, most_descriptors, most_forks}
 use Rattle.vt_spec.specs.Lists.{any_pair}
@@ -77,16 +74,13 @@ left_of left = (counted left.namespace.count, location_of left.root, location_of
 abbrev pub left_by : Task ℕ → ℕ × Location ℕ × Location ℕ
 left_by task = (task.namespace, task.root, task.directory)
 
--- why no file is opened: no such task, EMFILE of open(2), or an allocation failed
-abbrev pub open_refusal : Option (Task ℕ) → Deny
-open_refusal None = denial S2
-open_refusal (Some task) = denial (if nat_le most_descriptors (length task.descriptors) then S3 else S5)
+-- the task is there, and may open one file more: RLIMIT_NOFILE of setrlimit(2)
+abbrev pub MayOpenMore : Option (Task ℕ) → Type 0
+MayOpenMore task = IsSomeAnd task (λ task. length task.descriptors < most_descriptors)
 
--- why no task is forked: no such task, the limits of fork(2), or an allocation failed
-abbrev pub fork_refusal : Option (Task ℕ) → Deny
-fork_refusal None = denial S2
-fork_refusal (Some task) =
-    denial (if nat_le most_forks task.forks || nat_le deepest_name (length task.name) then S6 else S5)
+-- the task is there, and may have one child more (profile)
+abbrev pub MayFork : Option (Task ℕ) → Type 0
+MayFork task = IsSomeAnd task (λ task. (task.forks < most_forks) × (length task.name < deepest_name))
 
 -- no two tasks have the same name
 abbrev pub AreNamedApart : Tasks → Type 0

@@ -1,8 +1,7 @@
 //! All tasks, by their names.
-ghost use Rattle.std.specs.Prelude.{◌≡◌, ◌<◌, [], ◌∷◌, length, map, nat_eq, true, Some, IfOk, IfErr, OnOk, OnErr, option_map, option_copied};
+ghost use Rattle.std.specs.Prelude.{◌≡◌, [], ◌∷◌, map, nat_eq, true, Some, IfOk, IfErr, OnOk, OnErr, option_map, option_copied};
 ghost use Rattle.std.specs.List.{list_all};
 ghost use Rattle.std.specs.Option.{option_and_then};
-ghost use Rattle.vt_spec.specs.Language.Limits.{deepest_name};
 ghost use Rattle.vt_spec.specs.Machine.Namespaces.{entered_at, pivoted_task};
 ghost use Rattle.vt_spec.specs.Machine.Outcome.Descriptors.{free_number, without_descriptor};
 ghost use Rattle.vt_spec.specs.Machine.Outcome.Tasks.{child_name, with_dropped};
@@ -16,10 +15,10 @@ ghost use Rattle.vt_location.specs.Numbers.{counted};
 ghost use Rattle.vt_tasks.specs.Counts.{tasks_in};
 ghost use Rattle.vt_tasks.specs.Open.{numbered};
 ghost use Rattle.vt_tasks.specs.TaskValue.{task_of};
-ghost use Rattle.vt_tasks.specs.TasksValue.{AreNamedApart, called, changed_called, first_task_at, fork_refusal, forked, has_files_in_order, left_by, left_of, open_refusal, with_open, without_called};
+ghost use Rattle.vt_tasks.specs.TasksValue.{AreNamedApart, MayFork, MayOpenMore, called, changed_called, first_task_at, forked, has_files_in_order, left_by, left_of, with_open, without_called};
 
-use crate::descriptors::{MAX_DESCRIPTORS, OpenFile};
-use crate::task::{Left, MAX_DEPTH, MAX_FORKS, Task};
+use crate::descriptors::OpenFile;
+use crate::task::{Left, Task};
 use indexmap::IndexMap;
 use std::alloc::Global;
 use std::marker::Model;
@@ -198,21 +197,17 @@ impl Tasks {
 
     /// Opens a file of a task under the least free number, and returns that number: open(2).
     ///
-    /// S2 (ESRCH): there is no such task. S3 (EMFILE): 256 of its files are open. S5 (ENOMEM): an allocation failed.
+    /// S5 (ENOMEM): an allocation failed.
     pub fn open(&mut self, name: &TaskName, opened: OpenFile) -> Result<u8, Deny>
+        requires { MayOpenMore (called name.now self.old) }
         ensures number { IfOk result (λ number. Some number ≡ option_map free_number (called name.now self.old)) }
         ensures ok { OnOk result (self.new ≡ changed_called name.now (with_open opened) self.old) }
         // closed again, the tasks are as they were
         ensures undone { IfOk result (λ number. changed_called name.now (λ task. without_descriptor task number) self.new ≡ self.old) }
-        ensures refused { IfErr result (λ deny. deny ≡ open_refusal (called name.now self.old)) }
+        ensures memory { IfErr result (λ deny. deny ≡ denial S5) }
         ensures err { OnErr result (self.new ≡ self.old) }
     {
-        let Some(task) = self.by_name.get_mut(name.numbers()) else {
-            return Err(Rule::S2.denial());
-        };
-        if task.descriptors.len() >= MAX_DESCRIPTORS {
-            return Err(Rule::S3.denial());
-        }
+        let task = self.by_name.get_mut(name.numbers()).unwrap();
         task.descriptors.insert(opened)
     }
 
@@ -231,23 +226,17 @@ impl Tasks {
     /// The child has these credentials, the parent's umask, namespace, root and working directory, and no open files. It comes
     /// after all other tasks.
     ///
-    /// S2 (ESRCH): there is no such task. S6 (ENOSPC): it has forked 64 times, or its name has 8 numbers. S5 (ENOMEM): memory
-    /// was refused.
+    /// S5 (ENOMEM): memory was refused.
     pub fn fork(&mut self, name: &TaskName, cred: Cred) -> Result<TaskName, Deny>
+        requires { MayFork (called name.now self.old) }
         ensures name { IfOk result (λ child. Some child ≡ option_map child_name (called name.now self.old)) }
-        ensures depth { OnOk result (length name.now < deepest_name) }
         ensures ok { OnOk result (self.new ≡ forked name.now cred self.old) }
-        ensures refused { IfErr result (λ deny. deny ≡ fork_refusal (called name.now self.old)) }
+        ensures memory { IfErr result (λ deny. deny ≡ denial S5) }
         ensures err { OnErr result (self.new ≡ self.old) }
     {
         let alloc = *self.by_name.allocator();
         let numbers = name.numbers();
-        let Some(parent) = self.by_name.get(numbers) else {
-            return Err(Rule::S2.denial());
-        };
-        if parent.forks >= MAX_FORKS || numbers.len() >= MAX_DEPTH {
-            return Err(Rule::S6.denial());
-        }
+        let parent = self.by_name.get(numbers).unwrap();
         let forks = parent.forks + 1;
         let Ok(child) = parent.child(alloc, cred) else {
             return Err(Rule::S5.denial());

@@ -1,5 +1,6 @@
 //! Devices that fail in the middle of a script.
 use std::test::Fail;
+use vt_calls::Kernel;
 use vt_io::memory::{BytesSink, BytesSource};
 use vt_script::{RunFault, run};
 
@@ -16,7 +17,7 @@ fn after_a_failed_read_the_complete_lines_are_answered(rt: HostRuntime) -> Resul
     for read in 1..=SCRIPT.len() {
         let mut source = BytesSource::new(SCRIPT, 1).failing_at(read);
         let mut sink = BytesSink::new(rt.alloc(), 8192);
-        let outcome = run(rt.alloc(), &mut source, &mut sink);
+        let outcome = run::<Kernel, _, _>(rt.alloc(), &mut source, &mut sink);
         assert_eq!(rt; outcome, Err(RunFault::Read), "read {read}");
         let ended = ANSWERED.iter().rfind(|(end, _)| *end < read);
         let answered = ended.map_or(0, |(_, answered)| *answered);
@@ -31,7 +32,7 @@ fn after_a_failed_write_the_answers_have_begun(rt: HostRuntime) -> Result<(), Fa
     for write in 1..=ANSWERS.len() {
         let mut source = BytesSource::new(SCRIPT, 7);
         let mut sink = BytesSink::new(rt.alloc(), 1).failing_at(write);
-        let outcome = run(rt.alloc(), &mut source, &mut sink);
+        let outcome = run::<Kernel, _, _>(rt.alloc(), &mut source, &mut sink);
         assert_eq!(rt; outcome, Err(RunFault::Write), "write {write}");
         assert_eq!(rt; sink.bytes().len(), write - 1, "write {write}");
         assert!(rt; ANSWERS.starts_with(sink.bytes()), "write {write}");

@@ -1,7 +1,8 @@
 //! Peer groups as mount_namespaces(7) tells of them.
 use std::test::Fail;
+use vt_cred::MountFlags;
 use vt_group::{Groups, NewGroup};
-use vt_location::{FilesystemId, GroupId, Mount, MountFlags, MountId, NodeRef, Propagation};
+use vt_location::{FilesystemId, GroupId, Mount, MountId, NodeRef, Propagation};
 
 fn mount(count: u64) -> MountId {
     MountId::new(count)

@@ -1,4 +1,4 @@
-//! Tests of what no script shows: readers and writers, devices that fail, peer groups, and the program.
+//! Tests of what no script shows: readers and writers, devices that fail, and peer groups.
 #![tactic(auto)]
 
 #[cfg(test)]
@@ -7,5 +7,3 @@ mod adapters;
 mod devices;
 #[cfg(test)]
 mod groups;
-#[cfg(test)]
-mod program;

@@ -1,9 +1,10 @@
 -- What the words between separators are, read from the left and from the right. Those of a path are `words_between 47`.
-use Rattle.std.proofs.Common.{◌≡◌, ◌≢◌, ℕ, ◌+◌, ◌-◌, ◌<◌, ◌≤◌, Bool, true, false, not, ◌==◌, List, [], ◌∷◌, ◌++◌, length, filter, get_or, take, drop, refl, sym, ap, ◌∙◌, subst, ⊎_elim, arith, length-drop, length-take, take-append-drop, get_or-take, get_or-drop}
+use Rattle.std.proofs.Common.{◌≡◌, ◌≢◌, ℕ, ◌+◌, ◌-◌, ◌<◌, ◌≤◌, Bool, true, false, not, suc, zero, ◌==◌, List, [], ◌∷◌, ◌++◌, length, filter, get_or, take, drop, refl, sym, ap, ◌∙◌, subst, ⊎_elim, arith, length-drop, length-take, take-append-drop, get_or-take, get_or-drop}
 use Rattle.std.specs.List.{All}
 use Rattle.std.proofs.lemmas.Bool.{eq-eqb, ne_eqb, cases_lt}
 use Rattle.std.proofs.lemmas.List.{append-nil, drop_more, take_more, take_all, drop_all}
 use Rattle.std.proofs.lemmas.List.Elements.{All-nil, All-cons, All-head, All-tail, All-weaker, All-filter, All-from_get_or, filter-append}
+use Rattle.vt_spec.specs.Lists.{is_empty_list}
 use Rattle.vt_spec.specs.PathText.{with_byte, parts, is_empty, words_between, ends_in_slash}
 
 with_byte_some : (b : Bool) (byte : ℕ) (ps : List (List ℕ)) → with_byte b byte ps ≢ []
@@ -54,6 +55,24 @@ words_between-skip s (x ∷ front) xs same =
 -- a text of separators has no word
 pub words_between_none : (s : ℕ) (xs : List ℕ) → All (λ b. b ≡ s) xs → words_between s xs ≡ []
 words_between_none s xs same = ap (words_between s) (sym (append-nil xs)) ∙ words_between-skip s xs [] same
+
+-- a text with another byte has a word
+word-left : (b : Bool) (x : ℕ) (ps : List (List ℕ)) → is_empty_list (filter (λ part. not (is_empty part)) ps) ≡ false
+    → is_empty_list (filter (λ part. not (is_empty part)) (with_byte b x ps)) ≡ false
+word-left true x ps some = some
+word-left false x [] some = refl
+word-left false x (p ∷ ps) some = refl
+
+word-begun : (x : ℕ) (ps : List (List ℕ)) → is_empty_list (filter (λ part. not (is_empty part)) (with_byte false x ps)) ≡ false
+word-begun x [] = refl
+word-begun x (p ∷ ps) = refl
+
+pub words_between_some : (s : ℕ) (xs : List ℕ) (k : ℕ) → k < length xs → get_or xs k 0 ≢ s → is_empty_list (words_between s xs) ≡ false
+words_between_some s [] k inside other = absurd (omega arith)
+words_between_some s (x ∷ xs) zero inside other =
+    ap (λ b. is_empty_list (filter (λ part. not (is_empty part)) (with_byte b x (parts s xs)))) (ne_eqb x s other) ∙ word-begun x (parts s xs)
+words_between_some s (x ∷ xs) (suc k) inside other =
+    word-left (x == s) x (parts s xs) (words_between_some s xs k (omega arith) other)
 
 -- separators at the end
 pub words_between-trim : (s : ℕ) (xs back : List ℕ) → All (λ b. b ≡ s) back → words_between s (xs ++ back) ≡ words_between s xs

@@ -6,6 +6,7 @@ ghost use Rattle.vt_spec.specs.declared.errors.Rule.TheVariants.{W1, W2};
 ghost use Rattle.vt_spec.specs.Errors.{denial};
 ghost use Rattle.vt_spec.specs.PathText.{words, ends_in_slash, parsed_path};
 ghost use Rattle.vt_spec.specs.Language.Limits.{longest_path, longest_name};
+ghost use Rattle.vt_spec.specs.Lists.{is_empty_list};
 ghost use Rattle.vt_text.specs.Walkable.{IsTooLong, IsWalkable};
 
 use crate::{Deny, Rule};
@@ -71,6 +72,16 @@ impl<'a> Words<'a> {
         ensures { result ≡ words text.now }
     {
         Words { text }
+    }
+
+    /// Whether no word is left.
+    pub fn is_empty(&self) -> bool
+        ensures { result ≡ is_empty_list self.now }
+    {
+        match self.text.iter().position(|byte| *byte != b'/') {
+            Some(_) => false,
+            None => true,
+        }
     }
 }
 

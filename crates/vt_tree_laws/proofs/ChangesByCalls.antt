@@ -79,20 +79,25 @@ pub without_dead_plain : (chosen : Filesystem ℕ → Bool) (world : World ℕ) 
     → All (λ f. is_overlay f ≡ false) (without_dead_in nat_eq chosen world).filesystems
 without_dead_plain chosen world plain =
     All-map (λ f. is_overlay f ≡ false) (λ f. only_used nat_eq world (chosen f) f) world.filesystems
-    (All-weaker (λ f. is_overlay f ≡ false) (λ f. is_overlay (only_used nat_eq world (chosen f) f) ≡ false) (λ f is. used_plain world (chosen f) f is) world.filesystems plain)
+    (All-weaker (λ f. is_overlay f ≡ false) (λ f. is_overlay (only_used nat_eq world (chosen f) f) ≡ false)
+    (λ f is. used_plain world (chosen f) f is) world.filesystems plain)
 
 pub settled_keeps : (world : World ℕ) → IsWorldOfTrees world → IsWorldOfTrees (settled nat_eq world)
 settled_keeps world conditions =
     let mounted_world = without_dead_mounts nat_eq world in
     let living = without_dead_filesystems nat_eq mounted_world in
-    let plain_living : All (λ f. is_overlay f ≡ false) living.filesystems = All-filter (filesystem_lives nat_eq mounted_world) (λ f. is_overlay f ≡ false) world.filesystems conditions.plain in
+    let plain_living : All (λ f. is_overlay f ≡ false) living.filesystems =
+    All-filter (filesystem_lives nat_eq mounted_world) (λ f. is_overlay f ≡ false) world.filesystems conditions.plain in
     record {
-      plain = without_dead_plain (λ f. not (is_overlay f)) (without_dead_in nat_eq is_overlay living) (without_dead_plain is_overlay living plain_living);
+      plain =
+          without_dead_plain (λ f. not (is_overlay f)) (without_dead_in nat_eq is_overlay living)
+          (without_dead_plain is_overlay living plain_living);
       trees = settling_keeps_trees world conditions.trees;
     }
 
 -- each call
-module _ (fresh : Fresh ℕ) (world : World ℕ) (task : Task ℕ) (conditions : IsWorldOfTrees world) (standing : IsStanding world) (new : AreNew fresh world) where
+module _ (fresh : Fresh ℕ) (world : World ℕ) (task : Task ℕ) (conditions : IsWorldOfTrees world) (standing : IsStanding world)
+    (new : AreNew fresh world) where
   pub outcome_keeps : (call : Call) → mounts_overlay call ≡ false → IsWorldOfTrees (call_outcome nat_eq fresh world task call).world
   outcome_keeps (Ls path) other = list_keeps IsWorldOfTrees same_filesystems fresh world task conditions path
   outcome_keeps (Stat path) other = stat_keeps IsWorldOfTrees same_filesystems fresh world task conditions path
@@ -112,7 +117,8 @@ module _ (fresh : Fresh ℕ) (world : World ℕ) (task : Task ℕ) (conditions :
   outcome_keeps (Chown path uid gid) other = chown_keeps fresh world task conditions new path uid gid
   outcome_keeps (Opaque path mark) other = opaque_keeps fresh world task conditions new path mark
   outcome_keeps (OpenFile path access creation) other = open_keeps fresh world task conditions new path access creation
-  outcome_keeps (Pread descriptor offset size) other = pread_keeps IsWorldOfTrees same_filesystems fresh world task conditions descriptor offset size
+  outcome_keeps (Pread descriptor offset size) other =
+      pread_keeps IsWorldOfTrees same_filesystems fresh world task conditions descriptor offset size
   outcome_keeps (Pwrite descriptor offset bytes) other = pwrite_keeps fresh world task conditions new descriptor offset bytes
   outcome_keeps (Close descriptor) other = close_keeps IsWorldOfTrees same_filesystems fresh world task conditions descriptor
   outcome_keeps (Chdir path) other = chdir_keeps IsWorldOfTrees same_filesystems fresh world task conditions path
@@ -123,14 +129,19 @@ module _ (fresh : Fresh ℕ) (world : World ℕ) (task : Task ℕ) (conditions :
   outcome_keeps Exit other = exit_keeps IsWorldOfTrees same_filesystems fresh world task conditions
   outcome_keeps Unshare other = unshare_keeps IsWorldOfTrees same_filesystems fresh world task conditions
   outcome_keeps (Setns name) other = setns_keeps IsWorldOfTrees same_filesystems fresh world task conditions name
-  outcome_keeps (MountPlain path flags) other = mount_plain_keeps IsWorldOfTrees same_filesystems fresh world task conditions (λ after_call same. more_filesystems world after_call (plain_filesystem nat_eq fresh) same refl (new_tree_is (evens fresh 1)) conditions) path flags
+  outcome_keeps (MountPlain path flags) other =
+      mount_plain_keeps IsWorldOfTrees same_filesystems fresh world task conditions
+      (λ after_call same. more_filesystems world after_call (plain_filesystem nat_eq fresh) same refl
+      (new_tree_is (evens fresh 1)) conditions) path flags
   outcome_keeps (MountOverlay path options flags) other = absurd (true≢false other)
-  outcome_keeps (Bind source path recursive) other = bind_keeps IsWorldOfTrees same_filesystems fresh world task conditions source path recursive
+  outcome_keeps (Bind source path recursive) other =
+      bind_keeps IsWorldOfTrees same_filesystems fresh world task conditions source path recursive
   outcome_keeps (MoveMount source path) other = move_keeps IsWorldOfTrees same_filesystems fresh world task conditions source path
   outcome_keeps (Umount path) other = umount_keeps IsWorldOfTrees same_filesystems fresh world task conditions path
   outcome_keeps (Lazy path) other = lazy_keeps IsWorldOfTrees same_filesystems fresh world task conditions path
   outcome_keeps (Remount path flags) other = remount_keeps IsWorldOfTrees same_filesystems fresh world task conditions path flags
-  outcome_keeps (SetType path word recursive) other = type_keeps IsWorldOfTrees same_filesystems fresh world task conditions path word recursive
+  outcome_keeps (SetType path word recursive) other =
+      type_keeps IsWorldOfTrees same_filesystems fresh world task conditions path word recursive
   outcome_keeps (PivotRoot root put) other = pivot_keeps IsWorldOfTrees same_filesystems fresh world task conditions root put
   outcome_keeps ListMounts other = mounts_keeps IsWorldOfTrees same_filesystems fresh world task conditions
 
@@ -145,14 +156,17 @@ finished_keeps before name changed outcome false conditions =
 pub calls_keep_trees : CallsKeepTrees
 calls_keep_trees world fresh name call conditions standing new other =
     after_holds IsWorldOfTrees world (ok_or (task_called world name) (denial S2)) _ conditions (λ task found.
-    finished_keeps world name _ (call_outcome nat_eq fresh world task call) _ (outcome_keeps fresh world task conditions standing new call other))
+    finished_keeps world name _ (call_outcome nat_eq fresh world task call) _
+    (outcome_keeps fresh world task conditions standing new call other))
 
 -- the opening world
 pub opening_has_trees : OpeningHasTrees
 opening_has_trees fresh = (
   record {
     plain = All-cons (λ f. is_overlay f ≡ false) (new_plain nat_eq (fresh 2) (fresh 3)) [] refl (All-nil (λ f. is_overlay f ≡ false));
-    trees = All-cons (λ f. IsFileTree f.files) (new_plain nat_eq (fresh 2) (fresh 3)) [] (new_tree_is (fresh 3)) (All-nil (λ f. IsFileTree f.files));
+    trees =
+        All-cons (λ f. IsFileTree f.files) (new_plain nat_eq (fresh 2) (fresh 3)) [] (new_tree_is (fresh 3))
+        (All-nil (λ f. IsFileTree f.files));
   },
   record {
     roots = All-cons HasRoot (first_mount nat_eq fresh) [] root_there (All-nil HasRoot);
@@ -170,10 +184,13 @@ opening_has_trees fresh = (
     the_mount = ap (λ b. unwrap_or (cond b (Some (first_mount nat_eq fresh)) None) (no_mount (fresh 0))) (eq-eqb (fresh 0) (fresh 0) refl)
 
     the_filesystem : numbered (fresh 2) (new_plain nat_eq (fresh 2) (fresh 3) ∷ []) ≡ new_plain nat_eq (fresh 2) (fresh 3)
-    the_filesystem = ap (λ b. unwrap_or (cond b (Some (new_plain nat_eq (fresh 2) (fresh 3))) None) (no_filesystem (fresh 2))) (eq-eqb (fresh 2) (fresh 2) refl)
+    the_filesystem =
+        ap (λ b. unwrap_or (cond b (Some (new_plain nat_eq (fresh 2) (fresh 3))) None) (no_filesystem (fresh 2)))
+        (eq-eqb (fresh 2) (fresh 2) refl)
 
     root_there : is_directory_at nat_eq (opening nat_eq fresh) (record { mount = fresh 0; node = fresh 3 }) ≡ true
     root_there =
-        ap (λ (m : Mount ℕ). is_directory_node ((numbered m.filesystem (new_plain nat_eq (fresh 2) (fresh 3) ∷ [])).files.tree.node (fresh 3))) the_mount
+        ap (λ (m : Mount ℕ). is_directory_node
+        ((numbered m.filesystem (new_plain nat_eq (fresh 2) (fresh 3) ∷ [])).files.tree.node (fresh 3))) the_mount
         ∙ ap (λ (f : Filesystem ℕ). is_directory_node (f.files.tree.node (fresh 3))) the_filesystem
         ∙ ap (λ b. is_directory_node {N = ℕ} (cond b (Some (record { attr = root_attr; content = new_directory (fresh 3) })) None)) (eq-eqb (fresh 3) (fresh 3) refl)

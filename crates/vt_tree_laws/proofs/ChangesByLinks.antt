@@ -19,7 +19,8 @@ use Rattle.vt_tree_laws.proofs.TreesOfWorlds.{change_keeps_world}
 use Rattle.vt_tree_laws.proofs.TreesWalked.{IsNewPlace, Passed, after_ends, ends_new_leaf_walk, judged_holds, not_true, place_is_file}
 
 module _ (world : World ℕ) (task : Task ℕ) (old : Location ℕ) (place : Place ℕ) (there : is_some (node_at nat_eq world old) ≡ true)
-    (is : IsNewPlace world task place) (plain : is_special place.last ≡ false) (passed : Passed (hard_link_rules nat_eq world task old place (linking old place))) where
+    (is : IsNewPlace world task place) (plain : is_special place.last ≡ false)
+    (passed : Passed (hard_link_rules nat_eq world task old place (linking old place))) where
   one_mount : old.mount ≡ place.parent.mount
   one_mount = eqb-true old.mount place.parent.mount (not_true (nat_eq old.mount place.parent.mount) passed.1.1.1.1.1.0)
 
@@ -38,8 +39,10 @@ pub link_keeps : (fresh : Fresh ℕ) (world : World ℕ) (task : Task ℕ) → I
     → IsWorldOfTrees (hard_link_outcome nat_eq fresh world task old new).world
 unfolding hard_link_outcome
 link_keeps fresh world task conditions standing old new =
-    after_ends (λ here. is_some (node_at nat_eq world here.location) ≡ true) IsWorldOfTrees world (symlink_walk nat_eq world task old) _ conditions (ends_link_walk world conditions standing task old) (λ from there.
-    after_ends (IsNewPlace world task) IsWorldOfTrees world (new_leaf_walk nat_eq world task new) _ conditions (ends_new_leaf_walk world task new) (λ place is.
+    after_ends (λ here. is_some (node_at nat_eq world here.location) ≡ true) IsWorldOfTrees world
+    (symlink_walk nat_eq world task old) _ conditions (ends_link_walk world conditions standing task old) (λ from there.
+    after_ends (IsNewPlace world task) IsWorldOfTrees world (new_leaf_walk nat_eq world task new) _ conditions
+    (ends_new_leaf_walk world task new) (λ place is.
     judged_holds IsWorldOfTrees world ((is_special place.last, E1) ∷ []) _ conditions (λ plain.
     judged_holds IsWorldOfTrees world (hard_link_rules nat_eq world task from.location place (linking from.location place))
     (granted Done (with_change nat_eq fresh world place.parent (linking from.location place))) conditions (λ passed.

@@ -51,7 +51,9 @@ module _ (P : World ℕ → Type 0) (alike : (a b : World ℕ) → a.filesystems
   -- calls that look
   pub list_keeps : (path : List ℕ) → P (list_outcome nat_eq world task path).world
   unfolding list_outcome
-  list_keeps path = after_any P world (directory_walk nat_eq world task path) _ conditions (λ here. judged_holds P world (list_rules nat_eq world task here.location) _ conditions (λ passed. conditions))
+  list_keeps path =
+      after_any P world (directory_walk nat_eq world task path) _ conditions
+      (λ here. judged_holds P world (list_rules nat_eq world task here.location) _ conditions (λ passed. conditions))
 
   pub stat_keeps : (path : List ℕ) → P (stat_outcome nat_eq world task path).world
   unfolding stat_outcome
@@ -63,19 +65,26 @@ module _ (P : World ℕ → Type 0) (alike : (a b : World ℕ) → a.filesystems
 
   pub readlink_keeps : (path : List ℕ) → P (readlink_outcome nat_eq world task path).world
   unfolding readlink_outcome
-  readlink_keeps path = after_any P world (symlink_walk nat_eq world task path) _ conditions (λ here. judged_holds P world (readlink_rules nat_eq world here.location) _ conditions (λ passed. conditions))
+  readlink_keeps path =
+      after_any P world (symlink_walk nat_eq world task path) _ conditions
+      (λ here. judged_holds P world (readlink_rules nat_eq world here.location) _ conditions (λ passed. conditions))
 
   pub read_keeps : (path : List ℕ) → P (read_outcome nat_eq world task path).world
   unfolding read_outcome
-  read_keeps path = after_any P world (object_walk nat_eq world task path) _ conditions (λ here. judged_holds P world (read_rules nat_eq world task here.location) _ conditions (λ passed. conditions))
+  read_keeps path =
+      after_any P world (object_walk nat_eq world task path) _ conditions
+      (λ here. judged_holds P world (read_rules nat_eq world task here.location) _ conditions (λ passed. conditions))
 
   pub exec_keeps : (path : List ℕ) → P (exec_outcome nat_eq world task path).world
   unfolding exec_outcome
-  exec_keeps path = after_any P world (object_walk nat_eq world task path) _ conditions (λ here. judged_holds P world (exec_rules nat_eq world task here.location) _ conditions (λ passed. conditions))
+  exec_keeps path =
+      after_any P world (object_walk nat_eq world task path) _ conditions
+      (λ here. judged_holds P world (exec_rules nat_eq world task here.location) _ conditions (λ passed. conditions))
 
   pub pread_keeps : (number offset size : ℕ) → P (pread_outcome nat_eq world task number offset size).world
   unfolding pread_outcome
-  pread_keeps number offset size = after_holds P world (descriptor_at task number (λ descriptor. descriptor.reads)) _ conditions (λ descriptor found. conditions)
+  pread_keeps number offset size =
+      after_holds P world (descriptor_at task number (λ descriptor. descriptor.reads)) _ conditions (λ descriptor found. conditions)
 
   pub mounts_keeps : P (mounts_outcome nat_eq world task).world
   unfolding mounts_outcome
@@ -84,13 +93,16 @@ module _ (P : World ℕ → Type 0) (alike : (a b : World ℕ) → a.filesystems
   -- calls on tasks
   pub close_keeps : (number : ℕ) → P (close_outcome world task number).world
   unfolding close_outcome
-  close_keeps number = after_holds P world (descriptor_at task number (λ descriptor. true)) _ conditions (λ descriptor found. alike (with_task world (without_descriptor task number)) world refl conditions)
+  close_keeps number =
+      after_holds P world (descriptor_at task number (λ descriptor. true)) _ conditions
+      (λ descriptor found. alike (with_task world (without_descriptor task number)) world refl conditions)
 
   pub chdir_keeps : (path : List ℕ) → P (chdir_outcome nat_eq world task path).world
   unfolding chdir_outcome
   chdir_keeps path =
       after_any P world (directory_walk nat_eq world task path) _ conditions (λ here.
-      judged_holds P world (enter_rules nat_eq world task here.location) (granted Done (with_task world (record task { directory = here.location }))) conditions
+      judged_holds P world (enter_rules nat_eq world task here.location)
+      (granted Done (with_task world (record task { directory = here.location }))) conditions
       (λ passed. alike (with_task world (record task { directory = here.location })) world refl conditions))
 
   pub chroot_keeps : (path : List ℕ) → P (chroot_outcome nat_eq world task path).world
@@ -98,7 +110,8 @@ module _ (P : World ℕ → Type 0) (alike : (a b : World ℕ) → a.filesystems
   chroot_keeps path =
       judged_holds P world ((lacks task cap_sys_chroot, K1) ∷ []) _ conditions (λ capable.
       after_any P world (directory_walk nat_eq world task path) _ conditions (λ here.
-      judged_holds P world (enter_rules nat_eq world task here.location) (granted Done (with_task world (record task { root = here.location }))) conditions
+      judged_holds P world (enter_rules nat_eq world task here.location)
+      (granted Done (with_task world (record task { root = here.location }))) conditions
       (λ passed. alike (with_task world (record task { root = here.location })) world refl conditions)))
 
   pub umask_keeps : (mode : ℕ) → P (umask_outcome world task mode).world
@@ -122,7 +135,8 @@ module _ (P : World ℕ → Type 0) (alike : (a b : World ℕ) → a.filesystems
   pub unshare_keeps : P (unshare_outcome nat_eq fresh world task).world
   unfolding unshare_outcome
   unshare_keeps =
-      judged_holds P world ((lacks task cap_sys_admin, K1) ∷ []) (granted Done (namespaces_ended nat_eq (unshared nat_eq world fresh task))) conditions
+      judged_holds P world ((lacks task cap_sys_admin, K1) ∷ [])
+      (granted Done (namespaces_ended nat_eq (unshared nat_eq world fresh task))) conditions
       (λ passed. ended_keeps (unshared nat_eq world fresh task) (alike (unshared nat_eq world fresh task) world refl conditions))
 
   pub setns_keeps : (name : TaskName) → P (setns_outcome nat_eq world task name).world
@@ -131,16 +145,20 @@ module _ (P : World ℕ → Type 0) (alike : (a b : World ℕ) → a.filesystems
       after_holds P world (ok_or (task_called world name) (denial S2)) _ conditions (λ target found.
       judged_holds P world ((lacks task cap_sys_admin || lacks task cap_sys_chroot, K1) ∷ [])
       (granted Done (namespaces_ended nat_eq (namespace_entered nat_eq world task target.namespace))) conditions
-      (λ passed. ended_keeps (namespace_entered nat_eq world task target.namespace) (alike (namespace_entered nat_eq world task target.namespace) world refl conditions)))
+      (λ passed. ended_keeps (namespace_entered nat_eq world task target.namespace)
+      (alike (namespace_entered nat_eq world task target.namespace) world refl conditions)))
 
   -- calls on mounts
-  pub mount_plain_keeps : ((after_call : World ℕ) → after_call.filesystems ≡ world.filesystems ++ (plain_filesystem nat_eq fresh ∷ []) → P after_call)
+  pub mount_plain_keeps :
+      ((after_call : World ℕ) → after_call.filesystems ≡ world.filesystems ++ (plain_filesystem nat_eq fresh ∷ []) → P after_call)
       → (path : List ℕ) (flags : MountFlags) → P (mount_plain_outcome nat_eq fresh world task path flags).world
   unfolding mount_plain_outcome
   mount_plain_keeps more path flags =
       judged_holds P world (admin_rules task) _ conditions (λ capable.
       after_any P world (destination_walk nat_eq world task path) _ conditions (λ here.
-      judged_holds P world (new_mount_rules nat_eq world task here.location (mounted nat_eq (odds fresh) world here.location (plain_filesystem nat_eq fresh) flags))
+      judged_holds P world
+      (new_mount_rules nat_eq world task here.location
+      (mounted nat_eq (odds fresh) world here.location (plain_filesystem nat_eq fresh) flags))
       (granted Done (mounted nat_eq (odds fresh) world here.location (plain_filesystem nat_eq fresh) flags)) conditions
       (λ passed. more (mounted nat_eq (odds fresh) world here.location (plain_filesystem nat_eq fresh) flags) refl)))
 
@@ -150,7 +168,8 @@ module _ (P : World ℕ → Type 0) (alike : (a b : World ℕ) → a.filesystems
       judged_holds P world (admin_rules task) _ conditions (λ capable.
       after_any P world (source_walk nat_eq world task source) _ conditions (λ from.
       after_any P world (destination_walk nat_eq world task path) _ conditions (λ here.
-      judged_holds P world (bind_rules nat_eq world task from.location here.location (bound_at nat_eq fresh world from.location here.location recursive))
+      judged_holds P world
+      (bind_rules nat_eq world task from.location here.location (bound_at nat_eq fresh world from.location here.location recursive))
       (granted Done (bound_at nat_eq fresh world from.location here.location recursive)) conditions
       (λ passed. alike (bound_at nat_eq fresh world from.location here.location recursive) world refl conditions))))
 
@@ -160,7 +179,8 @@ module _ (P : World ℕ → Type 0) (alike : (a b : World ℕ) → a.filesystems
       judged_holds P world (admin_rules task) _ conditions (λ capable.
       after_any P world (source_walk nat_eq world task source) _ conditions (λ from.
       after_any P world (destination_walk nat_eq world task path) _ conditions (λ here.
-      judged_holds P world (move_rules nat_eq world task from.location here.location (moved_to nat_eq fresh world from.location here.location))
+      judged_holds P world
+      (move_rules nat_eq world task from.location here.location (moved_to nat_eq fresh world from.location here.location))
       (granted Done (moved_to nat_eq fresh world from.location here.location)) conditions
       (λ passed. alike (moved_to nat_eq fresh world from.location here.location) world refl conditions))))
 
@@ -169,7 +189,8 @@ module _ (P : World ℕ → Type 0) (alike : (a b : World ℕ) → a.filesystems
   umount_keeps path =
       judged_holds P world (admin_rules task) _ conditions (λ capable.
       after_any P world (directory_walk nat_eq world task path) _ conditions (λ here.
-      judged_holds P world (umount_rules nat_eq world task here.location) (granted Done (unmounted nat_eq world here.location.mount)) conditions
+      judged_holds P world (umount_rules nat_eq world task here.location)
+      (granted Done (unmounted nat_eq world here.location.mount)) conditions
       (λ passed. alike (unmounted nat_eq world here.location.mount) world (taken_filesystems world _) conditions)))
 
   pub lazy_keeps : (path : List ℕ) → P (lazy_outcome nat_eq world task path).world
@@ -177,15 +198,19 @@ module _ (P : World ℕ → Type 0) (alike : (a b : World ℕ) → a.filesystems
   lazy_keeps path =
       judged_holds P world (admin_rules task) _ conditions (λ capable.
       after_any P world (directory_walk nat_eq world task path) _ conditions (λ here.
-      judged_holds P world (lazy_rules nat_eq world task here.location) (granted Done (lazily_unmounted nat_eq world here.location.mount)) conditions
-      (λ passed. alike (lazily_unmounted nat_eq world here.location.mount) world (lazily_filesystems (deepest_first nat_eq world (mount_tree nat_eq world.mounts (mount_numbered nat_eq world here.location.mount))) world) conditions)))
+      judged_holds P world (lazy_rules nat_eq world task here.location)
+      (granted Done (lazily_unmounted nat_eq world here.location.mount)) conditions
+      (λ passed. alike (lazily_unmounted nat_eq world here.location.mount) world
+      (lazily_filesystems
+      (deepest_first nat_eq world (mount_tree nat_eq world.mounts (mount_numbered nat_eq world here.location.mount))) world) conditions)))
 
   pub remount_keeps : (path : List ℕ) (flags : MountFlags) → P (remount_outcome nat_eq world task path flags).world
   unfolding remount_outcome
   remount_keeps path flags =
       judged_holds P world (admin_rules task) _ conditions (λ capable.
       after_any P world (directory_walk nat_eq world task path) _ conditions (λ here.
-      judged_holds P world (remount_rules nat_eq world task here.location flags) (granted Done (with_flags nat_eq world here.location flags)) conditions
+      judged_holds P world (remount_rules nat_eq world task here.location flags)
+      (granted Done (with_flags nat_eq world here.location flags)) conditions
       (λ passed. alike (with_flags nat_eq world here.location flags) world refl conditions)))
 
   pub type_keeps : (path : List ℕ) (word : TypeWord) (recursive : Bool) → P (type_outcome nat_eq fresh world task path word recursive).world
@@ -193,8 +218,10 @@ module _ (P : World ℕ → Type 0) (alike : (a b : World ℕ) → a.filesystems
   type_keeps path word recursive =
       judged_holds P world (admin_rules task) _ conditions (λ capable.
       after_any P world (directory_walk nat_eq world task path) _ conditions (λ here.
-      judged_holds P world (type_rules nat_eq world task here.location) (granted Done (with_type nat_eq fresh world here.location.mount word recursive)) conditions
-      (λ passed. alike (with_type nat_eq fresh world here.location.mount word recursive) world (typed_filesystems fresh world here.location.mount word recursive) conditions)))
+      judged_holds P world (type_rules nat_eq world task here.location)
+      (granted Done (with_type nat_eq fresh world here.location.mount word recursive)) conditions
+      (λ passed. alike (with_type nat_eq fresh world here.location.mount word recursive) world
+      (typed_filesystems fresh world here.location.mount word recursive) conditions)))
 
   pub pivot_keeps : (new put : List ℕ) → P (pivot_outcome nat_eq world task new put).world
   unfolding pivot_outcome
@@ -203,4 +230,6 @@ module _ (P : World ℕ → Type 0) (alike : (a b : World ℕ) → a.filesystems
       after_any P world (source_walk nat_eq world task new) _ conditions (λ root.
       after_any P world (destination_walk nat_eq world task put) _ conditions (λ here.
       judged_holds P world (pivot_rules nat_eq world task root.location here.location) _ conditions
-      (λ passed. alike (pivoted nat_eq world task.namespace (mount_at nat_eq world task.root) (mount_at nat_eq world root.location) here.location) world refl conditions))))
+      (λ passed. alike
+      (pivoted nat_eq world task.namespace (mount_at nat_eq world task.root)
+      (mount_at nat_eq world root.location) here.location) world refl conditions))))

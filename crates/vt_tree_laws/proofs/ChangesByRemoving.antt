@@ -25,8 +25,9 @@ use Rattle.vt_tree_laws.specs.Trees.Calls.{IsWorldOfTrees}
 use Rattle.vt_tree_laws.proofs.TreesAbove.{under_seen}
 use Rattle.vt_tree_laws.proofs.TreesOfWorlds.{change_keeps_world, same_filesystems, taken_files, taken_filesystems}
 use Rattle.vt_tree_laws.proofs.TreesReached.{filled_reached, not_removed_reached}
-use Rattle.vt_tree_laws.proofs.TreesRearranged.{node_with_entries, some_same}
+use Rattle.vt_tree_laws.proofs.TreesRearranged.{node_with_entries}
 use Rattle.vt_tree_laws.proofs.TreesWalked.{Ends, IsNewPlace, IsOldPlace, IsPlace, Passed, after_ends, ends_new_walk, ends_old_leaf_walk, ends_old_walk, ends_then, ends_unless, judged_holds, place_named}
+use Rattle.std.proofs.lemmas.Option.{same_Some}
 
 -- what is no directory has no entries
 pub no_directory_empty : (o : Option (Node ℕ)) → is_directory_node o ≡ false → entries_in o ≡ []
@@ -39,12 +40,9 @@ no_directory_empty (Some node) e = by node.content e
     by (Symlink text) h = refl
     by Whiteout h = refl
 
-empty_list : (entries : Entries ℕ) → not (is_empty_list entries) ≡ false → entries ≡ []
+pub empty_list : (entries : Entries ℕ) → not (is_empty_list entries) ≡ false → entries ≡ []
 empty_list [] e = refl
 empty_list (entry ∷ entries) e = absurd (true≢false e)
-
-same_locations : (a b : Location ℕ) → Some a ≡ Some b → a ≡ b
-same_locations a b e = ap (λ o. unwrap_or o a) e
 
 -- the tree that a mount shows
 abbrev pub shown : World ℕ → ℕ → FileTree ℕ
@@ -60,11 +58,12 @@ module _ (world : World ℕ) (parent : Location ℕ) (name : List ℕ) where
           → (object.mount ≡ parent.mount) × (o ≡ Some object.node)
       by None h = none_is_not None object refl (sym h)
       by (Some number) h =
-          let same = same_locations object (record { mount = parent.mount; node = number }) h in
+          let same = same_Some object (record { mount = parent.mount; node = number }) h in
           (ap (λ (l : Location ℕ). l.mount) same, ap (λ (l : Location ℕ). Some l.node) (sym same))
 
 -- An old place: its object
-module _ (world : World ℕ) (place : Place ℕ) (plain : is_special place.last ≡ false) (is : IsPlace world place) (there : is_some place.object ≡ true) where
+module _ (world : World ℕ) (place : Place ℕ) (plain : is_special place.last ≡ false) (is : IsPlace world place)
+    (there : is_some place.object ≡ true) where
   abbrev object : Location ℕ
   object = object_there place
 
@@ -75,8 +74,11 @@ module _ (world : World ℕ) (place : Place ℕ) (plain : is_special place.last 
       by None e = absurd (true≢false (sym e))
       by (Some l) e = refl
 
-  old_named : (object.mount ≡ place.parent.mount) × (entry_at (files_at nat_eq world place.parent).tree place.parent.node (name_of place.last) ≡ Some object.node)
-  old_named = named_by world place.parent (name_of place.last) object (sym object_is ∙ (place_named world place.parent place.last place.object plain is).1)
+  old_named : (object.mount ≡ place.parent.mount)
+      × (entry_at (files_at nat_eq world place.parent).tree place.parent.node (name_of place.last) ≡ Some object.node)
+  old_named =
+      named_by world place.parent (name_of place.last) object
+      (sym object_is ∙ (place_named world place.parent place.last place.object plain is).1)
 
   -- it is seen in the tree of its directory
   old_node : node_at nat_eq world object ≡ (files_at nat_eq world place.parent).tree.node object.node
@@ -90,7 +92,8 @@ module _ (fresh : Fresh ℕ) (world : World ℕ) (task : Task ℕ) (conditions :
   pub unlink_keeps : (path : List ℕ) → IsWorldOfTrees (unlink_outcome nat_eq fresh world task path).world
   unfolding unlink_outcome
   unlink_keeps path =
-      after_ends (IsOldPlace world task) IsWorldOfTrees world (old_leaf_walk nat_eq world task path) _ conditions (ends_old_leaf_walk world task path) (λ place is.
+      after_ends (IsOldPlace world task) IsWorldOfTrees world (old_leaf_walk nat_eq world task path) _ conditions
+      (ends_old_leaf_walk world task path) (λ place is.
       judged_holds IsWorldOfTrees world ((is_special place.last, E2) ∷ []) _ conditions (λ plain.
       judged_holds IsWorldOfTrees world (unlink_rules nat_eq world task place (object_there place))
       (granted Done (with_change nat_eq fresh world place.parent (removing place (object_there place)))) conditions (λ passed.
@@ -110,15 +113,19 @@ module _ (fresh : Fresh ℕ) (world : World ℕ) (task : Task ℕ) (conditions :
   change_after_keeps gone location change proper =
       change_keeps_world fresh (taken_away nat_eq world gone) location change
       (same_filesystems (taken_away nat_eq world gone) world (taken_filesystems world gone) conditions)
-      (λ trees. subst (λ files. IsProper files.tree change) (sym (taken_files world gone location)) (proper (subst IsFileTree (taken_files world gone location) trees)))
+      (λ trees. subst (λ files. IsProper files.tree change) (sym (taken_files world gone location))
+      (proper (subst IsFileTree (taken_files world gone location) trees)))
 
   pub rmdir_keeps : (path : List ℕ) → IsWorldOfTrees (rmdir_outcome nat_eq fresh world task path).world
   unfolding rmdir_outcome
   rmdir_keeps path =
-      after_ends (IsOldPlace world task) IsWorldOfTrees world (old_walk nat_eq world task path) _ conditions (ends_old_walk world task path) (λ place is.
+      after_ends (IsOldPlace world task) IsWorldOfTrees world (old_walk nat_eq world task path) _ conditions
+      (ends_old_walk world task path) (λ place is.
       judged_holds IsWorldOfTrees world (rmdir_word_rules place) _ conditions (λ plain.
       judged_holds IsWorldOfTrees world (rmdir_rules nat_eq world task place (object_there place))
-      (granted Done (with_change nat_eq fresh (without_mounts_on nat_eq world (object_there place)) place.parent (removing place (object_there place)))) conditions (λ passed.
+      (granted Done
+      (with_change nat_eq fresh (without_mounts_on nat_eq world (object_there place)) place.parent
+      (removing place (object_there place)))) conditions (λ passed.
       change_after_keeps _ place.parent (removing place (object_there place)) (λ trees.
       old_removable world place (no_special place.last plain.0 plain.1.0 plain.1.1.0) is.0 is.1
       (empty_list (entries_in (node_at nat_eq world (object_there place))) passed.1.0)))))
@@ -186,7 +193,8 @@ module _ (world : World ℕ) (task : Task ℕ) (from to : Place ℕ)
       by : (o : Option (Location ℕ)) → to.object ≡ o → IsReached files.tree to.parent.node
       by None e =
           subst (λ (f : FileTree ℕ). IsReached f.tree to.parent.node) to_files
-          (not_removed_reached (files_at nat_eq world to.parent).tree (subst (λ (f : FileTree ℕ). IsTree f.tree) (sym to_files) trees.tree) to.parent.node to_named.0
+          (not_removed_reached (files_at nat_eq world to.parent).tree
+          (subst (λ (f : FileTree ℕ). IsTree f.tree) (sym to_files) trees.tree) to.parent.node to_named.0
           (ap (λ o. not (is_some o) && is_removed_at nat_eq world to.parent) (sym e) ∙ to_new.0))
       by (Some object) e =
           let named = named_by world to.parent (name_of to.last) object (sym e ∙ to_named.1) in
@@ -204,13 +212,15 @@ module _ (world : World ℕ) (task : Task ℕ) (from to : Place ℕ)
       same = eq-eqb _ _ (ap (λ m. (mount_at nat_eq world (record { mount = m; node = 0 })).filesystem) (old_is.0 ∙ one_mount))
 
       under : is_directory_under nat_eq (files_at nat_eq world old) old.node to.parent.node ≡ true
-      under = ap (λ m. is_directory_under nat_eq (shown world m) old.node to.parent.node) old_is.0 ∙ under_seen files trees to.parent.node to_directory to_reached old.node names e
+      under =
+          ap (λ m. is_directory_under nat_eq (shown world m) old.node to.parent.node) old_is.0
+          ∙ under_seen files trees to.parent.node to_directory to_reached old.node names e
 
       three : (a b c : Bool) → a ≡ true → b ≡ true → c ≡ true → (a && b && c) ≡ true
       three a b c x y z = ap (λ d. d && b && c) x ∙ ap (λ d. d && c) y ∙ z
 
       start_directory : (list : List (List ℕ)) → led files.tree old.node list ≡ Some to.parent.node → IsDirectory files.tree old.node
-      start_directory [] h = subst (IsDirectory files.tree) (sym (some_same old.node to.parent.node h)) to_directory
+      start_directory [] h = subst (IsDirectory files.tree) (sym (same_Some old.node to.parent.node h)) to_directory
       start_directory (name ∷ list) h =
           let step = found (λ next. led files.tree next list) (entry_at files.tree old.node name) to.parent.node h in
           node_with_entries name step.0 (files.tree.node old.node) step.1
@@ -275,9 +285,13 @@ module _ (fresh : Fresh ℕ) (world : World ℕ) (task : Task ℕ) (conditions :
   pub rename_keeps : (old new : List ℕ) → IsWorldOfTrees (rename_outcome nat_eq fresh world task old new).world
   unfolding rename_outcome
   rename_keeps old new =
-      after_ends (IsOldPlace world task) IsWorldOfTrees world (old_leaf_walk nat_eq world task old) _ conditions (ends_old_leaf_walk world task old) (λ from from_is.
+      after_ends (IsOldPlace world task) IsWorldOfTrees world (old_leaf_walk nat_eq world task old) _ conditions
+      (ends_old_leaf_walk world task old) (λ from from_is.
       judged_holds IsWorldOfTrees world (old_word_rules from) _ conditions (λ from_plain.
-      after_ends (IsNewPlace world task) IsWorldOfTrees world (rename_new_walk nat_eq world task new (is_directory_there nat_eq world from)) _ conditions
+      after_ends (IsNewPlace world task) IsWorldOfTrees world
+      (rename_new_walk nat_eq world task new (is_directory_there nat_eq world from)) _ conditions
       (ends_rename_new_walk fresh world task conditions new (is_directory_there nat_eq world from)) (λ to to_is.
-      judged_holds IsWorldOfTrees world (old_word_rules to) (renamed_by nat_eq (is_one_object nat_eq world (object_there from) to.object) fresh world task from to (object_there from)) conditions (λ to_plain.
+      judged_holds IsWorldOfTrees world (old_word_rules to)
+      (renamed_by nat_eq (is_one_object nat_eq world (object_there from) to.object) fresh world task from to
+      (object_there from)) conditions (λ to_plain.
       renamed_keeps from to from_plain.0 from_is to_plain.0 to_is (is_one_object nat_eq world (object_there from) to.object) refl))))

@@ -38,12 +38,14 @@ module _ (files : FileTree ℕ) (directory : ℕ) (name : List ℕ) (number : �
   one_of_two k false b here new = refl
 
   directory_first : (with_inode nat_eq files number node).tree.node directory ≡ files.tree.node directory
-  directory_first = ⊎_elim (λ t. absurd (differ t.1)) (λ t. ap (λ b. cond b (Some node) (files.tree.node directory)) t.0) (eqb_tells directory number)
+  directory_first =
+      ⊎_elim (λ t. absurd (differ t.1)) (λ t. ap (λ b. cond b (Some node) (files.tree.node directory)) t.0) (eqb_tells directory number)
 
   nodes_alike : (k : ℕ) → (with_object nat_eq files.tree directory name number node).node k ≡ in_turn.node k
   nodes_alike k =
       one_of_two k (nat_eq k directory) (nat_eq k number) refl refl
-      ∙ ap (λ o. cond (nat_eq k directory) (node_with_entry name number o) (cond (nat_eq k number) (Some node) (files.tree.node k))) (sym directory_first)
+      ∙ ap (λ o. cond (nat_eq k directory) (node_with_entry name number o)
+      (cond (nat_eq k number) (Some node) (files.tree.node k))) (sym directory_first)
 
   pub made_alike : with_object nat_eq files.tree directory name number node ≡ in_turn
   made_alike = λ i. record { root = files.tree.root; node = λ k. nodes_alike k i }
@@ -113,7 +115,8 @@ changes_keep_trees files (CopyUp object) conditions may = conditions
 
 -- parents of what has no name
 pub changes_keep_own_parents : ChangesKeepOwnParents
-changes_keep_own_parents files (Make directory name number node) conditions own may = made_own_parents files directory name number node conditions may own
+changes_keep_own_parents files (Make directory name number node) conditions own may =
+    made_own_parents files directory name number node conditions may own
 changes_keep_own_parents files (AddName directory name object) conditions own may =
     own_parent-rearranged files.tree (changed nat_eq files (AddName directory name object)).tree.node Nobody Nowhere conditions
     (linked_rearranged files directory name object conditions may) own
@@ -170,7 +173,10 @@ changes_keep_numbers files (Move from old to new object) lists =
     (numbers_stay untaken to (node_with_entry new object) (is_some-node_with_entry new object)
     (numbers_stay unparented from (node_without_entry old) (used-node_without_entry old)
     (numbers_unparented files (entry_at files.tree to new) lists)))
-changes_keep_numbers files (SetBytes file bytes) lists = numbers_stay files file (node_with_bytes bytes) (is_some-node_with_bytes bytes) lists
-changes_keep_numbers files (SetAttr object attr) lists = numbers_stay files object (node_with_attr attr) ((attr_keeps_place attr).used) lists
-changes_keep_numbers files (SetMark directory opaque) lists = numbers_stay files directory (node_with_mark opaque) ((mark_keeps_place opaque).used) lists
+changes_keep_numbers files (SetBytes file bytes) lists =
+    numbers_stay files file (node_with_bytes bytes) (is_some-node_with_bytes bytes) lists
+changes_keep_numbers files (SetAttr object attr) lists =
+    numbers_stay files object (node_with_attr attr) ((attr_keeps_place attr).used) lists
+changes_keep_numbers files (SetMark directory opaque) lists =
+    numbers_stay files directory (node_with_mark opaque) ((mark_keeps_place opaque).used) lists
 changes_keep_numbers files (CopyUp object) lists = lists

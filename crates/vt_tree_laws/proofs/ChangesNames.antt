@@ -16,8 +16,10 @@ use Rattle.vt_tree_laws.proofs.ChangesNodes.{elsewhere, entries-node_without_ent
 
 -- A name taken away
 module _ (files : FileTree ℕ) (directory : ℕ) (name : List ℕ) where
-  entries_there : entries_in ((without_name nat_eq files directory name).tree.node directory) ≡ without_entry name (entries_in (files.tree.node directory))
-  entries_there = ap entries_in (there files directory (node_without_entry name)) ∙ entries-node_without_entry name (files.tree.node directory)
+  entries_there : entries_in ((without_name nat_eq files directory name).tree.node directory) ≡ without_entry name
+      (entries_in (files.tree.node directory))
+  entries_there =
+      ap entries_in (there files directory (node_without_entry name)) ∙ entries-node_without_entry name (files.tree.node directory)
 
   entries_elsewhere : (other : ℕ) → other ≢ directory
       → entries_in ((without_name nat_eq files directory name).tree.node other) ≡ entries_in (files.tree.node other)
@@ -68,7 +70,8 @@ module _ (files : FileTree ℕ) (directory : ℕ) (name : List ℕ) where
       ⊎_elim
       (λ t. ap (λ m. is_sorted name_cmp (entries_in ((without_name nat_eq files directory name).tree.node m))) t.1
       ∙ ap (is_sorted name_cmp) entries_there
-      ∙ passes _ (is_sorted-where_key name_cmp (λ x. not (bytes_eq x name)) (entries_in (files.tree.node directory)) (T_from_true _ (sorted directory))))
+      ∙ passes _ (is_sorted-where_key name_cmp (λ x. not (bytes_eq x name)) (entries_in (files.tree.node directory))
+      (T_from_true _ (sorted directory))))
       (λ t. ap (is_sorted name_cmp) (entries_elsewhere d t.1) ∙ sorted d)
       (eqb_tells d directory)
 
@@ -83,8 +86,11 @@ module _ (files : FileTree ℕ) (directory : ℕ) (name : List ℕ) where
 
 -- A name given
 module _ (files : FileTree ℕ) (directory : ℕ) (name : List ℕ) (number : ℕ) (in_directory : IsDirectory files.tree directory) where
-  given_there : entries_in ((with_name nat_eq files directory name number).tree.node directory) ≡ with_entry name number (entries_in (files.tree.node directory))
-  given_there = ap entries_in (there files directory (node_with_entry name number)) ∙ entries-node_with_entry name number (files.tree.node directory) in_directory
+  given_there : entries_in ((with_name nat_eq files directory name number).tree.node directory) ≡ with_entry name number
+      (entries_in (files.tree.node directory))
+  given_there =
+      ap entries_in (there files directory (node_with_entry name number))
+      ∙ entries-node_with_entry name number (files.tree.node directory) in_directory
 
   pub given_elsewhere : (other : ℕ) → other ≢ directory
       → entries_in ((with_name nat_eq files directory name number).tree.node other) ≡ entries_in (files.tree.node other)
@@ -95,7 +101,8 @@ module _ (files : FileTree ℕ) (directory : ℕ) (name : List ℕ) (number : �
   given_entry =
       ap (entry_named name) given_there
       ∙ entry_named-with_entry name name number (entries_in (files.tree.node directory))
-      ∙ ap (λ o. cond (is_eq o) (Some number) (entry_named name (entries_in (files.tree.node directory)))) (tied_itself nat_list_cmp_total name)
+      ∙ ap (λ o. cond (is_eq o) (Some number) (entry_named name (entries_in (files.tree.node directory))))
+      (tied_itself nat_list_cmp_total name)
 
   -- every entry is that one, or was there under another name
   pub given_told : (d : ℕ) (n : List ℕ) (k : ℕ) → entry_at (with_name nat_eq files directory name number).tree d n ≡ Some k
@@ -142,6 +149,7 @@ module _ (files : FileTree ℕ) (directory : ℕ) (name : List ℕ) (number : �
       ⊎_elim
       (λ t. ap (λ m. is_sorted name_cmp (entries_in ((with_name nat_eq files directory name number).tree.node m))) t.1
       ∙ ap (is_sorted name_cmp) given_there
-      ∙ passes _ (is_sorted-put name_cmp nat_list_cmp_total name number (entries_in (files.tree.node directory)) (T_from_true _ (sorted directory))))
+      ∙ passes _ (is_sorted-put name_cmp nat_list_cmp_total name number (entries_in (files.tree.node directory))
+      (T_from_true _ (sorted directory))))
       (λ t. ap (is_sorted name_cmp) (given_elsewhere d t.1) ∙ sorted d)
       (eqb_tells d directory)

@@ -64,12 +64,14 @@ module _ (fresh : Fresh ℕ) (world : World ℕ) (task : Task ℕ) (conditions :
   new_place_keeps : (place : Place ℕ) (node : Node ℕ) → IsNewIn place.parent.node node → IsNewPlace world task place
       → is_special place.last ≡ false → is_some place.object ≡ false
       → IsWorldOfTrees (with_new nat_eq fresh world place node)
-  new_place_keeps place node fits is plain missing = new_keeps place node fits (place_is_file world place.parent place.last place.object is.0) plain missing is.1
+  new_place_keeps place node fits is plain missing =
+      new_keeps place node fits (place_is_file world place.parent place.last place.object is.0) plain missing is.1
 
   made_keeps : (place : Place ℕ) (node : Node ℕ) → IsNewIn place.parent.node node → IsNewPlace world task place
       → IsWorldOfTrees (made_at nat_eq fresh world task place node).world
   made_keeps place node fits is =
-      judged_holds IsWorldOfTrees world (new_rules nat_eq fresh world task place node) (granted Done (with_new nat_eq fresh world place node)) conditions
+      judged_holds IsWorldOfTrees world (new_rules nat_eq fresh world task place node)
+      (granted Done (with_new nat_eq fresh world place node)) conditions
       (λ passed. new_place_keeps place node fits is passed.0 passed.1.0)
 
   pub mkdir_keeps : (path : List ℕ) (mode : Option ℕ) → IsWorldOfTrees (mkdir_outcome nat_eq fresh world task path mode).world
@@ -89,10 +91,12 @@ module _ (fresh : Fresh ℕ) (world : World ℕ) (task : Task ℕ) (conditions :
   pub whiteout_keeps : (path : List ℕ) → IsWorldOfTrees (whiteout_outcome nat_eq fresh world task path).world
   unfolding whiteout_outcome
   whiteout_keeps path =
-      after_ends (IsNewPlace world task) IsWorldOfTrees world (new_leaf_walk nat_eq world task path) _ conditions (ends_new_leaf_walk world task path)
+      after_ends (IsNewPlace world task) IsWorldOfTrees world (new_leaf_walk nat_eq world task path) _ conditions
+      (ends_new_leaf_walk world task path)
       (λ place is.
       let node : Node ℕ = record { attr = exact_attr task 0; content = Whiteout } in
-      judged_holds IsWorldOfTrees world (whiteout_rules nat_eq world task place) (granted Done (with_new nat_eq fresh world place node)) conditions
+      judged_holds IsWorldOfTrees world (whiteout_rules nat_eq world task place)
+      (granted Done (with_new nat_eq fresh world place node)) conditions
       (λ passed. new_place_keeps place node (inr refl) is passed.0 passed.1.0))
 
   -- a file that is there, with other bytes
@@ -103,7 +107,8 @@ module _ (fresh : Fresh ℕ) (world : World ℕ) (task : Task ℕ) (conditions :
       → (object : Option (Location ℕ)) → place.object ≡ object
       → IsWorldOfTrees (written nat_eq fresh world task place bytes object).world
   written_keeps place bytes is plain (Some file) e =
-      judged_holds IsWorldOfTrees world (rewrite_rules nat_eq world task file bytes) (granted Done (with_change nat_eq fresh world file (SetBytes file.node bytes))) conditions
+      judged_holds IsWorldOfTrees world (rewrite_rules nat_eq world task file bytes)
+      (granted Done (with_change nat_eq fresh world file (SetBytes file.node bytes))) conditions
       (λ passed. bytes_keep file bytes)
   written_keeps place bytes is plain None e =
       judged_holds IsWorldOfTrees world ((nat_lt largest_file (length bytes), E6) ∷ []) _ conditions (λ small.
@@ -114,8 +119,10 @@ module _ (fresh : Fresh ℕ) (world : World ℕ) (task : Task ℕ) (conditions :
   pub write_keeps : (path bytes : List ℕ) → IsWorldOfTrees (write_outcome nat_eq fresh world task path bytes).world
   unfolding write_outcome
   write_keeps path bytes =
-      after_ends (IsNewFilePlace world task) IsWorldOfTrees world (file_walk nat_eq world task path) _ conditions (ends_file_walk world task path)
-      (λ place is. judged_holds IsWorldOfTrees world (file_word_rules place) (written nat_eq fresh world task place bytes place.object) conditions
+      after_ends (IsNewFilePlace world task) IsWorldOfTrees world (file_walk nat_eq world task path) _ conditions
+      (ends_file_walk world task path)
+      (λ place is. judged_holds IsWorldOfTrees world (file_word_rules place)
+      (written nat_eq fresh world task place bytes place.object) conditions
       (λ passed. written_keeps place bytes is (first_false (is_special place.last) place.slash passed.0) place.object refl))
 
   -- open(2)
@@ -125,10 +132,13 @@ module _ (fresh : Fresh ℕ) (world : World ℕ) (task : Task ℕ) (conditions :
 
   opened_file_keeps : (file : Location ℕ) (access : Access) → IsWorldOfTrees (open_file nat_eq fresh world task file access).world
   opened_file_keeps file access =
-      judged_holds IsWorldOfTrees world (open_rules nat_eq world task file access) (opened (with_copy nat_eq (is_copied_up nat_eq world file access) fresh world file) task file access) conditions
+      judged_holds IsWorldOfTrees world (open_rules nat_eq world task file access)
+      (opened (with_copy nat_eq (is_copied_up nat_eq world file access) fresh world file) task file access) conditions
       (λ passed.
-      same_filesystems (with_task (with_copy nat_eq (is_copied_up nat_eq world file access) fresh world file) (with_descriptor task file access))
-      (with_copy nat_eq (is_copied_up nat_eq world file access) fresh world file) refl (copy_keeps (is_copied_up nat_eq world file access) file))
+      same_filesystems
+      (with_task (with_copy nat_eq (is_copied_up nat_eq world file access) fresh world file) (with_descriptor task file access))
+      (with_copy nat_eq (is_copied_up nat_eq world file access) fresh world file) refl
+      (copy_keeps (is_copied_up nat_eq world file access) file))
 
   created_keeps : (place : Place ℕ) (access : Access) (mode : ℕ) → IsFilePlace world place → is_special place.last ≡ false
       → is_some place.object ≡ false
@@ -149,22 +159,28 @@ module _ (fresh : Fresh ℕ) (world : World ℕ) (task : Task ℕ) (conditions :
   open_by_keeps : (path : List ℕ) (access : Access) (creation : Creation)
       → IsWorldOfTrees (open_by nat_eq fresh world task path access creation).world
   open_by_keeps path access NoCreation =
-      after_ends (λ here. ⊤) IsWorldOfTrees world (object_walk nat_eq world task path) (λ here. open_file nat_eq fresh world task here.location access) conditions
+      after_ends (λ here. ⊤) IsWorldOfTrees world (object_walk nat_eq world task path)
+      (λ here. open_file nat_eq fresh world task here.location access) conditions
       (ends_anyhow (object_walk nat_eq world task path)) (λ here any. opened_file_keeps here.location access)
   open_by_keeps path access (OrCreate mode) =
-      after_ends (IsNewFilePlace world task) IsWorldOfTrees world (file_walk nat_eq world task path) _ conditions (ends_file_walk world task path)
-      (λ place is. judged_holds IsWorldOfTrees world (file_word_rules place) (opened_or_created nat_eq fresh world task place access mode place.object) conditions
+      after_ends (IsNewFilePlace world task) IsWorldOfTrees world (file_walk nat_eq world task path) _ conditions
+      (ends_file_walk world task path)
+      (λ place is. judged_holds IsWorldOfTrees world (file_word_rules place)
+      (opened_or_created nat_eq fresh world task place access mode place.object) conditions
       (λ passed. opened_or_created_keeps place access mode is (first_false (is_special place.last) place.slash passed.0) place.object refl))
   open_by_keeps path access (Exclusive mode) =
       after_ends (IsNewPlace world task) IsWorldOfTrees world (new_walk nat_eq world task path) _ conditions (ends_new_walk world task path)
-      (λ place is. judged_holds IsWorldOfTrees world (exclusive_word_rules place) (create_file nat_eq fresh world task place access mode) conditions
-      (λ passed. created_keeps place access mode (place_is_file world place.parent place.last place.object is.0) passed.0 passed.1.1.0 is.1))
+      (λ place is. judged_holds IsWorldOfTrees world (exclusive_word_rules place)
+      (create_file nat_eq fresh world task place access mode) conditions
+      (λ passed. created_keeps place access mode
+      (place_is_file world place.parent place.last place.object is.0) passed.0 passed.1.1.0 is.1))
 
   pub open_keeps : (path : List ℕ) (access : Access) (creation : Creation)
       → IsWorldOfTrees (open_outcome nat_eq fresh world task path access creation).world
   unfolding open_outcome
   open_keeps path access creation =
-      judged_holds IsWorldOfTrees world (descriptor_rules task) (open_by nat_eq fresh world task path access creation) conditions (λ passed. open_by_keeps path access creation)
+      judged_holds IsWorldOfTrees world (descriptor_rules task)
+      (open_by nat_eq fresh world task path access creation) conditions (λ passed. open_by_keeps path access creation)
 
   -- pwrite(2)
   pwritten_keeps : (file : Location ℕ) (offset : ℕ) (bytes : List ℕ) → IsWorldOfTrees (pwritten nat_eq fresh world file offset bytes)
@@ -176,26 +192,31 @@ module _ (fresh : Fresh ℕ) (world : World ℕ) (task : Task ℕ) (conditions :
   unfolding pwrite_outcome
   pwrite_keeps number offset bytes =
       after_holds IsWorldOfTrees world (descriptor_at task number (λ descriptor. descriptor.writes)) _ conditions (λ descriptor found.
-      judged_holds IsWorldOfTrees world (pwrite_rules nat_eq world descriptor.location offset bytes) (granted Done (pwritten nat_eq fresh world descriptor.location offset bytes)) conditions
+      judged_holds IsWorldOfTrees world (pwrite_rules nat_eq world descriptor.location offset bytes)
+      (granted Done (pwritten nat_eq fresh world descriptor.location offset bytes)) conditions
       (λ passed. pwritten_keeps descriptor.location offset bytes))
 
   -- chmod(2), chown(2), setxattr(2)
   pub attr_set_keeps : (object : Location ℕ) (allowed : Bool) (attr : Attr)
       → IsWorldOfTrees (attr_set nat_eq fresh world object allowed attr).world
   attr_set_keeps object allowed attr =
-      judged_holds IsWorldOfTrees world (attr_rules nat_eq world object allowed attr) (granted Done (with_change nat_eq fresh world object (SetAttr object.node attr))) conditions
+      judged_holds IsWorldOfTrees world (attr_rules nat_eq world object allowed attr)
+      (granted Done (with_change nat_eq fresh world object (SetAttr object.node attr))) conditions
       (λ passed. change_keeps_world fresh world object (SetAttr object.node attr) conditions (λ trees. tt))
 
   pub chmod_keeps : (path : List ℕ) (mode : ℕ) → IsWorldOfTrees (chmod_outcome nat_eq fresh world task path mode).world
   unfolding chmod_outcome
   chmod_keeps path mode =
-      after_ends (λ here. ⊤) IsWorldOfTrees world (object_walk nat_eq world task path) _ conditions (ends_anyhow (object_walk nat_eq world task path))
-      (λ here any. attr_set_keeps here.location (owns task.credentials (attr_at nat_eq world here.location)) (attr_with_mode (attr_at nat_eq world here.location) mode))
+      after_ends (λ here. ⊤) IsWorldOfTrees world (object_walk nat_eq world task path) _ conditions
+      (ends_anyhow (object_walk nat_eq world task path))
+      (λ here any. attr_set_keeps here.location (owns task.credentials (attr_at nat_eq world here.location))
+      (attr_with_mode (attr_at nat_eq world here.location) mode))
 
   pub chown_keeps : (path : List ℕ) (uid gid : Option ℕ) → IsWorldOfTrees (chown_outcome nat_eq fresh world task path uid gid).world
   unfolding chown_outcome
   chown_keeps path uid gid =
-      after_ends (λ here. ⊤) IsWorldOfTrees world (object_walk nat_eq world task path) _ conditions (ends_anyhow (object_walk nat_eq world task path))
+      after_ends (λ here. ⊤) IsWorldOfTrees world (object_walk nat_eq world task path) _ conditions
+      (ends_anyhow (object_walk nat_eq world task path))
       (λ here any. attr_set_keeps here.location
       (may_chown task.credentials (attr_at nat_eq world here.location) (attr_with_owner (attr_at nat_eq world here.location) uid gid))
       (attr_with_owner (attr_at nat_eq world here.location) uid gid))
@@ -204,6 +225,8 @@ module _ (fresh : Fresh ℕ) (world : World ℕ) (task : Task ℕ) (conditions :
   unfolding opaque_outcome
   opaque_keeps path mark =
       judged_holds IsWorldOfTrees world ((lacks task cap_sys_admin, K1) ∷ []) _ conditions (λ passed.
-      after_ends (λ here. ⊤) IsWorldOfTrees world (directory_walk nat_eq world task path) _ conditions (ends_anyhow (directory_walk nat_eq world task path)) (λ here any.
-      judged_holds IsWorldOfTrees world (opaque_rules nat_eq world here.location) (granted Done (with_change nat_eq fresh world here.location (SetMark here.location.node mark))) conditions (λ plain.
+      after_ends (λ here. ⊤) IsWorldOfTrees world (directory_walk nat_eq world task path) _ conditions
+      (ends_anyhow (directory_walk nat_eq world task path)) (λ here any.
+      judged_holds IsWorldOfTrees world (opaque_rules nat_eq world here.location)
+      (granted Done (with_change nat_eq fresh world here.location (SetMark here.location.node mark))) conditions (λ plain.
       change_keeps_world fresh world here.location (SetMark here.location.node mark) conditions (λ trees. tt))))

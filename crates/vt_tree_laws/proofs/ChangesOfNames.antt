@@ -1,6 +1,7 @@
 -- Changes of inodes, links, removals and renames are rearrangements of a tree.
 use Rattle.std.proofs.Common.{◌≡◌, ◌≢◌, refl, sym, ap, subst, ◌∙◌, true≢false, ℕ, nat_eq, List, ◌⊎◌, inl, inr, ⊎_elim, Option, Some, None, is_some}
 use Rattle.std.proofs.lemmas.Bool.Decides.{eqb_tells}
+use Rattle.std.proofs.lemmas.Option.{same_Some}
 use Rattle.std.specs.FinMap.Entries.{is_sorted}
 use Rattle.vt_spec.specs.Tree.{Tree, Node, name_cmp, entry_named, is_directory_node, entries_in, node_with_entry, parent_in}
 use Rattle.vt_spec.specs.TreeLaws.{entry_at, IsDirectory, IsReached, IsTree}
@@ -10,7 +11,7 @@ use Rattle.vt_spec.proofs.Nodes.{is_directory-node_with_entry, is_some-node_with
 use Rattle.vt_tree_laws.specs.Trees.{MayAddName, MayRemove}
 use Rattle.vt_tree_laws.proofs.ChangesNodes.{KeepsPlace, elsewhere, entries-node_with_parent, kind-node_with_parent, kind-node_without_entry, own_parent-node_with_parent, parent-node_without_entry, part_stays, there, used-node_with_parent, used-node_without_entry}
 use Rattle.vt_tree_laws.proofs.ChangesNames.{given_elsewhere, given_in_order, given_kept, given_told, untaken_empty, untaken_in_order, untaken_kept, untaken_told}
-use Rattle.vt_tree_laws.proofs.TreesRearranged.{IsRearranged, Vanishes, some_same}
+use Rattle.vt_tree_laws.proofs.TreesRearranged.{IsRearranged, Vanishes}
 
 -- nobody leaves, nobody arrives
 abbrev pub Nobody : ℕ → Type 0
@@ -22,10 +23,11 @@ Nowhere directory name number = ⊥
 -- an option is this number or it is not
 pub decided_some : (o : Option ℕ) (number : ℕ) → (o ≡ Some number) ⊎ (o ≢ Some number)
 decided_some None number = inr (λ e. none_is_not None number refl e)
-decided_some (Some other) number = ⊎_elim (λ t. inl (ap Some t.1)) (λ t. inr (λ e. t.1 (some_same other number e))) (eqb_tells other number)
+decided_some (Some other) number = ⊎_elim (λ t. inl (ap Some t.1)) (λ t. inr (λ e. t.1 (same_Some other number e))) (eqb_tells other number)
 
 -- Other attributes, bytes or marks
-module _ (files : FileTree ℕ) (number : ℕ) (change : Option (Node ℕ) → Option (Node ℕ)) (keeps : KeepsPlace change) (conditions : IsTree files.tree) where
+module _ (files : FileTree ℕ) (number : ℕ) (change : Option (Node ℕ) → Option (Node ℕ)) (keeps : KeepsPlace change)
+    (conditions : IsTree files.tree) where
   still_entries : (directory : ℕ)
       → entries_in ((changed_node nat_eq files number change).tree.node directory) ≡ entries_in (files.tree.node directory)
   still_entries directory = part_stays files number change entries_in keeps.entries directory
@@ -54,7 +56,8 @@ module _ (files : FileTree ℕ) (number : ℕ) (change : Option (Node ℕ) → O
   }
 
 -- Another name of an object
-module _ (files : FileTree ℕ) (directory : ℕ) (name : List ℕ) (object : ℕ) (conditions : IsTree files.tree) (may : MayAddName files.tree directory name object) where
+module _ (files : FileTree ℕ) (directory : ℕ) (name : List ℕ) (object : ℕ) (conditions : IsTree files.tree)
+    (may : MayAddName files.tree directory name object) where
   abbrev linked : FileTree ℕ
   linked = with_name nat_eq files directory name object
 
@@ -86,7 +89,8 @@ module _ (files : FileTree ℕ) (directory : ℕ) (name : List ℕ) (object : �
     arrives_once = λ d other n again k nobody nor. absurd nobody;
     arrives_reached = λ d n k nobody. absurd nobody;
     arrives_parent = λ d n k nobody is. absurd nobody;
-    stays_parent = λ k is stays. part_stays files directory (node_with_entry name object) (parent_in k) (parent-node_with_entry name object k) k;
+    stays_parent =
+        λ k is stays. part_stays files directory (node_with_entry name object) (parent_in k) (parent-node_with_entry name object k) k;
     leaves_how = λ k is nobody. absurd nobody;
     root_stays = λ nobody. nobody;
     fills = λ k empty. ⊎_elim
@@ -96,7 +100,8 @@ module _ (files : FileTree ℕ) (directory : ℕ) (name : List ℕ) (object : �
   }
 
 -- An object that has this name has no other, if it is a directory.
-module _ (tree : Tree ℕ) (conditions : IsTree tree) (directory : ℕ) (name : List ℕ) (object : ℕ) (named : entry_at tree directory name ≡ Some object) where
+module _ (tree : Tree ℕ) (conditions : IsTree tree) (directory : ℕ) (name : List ℕ) (object : ℕ)
+    (named : entry_at tree directory name ≡ Some object) where
   pub only_name : (d : ℕ) (n : List ℕ) (k : ℕ) → entry_at tree d n ≡ Some k → IsDirectory tree k → k ≡ object → (d ≡ directory) × (n ≡ name)
   only_name d n k e is same =
       let here : entry_at tree directory name ≡ Some k = named ∙ ap Some (sym same) in
@@ -107,7 +112,8 @@ module _ (tree : Tree ℕ) (conditions : IsTree tree) (directory : ℕ) (name : 
   not_root same = conditions.root_unnamed directory name (named ∙ ap Some (sym same))
 
 -- A name of an object taken away
-module _ (files : FileTree ℕ) (directory : ℕ) (name : List ℕ) (object : ℕ) (conditions : IsTree files.tree) (may : MayRemove files.tree directory name object) where
+module _ (files : FileTree ℕ) (directory : ℕ) (name : List ℕ) (object : ℕ) (conditions : IsTree files.tree)
+    (may : MayRemove files.tree directory name object) where
   abbrev untaken : FileTree ℕ
   untaken = without_name nat_eq files directory name
 
@@ -138,7 +144,8 @@ module _ (files : FileTree ℕ) (directory : ℕ) (name : List ℕ) (object : �
   removed_told d n k e = untaken_told files directory name d n k (sym (removed_entry d n) ∙ e)
 
   removed_own : parent_in object (removed.tree.node object) ≡ object
-  removed_own = ap (parent_in object) (there untaken object (node_with_parent object)) ∙ own_parent-node_with_parent object (untaken.tree.node object)
+  removed_own =
+      ap (parent_in object) (there untaken object (node_with_parent object)) ∙ own_parent-node_with_parent object (untaken.tree.node object)
 
   removed_parent : (k : ℕ) → k ≢ object → parent_in k (removed.tree.node k) ≡ parent_in k (files.tree.node k)
   removed_parent k differ =
@@ -158,7 +165,8 @@ module _ (files : FileTree ℕ) (directory : ℕ) (name : List ℕ) (object : �
     in_order = λ d. ap (is_sorted name_cmp) (removed_entries d) ∙ untaken_in_order files directory name conditions.in_order d;
     alive = λ d n k e. removed_used k ∙ conditions.alive d n k (removed_told d n k e).0;
     kept = λ d n k e is. ⊎_elim
-        (λ same. inl (some_same k object (sym e ∙ ap (λ m. entry_at files.tree m n) same.0 ∙ ap (entry_at files.tree directory) same.1 ∙ may.named)))
+        (λ same. inl
+        (same_Some k object (sym e ∙ ap (λ m. entry_at files.tree m n) same.0 ∙ ap (entry_at files.tree directory) same.1 ∙ may.named)))
         (λ entry. inr (removed_entry d n ∙ entry))
         (untaken_kept files directory name d n k e);
     told = λ d n k e is.
@@ -199,10 +207,11 @@ module _ (files : FileTree ℕ) where
   pub unparented_own : (o : Option ℕ) (k : ℕ) → o ≡ Some k → parent_in k ((without_parent nat_eq files o).tree.node k) ≡ k
   unparented_own None k e = none_is_not None k refl e
   unparented_own (Some object) k e =
-      subst (λ m. parent_in m ((without_parent nat_eq files (Some object)).tree.node m) ≡ m) (some_same object k e)
+      subst (λ m. parent_in m ((without_parent nat_eq files (Some object)).tree.node m) ≡ m) (same_Some object k e)
       (ap (parent_in object) (there files object (node_with_parent object)) ∙ own_parent-node_with_parent object (files.tree.node object))
 
   pub unparented_parent : (o : Option ℕ) (k : ℕ) → o ≢ Some k
       → parent_in k ((without_parent nat_eq files o).tree.node k) ≡ parent_in k (files.tree.node k)
   unparented_parent None k differ = refl
-  unparented_parent (Some object) k differ = ap (parent_in k) (elsewhere files object (node_with_parent object) k (λ same. differ (ap Some (sym same))))
+  unparented_parent (Some object) k differ =
+      ap (parent_in k) (elsewhere files object (node_with_parent object) k (λ same. differ (ap Some (sym same))))

@@ -1,6 +1,7 @@
 -- A rename is a rearrangement of a tree: the object gets another name, and what had that is gone.
 use Rattle.std.proofs.Common.{◌≡◌, ◌≢◌, refl, sym, ap, subst, ◌∙◌, ℕ, nat_eq, List, [], ◌∷◌, ◌++◌, ◌⊎◌, inl, inr, ⊎_elim, Option, Some, is_some}
 use Rattle.std.proofs.lemmas.Bool.Decides.{eqb_tells}
+use Rattle.std.proofs.lemmas.Option.{same_Some}
 use Rattle.std.specs.FinMap.Entries.{is_sorted}
 use Rattle.vt_spec.specs.Tree.{name_cmp, entry_named, is_directory_node, entries_in, node_with_entry, parent_in}
 use Rattle.vt_spec.specs.TreeLaws.{entry_at, led, IsDirectory, IsReached, IsTree}
@@ -12,7 +13,7 @@ use Rattle.vt_tree_laws.specs.Trees.{MayMove}
 use Rattle.vt_tree_laws.proofs.ChangesNodes.{elsewhere, entries-node_with_parent, kind-node_with_parent, kind-node_without_entry, parent-node_with_parent, parent-node_without_entry, part_stays, there, used-node_with_parent, used-node_without_entry}
 use Rattle.vt_tree_laws.proofs.ChangesNames.{given_elsewhere, given_entry, given_in_order, given_kept, given_told, untaken_empty, untaken_in_order, untaken_kept, untaken_told}
 use Rattle.vt_tree_laws.proofs.ChangesOfNames.{decided_some, not_root, only_name, unparented_entries, unparented_kind, unparented_own, unparented_parent, unparented_root, unparented_used}
-use Rattle.vt_tree_laws.proofs.TreesRearranged.{IsRearranged, Vanishes, led_closed, no_entries, some_same}
+use Rattle.vt_tree_laws.proofs.TreesRearranged.{IsRearranged, Vanishes, led_closed, no_entries}
 
 module _ (files : FileTree ℕ) (from : ℕ) (old : List ℕ) (to : ℕ) (new : List ℕ) (object : ℕ)
     (conditions : IsTree files.tree) (may : MayMove files.tree from old to new object) where
@@ -91,7 +92,8 @@ module _ (files : FileTree ℕ) (from : ℕ) (old : List ℕ) (to : ℕ) (new : 
   moved_kept : (d : ℕ) (n : List ℕ) (k : ℕ) → entry_at files.tree d n ≡ Some k → LeavesName k ⊎ (entry_at moved.tree d n ≡ Some k)
   moved_kept d n k e =
       ⊎_elim
-      (λ same. inl (inl (some_same k object (sym e ∙ ap (λ m. entry_at files.tree m n) same.0 ∙ ap (entry_at files.tree from) same.1 ∙ may.named))))
+      (λ same. inl
+      (inl (same_Some k object (sym e ∙ ap (λ m. entry_at files.tree m n) same.0 ∙ ap (entry_at files.tree from) same.1 ∙ may.named))))
       (λ first. ⊎_elim
       (λ same. inl (inr (sym (ap (λ m. entry_at files.tree m n) same.0 ∙ ap (entry_at files.tree to) same.1) ∙ e)))
       (λ second. inr (moved_entry d n ∙ second))
@@ -139,7 +141,8 @@ module _ (files : FileTree ℕ) (from : ℕ) (old : List ℕ) (to : ℕ) (new : 
   moved_object_parent is =
       ap (parent_in object) (there given object (node_with_parent to))
       ∙ parent-node_with_parent to object (given.tree.node object)
-      (part_stays untaken to (node_with_entry new object) is_directory_node (is_directory-node_with_entry new object) object ∙ untaken_kind object ∙ is)
+      (part_stays untaken to (node_with_entry new object) is_directory_node (is_directory-node_with_entry new object) object
+      ∙ untaken_kind object ∙ is)
 
   moved_first_parent : (k : ℕ) → k ≢ object → parent_in k (moved.tree.node k) ≡ parent_in k (unparented.tree.node k)
   moved_first_parent k differ =
@@ -155,7 +158,10 @@ module _ (files : FileTree ℕ) (from : ℕ) (old : List ℕ) (to : ℕ) (new : 
   moved_vanishes : (k : ℕ) → replaced ≡ Some k → Vanishes (files.tree.node k) (moved.tree.node k) k
   moved_vanishes k gone = record {
     was_empty = may.replaced_empty k gone;
-    is_empty = moved_empty k (λ same. no_entries files.tree k new k (may.replaced_empty k gone) (ap (λ m. entry_at files.tree m new) same ∙ gone)) (may.replaced_empty k gone);
+    is_empty =
+        moved_empty k
+        (λ same. no_entries files.tree k new k (may.replaced_empty k gone) (ap (λ m. entry_at files.tree m new) same ∙ gone))
+        (may.replaced_empty k gone);
     own_parent = moved_first_parent k (λ same. may.replaced_other (gone ∙ ap Some same)) ∙ unparented_own files replaced k gone;
   }
 
@@ -170,7 +176,9 @@ module _ (files : FileTree ℕ) (from : ℕ) (old : List ℕ) (to : ℕ) (new : 
   moved_rearranged = record {
     directories = moved_kind;
     in_order = λ d. ap (is_sorted name_cmp) (moved_entries d)
-        ∙ given_in_order untaken to new object to_there (untaken_in_order unparented from old (λ m. ap (is_sorted name_cmp) (unparented_entries files replaced m) ∙ conditions.in_order m)) d;
+        ∙ given_in_order untaken to new object to_there
+        (untaken_in_order unparented from old (λ m. ap (is_sorted name_cmp) (unparented_entries files replaced m)
+        ∙ conditions.in_order m)) d;
     alive = λ d n k e. moved_used k
         ∙ ⊎_elim
         (λ arrives. ap (λ m. is_some (files.tree.node m)) arrives.2 ∙ conditions.alive from old object may.named)
@@ -186,13 +194,17 @@ module _ (files : FileTree ℕ) (from : ℕ) (old : List ℕ) (to : ℕ) (new : 
         ))
         (moved_told d n k e);
     decided = moved_decided;
-    arrives_entry = λ d n k arrives. ap (λ m. entry_at moved.tree m n) arrives.0 ∙ ap (entry_at moved.tree to) arrives.1 ∙ moved_new ∙ ap Some (sym arrives.2);
+    arrives_entry =
+        λ d n k arrives. ap (λ m. entry_at moved.tree m n) arrives.0 ∙ ap (entry_at moved.tree to) arrives.1 ∙ moved_new
+        ∙ ap Some (sym arrives.2);
     arrives_leaves = λ d n k arrives. inl arrives.2;
     arrives_once = λ d other n again k arrives once. arrives.1 ∙ sym once.1;
     arrives_reached = λ d n k arrives. subst (IsReached moved.tree) (sym arrives.0) to_reached;
     arrives_parent = λ d n k arrives is.
-        ap (λ m. parent_in m (moved.tree.node m)) arrives.2 ∙ moved_object_parent (ap (λ m. is_directory_node (files.tree.node m)) (sym arrives.2) ∙ is) ∙ sym arrives.0;
-    stays_parent = λ k is stays. moved_first_parent k (λ same. stays (inl same)) ∙ unparented_parent files replaced k (λ gone. stays (inr gone));
+        ap (λ m. parent_in m (moved.tree.node m)) arrives.2
+        ∙ moved_object_parent (ap (λ m. is_directory_node (files.tree.node m)) (sym arrives.2) ∙ is) ∙ sym arrives.0;
+    stays_parent =
+        λ k is stays. moved_first_parent k (λ same. stays (inl same)) ∙ unparented_parent files replaced k (λ gone. stays (inr gone));
     leaves_how = λ k is leaves. ⊎_elim (λ same. inl (to, new, (refl, refl, same))) (λ gone. inr (moved_vanishes k gone)) leaves;
     root_stays = ⊎_elim (not_root files.tree conditions from old object may.named) (λ gone. conditions.root_unnamed to new gone);
     fills = λ k empty. ⊎_elim

@@ -17,7 +17,9 @@ use Rattle.vt_spec.specs.Machine.Settled.{filesystem_lives, only_among, only_use
 use Rattle.vt_spec.specs.Machine.World.{Filesystem, World, is_overlay}
 use Rattle.vt_spec.specs.Machine.Invariants.{has_fit_names, has_fit_text, is_fit_filesystem, is_no_larger}
 use Rattle.vt_tree_laws.specs.Trees.Sizes.{ChangesKeepSizes, SettlingKeepsSizes, is_fit_name, is_fit_node, is_fit_tree}
-use Rattle.vt_tree_laws.proofs.TreesTasks.{all_filtered, all_mapped, both, both_first, both_second}
+use Rattle.vt_tree_laws.proofs.TreesTasks.{all_mapped, both}
+use Rattle.std.proofs.lemmas.Bool.{and_parts}
+use Rattle.vt_spec.proofs.Lists.{all-filter}
 
 -- the limits of one inode, that may be missing
 abbrev pub fits : Option (Node ℕ) → Bool
@@ -30,22 +32,30 @@ put_fits : (name : List ℕ) (number : ℕ) (entries : Entries ℕ) → is_fit_n
     → list_all is_fit_name (map (λ e. e.0) entries) ≡ true → list_all is_fit_name (map (λ e. e.0) (with_entry name number entries)) ≡ true
 put_fits name number [] h k = both (is_fit_name name) true h refl
 put_fits name number (entry ∷ entries) h k =
-    by (name_cmp name entry.0) (put_fits name number entries h (both_second (is_fit_name entry.0) (list_all is_fit_name (map (λ e. e.0) entries)) k))
+    by (name_cmp name entry.0)
+    (put_fits name number entries h ((and_parts (is_fit_name entry.0) (list_all is_fit_name (map (λ e. e.0) entries)) k).1))
   where
     by : (o : Ordering) → list_all is_fit_name (map (λ e. e.0) (with_entry name number entries)) ≡ true
-        → list_all is_fit_name (map (λ e. e.0) (by_order o ((name, number) ∷ entry ∷ entries) ((entry.0, number) ∷ entries) (entry ∷ with_entry name number entries))) ≡ true
+        → list_all is_fit_name
+        (map (λ e. e.0)
+        (by_order o ((name, number) ∷ entry ∷ entries) ((entry.0, number) ∷ entries) (entry ∷ with_entry name number entries))) ≡ true
     by Less rest = both (is_fit_name name) (list_all is_fit_name (map (λ e. e.0) (entry ∷ entries))) h k
     by Equal rest = k
-    by Greater rest = both (is_fit_name entry.0) (list_all is_fit_name (map (λ e. e.0) (with_entry name number entries))) (both_first (is_fit_name entry.0) (list_all is_fit_name (map (λ e. e.0) entries)) k) rest
+    by Greater rest =
+        both (is_fit_name entry.0) (list_all is_fit_name (map (λ e. e.0) (with_entry name number entries)))
+        ((and_parts (is_fit_name entry.0) (list_all is_fit_name (map (λ e. e.0) entries)) k).0) rest
 
 filter_fits : (stays : List ℕ × ℕ → Bool) (entries : Entries ℕ) → list_all is_fit_name (map (λ e. e.0) entries) ≡ true
     → list_all is_fit_name (map (λ e. e.0) (filter stays entries)) ≡ true
 filter_fits stays [] k = refl
-filter_fits stays (entry ∷ entries) k = by (stays entry) (filter_fits stays entries (both_second (is_fit_name entry.0) (list_all is_fit_name (map (λ e. e.0) entries)) k))
+filter_fits stays (entry ∷ entries) k =
+    by (stays entry) (filter_fits stays entries ((and_parts (is_fit_name entry.0) (list_all is_fit_name (map (λ e. e.0) entries)) k).1))
   where
     by : (b : Bool) → list_all is_fit_name (map (λ e. e.0) (filter stays entries)) ≡ true
         → list_all is_fit_name (map (λ e. e.0) (cond b (entry ∷ filter stays entries) (filter stays entries))) ≡ true
-    by true rest = both (is_fit_name entry.0) (list_all is_fit_name (map (λ e. e.0) (filter stays entries))) (both_first (is_fit_name entry.0) (list_all is_fit_name (map (λ e. e.0) entries)) k) rest
+    by true rest =
+        both (is_fit_name entry.0) (list_all is_fit_name (map (λ e. e.0) (filter stays entries)))
+        ((and_parts (is_fit_name entry.0) (list_all is_fit_name (map (λ e. e.0) entries)) k).0) rest
     by false rest = rest
 
 -- a directory's limits are those of its names
@@ -65,7 +75,8 @@ entry_fits name number h (Some node) k = by node.attr node.content k
     by : (attr : Attr) (content : Content ℕ) → fits (Some (record { attr = attr; content = content })) ≡ true
         → fits (node_with_entry name number (Some (record { attr = attr; content = content }))) ≡ true
     by attr (Directory parent entries opaque) g =
-        of_directory (list_all is_fit_name (map (λ e. e.0) (with_entry name number entries))) (put_fits name number entries h (names_of_directory (list_all is_fit_name (map (λ e. e.0) entries)) g))
+        of_directory (list_all is_fit_name (map (λ e. e.0) (with_entry name number entries)))
+        (put_fits name number entries h (names_of_directory (list_all is_fit_name (map (λ e. e.0) entries)) g))
     by attr (Regular bytes) g = g
     by attr (Symlink text) g = g
     by attr Whiteout g = g
@@ -126,7 +137,8 @@ all_alike : (test other : ℕ → Bool) → ((n : ℕ) → test n ≡ true → o
     → list_all other list ≡ true
 all_alike test other keeps [] h = refl
 all_alike test other keeps (n ∷ list) h =
-    both (other n) (list_all other list) (keeps n (both_first (test n) (list_all test list) h)) (all_alike test other keeps list (both_second (test n) (list_all test list) h))
+    both (other n) (list_all other list) (keeps n ((and_parts (test n) (list_all test list) h).0))
+    (all_alike test other keeps list ((and_parts (test n) (list_all test list) h).1))
 
 pub changed_fits_there : (files : FileTree ℕ) (number : ℕ) (change : Option (Node ℕ) → Option (Node ℕ))
     → (fits (files.tree.node number) ≡ true → fits (change (files.tree.node number)) ≡ true)
@@ -153,7 +165,8 @@ unparented_fits files (Some object) h = changed_fits files object (node_with_par
 inode_fits : (files : FileTree ℕ) (number : ℕ) (node : Node ℕ) → is_fit_node node ≡ true → is_fit_tree files ≡ true
     → is_fit_tree (with_inode nat_eq files number node) ≡ true
 inode_fits files number node k h =
-    both (fits ((with_inode nat_eq files number node).tree.node number)) (list_all (λ n. fits ((with_inode nat_eq files number node).tree.node n)) files.numbers)
+    both (fits ((with_inode nat_eq files number node).tree.node number))
+    (list_all (λ n. fits ((with_inode nat_eq files number node).tree.node n)) files.numbers)
     (ap (λ b. fits (cond b (Some node) (files.tree.node number))) (eq-eqb number number refl) ∙ k)
     (all_alike (λ n. fits (files.tree.node n)) (λ n. fits ((with_inode nat_eq files number node).tree.node n)) one files.numbers h)
   where
@@ -166,10 +179,13 @@ inode_fits files number node k h =
 
 pub changes_keep_sizes : ChangesKeepSizes
 changes_keep_sizes files (Make directory name number node) h fit =
-    changed_fits (with_inode nat_eq files number node) directory (node_with_entry name number) (entry_fits name number fit.0) (inode_fits files number node fit.1 h)
-changes_keep_sizes files (AddName directory name object) h fit = changed_fits files directory (node_with_entry name object) (entry_fits name object fit) h
+    changed_fits (with_inode nat_eq files number node) directory (node_with_entry name number) (entry_fits name number fit.0)
+    (inode_fits files number node fit.1 h)
+changes_keep_sizes files (AddName directory name object) h fit =
+    changed_fits files directory (node_with_entry name object) (entry_fits name object fit) h
 changes_keep_sizes files (Remove directory name object) h fit =
-    unparented_fits (without_name nat_eq files directory name) (Some object) (changed_fits files directory (node_without_entry name) (no_entry_fits name) h)
+    unparented_fits (without_name nat_eq files directory name) (Some object)
+    (changed_fits files directory (node_without_entry name) (no_entry_fits name) h)
 changes_keep_sizes files (Move from old to new object) h fit =
     let unparented = without_parent nat_eq files (entry_named new (entries_in (files.tree.node to))) in
     let untaken = without_name nat_eq unparented from old in
@@ -185,7 +201,7 @@ changes_keep_sizes files (CopyUp object) h fit = h
 -- What nothing uses goes
 among_fits : (used : List ℕ) (files : FileTree ℕ) → is_fit_tree files ≡ true → is_fit_tree (only_among nat_eq used files) ≡ true
 among_fits used files h =
-    all_filtered (λ n. fits ((only_among nat_eq used files).tree.node n)) (λ n. is_among nat_eq n used) files.numbers
+    all-filter (λ n. fits ((only_among nat_eq used files).tree.node n)) (λ n. is_among nat_eq n used) files.numbers
     (all_alike (λ n. fits (files.tree.node n)) (λ n. fits ((only_among nat_eq used files).tree.node n)) one files.numbers h)
   where
     one : (n : ℕ) → fits (files.tree.node n) ≡ true → fits ((only_among nat_eq used files).tree.node n) ≡ true
@@ -206,11 +222,13 @@ used_fits world false filesystem h = h
 
 round_fits : (chosen : Filesystem ℕ → Bool) (world : World ℕ) → list_all is_fit_filesystem world.filesystems ≡ true
     → list_all is_fit_filesystem (without_dead_in nat_eq chosen world).filesystems ≡ true
-round_fits chosen world h = all_mapped is_fit_filesystem (λ f. only_used nat_eq world (chosen f) f) (λ f k. used_fits world (chosen f) f k) world.filesystems h
+round_fits chosen world h =
+    all_mapped is_fit_filesystem (λ f. only_used nat_eq world (chosen f) f) (λ f k. used_fits world (chosen f) f k) world.filesystems h
 
 pub settling_keeps_sizes : SettlingKeepsSizes
 settling_keeps_sizes world h =
     let mounted = without_dead_mounts nat_eq world in
     let living = without_dead_filesystems nat_eq mounted in
-    let small : list_all is_fit_filesystem living.filesystems ≡ true = all_filtered is_fit_filesystem (filesystem_lives nat_eq mounted) world.filesystems h in
+    let small : list_all is_fit_filesystem living.filesystems ≡ true =
+    all-filter is_fit_filesystem (filesystem_lives nat_eq mounted) world.filesystems h in
     round_fits (λ f. not (is_overlay f)) (without_dead_in nat_eq is_overlay living) (round_fits is_overlay living small)

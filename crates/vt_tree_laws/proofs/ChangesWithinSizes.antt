@@ -5,6 +5,7 @@ use Rattle.std.specs.Prelude.{unwrap_or}
 use Rattle.std.specs.List.{All, list_all, list_any}
 use Rattle.std.proofs.lemmas.List.Elements.{All-append, All-cons, All-filter, All-nil}
 use Rattle.std.proofs.lemmas.List.Sums.{AllPass-from_list_all, list_all-from_AllPass}
+use Rattle.std.proofs.lemmas.Bool.{and_parts}
 use Rattle.vt_spec.specs.declared.attributes.Attr.{Attr}
 use Rattle.vt_spec.specs.declared.errors.Rule.TheVariants.{E1, E2, E6, K1, S2, W3}
 use Rattle.vt_spec.specs.Errors.{denial}
@@ -42,7 +43,7 @@ use Rattle.vt_tree_laws.proofs.ChangesByOthers.{bind_keeps, chdir_keeps, chroot_
 use Rattle.vt_tree_laws.proofs.ChangesOfSizes.{changed_fits_there, changes_keep_sizes, fits, settling_keeps_sizes}
 use Rattle.vt_tree_laws.proofs.TreesOfWorlds.{number_numbered, numbered_all, numbered_anyhow, raised_all, replaced_all, taken_filesystems}
 use Rattle.vt_tree_laws.proofs.TreesSizes.{HasFitLast, fit_file_walk, fit_name_of, fit_new_leaf_walk, fit_new_walk, no_longer}
-use Rattle.vt_tree_laws.proofs.TreesTasks.{all_appended, all_mapped, both, both_first}
+use Rattle.vt_tree_laws.proofs.TreesTasks.{all_appended, all_mapped, both}
 use Rattle.vt_tree_laws.proofs.TreesWalked.{Ends, Passed, after_any, after_ends, after_holds, ends_then, ends_unless, first_false, judged_holds, no_some}
 
 -- a new tree
@@ -67,7 +68,9 @@ module _ (fresh : Fresh ℕ) (world : World ℕ) (location : Location ℕ) (chan
   new = with_files old (changed nat_eq old.files change)
 
   no_overlay : IsFitWorld world → old.overlay ≡ None
-  no_overlay conditions = no_some old.overlay (numbered_anyhow (λ f. is_overlay f ≡ false) (mount_at nat_eq world location).filesystem world.filesystems conditions.plain refl)
+  no_overlay conditions =
+      no_some old.overlay
+      (numbered_anyhow (λ f. is_overlay f ≡ false) (mount_at nat_eq world location).filesystem world.filesystems conditions.plain refl)
 
   pub change_fits : IsFitWorld world
       → (is_fit_tree (files_at nat_eq world location) ≡ true → is_fit_tree (changed nat_eq (files_at nat_eq world location) change) ≡ true)
@@ -88,7 +91,7 @@ module _ (fresh : Fresh ℕ) (world : World ℕ) (location : Location ℕ) (chan
       fitting = AllPass-from_list_all is_fit_filesystem world.filesystems conditions.fit
 
 -- bytes written into a file end where they end, or where it ended
-overwritten_length : (offset : ℕ) (more bytes : List ℕ) (most : ℕ) → offset + length more ≤ most → length bytes ≤ most
+pub overwritten_length : (offset : ℕ) (more bytes : List ℕ) (most : ℕ) → offset + length more ≤ most → length bytes ≤ most
     → length (overwritten offset more bytes) ≤ most
 overwritten_length offset more bytes most short old =
     omega (
@@ -113,7 +116,8 @@ overwritten_fits offset more short (Some node) k = by node.attr node.content k
         ap (λ b. b && true && true)
         (le-leb (length (overwritten offset more bytes)) largest_file
         (overwritten_length offset more bytes largest_file short
-        (leb-true (length bytes) largest_file (both_first (nat_le (length bytes) largest_file) true (both_first (nat_le (length bytes) largest_file && true) true g)))))
+        (leb-true (length bytes) largest_file
+        ((and_parts (nat_le (length bytes) largest_file) true ((and_parts (nat_le (length bytes) largest_file && true) true g).0)).0))))
     by attr (Symlink text) g = g
     by attr Whiteout g = g
 
@@ -121,21 +125,25 @@ module _ (fresh : Fresh ℕ) (world : World ℕ) (task : Task ℕ) (conditions :
   -- a change within the limits, also after mounts were taken away
   fit_change : (any : Fresh ℕ) (location : Location ℕ) (change : Change ℕ) → IsFitChange change
       → IsFitWorld (with_change nat_eq any world location change)
-  fit_change any location change fit = change_fits any world location change conditions (λ small. changes_keep_sizes (files_at nat_eq world location) change small fit)
+  fit_change any location change fit =
+      change_fits any world location change conditions (λ small. changes_keep_sizes (files_at nat_eq world location) change small fit)
 
   fit_change_after : (any : Fresh ℕ) (before : World ℕ) → before.filesystems ≡ world.filesystems
       → (location : Location ℕ) (change : Change ℕ) → IsFitChange change → IsFitWorld (with_change nat_eq any before location change)
   fit_change_after any before same location change fit =
-      change_fits any before location change (alike_fit before world same conditions) (λ small. changes_keep_sizes (files_at nat_eq before location) change small fit)
+      change_fits any before location change (alike_fit before world same conditions)
+      (λ small. changes_keep_sizes (files_at nat_eq before location) change small fit)
 
   fit_new : (place : Place ℕ) (node : Node ℕ) → HasFitLast world task place → is_special place.last ≡ false → is_fit_node node ≡ true
       → IsFitWorld (with_new nat_eq fresh world place node)
-  fit_new place node last plain fit = fit_change (odds fresh) place.parent (making place (evens fresh 0) node) (fit_name_of place.last plain last, fit)
+  fit_new place node last plain fit =
+      fit_change (odds fresh) place.parent (making place (evens fresh 0) node) (fit_name_of place.last plain last, fit)
 
   fit_made : (place : Place ℕ) (node : Node ℕ) → HasFitLast world task place → is_fit_node node ≡ true
       → IsFitWorld (made_at nat_eq fresh world task place node).world
   fit_made place node last fit =
-      judged_holds IsFitWorld world (new_rules nat_eq fresh world task place node) (granted Done (with_new nat_eq fresh world place node)) conditions
+      judged_holds IsFitWorld world (new_rules nat_eq fresh world task place node)
+      (granted Done (with_new nat_eq fresh world place node)) conditions
       (λ passed. fit_new place node last passed.0 fit)
 
   fit_mkdir : (path : List ℕ) (mode : Option ℕ) → IsFitWorld (mkdir_outcome nat_eq fresh world task path mode).world
@@ -151,12 +159,14 @@ module _ (fresh : Fresh ℕ) (world : World ℕ) (task : Task ℕ) (conditions :
       after_ends (HasFitLast world task) IsFitWorld world (new_leaf_walk nat_eq world task path)
       (λ place. made_at nat_eq fresh world task place (record { attr = exact_attr task symlink_mode; content = Symlink text })) conditions (fit_new_leaf_walk world task path)
       (λ place last. fit_made place (record { attr = exact_attr task symlink_mode; content = Symlink text }) last
-      (ap (λ b. b && true) (both (not (is_empty text)) (nat_le (length text) longest_path) (ap not passed.0) (no_longer longest_path text passed.1.0)))))
+      (ap (λ b. b && true)
+      (both (not (is_empty text)) (nat_le (length text) longest_path) (ap not passed.0) (no_longer longest_path text passed.1.0)))))
 
   fit_whiteout : (path : List ℕ) → IsFitWorld (whiteout_outcome nat_eq fresh world task path).world
   unfolding whiteout_outcome
   fit_whiteout path =
-      after_ends (HasFitLast world task) IsFitWorld world (new_leaf_walk nat_eq world task path) _ conditions (fit_new_leaf_walk world task path) (λ place last.
+      after_ends (HasFitLast world task) IsFitWorld world (new_leaf_walk nat_eq world task path) _ conditions
+      (fit_new_leaf_walk world task path) (λ place last.
       judged_holds IsFitWorld world (whiteout_rules nat_eq world task place) (granted Done (with_new nat_eq fresh world place (record { attr = exact_attr task 0; content = Whiteout }))) conditions
       (λ passed. fit_new place (record { attr = exact_attr task 0; content = Whiteout }) last passed.0 refl))
 
@@ -164,9 +174,11 @@ module _ (fresh : Fresh ℕ) (world : World ℕ) (task : Task ℕ) (conditions :
   unfolding hard_link_outcome
   fit_link before after_call =
       after_any IsFitWorld world (symlink_walk nat_eq world task before) _ conditions (λ from.
-      after_ends (HasFitLast world task) IsFitWorld world (new_leaf_walk nat_eq world task after_call) _ conditions (fit_new_leaf_walk world task after_call) (λ place last.
+      after_ends (HasFitLast world task) IsFitWorld world (new_leaf_walk nat_eq world task after_call) _ conditions
+      (fit_new_leaf_walk world task after_call) (λ place last.
       judged_holds IsFitWorld world ((is_special place.last, E1) ∷ []) _ conditions (λ plain.
-      judged_holds IsFitWorld world (hard_link_rules nat_eq world task from.location place (linking from.location place)) (granted Done (with_change nat_eq fresh world place.parent (linking from.location place))) conditions
+      judged_holds IsFitWorld world (hard_link_rules nat_eq world task from.location place (linking from.location place))
+      (granted Done (with_change nat_eq fresh world place.parent (linking from.location place))) conditions
       (λ passed. fit_change fresh place.parent (linking from.location place) (fit_name_of place.last plain.0 last)))))
 
   fit_unlink : (path : List ℕ) → IsFitWorld (unlink_outcome nat_eq fresh world task path).world
@@ -174,7 +186,8 @@ module _ (fresh : Fresh ℕ) (world : World ℕ) (task : Task ℕ) (conditions :
   fit_unlink path =
       after_any IsFitWorld world (old_leaf_walk nat_eq world task path) _ conditions (λ place.
       judged_holds IsFitWorld world ((is_special place.last, E2) ∷ []) _ conditions (λ plain.
-      judged_holds IsFitWorld world (unlink_rules nat_eq world task place (object_there place)) (granted Done (with_change nat_eq fresh world place.parent (removing place (object_there place)))) conditions
+      judged_holds IsFitWorld world (unlink_rules nat_eq world task place (object_there place))
+      (granted Done (with_change nat_eq fresh world place.parent (removing place (object_there place)))) conditions
       (λ passed. fit_change fresh place.parent (removing place (object_there place)) tt)))
 
   fit_rmdir : (path : List ℕ) → IsFitWorld (rmdir_outcome nat_eq fresh world task path).world
@@ -183,8 +196,11 @@ module _ (fresh : Fresh ℕ) (world : World ℕ) (task : Task ℕ) (conditions :
       after_any IsFitWorld world (old_walk nat_eq world task path) _ conditions (λ place.
       judged_holds IsFitWorld world (rmdir_word_rules place) _ conditions (λ plain.
       judged_holds IsFitWorld world (rmdir_rules nat_eq world task place (object_there place))
-      (granted Done (with_change nat_eq fresh (without_mounts_on nat_eq world (object_there place)) place.parent (removing place (object_there place)))) conditions
-      (λ passed. fit_change_after fresh (without_mounts_on nat_eq world (object_there place)) (taken_filesystems world _) place.parent (removing place (object_there place)) tt)))
+      (granted Done
+      (with_change nat_eq fresh (without_mounts_on nat_eq world (object_there place)) place.parent
+      (removing place (object_there place)))) conditions
+      (λ passed. fit_change_after fresh (without_mounts_on nat_eq world (object_there place))
+      (taken_filesystems world _) place.parent (removing place (object_there place)) tt)))
 
   replaced_filesystems : (o : Option (Location ℕ)) → (without_replaced nat_eq world o).filesystems ≡ world.filesystems
   replaced_filesystems None = refl
@@ -192,37 +208,44 @@ module _ (fresh : Fresh ℕ) (world : World ℕ) (task : Task ℕ) (conditions :
 
   fit_renamed : (from to : Place ℕ) → HasFitLast world task to → is_special to.last ≡ false → (b : Bool)
       → IsFitWorld (renamed_by nat_eq b fresh world task from to (object_there from)).world
-  fit_renamed from to last plain true = judged_holds IsFitWorld world (same_object_rules nat_eq world from to) (granted Done world) conditions (λ passed. conditions)
+  fit_renamed from to last plain true =
+      judged_holds IsFitWorld world (same_object_rules nat_eq world from to) (granted Done world) conditions (λ passed. conditions)
   fit_renamed from to last plain false =
       judged_holds IsFitWorld world (rename_rules nat_eq world task from to (object_there from)) _ conditions
-      (λ passed. fit_change_after fresh (without_replaced nat_eq world to.object) (replaced_filesystems to.object) from.parent (moving from to (object_there from)) (fit_name_of to.last plain last))
+      (λ passed. fit_change_after fresh (without_replaced nat_eq world to.object) (replaced_filesystems to.object) from.parent
+      (moving from to (object_there from)) (fit_name_of to.last plain last))
 
   fit_rename_walk : (path : List ℕ) (old_is_directory : Bool)
       → Ends (HasFitLast world task) (rename_new_walk nat_eq world task path old_is_directory)
   fit_rename_walk path old_is_directory =
       ends_then (HasFitLast world task) (HasFitLast world task) (new_walk nat_eq world task path) _ (fit_new_walk world task path)
-      (λ place last. ends_unless (HasFitLast world task) place.steps ((place.slash && not old_is_directory, W3) ∷ []) place (λ passed. last))
+      (λ place last. ends_unless (HasFitLast world task) place.steps ((place.slash && not old_is_directory, W3) ∷ []) place
+      (λ passed. last))
 
   fit_rename : (before after_call : List ℕ) → IsFitWorld (rename_outcome nat_eq fresh world task before after_call).world
   unfolding rename_outcome
   fit_rename before after_call =
       after_any IsFitWorld world (old_leaf_walk nat_eq world task before) _ conditions (λ from.
       judged_holds IsFitWorld world (old_word_rules from) _ conditions (λ from_plain.
-      after_ends (HasFitLast world task) IsFitWorld world (rename_new_walk nat_eq world task after_call (is_directory_there nat_eq world from)) _ conditions
+      after_ends (HasFitLast world task) IsFitWorld world
+      (rename_new_walk nat_eq world task after_call (is_directory_there nat_eq world from)) _ conditions
       (fit_rename_walk after_call (is_directory_there nat_eq world from)) (λ to last.
-      judged_holds IsFitWorld world (old_word_rules to) (renamed_by nat_eq (is_one_object nat_eq world (object_there from) to.object) fresh world task from to (object_there from)) conditions
+      judged_holds IsFitWorld world (old_word_rules to)
+      (renamed_by nat_eq (is_one_object nat_eq world (object_there from) to.object) fresh world task from to (object_there from)) conditions
       (λ plain. fit_renamed from to last plain.0 (is_one_object nat_eq world (object_there from) to.object)))))
 
   fit_attr_set : (object : Location ℕ) (allowed : Bool) (attr : Attr) → IsFitWorld (attr_set nat_eq fresh world object allowed attr).world
   fit_attr_set object allowed attr =
-      judged_holds IsFitWorld world (attr_rules nat_eq world object allowed attr) (granted Done (with_change nat_eq fresh world object (SetAttr object.node attr))) conditions
+      judged_holds IsFitWorld world (attr_rules nat_eq world object allowed attr)
+      (granted Done (with_change nat_eq fresh world object (SetAttr object.node attr))) conditions
       (λ passed. fit_change fresh object (SetAttr object.node attr) tt)
 
   fit_chmod : (path : List ℕ) (mode : ℕ) → IsFitWorld (chmod_outcome nat_eq fresh world task path mode).world
   unfolding chmod_outcome
   fit_chmod path mode =
       after_any IsFitWorld world (object_walk nat_eq world task path) _ conditions
-      (λ here. fit_attr_set here.location (owns task.credentials (attr_at nat_eq world here.location)) (attr_with_mode (attr_at nat_eq world here.location) mode))
+      (λ here. fit_attr_set here.location (owns task.credentials (attr_at nat_eq world here.location))
+      (attr_with_mode (attr_at nat_eq world here.location) mode))
 
   fit_chown : (path : List ℕ) (uid gid : Option ℕ) → IsFitWorld (chown_outcome nat_eq fresh world task path uid gid).world
   unfolding chown_outcome
@@ -237,25 +260,29 @@ module _ (fresh : Fresh ℕ) (world : World ℕ) (task : Task ℕ) (conditions :
   fit_opaque path mark =
       judged_holds IsFitWorld world ((lacks task cap_sys_admin, K1) ∷ []) _ conditions (λ capable.
       after_any IsFitWorld world (directory_walk nat_eq world task path) _ conditions (λ here.
-      judged_holds IsFitWorld world (opaque_rules nat_eq world here.location) (granted Done (with_change nat_eq fresh world here.location (SetMark here.location.node mark))) conditions
+      judged_holds IsFitWorld world (opaque_rules nat_eq world here.location)
+      (granted Done (with_change nat_eq fresh world here.location (SetMark here.location.node mark))) conditions
       (λ passed. fit_change fresh here.location (SetMark here.location.node mark) tt)))
 
   -- bytes
   fit_written : (place : Place ℕ) (bytes : List ℕ) (object : Option (Location ℕ)) → HasFitLast world task place
       → is_special place.last ≡ false → IsFitWorld (written nat_eq fresh world task place bytes object).world
   fit_written place bytes (Some file) last plain =
-      judged_holds IsFitWorld world (rewrite_rules nat_eq world task file bytes) (granted Done (with_change nat_eq fresh world file (SetBytes file.node bytes))) conditions
+      judged_holds IsFitWorld world (rewrite_rules nat_eq world task file bytes)
+      (granted Done (with_change nat_eq fresh world file (SetBytes file.node bytes))) conditions
       (λ passed. fit_change fresh file (SetBytes file.node bytes) (no_longer largest_file bytes passed.1.0))
   fit_written place bytes None last plain =
       judged_holds IsFitWorld world ((nat_lt largest_file (length bytes), E6) ∷ []) _ conditions (λ small.
       judged_holds IsFitWorld world (make_rules nat_eq world task place (making place (evens fresh 0) (new_file task file_mode bytes)))
       (granted Done (with_new nat_eq fresh world place (new_file task file_mode bytes))) conditions
-      (λ passed. fit_new place (new_file task file_mode bytes) last plain (ap (λ b. b && true && true) (no_longer largest_file bytes small.0))))
+      (λ passed. fit_new place (new_file task file_mode bytes) last plain
+      (ap (λ b. b && true && true) (no_longer largest_file bytes small.0))))
 
   fit_write : (path bytes : List ℕ) → IsFitWorld (write_outcome nat_eq fresh world task path bytes).world
   unfolding write_outcome
   fit_write path bytes =
-      after_ends (HasFitLast world task) IsFitWorld world (file_walk nat_eq world task path) _ conditions (fit_file_walk world task path) (λ place last.
+      after_ends (HasFitLast world task) IsFitWorld world (file_walk nat_eq world task path) _ conditions
+      (fit_file_walk world task path) (λ place last.
       judged_holds IsFitWorld world (file_word_rules place) (written nat_eq fresh world task place bytes place.object) conditions
       (λ passed. fit_written place bytes place.object last (first_false (is_special place.last) place.slash passed.0)))
 
@@ -263,15 +290,19 @@ module _ (fresh : Fresh ℕ) (world : World ℕ) (task : Task ℕ) (conditions :
       → IsFitWorld (pwritten nat_eq fresh world file offset bytes)
   fit_pwritten file offset [] passed = conditions
   fit_pwritten file offset (byte ∷ bytes) passed =
-      change_fits fresh world file (SetBytes file.node (overwritten offset (byte ∷ bytes) (bytes_in (node_at nat_eq world file)))) conditions
-      (changed_fits_there (files_at nat_eq world file) file.node (node_with_bytes (overwritten offset (byte ∷ bytes) (bytes_in (node_at nat_eq world file))))
-      (overwritten_fits offset (byte ∷ bytes) (ltb-false largest_file (offset + length (byte ∷ bytes)) passed.0) (node_at nat_eq world file)))
+      change_fits fresh world file
+      (SetBytes file.node (overwritten offset (byte ∷ bytes) (bytes_in (node_at nat_eq world file)))) conditions
+      (changed_fits_there (files_at nat_eq world file) file.node
+      (node_with_bytes (overwritten offset (byte ∷ bytes) (bytes_in (node_at nat_eq world file))))
+      (overwritten_fits offset (byte ∷ bytes) (ltb-false largest_file (offset + length (byte ∷ bytes)) passed.0)
+      (node_at nat_eq world file)))
 
   fit_pwrite : (number offset : ℕ) (bytes : List ℕ) → IsFitWorld (pwrite_outcome nat_eq fresh world task number offset bytes).world
   unfolding pwrite_outcome
   fit_pwrite number offset bytes =
       after_holds IsFitWorld world (descriptor_at task number (λ descriptor. descriptor.writes)) _ conditions (λ descriptor found.
-      judged_holds IsFitWorld world (pwrite_rules nat_eq world descriptor.location offset bytes) (granted Done (pwritten nat_eq fresh world descriptor.location offset bytes)) conditions
+      judged_holds IsFitWorld world (pwrite_rules nat_eq world descriptor.location offset bytes)
+      (granted Done (pwritten nat_eq fresh world descriptor.location offset bytes)) conditions
       (λ passed. fit_pwritten descriptor.location offset bytes passed))
 
   -- open(2)
@@ -281,9 +312,12 @@ module _ (fresh : Fresh ℕ) (world : World ℕ) (task : Task ℕ) (conditions :
 
   fit_open_file : (file : Location ℕ) (access : Access) → IsFitWorld (open_file nat_eq fresh world task file access).world
   fit_open_file file access =
-      judged_holds IsFitWorld world (open_rules nat_eq world task file access) (opened (with_copy nat_eq (is_copied_up nat_eq world file access) fresh world file) task file access) conditions
-      (λ passed. alike_fit (with_task (with_copy nat_eq (is_copied_up nat_eq world file access) fresh world file) (with_descriptor task file access))
-      (with_copy nat_eq (is_copied_up nat_eq world file access) fresh world file) refl (fit_copy (is_copied_up nat_eq world file access) file))
+      judged_holds IsFitWorld world (open_rules nat_eq world task file access)
+      (opened (with_copy nat_eq (is_copied_up nat_eq world file access) fresh world file) task file access) conditions
+      (λ passed. alike_fit
+      (with_task (with_copy nat_eq (is_copied_up nat_eq world file access) fresh world file) (with_descriptor task file access))
+      (with_copy nat_eq (is_copied_up nat_eq world file access) fresh world file) refl
+      (fit_copy (is_copied_up nat_eq world file access) file))
 
   fit_create : (place : Place ℕ) (access : Access) (mode : ℕ) → HasFitLast world task place → is_special place.last ≡ false
       → IsFitWorld (create_file nat_eq fresh world task place access mode).world
@@ -291,7 +325,8 @@ module _ (fresh : Fresh ℕ) (world : World ℕ) (task : Task ℕ) (conditions :
       judged_holds IsFitWorld world (make_rules nat_eq world task place (making place (evens fresh 0) (new_file task mode [])))
       (opened (with_new nat_eq fresh world place (new_file task mode [])) task (record { mount = place.parent.mount; node = evens fresh 0 }) access) conditions
       (λ passed. alike_fit (with_task (with_new nat_eq fresh world place (new_file task mode [])) (with_descriptor task (record { mount = place.parent.mount; node = evens fresh 0 }) access))
-      (with_new nat_eq fresh world place (new_file task mode [])) refl (fit_new place (new_file task mode []) last plain (ap (λ b. b && true && true) (le-leb 0 largest_file (omega arith)))))
+      (with_new nat_eq fresh world place (new_file task mode [])) refl
+      (fit_new place (new_file task mode []) last plain (ap (λ b. b && true && true) (le-leb 0 largest_file (omega arith)))))
 
   fit_opened_or_created : (place : Place ℕ) (access : Access) (mode : ℕ) (object : Option (Location ℕ)) → HasFitLast world task place
       → is_special place.last ≡ false
@@ -302,20 +337,26 @@ module _ (fresh : Fresh ℕ) (world : World ℕ) (task : Task ℕ) (conditions :
   fit_open_by : (path : List ℕ) (access : Access) (creation : Creation)
       → IsFitWorld (open_by nat_eq fresh world task path access creation).world
   fit_open_by path access NoCreation =
-      after_any IsFitWorld world (object_walk nat_eq world task path) (λ here. open_file nat_eq fresh world task here.location access) conditions (λ here. fit_open_file here.location access)
+      after_any IsFitWorld world (object_walk nat_eq world task path)
+      (λ here. open_file nat_eq fresh world task here.location access) conditions (λ here. fit_open_file here.location access)
   fit_open_by path access (OrCreate mode) =
-      after_ends (HasFitLast world task) IsFitWorld world (file_walk nat_eq world task path) _ conditions (fit_file_walk world task path) (λ place last.
-      judged_holds IsFitWorld world (file_word_rules place) (opened_or_created nat_eq fresh world task place access mode place.object) conditions
+      after_ends (HasFitLast world task) IsFitWorld world (file_walk nat_eq world task path) _ conditions
+      (fit_file_walk world task path) (λ place last.
+      judged_holds IsFitWorld world (file_word_rules place)
+      (opened_or_created nat_eq fresh world task place access mode place.object) conditions
       (λ passed. fit_opened_or_created place access mode place.object last (first_false (is_special place.last) place.slash passed.0)))
   fit_open_by path access (Exclusive mode) =
-      after_ends (HasFitLast world task) IsFitWorld world (new_walk nat_eq world task path) _ conditions (fit_new_walk world task path) (λ place last.
-      judged_holds IsFitWorld world (exclusive_word_rules place) (create_file nat_eq fresh world task place access mode) conditions (λ passed. fit_create place access mode last passed.0))
+      after_ends (HasFitLast world task) IsFitWorld world (new_walk nat_eq world task path) _ conditions
+      (fit_new_walk world task path) (λ place last.
+      judged_holds IsFitWorld world (exclusive_word_rules place)
+      (create_file nat_eq fresh world task place access mode) conditions (λ passed. fit_create place access mode last passed.0))
 
   fit_open : (path : List ℕ) (access : Access) (creation : Creation)
       → IsFitWorld (open_outcome nat_eq fresh world task path access creation).world
   unfolding open_outcome
   fit_open path access creation =
-      judged_holds IsFitWorld world (descriptor_rules task) (open_by nat_eq fresh world task path access creation) conditions (λ passed. fit_open_by path access creation)
+      judged_holds IsFitWorld world (descriptor_rules task) (open_by nat_eq fresh world task path access creation) conditions
+      (λ passed. fit_open_by path access creation)
 
   -- a new plain filesystem
   fit_more : (after_call : World ℕ) → after_call.filesystems ≡ world.filesystems ++ (plain_filesystem nat_eq fresh ∷ [])
@@ -324,7 +365,10 @@ module _ (fresh : Fresh ℕ) (world : World ℕ) (task : Task ℕ) (conditions :
     plain = subst (All (λ f. is_overlay f ≡ false)) (sym same)
         (All-append (λ f. is_overlay f ≡ false) world.filesystems (plain_filesystem nat_eq fresh ∷ []) conditions.plain
         (All-cons (λ f. is_overlay f ≡ false) (plain_filesystem nat_eq fresh) [] refl (All-nil (λ f. is_overlay f ≡ false))));
-    fit = ap (list_all is_fit_filesystem) same ∙ all_appended is_fit_filesystem world.filesystems (plain_filesystem nat_eq fresh) conditions.fit (new_plain_fits (evens fresh 0) (evens fresh 1));
+    fit =
+        ap (list_all is_fit_filesystem) same
+        ∙ all_appended is_fit_filesystem world.filesystems (plain_filesystem nat_eq fresh) conditions.fit
+        (new_plain_fits (evens fresh 0) (evens fresh 1));
   }
 
   pub outcome_fits : (call : Call) → mounts_overlay call ≡ false → IsFitWorld (call_outcome nat_eq fresh world task call).world
@@ -372,9 +416,12 @@ fit_settled : (world : World ℕ) → IsFitWorld world → IsFitWorld (settled n
 fit_settled world conditions =
     let mounted = without_dead_mounts nat_eq world in
     let living = without_dead_filesystems nat_eq mounted in
-    let plain_living : All (λ f. is_overlay f ≡ false) living.filesystems = All-filter (filesystem_lives nat_eq mounted) (λ f. is_overlay f ≡ false) world.filesystems conditions.plain in
+    let plain_living : All (λ f. is_overlay f ≡ false) living.filesystems =
+    All-filter (filesystem_lives nat_eq mounted) (λ f. is_overlay f ≡ false) world.filesystems conditions.plain in
     record {
-      plain = without_dead_plain (λ f. not (is_overlay f)) (without_dead_in nat_eq is_overlay living) (without_dead_plain is_overlay living plain_living);
+      plain =
+          without_dead_plain (λ f. not (is_overlay f)) (without_dead_in nat_eq is_overlay living)
+          (without_dead_plain is_overlay living plain_living);
       fit = settling_keeps_sizes world conditions.fit;
     }
 

@@ -10,7 +10,7 @@ pub mod ChangesOfNames
 pub mod ChangesOfPlace
 pub mod ChangesOfSizes
 pub mod ChangesWithinSizes
-pub mod SettlingStays
+pub mod Given
 pub mod TreesAbove
 pub mod TreesEntered
 pub mod TreesForgotten

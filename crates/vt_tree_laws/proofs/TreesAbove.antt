@@ -1,7 +1,8 @@
 -- The directories above a directory, one by one: a directory under another sees it above itself.
 use Rattle.std.proofs.Common.{◌≡◌, ◌≢◌, refl, sym, ap, subst, ◌∙◌, true≢false, ℕ, zero, suc, ◌+◌, ◌-◌, ◌<◌, ◌≤◌, arith, nat_eq, eq-eqb, eqb-true, ne_eqb, Bool, true, false, cond, List, [], ◌∷◌, length, map, ◌||◌, ⊎_elim, Option, Some, None, option_and_then, unwrap_or}
-use Rattle.std.proofs.lemmas.Bool.{cases_lt}
+use Rattle.std.proofs.lemmas.Bool.{cases_lt, or_right}
 use Rattle.std.proofs.lemmas.Map.Made.{length-le_from_is_member}
+use Rattle.std.proofs.lemmas.Option.{same_Some}
 use Rattle.std.specs.Cmp.{nat_eq_equiv}
 use Rattle.std.specs.List.{AllByRecursion, IsDistinct}
 use Rattle.vt_spec.specs.Rights.{is_directory}
@@ -13,8 +14,8 @@ use Rattle.vt_spec.specs.Lists.{chain, is_among, when}
 use Rattle.vt_spec.proofs.Nodes.{directory_used, none_is_not}
 use Rattle.vt_spec.proofs.Trees.{found}
 use Rattle.vt_tree_laws.specs.Trees.{IsFileTree}
-use Rattle.vt_tree_laws.proofs.TreesForgotten.{among_targets, or_second}
-use Rattle.vt_tree_laws.proofs.TreesRearranged.{node_with_entries, some_same}
+use Rattle.vt_tree_laws.proofs.TreesForgotten.{among_targets}
+use Rattle.vt_tree_laws.proofs.TreesRearranged.{node_with_entries}
 
 -- so many steps up
 pub up : Tree ℕ → ℕ → Option ℕ → Option ℕ
@@ -61,15 +62,20 @@ module _ (tree : Tree ℕ) where
       by : (a b : Bool) → has_entry_to nat_eq tree (parent_in k (tree.node k)) k ≡ b
           → cond a None (when b (parent_in k (tree.node k))) ≡ Some d → IsDirectory tree d
       by true b h e = none_is_not None d refl e
-      by false true h e = subst (IsDirectory tree) (some_same (parent_in k (tree.node k)) d e) (entry_to_directory (tree.node (parent_in k (tree.node k))) k h)
+      by false true h e =
+          subst (IsDirectory tree) (same_Some (parent_in k (tree.node k)) d e)
+          (entry_to_directory (tree.node (parent_in k (tree.node k))) k h)
       by false false h e = none_is_not None d refl e
 
   root_above_none : named_parent nat_eq tree tree.root ≡ None
-  root_above_none = ap (λ b. cond b None (when (has_entry_to nat_eq tree (parent_in tree.root (tree.node tree.root)) tree.root) (parent_in tree.root (tree.node tree.root)))) (eq-eqb tree.root tree.root refl)
+  root_above_none =
+      ap (λ b. cond b None
+      (when (has_entry_to nat_eq tree (parent_in tree.root (tree.node tree.root)) tree.root)
+      (parent_in tree.root (tree.node tree.root)))) (eq-eqb tree.root tree.root refl)
 
   up_directory : (k : ℕ) (d e : ℕ) → IsDirectory tree d → up tree k (Some d) ≡ Some e → IsDirectory tree e
   unfolding up
-  up_directory zero d e is h = subst (IsDirectory tree) (some_same d e h) is
+  up_directory zero d e is h = subst (IsDirectory tree) (same_Some d e h) is
   up_directory (suc k) d e is h =
       let step = found (named_parent nat_eq tree) (up tree k (Some d)) e h in
       parent_is_directory step.0 e step.2
@@ -77,13 +83,13 @@ module _ (tree : Tree ℕ) where
   -- what is up within so many steps is in the chain
   in_chain : (most k d e : ℕ) → k ≤ most → up tree k (Some d) ≡ Some e → is_among nat_eq e (chain most (named_parent nat_eq tree) d) ≡ true
   unfolding up
-  in_chain zero zero d e le h = ap (λ b. b || false) (eq-eqb e d (sym (some_same d e h)))
+  in_chain zero zero d e le h = ap (λ b. b || false) (eq-eqb e d (sym (same_Some d e h)))
   in_chain zero (suc k) d e le h = absurd (omega arith)
   in_chain (suc most) zero d e le h = by (named_parent nat_eq tree d)
     where
       by : (o : Option ℕ) → is_among nat_eq e (elim o [ None ↦ d ∷ [] | Some b ↦ d ∷ chain most (named_parent nat_eq tree) b ]) ≡ true
-      by None = ap (λ b. b || false) (eq-eqb e d (sym (some_same d e h)))
-      by (Some b) = ap (λ c. c || is_among nat_eq e (chain most (named_parent nat_eq tree) b)) (eq-eqb e d (sym (some_same d e h)))
+      by None = ap (λ b. b || false) (eq-eqb e d (sym (same_Some d e h)))
+      by (Some b) = ap (λ c. c || is_among nat_eq e (chain most (named_parent nat_eq tree) b)) (eq-eqb e d (sym (same_Some d e h)))
   in_chain (suc most) (suc k) d e le h =
       by (named_parent nat_eq tree d) (sym (up_first k (Some d)) ∙ h) (λ b g. in_chain most k b e (omega arith) g)
     where
@@ -91,20 +97,21 @@ module _ (tree : Tree ℕ) where
           → ((b : ℕ) → up tree k (Some b) ≡ Some e → is_among nat_eq e (chain most (named_parent nat_eq tree) b) ≡ true)
           → is_among nat_eq e (elim o [ None ↦ d ∷ [] | Some b ↦ d ∷ chain most (named_parent nat_eq tree) b ]) ≡ true
       by None g rest = none_is_not None e refl (sym (up_none k) ∙ g)
-      by (Some b) g rest = or_second (nat_eq e d) (is_among nat_eq e (chain most (named_parent nat_eq tree) b)) (rest b g)
+      by (Some b) g rest = or_right (nat_eq e d) (is_among nat_eq e (chain most (named_parent nat_eq tree) b)) (rest b g)
 
 module _ (tree : Tree ℕ) (conditions : IsTree tree) where
   -- the parent of a directory that has a name is the directory of the name
   pub parent_named : (directory : ℕ) (name : List ℕ) (number : ℕ) → entry_at tree directory name ≡ Some number → IsDirectory tree number
       → named_parent nat_eq tree number ≡ Some directory
   parent_named directory name number entry is =
-      ap (λ b. cond b None (when (has_entry_to nat_eq tree (parent_in number (tree.node number)) number) (parent_in number (tree.node number))))
+      ap (λ b. cond b None
+      (when (has_entry_to nat_eq tree (parent_in number (tree.node number)) number) (parent_in number (tree.node number))))
       (ne_eqb number tree.root (λ root. conditions.root_unnamed directory name (entry ∙ ap Some root)))
       ∙ ap (λ parent. when (has_entry_to nat_eq tree parent number) parent) (conditions.one_parent directory name number entry is)
       ∙ ap (λ b. when b directory) (among_targets name (entries_in (tree.node directory)) number entry)
 
   led_directory : (from : ℕ) (names : List (List ℕ)) (to : ℕ) → led tree from names ≡ Some to → IsDirectory tree to → IsDirectory tree from
-  led_directory from [] to e is = subst (IsDirectory tree) (sym (some_same from to e)) is
+  led_directory from [] to e is = subst (IsDirectory tree) (sym (same_Some from to e)) is
   led_directory from (name ∷ names) to e is =
       let step = found (λ next. led tree next names) (entry_at tree from name) to e in
       node_with_entries name step.0 (tree.node from) step.1
@@ -120,7 +127,8 @@ module _ (tree : Tree ℕ) (conditions : IsTree tree) where
       ∙ parent_named from name step.0 step.1 (led_directory step.0 names to step.2 is)
 
 -- A directory that is reached from the root: the steps up from it lead to directories that differ, and end at the root.
-module _ (files : FileTree ℕ) (conditions : IsFileTree files) (to : ℕ) (is : IsDirectory files.tree to) (reached : IsReached files.tree to) where
+module _ (files : FileTree ℕ) (conditions : IsFileTree files) (to : ℕ) (is : IsDirectory files.tree to)
+    (reached : IsReached files.tree to) where
   abbrev height : ℕ
   height = length reached.0
 
@@ -152,7 +160,8 @@ module _ (files : FileTree ℕ) (conditions : IsFileTree files) (to : ℕ) (is :
           let more = height - k in
           let whole : height ≡ more + k = omega arith in
           none_is_not None files.tree.root refl
-          (sym (ap (λ n. up files.tree n (Some to)) whole ∙ up_plus files.tree more k (Some to) ∙ ap (up files.tree more) e ∙ up_none files.tree more) ∙ at_root)
+          (sym (ap (λ n. up files.tree n (Some to)) whole ∙ up_plus files.tree more k (Some to) ∙ ap (up files.tree more) e
+          ∙ up_none files.tree more) ∙ at_root)
       by (Some x) e = refl
 
   above_differ : (j k : ℕ) → j < k → k ≤ height → above k ≢ above j
@@ -185,7 +194,8 @@ module _ (files : FileTree ℕ) (conditions : IsFileTree files) (to : ℕ) (is :
   line_distinct (suc k) le = (line_apart (suc k) k (omega arith) le, line_distinct k (omega arith))
 
   above_listed : (k : ℕ) → k ≤ height → is_among nat_eq (above k) files.numbers ≡ true
-  above_listed k le = conditions.numbers (above k) ∙ directory_used files.tree (above k) (up_directory files.tree k to (above k) is (above_there k le))
+  above_listed k le =
+      conditions.numbers (above k) ∙ directory_used files.tree (above k) (up_directory files.tree k to (above k) is (above_there k le))
 
   line_listed : (k q : ℕ) → k ≤ height → is_among nat_eq q (line k) ≡ true → is_among nat_eq q files.numbers ≡ true
   unfolding line
@@ -205,7 +215,9 @@ module _ (files : FileTree ℕ) (conditions : IsFileTree files) (to : ℕ) (is :
   -- there are no more steps than inodes
   height_small : height < length files.numbers
   height_small =
-      let few = length-le_from_is_member nat_eq_equiv (line height) files.numbers (line_distinct height (omega arith)) (λ q h. line_listed height q (omega arith) h) in
+      let few =
+      length-le_from_is_member nat_eq_equiv (line height) files.numbers (line_distinct height (omega arith))
+      (λ q h. line_listed height q (omega arith) h) in
       omega (arith, few, line_length height)
 
   -- a directory from which names lead there is seen above

@@ -36,7 +36,8 @@ pub chain_ends : {A : Type 0} (Q : A → Type 0) (next : A → Option A) → ((a
 chain_ends Q next step zero default start q = q
 chain_ends Q next step (suc most) default start q = by (next start) refl (λ b p. chain_ends Q next step most start b p)
   where
-    by : (o : Option _) → next start ≡ o → ((b : _) → Q b → Q (last_or start (chain most next b))) → Q (last_or default (elim o [ None ↦ start ∷ [] | Some b ↦ start ∷ chain most next b ]))
+    by : (o : Option _) → next start ≡ o → ((b : _) → Q b → Q (last_or start (chain most next b)))
+        → Q (last_or default (elim o [ None ↦ start ∷ [] | Some b ↦ start ∷ chain most next b ]))
     by None e rest = q
     by (Some b) e rest = rest b (step start b q e)
 
@@ -92,7 +93,8 @@ module _ (world : World ℕ) (conditions : IsWorldOfTrees world) (standing : IsS
   tree_there location is =
       ⊎_elim (λ tree. tree)
       (λ missing. absurd (true≢false (sym is ∙ ap (λ (f : Filesystem ℕ). is_directory_node (f.files.tree.node location.node)) missing.0)))
-      (numbered_all (λ filesystem. IsFileTree filesystem.files) (mount_at nat_eq world location).filesystem world.filesystems conditions.trees)
+      (numbered_all (λ filesystem. IsFileTree filesystem.files)
+      (mount_at nat_eq world location).filesystem world.filesystems conditions.trees)
 
   -- mounts over a place
   child_there : (a b : Location ℕ) → option_map root_of (child_at nat_eq world.mounts a) ≡ Some b → IsDirectoryThere b
@@ -101,7 +103,8 @@ module _ (world : World ℕ) (conditions : IsWorldOfTrees world) (standing : IsS
       by : (o : Option (Mount ℕ)) → child_at nat_eq world.mounts a ≡ o → option_map root_of o ≡ Some b → IsDirectoryThere b
       by None is h = none_is_not None b refl h
       by (Some mount) is h =
-          subst IsDirectoryThere (ap (λ o. unwrap_or o b) h) (found_all (λ m. is_directory_at nat_eq world (root_of m) ≡ true) (stands_at nat_eq a) world.mounts mount standing.roots is)
+          subst IsDirectoryThere (ap (λ o. unwrap_or o b) h)
+          (found_all (λ m. is_directory_at nat_eq world (root_of m) ≡ true) (stands_at nat_eq a) world.mounts mount standing.roots is)
 
   topmost_there : (location : Location ℕ) → IsThere location → IsThere (topmost nat_eq world.mounts location)
   topmost_there location is =
@@ -116,7 +119,8 @@ module _ (world : World ℕ) (conditions : IsWorldOfTrees world) (standing : IsS
           → (unwrap_or o (no_mount number)).mount_point ≡ Some place → IsDirectoryThere place
       by None is h = none_is_not None place refl h
       by (Some mount) is h =
-          found_all (λ m. (at : Location ℕ) → m.mount_point ≡ Some at → is_directory_at nat_eq world at ≡ true) (λ m. nat_eq number m.number) world.mounts mount standing.places is place h
+          found_all (λ m. (at : Location ℕ) → m.mount_point ≡ Some at → is_directory_at nat_eq world at ≡ true)
+          (λ m. nat_eq number m.number) world.mounts mount standing.places is place h
 
   module _ (task : Task ℕ) where
     hop_there : (a b : Location ℕ) → IsDirectoryThere a → hop nat_eq world task a ≡ Some b → IsDirectoryThere b
@@ -135,7 +139,8 @@ module _ (world : World ℕ) (conditions : IsWorldOfTrees world) (standing : IsS
     up_there location reached is e = by (is_top nat_eq world task location) (is_lost nat_eq world location) e
       where
         by : (p q : Bool)
-            → cond p (Ok location) (unless ((q, W8) ∷ []) (Ok (topmost nat_eq world.mounts (parent_location nat_eq world location)))) ≡ Ok reached
+            → cond p (Ok location)
+            (unless ((q, W8) ∷ []) (Ok (topmost nat_eq world.mounts (parent_location nat_eq world location)))) ≡ Ok reached
             → IsThere reached
         by true q h = subst IsThere (ok_same location reached (Ok location) refl h) (directory_there location is)
         by false true h = absurd (true≢false (sym (ap is_ok_result h)))
@@ -145,7 +150,8 @@ module _ (world : World ℕ) (conditions : IsWorldOfTrees world) (standing : IsS
             is_ok_result (Err d) = false
         by false false h =
             subst IsThere (ok_same (topmost nat_eq world.mounts (parent_location nat_eq world location)) reached _ refl h)
-            (topmost_there (parent_location nat_eq world location) (directory_there (parent_location nat_eq world location) (parent_there location is)))
+            (topmost_there (parent_location nat_eq world location)
+            (directory_there (parent_location nat_eq world location) (parent_there location is)))
 
     entry_there : (here : Location ℕ) (name : List ℕ) (object : Location ℕ) → IsDirectoryThere here
         → entry_location nat_eq world here name ≡ Some object → IsThere object
@@ -163,7 +169,8 @@ module _ (world : World ℕ) (conditions : IsWorldOfTrees world) (standing : IsS
     step_there here NoWord reached is e = subst IsThere (ok_same here reached (Ok here) refl e) (directory_there here is)
     step_there here Dot reached is e = subst IsThere (ok_same here reached (Ok here) refl e) (directory_there here is)
     step_there here DotDot reached is e =
-        up_there (last_or here (hops nat_eq world task here)) reached (chain_ends IsDirectoryThere (hop nat_eq world task) hop_there (length world.mounts) here here is) e
+        up_there (last_or here (hops nat_eq world task here)) reached
+        (chain_ends IsDirectoryThere (hop nat_eq world task) hop_there (length world.mounts) here here is) e
     step_there here (Named name) reached is e = by (entry_location nat_eq world here name) refl e
       where
         by : (o : Option (Location ℕ)) → entry_location nat_eq world here name ≡ o
@@ -173,14 +180,17 @@ module _ (world : World ℕ) (conditions : IsWorldOfTrees world) (standing : IsS
             is_ok_result : Result (Location ℕ) Deny → Bool
             is_ok_result (Ok l) = true
             is_ok_result (Err d) = false
-        by (Some object) f h = subst IsThere (ok_same (topmost nat_eq world.mounts object) reached _ refl h) (topmost_there object (entry_there here name object is f))
+        by (Some object) f h =
+            subst IsThere (ok_same (topmost nat_eq world.mounts object) reached _ refl h)
+            (topmost_there object (entry_there here name object is f))
 
     abbrev EndsThere : Result (Here ℕ) (Stop ℕ) → Type 0
     EndsThere walk = Ends (λ here. is_some (node_at nat_eq world here.location) ≡ true) walk
 
     word_there : (here : Here ℕ) (word : LastWord) → EndsThere (word_walked nat_eq world task here word)
     word_there here word =
-        ends_step (λ next. is_some (node_at nat_eq world next.location) ≡ true) (steps_with nat_eq world task here word) (search_rules nat_eq world task here.location) (stepped nat_eq world task here.location word)
+        ends_step (λ next. is_some (node_at nat_eq world next.location) ≡ true) (steps_with nat_eq world task here word)
+        (search_rules nat_eq world task here.location) (stepped nat_eq world task here.location word)
         (λ reached. Ok (record { location = reached; left = here.left; steps = steps_with nat_eq world task here word }))
         (λ passed reached e. step_there here.location word reached (not_true (is_directory_at nat_eq world here.location) passed.0) e)
 
@@ -197,23 +207,30 @@ module _ (world : World ℕ) (conditions : IsWorldOfTrees world) (standing : IsS
     -- a walk that does not follow its last link
     link_there_by : (path : List ℕ) (b : Bool) → ends_in_slash path ≡ b → EndsThere (symlink_walk_by nat_eq b world task path)
     link_there_by path true slash =
-        ends_next (λ here. is_some (node_at nat_eq world here.location) ≡ true) (path_walked nat_eq world task path) (λ here. walk_unless here.steps (slash_rules nat_eq world path here.location) here)
-        (λ here. ends_unless (λ h. is_some (node_at nat_eq world h.location) ≡ true) here.steps (slash_rules nat_eq world path here.location) here
+        ends_next (λ here. is_some (node_at nat_eq world here.location) ≡ true) (path_walked nat_eq world task path)
+        (λ here. walk_unless here.steps (slash_rules nat_eq world path here.location) here)
+        (λ here. ends_unless (λ h. is_some (node_at nat_eq world h.location) ≡ true) here.steps
+        (slash_rules nat_eq world path here.location) here
         (λ passed. directory_there here.location
-        (not_true (is_directory_at nat_eq world here.location) (ap (λ b. cond b (not (is_directory_at nat_eq world here.location)) false) (sym slash) ∙ passed.0))))
+        (not_true (is_directory_at nat_eq world here.location)
+        (ap (λ b. cond b (not (is_directory_at nat_eq world here.location)) false) (sym slash) ∙ passed.0))))
     link_there_by path false slash =
-        ends_then (λ text. (ends_in_slash text ≡ false) × (is_empty text ≡ false)) (λ here. is_some (node_at nat_eq world here.location) ≡ true) (path_text path)
+        ends_then (λ text. (ends_in_slash text ≡ false) × (is_empty text ≡ false))
+        (λ here. is_some (node_at nat_eq world here.location) ≡ true) (path_text path)
         (λ text. then_walk (front_walked nat_eq world task (followed nat_eq world task) (walk_start task text) (reverse (words text)))
         (λ here. last_walked nat_eq world task here (final_word (reverse (words text)))))
-        (ends_unless (λ text. (ends_in_slash text ≡ false) × (is_empty text ≡ false)) [] (path_rules path) path (λ passed. (slash, passed.0)))
+        (ends_unless (λ text. (ends_in_slash text ≡ false) × (is_empty text ≡ false)) [] (path_rules path) path
+        (λ passed. (slash, passed.0)))
         (λ text full.
-        ends_next (λ here. is_some (node_at nat_eq world here.location) ≡ true) (front_walked nat_eq world task (followed nat_eq world task) (walk_start task text) (reverse (words text)))
+        ends_next (λ here. is_some (node_at nat_eq world here.location) ≡ true)
+        (front_walked nat_eq world task (followed nat_eq world task) (walk_start task text) (reverse (words text)))
         (λ here. last_walked nat_eq world task here (final_word (reverse (words text))))
         (λ here. words_there here (reverse (words text)) (some_words text full)))
       where
         some_words : (text : List ℕ) → (ends_in_slash text ≡ false) × (is_empty text ≡ false) → reverse (words text) ≢ []
         some_words text full none =
-            true≢false (sym (no_words text (nil_from_length (words text) (sym (length-reverse (words text)) ∙ ap length none)) full.1) ∙ full.0)
+            true≢false (sym
+            (no_words text (nil_from_length (words text) (sym (length-reverse (words text)) ∙ ap length none)) full.1) ∙ full.0)
 
     pub ends_link_walk : (path : List ℕ) → EndsThere (symlink_walk nat_eq world task path)
     ends_link_walk path = link_there_by path (ends_in_slash path) refl

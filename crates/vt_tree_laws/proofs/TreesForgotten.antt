@@ -4,6 +4,8 @@ use Rattle.std.specs.List.{filter, flat_map, list_all, list_any}
 use Rattle.std.proofs.lemmas.List.Folds.{list_any-append}
 use Rattle.std.proofs.lemmas.Map.Views.{any-filter_same}
 use Rattle.std.proofs.lemmas.List.Elements.{All-filter, All-map, All-weaker}
+use Rattle.std.proofs.lemmas.Bool.{or_right}
+use Rattle.std.proofs.lemmas.Option.{same_Some}
 use Rattle.std.specs.FinMap.Entries.{is_sorted}
 use Rattle.std.specs.Ordering.{eq_by_cmp}
 use Rattle.vt_spec.specs.Tree.{Tree, Node, Entries, name_cmp, entry_named, is_directory_node, entries_in, parent_in}
@@ -16,7 +18,7 @@ use Rattle.vt_spec.proofs.Nodes.{directory_used, none_is_not}
 use Rattle.vt_spec.proofs.Trees.{led_kept}
 use Rattle.vt_tree_laws.specs.Trees.{HasOwnParents, IsFileTree}
 use Rattle.vt_tree_laws.specs.Trees.Settling.{HasFileTrees, HoldsTree, SettlingKeepsTrees, UnusedIsGone, UsedStays}
-use Rattle.vt_tree_laws.proofs.TreesRearranged.{no_entries, node_with_entries, some_same}
+use Rattle.vt_tree_laws.proofs.TreesRearranged.{no_entries, node_with_entries}
 
 -- a test is passed or not
 pub decided : (b : Bool) → (b ≡ true) ⊎ (b ≡ false)
@@ -45,11 +47,6 @@ among_flat_map f (z ∷ zs) x y h k = by (nat_eq x z) refl (λ e. among_flat_map
     by true same rest e = among_left y (f z) (flat_map f zs) (ap (λ n. is_among nat_eq y (f n)) (sym (eqb-true x z same)) ∙ k)
     by false differ rest e = among_right y (f z) (flat_map f zs) (rest e)
 
--- one of two that passes
-pub or_second : (a b : Bool) → b ≡ true → (a || b) ≡ true
-or_second true b h = refl
-or_second false b h = h
-
 -- where an entry leads is among the targets
 pub among_targets : (name : List ℕ) (entries : Entries ℕ) (number : ℕ) → entry_named name entries ≡ Some number
     → is_among nat_eq number (map (λ e. e.1) entries) ≡ true
@@ -59,8 +56,9 @@ among_targets name (entry ∷ entries) number e = by (eq_by_cmp name_cmp name en
     by : (b : Bool) → (entry_named name entries ≡ Some number → is_among nat_eq number (map (λ e. e.1) entries) ≡ true)
         → cond b (Some entry.1) (entry_named name entries) ≡ Some number
         → (nat_eq number entry.1 || is_among nat_eq number (map (λ e. e.1) entries)) ≡ true
-    by true rest is = ap (λ b. b || is_among nat_eq number (map (λ e. e.1) entries)) (eq-eqb number entry.1 (sym (some_same entry.1 number is)))
-    by false rest is = or_second (nat_eq number entry.1) _ (rest is)
+    by true rest is =
+        ap (λ b. b || is_among nat_eq number (map (λ e. e.1) entries)) (eq-eqb number entry.1 (sym (same_Some entry.1 number is)))
+    by false rest is = or_right (nat_eq number entry.1) _ (rest is)
 
 -- the named ones are those that have a name
 pub named_among : (files : FileTree ℕ) → IsFileTree files → (number : ℕ) → HasName files.tree number
@@ -109,7 +107,8 @@ module _ (used : List ℕ) (files : FileTree ℕ) (holds : HoldsTree used files)
 
   entry_kept : (directory : ℕ) (name : List ℕ) (number : ℕ) → entry_at files.tree directory name ≡ Some number
       → entry_at kept directory name ≡ Some number
-  entry_kept directory name number e = ap (λ o. entry_named name (entries_in o)) (kept_node directory (entry_used directory name number e)) ∙ e
+  entry_kept directory name number e =
+      ap (λ o. entry_named name (entries_in o)) (kept_node directory (entry_used directory name number e)) ∙ e
 
   entry_was : (directory : ℕ) (name : List ℕ) (number : ℕ) → entry_at kept directory name ≡ Some number
       → entry_at files.tree directory name ≡ Some number
@@ -139,7 +138,8 @@ module _ (used : List ℕ) (files : FileTree ℕ) (holds : HoldsTree used files)
       ⊎_elim (λ is_used. is_used)
       (λ unused. absurd (true≢false (sym used_there ∙ ap (λ n. is_among nat_eq n used)
       (sym (conditions.own_parents number is (λ named. true≢false
-      (sym (entry_used named.0 named.1 number named.2) ∙ ap (λ n. is_among nat_eq n used) (sym (conditions.tree.one_parent named.0 named.1 number named.2 is)) ∙ unused)))) ∙ unused)))
+      (sym (entry_used named.0 named.1 number named.2)
+      ∙ ap (λ n. is_among nat_eq n used) (sym (conditions.tree.one_parent named.0 named.1 number named.2 is)) ∙ unused)))) ∙ unused)))
       (decided (is_among nat_eq (parent_in number (files.tree.node number)) used))
 
   kept_tree : IsTree kept
@@ -149,10 +149,12 @@ module _ (used : List ℕ) (files : FileTree ℕ) (holds : HoldsTree used files)
     root_unnamed = λ d n e. conditions.tree.root_unnamed d n (entry_was d n files.tree.root e);
     in_order = kept_in_order;
     alive = λ d n k e. ap is_some (kept_node k (holds.named k (d, n, entry_was d n k e))) ∙ conditions.tree.alive d n k (entry_was d n k e);
-    one_parent = λ d n k e is. parent_kept k (kept_directory k is) ∙ conditions.tree.one_parent d n k (entry_was d n k e) (was_directory k is);
+    one_parent =
+        λ d n k e is. parent_kept k (kept_directory k is) ∙ conditions.tree.one_parent d n k (entry_was d n k e) (was_directory k is);
     one_name = λ d n other k e f is. conditions.tree.one_name d n other k (entry_was d n k e) (entry_was d other k f) (was_directory k is);
     parent_directory = λ k is. subst (IsDirectory kept) (sym (parent_kept k (kept_directory k is)))
-        (is_directory_kept (parent_in k (files.tree.node k)) (parent_used k (was_directory k is) (kept_directory k is)) (conditions.tree.parent_directory k (was_directory k is)));
+        (is_directory_kept (parent_in k (files.tree.node k)) (parent_used k (was_directory k is) (kept_directory k is))
+        (conditions.tree.parent_directory k (was_directory k is)));
     reached = λ k is named.
         let way = conditions.tree.reached k (was_directory k is) (name_was k named) in
         (way.0, led_kept files.tree kept entry_kept files.tree.root way.0 k way.1);
@@ -190,20 +192,26 @@ module _ (world : World ℕ) (filesystem : Filesystem ℕ) where
       → is_among nat_eq number (named_in filesystem.files ++ located_in nat_eq world filesystem.number) ≡ true
       → is_among nat_eq number (used_in nat_eq world filesystem) ≡ true
   among_named_or_located number h =
-      or_second (nat_eq number filesystem.files.tree.root) (is_among nat_eq number used_under_root)
-      (among_left number (named_in filesystem.files ++ located_in nat_eq world filesystem.number ++ layers_in nat_eq world filesystem.number)
+      or_right (nat_eq number filesystem.files.tree.root) (is_among nat_eq number used_under_root)
+      (among_left number
+      (named_in filesystem.files ++ located_in nat_eq world filesystem.number ++ layers_in nat_eq world filesystem.number)
       (flat_map (objects_of_overlay nat_eq filesystem.number) world.filesystems)
-      (among_left number (named_in filesystem.files ++ located_in nat_eq world filesystem.number) (layers_in nat_eq world filesystem.number) h))
+      (among_left number (named_in filesystem.files ++ located_in nat_eq world filesystem.number)
+      (layers_in nat_eq world filesystem.number) h))
 
   pub among_located : (number : ℕ) → is_among nat_eq number (located_in nat_eq world filesystem.number) ≡ true
       → is_among nat_eq number (used_in nat_eq world filesystem) ≡ true
-  among_located number h = among_named_or_located number (among_right number (named_in filesystem.files) (located_in nat_eq world filesystem.number) h)
+  among_located number h =
+      among_named_or_located number (among_right number (named_in filesystem.files) (located_in nat_eq world filesystem.number) h)
 
   pub named_is_used : IsFileTree filesystem.files → HoldsTree (used_in nat_eq world filesystem) filesystem.files
   named_is_used conditions = record {
-    root = ap (λ b. b || is_among nat_eq filesystem.files.tree.root used_under_root) (eq-eqb filesystem.files.tree.root filesystem.files.tree.root refl);
+    root =
+        ap (λ b. b || is_among nat_eq filesystem.files.tree.root used_under_root)
+        (eq-eqb filesystem.files.tree.root filesystem.files.tree.root refl);
     named = λ number named. among_named_or_located number
-        (among_left number (named_in filesystem.files) (located_in nat_eq world filesystem.number) (named_among filesystem.files conditions number named));
+        (among_left number (named_in filesystem.files) (located_in nat_eq world filesystem.number)
+        (named_among filesystem.files conditions number named));
   }
 
 pub only_used_of_is : (used : List ℕ) (filesystem : Filesystem ℕ) → HoldsTree used filesystem.files → IsFileTree filesystem.files
@@ -216,22 +224,27 @@ only_used_of_is used filesystem holds conditions = by _
 
 pub only_used_is : (world : World ℕ) (chosen : Bool) (filesystem : Filesystem ℕ) → IsFileTree filesystem.files
     → IsFileTree (only_used nat_eq world chosen filesystem).files
-only_used_is world true filesystem conditions = only_used_of_is (used_in nat_eq world filesystem) filesystem (named_is_used world filesystem conditions) conditions
+only_used_is world true filesystem conditions =
+    only_used_of_is (used_in nat_eq world filesystem) filesystem (named_is_used world filesystem conditions) conditions
 only_used_is world false filesystem conditions = conditions
 
 pub without_dead_in_is : (chosen : Filesystem ℕ → Bool) (world : World ℕ) → HasFileTrees world
     → HasFileTrees (without_dead_in nat_eq chosen world)
 without_dead_in_is chosen world trees =
-    All-map (λ filesystem. IsFileTree filesystem.files) (λ filesystem. only_used nat_eq world (chosen filesystem) filesystem) world.filesystems
-    (All-weaker (λ filesystem. IsFileTree filesystem.files) (λ filesystem. IsFileTree (only_used nat_eq world (chosen filesystem) filesystem).files)
+    All-map (λ filesystem. IsFileTree filesystem.files)
+    (λ filesystem. only_used nat_eq world (chosen filesystem) filesystem) world.filesystems
+    (All-weaker (λ filesystem. IsFileTree filesystem.files)
+    (λ filesystem. IsFileTree (only_used nat_eq world (chosen filesystem) filesystem).files)
     (λ filesystem conditions. only_used_is world (chosen filesystem) filesystem conditions) world.filesystems trees)
 
 pub settling_keeps_trees : SettlingKeepsTrees
 settling_keeps_trees world trees =
     let mounted = without_dead_mounts nat_eq world in
     let living = without_dead_filesystems nat_eq mounted in
-    let trees_living : HasFileTrees living = All-filter (filesystem_lives nat_eq mounted) (λ filesystem. IsFileTree filesystem.files) world.filesystems trees in
-    without_dead_in_is (λ filesystem. not (is_overlay filesystem)) (without_dead_in nat_eq is_overlay living) (without_dead_in_is is_overlay living trees_living)
+    let trees_living : HasFileTrees living =
+    All-filter (filesystem_lives nat_eq mounted) (λ filesystem. IsFileTree filesystem.files) world.filesystems trees in
+    without_dead_in_is (λ filesystem. not (is_overlay filesystem)) (without_dead_in nat_eq is_overlay living)
+    (without_dead_in_is is_overlay living trees_living)
 
 -- what is used stays, and what is not is gone
 pub used_stays : UsedStays
@@ -264,5 +277,6 @@ unused_is_gone world filesystem number conditions unused = by _ refl
     by : (b : Bool) → list_all (λ m. is_among nat_eq m (used_in nat_eq world filesystem)) filesystem.files.numbers ≡ b
         → (only_used_by nat_eq b (used_in nat_eq world filesystem) filesystem).files.tree.node number ≡ None
     by true all = none_there (filesystem.files.tree.node number)
-        (sym (conditions.numbers number) ∙ all_pass (λ m. is_among nat_eq m (used_in nat_eq world filesystem)) filesystem.files.numbers number all unused)
+        (sym (conditions.numbers number)
+        ∙ all_pass (λ m. is_among nat_eq m (used_in nat_eq world filesystem)) filesystem.files.numbers number all unused)
     by false all = ap (λ b. cond b (filesystem.files.tree.node number) None) unused

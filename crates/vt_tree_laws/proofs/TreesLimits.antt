@@ -38,15 +38,17 @@ use Rattle.vt_spec.specs.Machine.Walk.{Place, directory_walk, file_walk, is_dire
 use Rattle.vt_spec.specs.Machine.World.{Layer, Overlay, Task, World, filesystem_at, mount_at, mount_numbered, replaced_if_called, task_called, with_mounts, with_task, without_task}
 use Rattle.vt_spec.specs.Machine.Invariants.{is_within_limits}
 use Rattle.vt_spec.proofs.Nodes.{none_is_not}
+use Rattle.vt_spec.proofs.Lists.{all-filter}
 use Rattle.vt_tree_laws.specs.Trees.Limits.{CallsKeepSmallTasks, HasSmallTasks, OpeningHasSmallTasks, names_few_groups}
-use Rattle.vt_tree_laws.proofs.TreesTasks.{all_appended, all_filtered, all_mapped, both_first, both_second, child_within, closed_within, masked_within, opened_within, parent_within, replaced_within}
-use Rattle.vt_tree_laws.proofs.TreesWalked.{after_any, after_holds, first_false, judged_holds, ok_same, second_false}
+use Rattle.vt_tree_laws.proofs.TreesTasks.{all_appended, all_mapped, child_within, closed_within, masked_within, opened_within, parent_within, replaced_within}
+use Rattle.vt_tree_laws.proofs.TreesWalked.{after_any, after_holds, first_false, judged_holds, ok_same}
+use Rattle.std.proofs.lemmas.Bool.{and_parts, or_parts}
 
 -- Worlds with the same tasks
 pub same_tasks : (a b : World ℕ) → a.tasks ≡ b.tasks → HasSmallTasks b → HasSmallTasks a
 same_tasks a b same is = ap (list_all is_within_limits) same ∙ is
 
-changed_tasks : (fresh : Fresh ℕ) (world : World ℕ) (location : Location ℕ) (change : Change ℕ)
+pub changed_tasks : (fresh : Fresh ℕ) (world : World ℕ) (location : Location ℕ) (change : Change ℕ)
     → (with_change nat_eq fresh world location change).tasks ≡ world.tasks
 changed_tasks fresh world location change = by (filesystem_at nat_eq world location).overlay
   where
@@ -60,17 +62,17 @@ changed_tasks fresh world location change = by (filesystem_at nat_eq world locat
     by None = refl
     by (Some overlay) = by_upper overlay overlay.upper
 
-regrouped_tasks : (world : World ℕ) → (regrouped nat_eq world).tasks ≡ world.tasks
+pub regrouped_tasks : (world : World ℕ) → (regrouped nat_eq world).tasks ≡ world.tasks
 regrouped_tasks world = by _
   where
     by : (b : Bool) → (regrouped_by nat_eq b world).tasks ≡ world.tasks
     by true = refl
     by false = refl
 
-taken_tasks : (world : World ℕ) (gone : List ℕ) → (taken_away nat_eq world gone).tasks ≡ world.tasks
+pub taken_tasks : (world : World ℕ) (gone : List ℕ) → (taken_away nat_eq world gone).tasks ≡ world.tasks
 taken_tasks world gone = regrouped_tasks (with_mounts world (map (after_going nat_eq world gone) world.mounts))
 
-lazily_tasks : (mounts : List (Mount ℕ)) (world : World ℕ) → (folded (unmounted_if_there nat_eq) world mounts).tasks ≡ world.tasks
+pub lazily_tasks : (mounts : List (Mount ℕ)) (world : World ℕ) → (folded (unmounted_if_there nat_eq) world mounts).tasks ≡ world.tasks
 lazily_tasks [] world = refl
 lazily_tasks (mount ∷ mounts) world = lazily_tasks mounts (unmounted_if_there nat_eq world mount) ∙ by _
   where
@@ -78,7 +80,7 @@ lazily_tasks (mount ∷ mounts) world = lazily_tasks mounts (unmounted_if_there 
     by true = taken_tasks world _
     by false = refl
 
-typed_tasks : (fresh : Fresh ℕ) (world : World ℕ) (number : ℕ) (word : TypeWord) (recursive : Bool)
+pub typed_tasks : (fresh : Fresh ℕ) (world : World ℕ) (number : ℕ) (word : TypeWord) (recursive : Bool)
     → (with_type nat_eq fresh world number word recursive).tasks ≡ world.tasks
 typed_tasks fresh world number word recursive =
     let named = named_mounts nat_eq world number recursive in
@@ -90,7 +92,8 @@ typed_tasks fresh world number word recursive =
 
 -- a task in the place of the one with its name
 task_keeps : (world : World ℕ) (task : Task ℕ) → is_within_limits task ≡ true → HasSmallTasks world → HasSmallTasks (with_task world task)
-task_keeps world task is small = all_mapped is_within_limits (replaced_if_called task) (λ old h. replaced_within task old is h) world.tasks small
+task_keeps world task is small =
+    all_mapped is_within_limits (replaced_if_called task) (λ old h. replaced_within task old is h) world.tasks small
 
 ended_keeps : (world : World ℕ) → HasSmallTasks world → HasSmallTasks (namespaces_ended nat_eq world)
 ended_keeps world small = same_tasks (namespaces_ended nat_eq world) world (taken_tasks world _) small
@@ -100,30 +103,36 @@ found_within : (world : World ℕ) (name : TaskName) (list : List (Task ℕ)) (t
     → find (λ other. same_name name other.name) list ≡ Some task → is_within_limits task ≡ true
 found_within world name [] task h e = none_is_not None task refl e
 found_within world name (first ∷ list) task h e =
-    by (same_name name first.name) e (λ g. found_within world name list task (both_second (is_within_limits first) (list_all is_within_limits list) h) g)
+    by (same_name name first.name) e
+    (λ g. found_within world name list task ((and_parts (is_within_limits first) (list_all is_within_limits list) h).1) g)
   where
     by : (b : Bool) → cond b (Some first) (find (λ other. same_name name other.name) list) ≡ Some task
         → (find (λ other. same_name name other.name) list ≡ Some task → is_within_limits task ≡ true) → is_within_limits task ≡ true
-    by true g rest = ap is_within_limits (sym (ap (λ o. unwrap_or o first) g)) ∙ both_first (is_within_limits first) (list_all is_within_limits list) h
+    by true g rest =
+        ap is_within_limits (sym (ap (λ o. unwrap_or o first) g))
+        ∙ (and_parts (is_within_limits first) (list_all is_within_limits list) h).0
     by false g rest = rest g
 
 module _ (fresh : Fresh ℕ) (world : World ℕ) (task : Task ℕ) (small : HasSmallTasks world) (is : is_within_limits task ≡ true) where
   change_small : (any : Fresh ℕ) (before : World ℕ) → before.tasks ≡ world.tasks → (location : Location ℕ) (change : Change ℕ)
       → HasSmallTasks (with_change nat_eq any before location change)
-  change_small any before same location change = same_tasks (with_change nat_eq any before location change) world (changed_tasks any before location change ∙ same) small
+  change_small any before same location change =
+      same_tasks (with_change nat_eq any before location change) world (changed_tasks any before location change ∙ same) small
 
   new_small : (place : Place ℕ) (node : Node ℕ) → HasSmallTasks (with_new nat_eq fresh world place node)
   new_small place node = change_small (odds fresh) world refl place.parent (making place (evens fresh 0) node)
 
   made_small : (place : Place ℕ) (node : Node ℕ) → HasSmallTasks (made_at nat_eq fresh world task place node).world
   made_small place node =
-      judged_holds HasSmallTasks world (new_rules nat_eq fresh world task place node) (granted Done (with_new nat_eq fresh world place node)) small (λ passed. new_small place node)
+      judged_holds HasSmallTasks world (new_rules nat_eq fresh world task place node)
+      (granted Done (with_new nat_eq fresh world place node)) small (λ passed. new_small place node)
 
   -- calls that look
   list_small : (path : List ℕ) → HasSmallTasks (list_outcome nat_eq world task path).world
   unfolding list_outcome
   list_small path =
-      after_any HasSmallTasks world (directory_walk nat_eq world task path) _ small (λ here. judged_holds HasSmallTasks world (list_rules nat_eq world task here.location) _ small (λ passed. small))
+      after_any HasSmallTasks world (directory_walk nat_eq world task path) _ small
+      (λ here. judged_holds HasSmallTasks world (list_rules nat_eq world task here.location) _ small (λ passed. small))
 
   stat_small : (path : List ℕ) → HasSmallTasks (stat_outcome nat_eq world task path).world
   unfolding stat_outcome
@@ -138,17 +147,20 @@ module _ (fresh : Fresh ℕ) (world : World ℕ) (task : Task ℕ) (small : HasS
   readlink_small : (path : List ℕ) → HasSmallTasks (readlink_outcome nat_eq world task path).world
   unfolding readlink_outcome
   readlink_small path =
-      after_any HasSmallTasks world (symlink_walk nat_eq world task path) _ small (λ here. judged_holds HasSmallTasks world (readlink_rules nat_eq world here.location) _ small (λ passed. small))
+      after_any HasSmallTasks world (symlink_walk nat_eq world task path) _ small
+      (λ here. judged_holds HasSmallTasks world (readlink_rules nat_eq world here.location) _ small (λ passed. small))
 
   read_small : (path : List ℕ) → HasSmallTasks (read_outcome nat_eq world task path).world
   unfolding read_outcome
   read_small path =
-      after_any HasSmallTasks world (object_walk nat_eq world task path) _ small (λ here. judged_holds HasSmallTasks world (read_rules nat_eq world task here.location) _ small (λ passed. small))
+      after_any HasSmallTasks world (object_walk nat_eq world task path) _ small
+      (λ here. judged_holds HasSmallTasks world (read_rules nat_eq world task here.location) _ small (λ passed. small))
 
   exec_small : (path : List ℕ) → HasSmallTasks (exec_outcome nat_eq world task path).world
   unfolding exec_outcome
   exec_small path =
-      after_any HasSmallTasks world (object_walk nat_eq world task path) _ small (λ here. judged_holds HasSmallTasks world (exec_rules nat_eq world task here.location) _ small (λ passed. small))
+      after_any HasSmallTasks world (object_walk nat_eq world task path) _ small
+      (λ here. judged_holds HasSmallTasks world (exec_rules nat_eq world task here.location) _ small (λ passed. small))
 
   pread_small : (number offset size : ℕ) → HasSmallTasks (pread_outcome nat_eq world task number offset size).world
   unfolding pread_outcome
@@ -187,7 +199,8 @@ module _ (fresh : Fresh ℕ) (world : World ℕ) (task : Task ℕ) (small : HasS
       after_any HasSmallTasks world (symlink_walk nat_eq world task old) _ small (λ from.
       after_any HasSmallTasks world (new_leaf_walk nat_eq world task new) _ small (λ place.
       judged_holds HasSmallTasks world ((is_special place.last, E1) ∷ []) _ small (λ plain.
-      judged_holds HasSmallTasks world (hard_link_rules nat_eq world task from.location place (linking from.location place)) (granted Done (with_change nat_eq fresh world place.parent (linking from.location place))) small
+      judged_holds HasSmallTasks world (hard_link_rules nat_eq world task from.location place (linking from.location place))
+      (granted Done (with_change nat_eq fresh world place.parent (linking from.location place))) small
       (λ passed. change_small fresh world refl place.parent (linking from.location place)))))
 
   unlink_small : (path : List ℕ) → HasSmallTasks (unlink_outcome nat_eq fresh world task path).world
@@ -195,7 +208,8 @@ module _ (fresh : Fresh ℕ) (world : World ℕ) (task : Task ℕ) (small : HasS
   unlink_small path =
       after_any HasSmallTasks world (old_leaf_walk nat_eq world task path) _ small (λ place.
       judged_holds HasSmallTasks world ((is_special place.last, E2) ∷ []) _ small (λ plain.
-      judged_holds HasSmallTasks world (unlink_rules nat_eq world task place (object_there place)) (granted Done (with_change nat_eq fresh world place.parent (removing place (object_there place)))) small
+      judged_holds HasSmallTasks world (unlink_rules nat_eq world task place (object_there place))
+      (granted Done (with_change nat_eq fresh world place.parent (removing place (object_there place)))) small
       (λ passed. change_small fresh world refl place.parent (removing place (object_there place)))))
 
   rmdir_small : (path : List ℕ) → HasSmallTasks (rmdir_outcome nat_eq fresh world task path).world
@@ -204,18 +218,23 @@ module _ (fresh : Fresh ℕ) (world : World ℕ) (task : Task ℕ) (small : HasS
       after_any HasSmallTasks world (old_walk nat_eq world task path) _ small (λ place.
       judged_holds HasSmallTasks world (rmdir_word_rules place) _ small (λ plain.
       judged_holds HasSmallTasks world (rmdir_rules nat_eq world task place (object_there place))
-      (granted Done (with_change nat_eq fresh (without_mounts_on nat_eq world (object_there place)) place.parent (removing place (object_there place)))) small
-      (λ passed. change_small fresh (without_mounts_on nat_eq world (object_there place)) (taken_tasks world _) place.parent (removing place (object_there place)))))
+      (granted Done
+      (with_change nat_eq fresh (without_mounts_on nat_eq world (object_there place)) place.parent
+      (removing place (object_there place)))) small
+      (λ passed. change_small fresh (without_mounts_on nat_eq world (object_there place)) (taken_tasks world _) place.parent
+      (removing place (object_there place)))))
 
   replaced_tasks : (o : Option (Location ℕ)) → (without_replaced nat_eq world o).tasks ≡ world.tasks
   replaced_tasks None = refl
   replaced_tasks (Some new) = taken_tasks world _
 
   renamed_small : (from to : Place ℕ) (b : Bool) → HasSmallTasks (renamed_by nat_eq b fresh world task from to (object_there from)).world
-  renamed_small from to true = judged_holds HasSmallTasks world (same_object_rules nat_eq world from to) (granted Done world) small (λ passed. small)
+  renamed_small from to true =
+      judged_holds HasSmallTasks world (same_object_rules nat_eq world from to) (granted Done world) small (λ passed. small)
   renamed_small from to false =
       judged_holds HasSmallTasks world (rename_rules nat_eq world task from to (object_there from)) _ small
-      (λ passed. change_small fresh (without_replaced nat_eq world to.object) (replaced_tasks to.object) from.parent (moving from to (object_there from)))
+      (λ passed. change_small fresh (without_replaced nat_eq world to.object) (replaced_tasks to.object) from.parent
+      (moving from to (object_there from)))
 
   rename_small : (old new : List ℕ) → HasSmallTasks (rename_outcome nat_eq fresh world task old new).world
   unfolding rename_outcome
@@ -223,50 +242,59 @@ module _ (fresh : Fresh ℕ) (world : World ℕ) (task : Task ℕ) (small : HasS
       after_any HasSmallTasks world (old_leaf_walk nat_eq world task old) _ small (λ from.
       judged_holds HasSmallTasks world (old_word_rules from) _ small (λ from_plain.
       after_any HasSmallTasks world (rename_new_walk nat_eq world task new (is_directory_there nat_eq world from)) _ small (λ to.
-      judged_holds HasSmallTasks world (old_word_rules to) (renamed_by nat_eq (is_one_object nat_eq world (object_there from) to.object) fresh world task from to (object_there from)) small
+      judged_holds HasSmallTasks world (old_word_rules to)
+      (renamed_by nat_eq (is_one_object nat_eq world (object_there from) to.object) fresh world task from to (object_there from)) small
       (λ to_plain. renamed_small from to (is_one_object nat_eq world (object_there from) to.object)))))
 
   attr_set_small : (object : Location ℕ) (allowed : Bool) (attr : Attr)
       → HasSmallTasks (attr_set nat_eq fresh world object allowed attr).world
   attr_set_small object allowed attr =
-      judged_holds HasSmallTasks world (attr_rules nat_eq world object allowed attr) (granted Done (with_change nat_eq fresh world object (SetAttr object.node attr))) small
+      judged_holds HasSmallTasks world (attr_rules nat_eq world object allowed attr)
+      (granted Done (with_change nat_eq fresh world object (SetAttr object.node attr))) small
       (λ passed. change_small fresh world refl object (SetAttr object.node attr))
 
   chmod_small : (path : List ℕ) (mode : ℕ) → HasSmallTasks (chmod_outcome nat_eq fresh world task path mode).world
   unfolding chmod_outcome
   chmod_small path mode =
       after_any HasSmallTasks world (object_walk nat_eq world task path) _ small
-      (λ here. attr_set_small here.location (owns task.credentials (attr_at nat_eq world here.location)) (attr_with_mode (attr_at nat_eq world here.location) mode))
+      (λ here. attr_set_small here.location (owns task.credentials (attr_at nat_eq world here.location))
+      (attr_with_mode (attr_at nat_eq world here.location) mode))
 
   chown_small : (path : List ℕ) (uid gid : Option ℕ) → HasSmallTasks (chown_outcome nat_eq fresh world task path uid gid).world
   unfolding chown_outcome
   chown_small path uid gid =
       after_any HasSmallTasks world (object_walk nat_eq world task path) _ small
-      (λ here. attr_set_small here.location (may_chown task.credentials (attr_at nat_eq world here.location) (attr_with_owner (attr_at nat_eq world here.location) uid gid)) (attr_with_owner (attr_at nat_eq world here.location) uid gid))
+      (λ here. attr_set_small here.location
+      (may_chown task.credentials (attr_at nat_eq world here.location)
+      (attr_with_owner (attr_at nat_eq world here.location) uid gid)) (attr_with_owner (attr_at nat_eq world here.location) uid gid))
 
   opaque_small : (path : List ℕ) (mark : Bool) → HasSmallTasks (opaque_outcome nat_eq fresh world task path mark).world
   unfolding opaque_outcome
   opaque_small path mark =
       judged_holds HasSmallTasks world ((lacks task cap_sys_admin, K1) ∷ []) _ small (λ capable.
       after_any HasSmallTasks world (directory_walk nat_eq world task path) _ small (λ here.
-      judged_holds HasSmallTasks world (opaque_rules nat_eq world here.location) (granted Done (with_change nat_eq fresh world here.location (SetMark here.location.node mark))) small
+      judged_holds HasSmallTasks world (opaque_rules nat_eq world here.location)
+      (granted Done (with_change nat_eq fresh world here.location (SetMark here.location.node mark))) small
       (λ passed. change_small fresh world refl here.location (SetMark here.location.node mark))))
 
   written_small : (place : Place ℕ) (bytes : List ℕ) (object : Option (Location ℕ))
       → HasSmallTasks (written nat_eq fresh world task place bytes object).world
   written_small place bytes (Some file) =
-      judged_holds HasSmallTasks world (rewrite_rules nat_eq world task file bytes) (granted Done (with_change nat_eq fresh world file (SetBytes file.node bytes))) small
+      judged_holds HasSmallTasks world (rewrite_rules nat_eq world task file bytes)
+      (granted Done (with_change nat_eq fresh world file (SetBytes file.node bytes))) small
       (λ passed. change_small fresh world refl file (SetBytes file.node bytes))
   written_small place bytes None =
       judged_holds HasSmallTasks world ((nat_lt largest_file (length bytes), E6) ∷ []) _ small (λ fit.
       judged_holds HasSmallTasks world (make_rules nat_eq world task place (making place (evens fresh 0) (new_file task file_mode bytes)))
-      (granted Done (with_new nat_eq fresh world place (new_file task file_mode bytes))) small (λ passed. new_small place (new_file task file_mode bytes)))
+      (granted Done (with_new nat_eq fresh world place (new_file task file_mode bytes))) small
+      (λ passed. new_small place (new_file task file_mode bytes)))
 
   write_small : (path bytes : List ℕ) → HasSmallTasks (write_outcome nat_eq fresh world task path bytes).world
   unfolding write_outcome
   write_small path bytes =
       after_any HasSmallTasks world (file_walk nat_eq world task path) _ small (λ place.
-      judged_holds HasSmallTasks world (file_word_rules place) (written nat_eq fresh world task place bytes place.object) small (λ passed. written_small place bytes place.object))
+      judged_holds HasSmallTasks world (file_word_rules place) (written nat_eq fresh world task place bytes place.object) small
+      (λ passed. written_small place bytes place.object))
 
   pwritten_small : (file : Location ℕ) (offset : ℕ) (bytes : List ℕ) → HasSmallTasks (pwritten nat_eq fresh world file offset bytes)
   pwritten_small file offset [] = small
@@ -276,7 +304,8 @@ module _ (fresh : Fresh ℕ) (world : World ℕ) (task : Task ℕ) (small : HasS
   unfolding pwrite_outcome
   pwrite_small number offset bytes =
       after_holds HasSmallTasks world (descriptor_at task number (λ descriptor. descriptor.writes)) _ small (λ descriptor found.
-      judged_holds HasSmallTasks world (pwrite_rules nat_eq world descriptor.location offset bytes) (granted Done (pwritten nat_eq fresh world descriptor.location offset bytes)) small
+      judged_holds HasSmallTasks world (pwrite_rules nat_eq world descriptor.location offset bytes)
+      (granted Done (pwritten nat_eq fresh world descriptor.location offset bytes)) small
       (λ passed. pwritten_small descriptor.location offset bytes))
 
   -- open(2): a descriptor more, where there is room
@@ -286,7 +315,8 @@ module _ (fresh : Fresh ℕ) (world : World ℕ) (task : Task ℕ) (small : HasS
   opened_small : HasRoom → (after_call : World ℕ) → after_call.tasks ≡ world.tasks → (file : Location ℕ) (access : Access)
       → HasSmallTasks (with_task after_call (with_descriptor task file access))
   opened_small room after_call same file access =
-      task_keeps after_call (with_descriptor task file access) (opened_within task file access is room) (same_tasks after_call world same small)
+      task_keeps after_call (with_descriptor task file access) (opened_within task file access is room)
+      (same_tasks after_call world same small)
 
   copy_tasks : (b : Bool) (file : Location ℕ) → (with_copy nat_eq b fresh world file).tasks ≡ world.tasks
   copy_tasks true file = changed_tasks fresh world file (CopyUp file.node)
@@ -294,8 +324,10 @@ module _ (fresh : Fresh ℕ) (world : World ℕ) (task : Task ℕ) (small : HasS
 
   open_file_small : HasRoom → (file : Location ℕ) (access : Access) → HasSmallTasks (open_file nat_eq fresh world task file access).world
   open_file_small room file access =
-      judged_holds HasSmallTasks world (open_rules nat_eq world task file access) (opened (with_copy nat_eq (is_copied_up nat_eq world file access) fresh world file) task file access) small
-      (λ passed. opened_small room (with_copy nat_eq (is_copied_up nat_eq world file access) fresh world file) (copy_tasks (is_copied_up nat_eq world file access) file) file access)
+      judged_holds HasSmallTasks world (open_rules nat_eq world task file access)
+      (opened (with_copy nat_eq (is_copied_up nat_eq world file access) fresh world file) task file access) small
+      (λ passed. opened_small room (with_copy nat_eq (is_copied_up nat_eq world file access) fresh world file)
+      (copy_tasks (is_copied_up nat_eq world file access) file) file access)
 
   create_small : HasRoom → (place : Place ℕ) (access : Access) (mode : ℕ)
       → HasSmallTasks (create_file nat_eq fresh world task place access mode).world
@@ -313,31 +345,38 @@ module _ (fresh : Fresh ℕ) (world : World ℕ) (task : Task ℕ) (small : HasS
   open_by_small : HasRoom → (path : List ℕ) (access : Access) (creation : Creation)
       → HasSmallTasks (open_by nat_eq fresh world task path access creation).world
   open_by_small room path access NoCreation =
-      after_any HasSmallTasks world (object_walk nat_eq world task path) (λ here. open_file nat_eq fresh world task here.location access) small (λ here. open_file_small room here.location access)
+      after_any HasSmallTasks world (object_walk nat_eq world task path)
+      (λ here. open_file nat_eq fresh world task here.location access) small (λ here. open_file_small room here.location access)
   open_by_small room path access (OrCreate mode) =
       after_any HasSmallTasks world (file_walk nat_eq world task path) _ small (λ place.
-      judged_holds HasSmallTasks world (file_word_rules place) (opened_or_created nat_eq fresh world task place access mode place.object) small (λ passed. opened_or_created_small room place access mode place.object))
+      judged_holds HasSmallTasks world (file_word_rules place)
+      (opened_or_created nat_eq fresh world task place access mode place.object) small
+      (λ passed. opened_or_created_small room place access mode place.object))
   open_by_small room path access (Exclusive mode) =
       after_any HasSmallTasks world (new_walk nat_eq world task path) _ small (λ place.
-      judged_holds HasSmallTasks world (exclusive_word_rules place) (create_file nat_eq fresh world task place access mode) small (λ passed. create_small room place access mode))
+      judged_holds HasSmallTasks world (exclusive_word_rules place)
+      (create_file nat_eq fresh world task place access mode) small (λ passed. create_small room place access mode))
 
   open_small : (path : List ℕ) (access : Access) (creation : Creation)
       → HasSmallTasks (open_outcome nat_eq fresh world task path access creation).world
   unfolding open_outcome
   open_small path access creation =
-      judged_holds HasSmallTasks world (descriptor_rules task) (open_by nat_eq fresh world task path access creation) small (λ passed. open_by_small passed.0 path access creation)
+      judged_holds HasSmallTasks world (descriptor_rules task) (open_by nat_eq fresh world task path access creation) small
+      (λ passed. open_by_small passed.0 path access creation)
 
   -- calls on tasks
   close_small : (number : ℕ) → HasSmallTasks (close_outcome world task number).world
   unfolding close_outcome
   close_small number =
-      after_holds HasSmallTasks world (descriptor_at task number (λ descriptor. true)) _ small (λ descriptor found. task_keeps world (without_descriptor task number) (closed_within task number is) small)
+      after_holds HasSmallTasks world (descriptor_at task number (λ descriptor. true)) _ small
+      (λ descriptor found. task_keeps world (without_descriptor task number) (closed_within task number is) small)
 
   chdir_small : (path : List ℕ) → HasSmallTasks (chdir_outcome nat_eq world task path).world
   unfolding chdir_outcome
   chdir_small path =
       after_any HasSmallTasks world (directory_walk nat_eq world task path) _ small (λ here.
-      judged_holds HasSmallTasks world (enter_rules nat_eq world task here.location) (granted Done (with_task world (record task { directory = here.location }))) small
+      judged_holds HasSmallTasks world (enter_rules nat_eq world task here.location)
+      (granted Done (with_task world (record task { directory = here.location }))) small
       (λ passed. task_keeps world (record task { directory = here.location }) is small))
 
   chroot_small : (path : List ℕ) → HasSmallTasks (chroot_outcome nat_eq world task path).world
@@ -345,7 +384,8 @@ module _ (fresh : Fresh ℕ) (world : World ℕ) (task : Task ℕ) (small : HasS
   chroot_small path =
       judged_holds HasSmallTasks world ((lacks task cap_sys_chroot, K1) ∷ []) _ small (λ capable.
       after_any HasSmallTasks world (directory_walk nat_eq world task path) _ small (λ here.
-      judged_holds HasSmallTasks world (enter_rules nat_eq world task here.location) (granted Done (with_task world (record task { root = here.location }))) small
+      judged_holds HasSmallTasks world (enter_rules nat_eq world task here.location)
+      (granted Done (with_task world (record task { root = here.location }))) small
       (λ passed. task_keeps world (record task { root = here.location }) is small)))
 
   umask_small : (mode : ℕ) → HasSmallTasks (umask_outcome world task mode).world
@@ -363,19 +403,23 @@ module _ (fresh : Fresh ℕ) (world : World ℕ) (task : Task ℕ) (small : HasS
   unfolding fork_outcome
   fork_small words given =
       judged_holds HasSmallTasks world (fork_rules task (child_credentials task.credentials words)) _ small (λ passed.
-      all_appended is_within_limits (map (replaced_if_called (record task { forks = task.forks + 1 })) world.tasks) (child_of task (child_credentials task.credentials words))
-      (task_keeps world (record task { forks = task.forks + 1 }) (parent_within task is (first_false (nat_le most_forks task.forks) (nat_le deepest_name (length task.name)) passed.0)) small)
-      (child_within task words is (second_false (nat_le most_forks task.forks) (nat_le deepest_name (length task.name)) passed.0) given))
+      all_appended is_within_limits (map (replaced_if_called (record task { forks = task.forks + 1 })) world.tasks)
+      (child_of task (child_credentials task.credentials words))
+      (task_keeps world (record task { forks = task.forks + 1 })
+      (parent_within task is (first_false (nat_le most_forks task.forks) (nat_le deepest_name (length task.name)) passed.0)) small)
+      (child_within task words is ((or_parts (nat_le most_forks task.forks) (nat_le deepest_name (length task.name)) passed.0).1) given))
 
   exit_small : HasSmallTasks (exit_outcome nat_eq world task).world
   unfolding exit_outcome
   exit_small =
-      ended_keeps (without_task world task.name) (all_filtered is_within_limits (λ other. not (same_name task.name other.name)) world.tasks small)
+      ended_keeps (without_task world task.name)
+      (all-filter is_within_limits (λ other. not (same_name task.name other.name)) world.tasks small)
 
   unshare_small : HasSmallTasks (unshare_outcome nat_eq fresh world task).world
   unfolding unshare_outcome
   unshare_small =
-      judged_holds HasSmallTasks world ((lacks task cap_sys_admin, K1) ∷ []) (granted Done (namespaces_ended nat_eq (unshared nat_eq world fresh task))) small
+      judged_holds HasSmallTasks world ((lacks task cap_sys_admin, K1) ∷ [])
+      (granted Done (namespaces_ended nat_eq (unshared nat_eq world fresh task))) small
       (λ passed. ended_keeps (unshared nat_eq world fresh task) (task_keeps world _ is small))
 
   setns_small : (name : TaskName) → HasSmallTasks (setns_outcome nat_eq world task name).world
@@ -392,7 +436,9 @@ module _ (fresh : Fresh ℕ) (world : World ℕ) (task : Task ℕ) (small : HasS
   mount_plain_small path flags =
       judged_holds HasSmallTasks world (admin_rules task) _ small (λ capable.
       after_any HasSmallTasks world (destination_walk nat_eq world task path) _ small (λ here.
-      judged_holds HasSmallTasks world (new_mount_rules nat_eq world task here.location (mounted nat_eq (odds fresh) world here.location (plain_filesystem nat_eq fresh) flags))
+      judged_holds HasSmallTasks world
+      (new_mount_rules nat_eq world task here.location
+      (mounted nat_eq (odds fresh) world here.location (plain_filesystem nat_eq fresh) flags))
       (granted Done (mounted nat_eq (odds fresh) world here.location (plain_filesystem nat_eq fresh) flags)) small
       (λ passed. same_tasks (mounted nat_eq (odds fresh) world here.location (plain_filesystem nat_eq fresh) flags) world refl small)))
 
@@ -402,7 +448,8 @@ module _ (fresh : Fresh ℕ) (world : World ℕ) (task : Task ℕ) (small : HasS
   overlay_by_small place (Some words) flags =
       after_holds HasSmallTasks world (layers_walked nat_eq world task words) _ small (λ places found.
       judged_holds HasSmallTasks world (layer_rules nat_eq world places (overlay_at nat_eq world task places)) _ small (λ laid.
-      judged_holds HasSmallTasks world (new_mount_rules nat_eq world task place (overlay_mounted nat_eq fresh world task place places flags))
+      judged_holds HasSmallTasks world
+      (new_mount_rules nat_eq world task place (overlay_mounted nat_eq fresh world task place places flags))
       (granted Done (overlay_mounted nat_eq fresh world task place places flags)) small
       (λ passed. same_tasks (overlay_mounted nat_eq fresh world task place places flags) world refl small)))
 
@@ -411,7 +458,8 @@ module _ (fresh : Fresh ℕ) (world : World ℕ) (task : Task ℕ) (small : HasS
   unfolding mount_overlay_outcome
   mount_overlay_small path options flags =
       judged_holds HasSmallTasks world (admin_rules task) _ small (λ capable.
-      after_any HasSmallTasks world (destination_walk nat_eq world task path) (λ here. overlay_by nat_eq fresh world task here.location options flags) small (λ here. overlay_by_small here.location options flags))
+      after_any HasSmallTasks world (destination_walk nat_eq world task path)
+      (λ here. overlay_by nat_eq fresh world task here.location options flags) small (λ here. overlay_by_small here.location options flags))
 
   bind_small : (source path : List ℕ) (recursive : Bool) → HasSmallTasks (bind_outcome nat_eq fresh world task source path recursive).world
   unfolding bind_outcome
@@ -419,7 +467,8 @@ module _ (fresh : Fresh ℕ) (world : World ℕ) (task : Task ℕ) (small : HasS
       judged_holds HasSmallTasks world (admin_rules task) _ small (λ capable.
       after_any HasSmallTasks world (source_walk nat_eq world task source) _ small (λ from.
       after_any HasSmallTasks world (destination_walk nat_eq world task path) _ small (λ here.
-      judged_holds HasSmallTasks world (bind_rules nat_eq world task from.location here.location (bound_at nat_eq fresh world from.location here.location recursive)) _ small
+      judged_holds HasSmallTasks world
+      (bind_rules nat_eq world task from.location here.location (bound_at nat_eq fresh world from.location here.location recursive)) _ small
       (λ passed. same_tasks (bound_at nat_eq fresh world from.location here.location recursive) world refl small))))
 
   move_small : (source path : List ℕ) → HasSmallTasks (move_outcome nat_eq fresh world task source path).world
@@ -428,7 +477,8 @@ module _ (fresh : Fresh ℕ) (world : World ℕ) (task : Task ℕ) (small : HasS
       judged_holds HasSmallTasks world (admin_rules task) _ small (λ capable.
       after_any HasSmallTasks world (source_walk nat_eq world task source) _ small (λ from.
       after_any HasSmallTasks world (destination_walk nat_eq world task path) _ small (λ here.
-      judged_holds HasSmallTasks world (move_rules nat_eq world task from.location here.location (moved_to nat_eq fresh world from.location here.location)) _ small
+      judged_holds HasSmallTasks world
+      (move_rules nat_eq world task from.location here.location (moved_to nat_eq fresh world from.location here.location)) _ small
       (λ passed. same_tasks (moved_to nat_eq fresh world from.location here.location) world refl small))))
 
   umount_small : (path : List ℕ) → HasSmallTasks (umount_outcome nat_eq world task path).world
@@ -436,7 +486,8 @@ module _ (fresh : Fresh ℕ) (world : World ℕ) (task : Task ℕ) (small : HasS
   umount_small path =
       judged_holds HasSmallTasks world (admin_rules task) _ small (λ capable.
       after_any HasSmallTasks world (directory_walk nat_eq world task path) _ small (λ here.
-      judged_holds HasSmallTasks world (umount_rules nat_eq world task here.location) (granted Done (unmounted nat_eq world here.location.mount)) small
+      judged_holds HasSmallTasks world (umount_rules nat_eq world task here.location)
+      (granted Done (unmounted nat_eq world here.location.mount)) small
       (λ passed. same_tasks (unmounted nat_eq world here.location.mount) world (taken_tasks world _) small)))
 
   lazy_small : (path : List ℕ) → HasSmallTasks (lazy_outcome nat_eq world task path).world
@@ -444,15 +495,19 @@ module _ (fresh : Fresh ℕ) (world : World ℕ) (task : Task ℕ) (small : HasS
   lazy_small path =
       judged_holds HasSmallTasks world (admin_rules task) _ small (λ capable.
       after_any HasSmallTasks world (directory_walk nat_eq world task path) _ small (λ here.
-      judged_holds HasSmallTasks world (lazy_rules nat_eq world task here.location) (granted Done (lazily_unmounted nat_eq world here.location.mount)) small
-      (λ passed. same_tasks (lazily_unmounted nat_eq world here.location.mount) world (lazily_tasks (deepest_first nat_eq world (mount_tree nat_eq world.mounts (mount_numbered nat_eq world here.location.mount))) world) small)))
+      judged_holds HasSmallTasks world (lazy_rules nat_eq world task here.location)
+      (granted Done (lazily_unmounted nat_eq world here.location.mount)) small
+      (λ passed. same_tasks (lazily_unmounted nat_eq world here.location.mount) world
+      (lazily_tasks
+      (deepest_first nat_eq world (mount_tree nat_eq world.mounts (mount_numbered nat_eq world here.location.mount))) world) small)))
 
   remount_small : (path : List ℕ) (flags : MountFlags) → HasSmallTasks (remount_outcome nat_eq world task path flags).world
   unfolding remount_outcome
   remount_small path flags =
       judged_holds HasSmallTasks world (admin_rules task) _ small (λ capable.
       after_any HasSmallTasks world (directory_walk nat_eq world task path) _ small (λ here.
-      judged_holds HasSmallTasks world (remount_rules nat_eq world task here.location flags) (granted Done (with_flags nat_eq world here.location flags)) small
+      judged_holds HasSmallTasks world (remount_rules nat_eq world task here.location flags)
+      (granted Done (with_flags nat_eq world here.location flags)) small
       (λ passed. same_tasks (with_flags nat_eq world here.location flags) world refl small)))
 
   type_small : (path : List ℕ) (word : TypeWord) (recursive : Bool)
@@ -461,8 +516,10 @@ module _ (fresh : Fresh ℕ) (world : World ℕ) (task : Task ℕ) (small : HasS
   type_small path word recursive =
       judged_holds HasSmallTasks world (admin_rules task) _ small (λ capable.
       after_any HasSmallTasks world (directory_walk nat_eq world task path) _ small (λ here.
-      judged_holds HasSmallTasks world (type_rules nat_eq world task here.location) (granted Done (with_type nat_eq fresh world here.location.mount word recursive)) small
-      (λ passed. same_tasks (with_type nat_eq fresh world here.location.mount word recursive) world (typed_tasks fresh world here.location.mount word recursive) small)))
+      judged_holds HasSmallTasks world (type_rules nat_eq world task here.location)
+      (granted Done (with_type nat_eq fresh world here.location.mount word recursive)) small
+      (λ passed. same_tasks (with_type nat_eq fresh world here.location.mount word recursive) world
+      (typed_tasks fresh world here.location.mount word recursive) small)))
 
   pivoted_small : (root new : Mount ℕ) (put : Location ℕ) → HasSmallTasks (pivoted nat_eq world task.namespace root new put)
   pivoted_small root new put = all_mapped is_within_limits (pivoted_task nat_eq task.namespace root new) keeps world.tasks small
@@ -556,7 +613,8 @@ pub calls_keep_small_tasks : CallsKeepSmallTasks
 calls_keep_small_tasks world fresh name call small few =
     after_holds HasSmallTasks world (ok_or (task_called world name) (denial S2)) _ small (λ task found.
     finished_small world name _ (call_outcome nat_eq fresh world task call) _
-    (outcome_small fresh world task small (found_within world name world.tasks task small (found_task (task_called world name) task found)) call few))
+    (outcome_small fresh world task small
+    (found_within world name world.tasks task small (found_task (task_called world name) task found)) call few))
 
 pub opening_has_small_tasks : OpeningHasSmallTasks
 opening_has_small_tasks fresh = refl

@@ -21,15 +21,18 @@ numbered number list = unwrap_or (find (λ filesystem. nat_eq number filesystem.
 
 -- What holds of all filesystems holds of one by its number, if it is there; and if not, none has its number.
 pub numbered_all : (P : Filesystem ℕ → Type 0) (number : ℕ) (list : List (Filesystem ℕ)) → All P list
-    → P (numbered number list) ⊎ ((numbered number list ≡ no_filesystem number) × All (λ filesystem. nat_eq number filesystem.number ≡ false) list)
+    → P (numbered number list)
+    ⊎ ((numbered number list ≡ no_filesystem number) × All (λ filesystem. nat_eq number filesystem.number ≡ false) list)
 numbered_all P number [] h = inr (refl, All-nil (λ filesystem. nat_eq number filesystem.number ≡ false))
 numbered_all P number (filesystem ∷ list) h =
     by (nat_eq number filesystem.number) refl (numbered_all P number list (All-tail P filesystem list h))
   where
     by : (b : Bool) → nat_eq number filesystem.number ≡ b
-        → P (numbered number list) ⊎ ((numbered number list ≡ no_filesystem number) × All (λ other. nat_eq number other.number ≡ false) list)
+        → P (numbered number list)
+        ⊎ ((numbered number list ≡ no_filesystem number) × All (λ other. nat_eq number other.number ≡ false) list)
         → P (unwrap_or (cond b (Some filesystem) (find (λ other. nat_eq number other.number) list)) (no_filesystem number))
-        ⊎ ((unwrap_or (cond b (Some filesystem) (find (λ other. nat_eq number other.number) list)) (no_filesystem number) ≡ no_filesystem number)
+        ⊎ ((unwrap_or (cond b (Some filesystem) (find (λ other. nat_eq number other.number) list))
+        (no_filesystem number) ≡ no_filesystem number)
         × All (λ other. nat_eq number other.number ≡ false) (filesystem ∷ list))
     by true e rest = inl (All-head P filesystem list h)
     by false e rest = ⊎_elim inl
@@ -96,7 +99,10 @@ module _ (fresh : Fresh ℕ) (world : World ℕ) (location : Location ℕ) (chan
   new = with_files old (changed nat_eq old.files change)
 
   no_overlay : IsWorldOfTrees world → old.overlay ≡ None
-  no_overlay conditions = no_some old.overlay (numbered_anyhow (λ filesystem. is_overlay filesystem ≡ false) (mount_at nat_eq world location).filesystem world.filesystems conditions.plain refl)
+  no_overlay conditions =
+      no_some old.overlay
+      (numbered_anyhow (λ filesystem. is_overlay filesystem ≡ false)
+      (mount_at nat_eq world location).filesystem world.filesystems conditions.plain refl)
 
   change_of_plain : IsWorldOfTrees world → with_change nat_eq fresh world location change ≡ with_filesystem nat_eq world new
   change_of_plain conditions = ap (λ o. filesystem_changed nat_eq fresh world old o change) (no_overlay conditions)
@@ -113,27 +119,32 @@ module _ (fresh : Fresh ℕ) (world : World ℕ) (location : Location ℕ) (chan
       → IsWorldOfTrees (with_change nat_eq fresh world location change)
   change_keeps_world conditions proper =
       subst IsWorldOfTrees (sym (change_of_plain conditions)) (record {
-        plain = replaced_all (λ filesystem. is_overlay filesystem ≡ false) new world.filesystems conditions.plain (inl (ap is_some (no_overlay conditions)));
+        plain =
+            replaced_all (λ filesystem. is_overlay filesystem ≡ false) new world.filesystems conditions.plain
+            (inl (ap is_some (no_overlay conditions)));
         trees = replaced_all (λ filesystem. IsFileTree filesystem.files) new world.filesystems conditions.trees
             (⊎_elim
             (λ is. inl (new_is_tree is (proper is)))
             (λ missing. inr (subst (λ n. All (λ filesystem. nat_eq n filesystem.number ≡ false) world.filesystems)
             (sym (number_numbered (mount_at nat_eq world location).filesystem world.filesystems)) missing.1))
-            (numbered_all (λ filesystem. IsFileTree filesystem.files) (mount_at nat_eq world location).filesystem world.filesystems conditions.trees));
+            (numbered_all (λ filesystem. IsFileTree filesystem.files)
+            (mount_at nat_eq world location).filesystem world.filesystems conditions.trees));
       })
 
 -- a number that is handed in is new wherever it is used
 pub new_at : (fresh : Fresh ℕ) (world : World ℕ) (location : Location ℕ) → AreNew fresh world → (k : ℕ)
     → (files_at nat_eq world location).tree.node (fresh k) ≡ None
 new_at fresh world location new k =
-    numbered_anyhow (λ filesystem. (j : ℕ) → filesystem.files.tree.node (fresh j) ≡ None) (mount_at nat_eq world location).filesystem world.filesystems new (λ j. refl) k
+    numbered_anyhow (λ filesystem. (j : ℕ) → filesystem.files.tree.node (fresh j) ≡ None)
+    (mount_at nat_eq world location).filesystem world.filesystems new (λ j. refl) k
 
 -- Mounts taken away: the filesystems stay, and each mount shows the one that it showed
 going_number : (world : World ℕ) (gone : List ℕ) (mount : Mount ℕ) → (after_going nat_eq world gone mount).number ≡ mount.number
 going_number world gone mount = by _
   where
     by : (b : Bool)
-        → (cond b (detached mount) (record mount { mount_point = option_map (mount_point_left nat_eq world gone) mount.mount_point })).number ≡ mount.number
+        → (cond b (detached mount)
+        (record mount { mount_point = option_map (mount_point_left nat_eq world gone) mount.mount_point })).number ≡ mount.number
     by true = refl
     by false = refl
 
@@ -141,7 +152,8 @@ going_filesystem : (world : World ℕ) (gone : List ℕ) (mount : Mount ℕ) →
 going_filesystem world gone mount = by _
   where
     by : (b : Bool)
-        → (cond b (detached mount) (record mount { mount_point = option_map (mount_point_left nat_eq world gone) mount.mount_point })).filesystem ≡ mount.filesystem
+        → (cond b (detached mount)
+        (record mount { mount_point = option_map (mount_point_left nat_eq world gone) mount.mount_point })).filesystem ≡ mount.filesystem
     by true = refl
     by false = refl
 
@@ -152,7 +164,8 @@ mapped_filesystem : (f : Mount ℕ → Mount ℕ) → ((mount : Mount ℕ) → (
     → (mount_in nat_eq (map f mounts) number).filesystem ≡ (mount_in nat_eq mounts number).filesystem
 mapped_filesystem f same_number same_filesystem [] number = refl
 mapped_filesystem f same_number same_filesystem (mount ∷ mounts) number =
-    ap (λ n. (unwrap_or (cond (nat_eq number n) (Some (f mount)) (find (λ m. nat_eq number m.number) (map f mounts))) (no_mount number)).filesystem) (same_number mount)
+    ap (λ n. (unwrap_or (cond (nat_eq number n) (Some (f mount)) (find (λ m. nat_eq number m.number) (map f mounts)))
+    (no_mount number)).filesystem) (same_number mount)
     ∙ by (nat_eq number mount.number) (mapped_filesystem f same_number same_filesystem mounts number)
   where
     by : (b : Bool) → (mount_in nat_eq (map f mounts) number).filesystem ≡ (mount_in nat_eq mounts number).filesystem

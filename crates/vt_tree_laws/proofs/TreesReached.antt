@@ -14,14 +14,7 @@ use Rattle.vt_spec.proofs.Nodes.{none_is_not, same_name}
 use Rattle.vt_spec.proofs.Trees.{root_reached}
 use Rattle.vt_tree_laws.proofs.TreesAbove.{parent_named}
 use Rattle.vt_tree_laws.proofs.TreesRearranged.{no_entries}
-
-both_first : (a b : Bool) → (a && b) ≡ true → a ≡ true
-both_first true b e = refl
-both_first false b e = e
-
-both_second : (a b : Bool) → (a && b) ≡ true → b ≡ true
-both_second true b e = e
-both_second false b e = absurd (true≢false (sym e))
+use Rattle.std.proofs.lemmas.Bool.{and_parts}
 
 -- a name below all others is none of them
 below_missing : (name : List ℕ) (entries : Entries ℕ) (number : ℕ) → below_all name_cmp name entries ≡ true
@@ -42,12 +35,14 @@ listed_entry : (entries : Entries ℕ) (number : ℕ) → is_sorted name_cmp ent
     → (name : List ℕ) × (entry_named name entries ≡ Some number)
 listed_entry [] number sorted h = absurd (true≢false (sym h))
 listed_entry (entry ∷ entries) number sorted h =
-    by (nat_eq number entry.1) refl h (λ g. listed_entry entries number (both_second (below_all name_cmp entry.0 entries) (is_sorted name_cmp entries) sorted) g)
+    by (nat_eq number entry.1) refl h
+    (λ g. listed_entry entries number ((and_parts (below_all name_cmp entry.0 entries) (is_sorted name_cmp entries) sorted).1) g)
   where
     later : (name : List ℕ) → entry_named name entries ≡ Some number → (b : Bool) → eq_by_cmp name_cmp name entry.0 ≡ b
         → cond b (Some entry.1) (entry_named name entries) ≡ Some number
     later name e true tie =
-        absurd (below_missing entry.0 entries number (both_first (below_all name_cmp entry.0 entries) (is_sorted name_cmp entries) sorted)
+        absurd (below_missing entry.0 entries number
+        ((and_parts (below_all name_cmp entry.0 entries) (is_sorted name_cmp entries) sorted).0)
         (ap (λ n. entry_named n entries) (sym (same_name name entry.0 tie)) ∙ e))
     later name e false tie = e
 
@@ -97,7 +92,8 @@ module _ (tree : Tree ℕ) (conditions : IsTree tree) (directory : ℕ) (is : Is
       by true removed =
           no_entries tree directory name number
           (conditions.unnamed_empty directory is
-          (λ root. true≢false (sym (eq-eqb directory tree.root root) ∙ no_root (nat_eq directory tree.root) (is_some (named_parent nat_eq tree directory)) removed))
+          (λ root. true≢false (sym (eq-eqb directory tree.root root)
+          ∙ no_root (nat_eq directory tree.root) (is_some (named_parent nat_eq tree directory)) removed))
           (λ named. true≢false (sym (ap is_some (parent_named tree conditions named.0 named.1 directory named.2 is))
           ∙ no_parent (nat_eq directory tree.root) (is_some (named_parent nat_eq tree directory)) removed)))
           entry

@@ -7,16 +7,13 @@ use Rattle.vt_spec.specs.Rights.{is_directory}
 use Rattle.vt_spec.specs.TreeLaws.{entry_at, led, IsDirectory, HasName, IsReached, IsTree}
 use Rattle.vt_spec.proofs.Nodes.{none_is_not}
 use Rattle.vt_spec.proofs.Trees.{found, entry_reached, reached_named, root_reached}
-
--- what is something else is not it
-pub some_same : (a b : ℕ) → Some a ≡ Some b → a ≡ b
-some_same a b e = cc
+use Rattle.std.proofs.lemmas.Option.{same_Some}
 
 -- what holds where a list of names begins, and goes on along each entry, holds where they lead
 pub led_closed : (tree : Tree ℕ) (P : ℕ → Type 0)
     → ((directory : ℕ) (name : List ℕ) (number : ℕ) → P directory → entry_at tree directory name ≡ Some number → P number)
     → (from : ℕ) (names : List (List ℕ)) (number : ℕ) → P from → led tree from names ≡ Some number → P number
-led_closed tree P step from [] number p e = subst P (some_same from number e) p
+led_closed tree P step from [] number p e = subst P (same_Some from number e) p
 led_closed tree P step from (name ∷ names) number p e =
     let first = found (λ next. led tree next names) (entry_at tree from name) number e in
     led_closed tree P step first.0 names number (step from name first.0 p first.1) first.2
@@ -45,7 +42,8 @@ pub record Vanishes (before after : Option (Node ℕ)) (number : ℕ) : Type 0 w
   pub own_parent : parent_in number after ≡ number
 
 -- Some directories leave their names, and some of these arrive under others. Nothing else happens to directories.
-pub record IsRearranged (tree : Tree ℕ) (node : ℕ → Option (Node ℕ)) (Leaves : ℕ → Type 0) (Arrives : ℕ → List ℕ → ℕ → Type 0) : Type 0 where
+pub record IsRearranged (tree : Tree ℕ) (node : ℕ → Option (Node ℕ)) (Leaves : ℕ → Type 0)
+    (Arrives : ℕ → List ℕ → ℕ → Type 0) : Type 0 where
   pub directories : (number : ℕ) → is_directory_node (node number) ≡ is_directory_node (tree.node number)
   pub in_order : (directory : ℕ) → is_sorted name_cmp (entries_in (node directory)) ≡ true
   pub alive : (directory : ℕ) (name : List ℕ) (number : ℕ) → entry_named name (entries_in (node directory)) ≡ Some number
@@ -93,7 +91,9 @@ module _ (tree : Tree ℕ) (node : ℕ → Option (Node ℕ)) (Leaves : ℕ → 
       ⊎_elim
       (λ reached. ⊎_elim
       (λ leaves. ⊎_elim
-      (λ arrives. inl (entry_reached after arrives.0 arrives.1 number (moves.arrives_reached arrives.0 arrives.1 number arrives.2) (moves.arrives_entry arrives.0 arrives.1 number arrives.2)))
+      (λ arrives. inl
+      (entry_reached after arrives.0 arrives.1 number (moves.arrives_reached arrives.0 arrives.1 number arrives.2)
+      (moves.arrives_entry arrives.0 arrives.1 number arrives.2)))
       (λ gone. inr (leaves, gone.was_empty))
       (moves.leaves_how number is leaves))
       (λ entry. inl (entry_reached after directory name number reached entry))
@@ -111,7 +111,8 @@ module _ (tree : Tree ℕ) (node : ℕ → Option (Node ℕ)) (Leaves : ℕ → 
   after_one_parent directory name number e is =
       ⊎_elim
       (λ arrives. moves.arrives_parent directory name number arrives (before_directory number is))
-      (λ old. moves.stays_parent number (before_directory number is) old.1 ∙ conditions.one_parent directory name number old.0 (before_directory number is))
+      (λ old. moves.stays_parent number (before_directory number is) old.1
+      ∙ conditions.one_parent directory name number old.0 (before_directory number is))
       (moves.told directory name number e (before_directory number is))
 
   after_one_name : (directory : ℕ) (name other : List ℕ) (number : ℕ) → entry_at after directory name ≡ Some number
@@ -147,7 +148,8 @@ module _ (tree : Tree ℕ) (node : ℕ → Option (Node ℕ)) (Leaves : ℕ → 
       (λ old. ⊎_elim
       (λ reached. reached)
       (λ gone. absurd (old.1 gone.0))
-      (remains_reached number (before_directory number is) (conditions.reached number (before_directory number is) (named.0, named.1, old.0))))
+      (remains_reached number (before_directory number is)
+      (conditions.reached number (before_directory number is) (named.0, named.1, old.0))))
       (moves.told named.0 named.1 number named.2 (before_directory number is))
 
   -- what stays and has no name had none
@@ -190,7 +192,8 @@ module _ (tree : Tree ℕ) (node : ℕ → Option (Node ℕ)) (Leaves : ℕ → 
   }
 
   -- and a directory without a name is its own parent, if each was
-  pub own_parent-rearranged : ((number : ℕ) → IsDirectory tree number → ¬ (HasName tree number) → parent_in number (tree.node number) ≡ number)
+  pub own_parent-rearranged : ((number : ℕ) → IsDirectory tree number → ¬ (HasName tree number)
+      → parent_in number (tree.node number) ≡ number)
       → (number : ℕ) → IsDirectory after number → ¬ (HasName after number) → parent_in number (node number) ≡ number
   own_parent-rearranged own number is unnamed =
       ⊎_elim

@@ -11,8 +11,9 @@ use Rattle.vt_spec.specs.Machine.Walk.{Here, LastWord, Place, Stop, file_or_syml
 use Rattle.vt_spec.specs.Machine.Walk.LastWord.{Dot, DotDot, Named, NoWord}
 use Rattle.vt_spec.specs.Machine.World.{Task, World}
 use Rattle.vt_tree_laws.specs.Trees.Sizes.{is_fit_name}
-use Rattle.vt_tree_laws.proofs.TreesTasks.{both, both_first, both_second}
-use Rattle.vt_tree_laws.proofs.TreesWalked.{Ends, ends_next, ends_step, ends_then, ends_unless, first_false, second_false}
+use Rattle.vt_tree_laws.proofs.TreesTasks.{both}
+use Rattle.vt_tree_laws.proofs.TreesWalked.{Ends, ends_next, ends_step, ends_then, ends_unless, first_false}
+use Rattle.std.proofs.lemmas.Bool.{and_parts, or_parts}
 
 pub no_longer : (most : ℕ) (bytes : List ℕ) → nat_lt most (length bytes) ≡ false → nat_le (length bytes) most ≡ true
 no_longer most bytes h = le-leb (length bytes) most (ltb-false most (length bytes) h)
@@ -25,13 +26,19 @@ parts_fit [] h = refl
 parts_fit (part ∷ list) h = by (is_empty part) refl h (λ g. parts_fit list g)
   where
     by : (b : Bool) → is_empty part ≡ b
-        → list_any (λ word. nat_lt longest_name (length word)) (cond (not b) (part ∷ filter (λ p. not (is_empty p)) list) (filter (λ p. not (is_empty p)) list)) ≡ false
-        → (list_any (λ word. nat_lt longest_name (length word)) (filter (λ p. not (is_empty p)) list) ≡ false → list_all is_fit_name (filter (λ p. not (is_empty p)) list) ≡ true)
+        → list_any (λ word. nat_lt longest_name (length word))
+        (cond (not b) (part ∷ filter (λ p. not (is_empty p)) list) (filter (λ p. not (is_empty p)) list)) ≡ false
+        → (list_any (λ word. nat_lt longest_name (length word)) (filter (λ p. not (is_empty p)) list) ≡ false
+        → list_all is_fit_name (filter (λ p. not (is_empty p)) list) ≡ true)
         → list_all is_fit_name (cond (not b) (part ∷ filter (λ p. not (is_empty p)) list) (filter (λ p. not (is_empty p)) list)) ≡ true
     by true e g rest = rest g
     by false e g rest =
-        let short = first_false (nat_lt longest_name (length part)) (list_any (λ word. nat_lt longest_name (length word)) (filter (λ p. not (is_empty p)) list)) g in
-        let later = second_false (nat_lt longest_name (length part)) (list_any (λ word. nat_lt longest_name (length word)) (filter (λ p. not (is_empty p)) list)) g in
+        let short =
+        first_false (nat_lt longest_name (length part))
+        (list_any (λ word. nat_lt longest_name (length word)) (filter (λ p. not (is_empty p)) list)) g in
+        let later =
+        (or_parts (nat_lt longest_name (length part))
+        (list_any (λ word. nat_lt longest_name (length word)) (filter (λ p. not (is_empty p)) list)) g).1 in
         both (is_fit_name part) (list_all is_fit_name (filter (λ p. not (is_empty p)) list))
         (both (not (is_empty part)) (nat_le (length part) longest_name) (ap not e) (no_longer longest_name part short)) (rest later)
 
@@ -39,7 +46,8 @@ all_turned : (test : List ℕ → Bool) (list done : List (List ℕ)) → list_a
     → list_all test (reverse_aux list done) ≡ true
 all_turned test [] done h k = k
 all_turned test (x ∷ list) done h k =
-    all_turned test list (x ∷ done) (both_second (test x) (list_all test list) h) (both (test x) (list_all test done) (both_first (test x) (list_all test list) h) k)
+    all_turned test list (x ∷ done) ((and_parts (test x) (list_all test list) h).1)
+    (both (test x) (list_all test done) ((and_parts (test x) (list_all test list) h).0) k)
 
 all_reversed : (test : List ℕ → Bool) (list : List (List ℕ)) → list_all test list ≡ true → list_all test (reverse list) ≡ true
 all_reversed test list h = all_turned test list [] h refl
@@ -64,7 +72,7 @@ final_fits (word ∷ front) h = by (bytes_eq word (codes ".")) (bytes_eq word (c
     by : (a b : Bool) → IsFitWord (cond a Dot (cond b DotDot (Named word)))
     by true b = tt
     by false true = tt
-    by false false = both_first (is_fit_name word) (list_all is_fit_name front) h
+    by false false = (and_parts (is_fit_name word) (list_all is_fit_name front) h).0
 
 -- a text whose words are names
 abbrev pub HasFitWords : List ℕ → Type 0
@@ -81,16 +89,20 @@ module _ (world : World ℕ) (task : Task ℕ) where
       → Ends HasFitLast (placed nat_eq world task here word slash)
   fit_placed here NoWord slash fit = tt
   fit_placed here Dot slash fit =
-      ends_step HasFitLast (steps_at nat_eq world task here Dot) (search_rules nat_eq world task here.location) (object_named nat_eq world task here.location Dot) _ (λ passed object e. tt)
+      ends_step HasFitLast (steps_at nat_eq world task here Dot) (search_rules nat_eq world task here.location)
+      (object_named nat_eq world task here.location Dot) _ (λ passed object e. tt)
   fit_placed here DotDot slash fit =
-      ends_step HasFitLast (steps_at nat_eq world task here DotDot) (search_rules nat_eq world task here.location) (object_named nat_eq world task here.location DotDot) _ (λ passed object e. tt)
+      ends_step HasFitLast (steps_at nat_eq world task here DotDot) (search_rules nat_eq world task here.location)
+      (object_named nat_eq world task here.location DotDot) _ (λ passed object e. tt)
   fit_placed here (Named name) slash fit =
-      ends_step HasFitLast (steps_at nat_eq world task here (Named name)) (search_rules nat_eq world task here.location) (object_named nat_eq world task here.location (Named name)) _ (λ passed object e. fit)
+      ends_step HasFitLast (steps_at nat_eq world task here (Named name)) (search_rules nat_eq world task here.location)
+      (object_named nat_eq world task here.location (Named name)) _ (λ passed object e. fit)
 
   fit_text : (path : List ℕ) → Ends HasFitWords (path_text path)
   fit_text path =
       ends_unless HasFitWords [] (path_rules path) path
-      (λ passed. second_false (nat_lt longest_path (length path)) (list_any (λ word. nat_lt longest_name (length word)) (words path)) passed.1.0)
+      (λ passed. (or_parts (nat_lt longest_path (length path))
+      (list_any (λ word. nat_lt longest_name (length word)) (words path)) passed.1.0).1)
 
   fit_place_walk : (path : List ℕ) → Ends HasFitLast (place_walk nat_eq world task path)
   fit_place_walk path =
@@ -112,7 +124,8 @@ module _ (world : World ℕ) (task : Task ℕ) where
   -- files: each link's text has been looked at too
   abbrev linked_file : ℕ → List ℕ → Bool → Here ℕ → Place ℕ → List ℕ → Result (Place ℕ) (Stop ℕ)
   linked_file depth text slash here place inner =
-      then_walk (walk_unless place.steps (follow_rules nat_eq world (symlink_of here place) inner) (symlink_start nat_eq world task here.location (symlink_of here place) inner))
+      then_walk (walk_unless place.steps (follow_rules nat_eq world (symlink_of here place) inner)
+      (symlink_start nat_eq world task here.location (symlink_of here place) inner))
       (λ next. file_walked nat_eq depth world task next inner (slash || ends_in_slash text))
 
   fit_file_or_link : (place : Place ℕ) (text : Option (List ℕ)) (follow : List ℕ → Result (Place ℕ) (Stop ℕ)) → HasFitLast place
@@ -133,9 +146,11 @@ module _ (world : World ℕ) (task : Task ℕ) where
       (fit_placed here (final_word (reverse (words text))) (slash || ends_in_slash text) (last_fits text fit)) (λ place last.
       fit_file_or_link place (symlink_there nat_eq world place) (linked_file depth text slash here place) last (λ inner.
       ends_then (λ next. HasFitWords inner) HasFitLast
-      (walk_unless place.steps (follow_rules nat_eq world (symlink_of here place) inner) (symlink_start nat_eq world task here.location (symlink_of here place) inner))
+      (walk_unless place.steps (follow_rules nat_eq world (symlink_of here place) inner)
+      (symlink_start nat_eq world task here.location (symlink_of here place) inner))
       (λ next. file_walked nat_eq depth world task next inner (slash || ends_in_slash text))
-      (ends_unless (λ next. HasFitWords inner) place.steps (follow_rules nat_eq world (symlink_of here place) inner) (symlink_start nat_eq world task here.location (symlink_of here place) inner)
+      (ends_unless (λ next. HasFitWords inner) place.steps (follow_rules nat_eq world (symlink_of here place) inner)
+      (symlink_start nat_eq world task here.location (symlink_of here place) inner)
       (λ passed. passed.1.1.0))
       (λ next inside. fit_file_walked depth next inner (slash || ends_in_slash text) inside))))
 

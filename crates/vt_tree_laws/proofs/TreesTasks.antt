@@ -2,6 +2,7 @@
 use Rattle.std.proofs.Common.{◌≡◌, ◌≢◌, refl, sym, ap, ◌∙◌, true≢false, ℕ, suc, ◌+◌, ◌<◌, ◌≤◌, ◌==◌, ◌%◌, arith, nat_le, nat_lt, eq-eqb, eqb-true, le-leb, le-ltb, leb-true, leb-false, lt-ltb, Bool, true, false, not, cond, List, [], ◌∷◌, ◌++◌, length, map, ◌&&◌, Option, Some, None}
 use Rattle.std.proofs.Math.Nat.{mod-lt}
 use Rattle.std.proofs.lemmas.List.{length-append}
+use Rattle.std.proofs.lemmas.Bool.{and_parts}
 use Rattle.std.specs.List.{filter, list_all}
 use Rattle.vt_spec.specs.Language.Calls.{Access, ForkWords, same_name}
 use Rattle.vt_spec.specs.Machine.Mounts.{Location}
@@ -10,17 +11,8 @@ use Rattle.vt_spec.specs.Language.Limits.{deepest_name, most_descriptors, most_f
 use Rattle.vt_spec.specs.Machine.Outcome.Tasks.{child_credentials, child_name, child_of, permission_bits}
 use Rattle.vt_spec.specs.Machine.World.{Descriptor, Task, replaced_if_called}
 use Rattle.vt_spec.specs.Machine.Invariants.{are_ascending_from, is_within_limits}
-
-pub both_first : (a b : Bool) → (a && b) ≡ true → a ≡ true
-both_first true b e = refl
-both_first false b e = e
-
-pub both_second : (a b : Bool) → (a && b) ≡ true → b ≡ true
-both_second true b e = e
-both_second false b e = absurd (true≢false (sym e))
-
-pub both : (a b : Bool) → a ≡ true → b ≡ true → (a && b) ≡ true
-both a b x y = ap (λ c. c && b) x ∙ y
+pub use Rattle.std.proofs.lemmas.Bool.{and_from as both}
+use Rattle.vt_spec.proofs.Lists.{all-filter}
 
 -- the limits, one by one
 pub record IsWithin (task : Task ℕ) : Type 0 where
@@ -55,19 +47,19 @@ within task is =
     let f5 = nat_le (length task.name) deepest_name in
     let f6 = nat_le (length task.credentials.groups) 32 in
     let f7 = nat_lt task.umask 512 in
-    let upto6 = both_first (f1 && f2 && f3 && f4 && f5 && f6) f7 is in
-    let upto5 = both_first (f1 && f2 && f3 && f4 && f5) f6 upto6 in
-    let upto4 = both_first (f1 && f2 && f3 && f4) f5 upto5 in
-    let upto3 = both_first (f1 && f2 && f3) f4 upto4 in
-    let upto2 = both_first (f1 && f2) f3 upto3 in
+    let upto6 = (and_parts (f1 && f2 && f3 && f4 && f5 && f6) f7 is).0 in
+    let upto5 = (and_parts (f1 && f2 && f3 && f4 && f5) f6 upto6).0 in
+    let upto4 = (and_parts (f1 && f2 && f3 && f4) f5 upto5).0 in
+    let upto3 = (and_parts (f1 && f2 && f3) f4 upto4).0 in
+    let upto2 = (and_parts (f1 && f2) f3 upto3).0 in
     record {
-      few = both_first f1 f2 upto2;
-      ascending = both_second f1 f2 upto2;
-      low = both_second (f1 && f2) f3 upto3;
-      forks = both_second (f1 && f2 && f3) f4 upto4;
-      depth = both_second (f1 && f2 && f3 && f4) f5 upto5;
-      groups = both_second (f1 && f2 && f3 && f4 && f5) f6 upto6;
-      umask = both_second (f1 && f2 && f3 && f4 && f5 && f6) f7 is;
+      few = (and_parts f1 f2 upto2).0;
+      ascending = (and_parts f1 f2 upto2).1;
+      low = (and_parts (f1 && f2) f3 upto3).1;
+      forks = (and_parts (f1 && f2 && f3) f4 upto4).1;
+      depth = (and_parts (f1 && f2 && f3 && f4) f5 upto5).1;
+      groups = (and_parts (f1 && f2 && f3 && f4 && f5) f6 upto6).1;
+      umask = (and_parts (f1 && f2 && f3 && f4 && f5 && f6) f7 is).1;
     }
 
 -- lists of tasks
@@ -75,22 +67,15 @@ pub all_mapped : {A : Type 0} (test : A → Bool) (change : A → A) → ((a : A
     → list_all test list ≡ true → list_all test (map change list) ≡ true
 all_mapped test change keeps [] h = refl
 all_mapped test change keeps (a ∷ list) h =
-    both (test (change a)) (list_all test (map change list)) (keeps a (both_first (test a) (list_all test list) h)) (all_mapped test change keeps list (both_second (test a) (list_all test list) h))
-
-pub all_filtered : {A : Type 0} (test stays : A → Bool) (list : List A) → list_all test list ≡ true
-    → list_all test (filter stays list) ≡ true
-all_filtered test stays [] h = refl
-all_filtered test stays (a ∷ list) h = by (stays a) (all_filtered test stays list (both_second (test a) (list_all test list) h))
-  where
-    by : (b : Bool) → list_all test (filter stays list) ≡ true → list_all test (cond b (a ∷ filter stays list) (filter stays list)) ≡ true
-    by true rest = both (test a) (list_all test (filter stays list)) (both_first (test a) (list_all test list) h) rest
-    by false rest = rest
+    both (test (change a)) (list_all test (map change list)) (keeps a ((and_parts (test a) (list_all test list) h).0))
+    (all_mapped test change keeps list ((and_parts (test a) (list_all test list) h).1))
 
 pub all_appended : {A : Type 0} (test : A → Bool) (list : List A) (a : A) → list_all test list ≡ true → test a ≡ true
     → list_all test (list ++ (a ∷ [])) ≡ true
 all_appended test [] a h k = both (test a) true k refl
 all_appended test (b ∷ list) a h k =
-    both (test b) (list_all test (list ++ (a ∷ []))) (both_first (test b) (list_all test list) h) (all_appended test list a (both_second (test b) (list_all test list) h) k)
+    both (test b) (list_all test (list ++ (a ∷ []))) ((and_parts (test b) (list_all test list) h).0)
+    (all_appended test list a ((and_parts (test b) (list_all test list) h).1) k)
 
 pub replaced_within : (new old : Task ℕ) → is_within_limits new ≡ true → is_within_limits old ≡ true
     → is_within_limits (replaced_if_called new old) ≡ true
@@ -113,7 +98,7 @@ free_small number (descriptor ∷ list) = by (descriptor.number == number) (free
     by true h = later number (length list) (free_from (number + 1) list) h
     by false h = omega arith
 
-free_above : (number : ℕ) (list : List (Descriptor ℕ)) → number ≤ free_from number list
+pub free_above : (number : ℕ) (list : List (Descriptor ℕ)) → number ≤ free_from number list
 free_above number [] = omega arith
 free_above number (descriptor ∷ list) = by (descriptor.number == number) (free_above (number + 1) list)
   where
@@ -133,12 +118,13 @@ inserted_length new (descriptor ∷ list) = by (nat_lt new.number descriptor.num
 inserted_all : (test : Descriptor ℕ → Bool) (new : Descriptor ℕ) (list : List (Descriptor ℕ)) → test new ≡ true
     → list_all test list ≡ true → list_all test (inserted new list) ≡ true
 inserted_all test new [] h k = both (test new) true h refl
-inserted_all test new (descriptor ∷ list) h k = by (nat_lt new.number descriptor.number) (inserted_all test new list h (both_second (test descriptor) (list_all test list) k))
+inserted_all test new (descriptor ∷ list) h k =
+    by (nat_lt new.number descriptor.number) (inserted_all test new list h ((and_parts (test descriptor) (list_all test list) k).1))
   where
     by : (b : Bool) → list_all test (inserted new list) ≡ true
         → list_all test (cond b (new ∷ descriptor ∷ list) (descriptor ∷ inserted new list)) ≡ true
     by true rest = both (test new) (list_all test (descriptor ∷ list)) h k
-    by false rest = both (test descriptor) (list_all test (inserted new list)) (both_first (test descriptor) (list_all test list) k) rest
+    by false rest = both (test descriptor) (list_all test (inserted new list)) ((and_parts (test descriptor) (list_all test list) k).0) rest
 
 inserted_ascending : (least : ℕ) (new : Descriptor ℕ) (list : List (Descriptor ℕ)) → new.number ≡ free_from least list
     → are_ascending_from least list ≡ true → are_ascending_from least (inserted new list) ≡ true
@@ -147,26 +133,33 @@ inserted_ascending least new (descriptor ∷ list) e h =
     by (descriptor.number == least) refl e (λ f g. inserted_ascending (least + 1) new list f g)
   where
     low : nat_le least descriptor.number ≡ true
-    low = both_first (nat_le least descriptor.number) (are_ascending_from (descriptor.number + 1) list) h
+    low = (and_parts (nat_le least descriptor.number) (are_ascending_from (descriptor.number + 1) list) h).0
 
     rest : are_ascending_from (descriptor.number + 1) list ≡ true
-    rest = both_second (nat_le least descriptor.number) (are_ascending_from (descriptor.number + 1) list) h
+    rest = (and_parts (nat_le least descriptor.number) (are_ascending_from (descriptor.number + 1) list) h).1
 
     by : (b : Bool) → (descriptor.number == least) ≡ b → new.number ≡ cond b (free_from (least + 1) list) least
-        → (new.number ≡ free_from (least + 1) list → are_ascending_from (least + 1) list ≡ true → are_ascending_from (least + 1) (inserted new list) ≡ true)
-        → are_ascending_from least (cond (nat_lt new.number descriptor.number) (new ∷ descriptor ∷ list) (descriptor ∷ inserted new list)) ≡ true
+        → (new.number ≡ free_from (least + 1) list → are_ascending_from (least + 1) list ≡ true
+        → are_ascending_from (least + 1) (inserted new list) ≡ true)
+        → are_ascending_from least
+        (cond (nat_lt new.number descriptor.number) (new ∷ descriptor ∷ list) (descriptor ∷ inserted new list)) ≡ true
     by true same f later =
         let is : descriptor.number ≡ least = eqb-true descriptor.number least same in
-        ap (λ b. are_ascending_from least (cond b (new ∷ descriptor ∷ list) (descriptor ∷ inserted new list))) (passed (free_above (least + 1) list) is)
+        ap (λ b. are_ascending_from least (cond b (new ∷ descriptor ∷ list) (descriptor ∷ inserted new list)))
+        (passed (free_above (least + 1) list) is)
         ∙ both (nat_le least descriptor.number) (are_ascending_from (descriptor.number + 1) (inserted new list)) low
         (ap (λ n. are_ascending_from (n + 1) (inserted new list)) is ∙ later f (ap (λ n. are_ascending_from (n + 1) list) (sym is) ∙ rest))
       where
         passed : least + 1 ≤ free_from (least + 1) list → descriptor.number ≡ least → nat_lt new.number descriptor.number ≡ false
         passed above is = le-ltb new.number descriptor.number (omega (arith, f, above, is))
     by false differ f later =
-        ap (λ b. are_ascending_from least (cond b (new ∷ descriptor ∷ list) (descriptor ∷ inserted new list))) (lt-ltb new.number descriptor.number below)
-        ∙ both (nat_le least new.number) (nat_le (new.number + 1) descriptor.number && are_ascending_from (descriptor.number + 1) list) (le-leb least new.number (omega (arith, f)))
-        (both (nat_le (new.number + 1) descriptor.number) (are_ascending_from (descriptor.number + 1) list) (le-leb (new.number + 1) descriptor.number (omega (arith, below))) rest)
+        ap (λ b. are_ascending_from least (cond b (new ∷ descriptor ∷ list) (descriptor ∷ inserted new list)))
+        (lt-ltb new.number descriptor.number below)
+        ∙ both (nat_le least new.number)
+        (nat_le (new.number + 1) descriptor.number && are_ascending_from (descriptor.number + 1) list)
+        (le-leb least new.number (omega (arith, f)))
+        (both (nat_le (new.number + 1) descriptor.number) (are_ascending_from (descriptor.number + 1) list)
+        (le-leb (new.number + 1) descriptor.number (omega (arith, below))) rest)
       where
         below : new.number < descriptor.number
         below =
@@ -179,18 +172,22 @@ ascending_lower : (lower least : ℕ) (list : List (Descriptor ℕ)) → lower �
     → are_ascending_from lower list ≡ true
 ascending_lower lower least [] le h = refl
 ascending_lower lower least (descriptor ∷ list) le h =
-    let above = leb-true least descriptor.number (both_first (nat_le least descriptor.number) (are_ascending_from (descriptor.number + 1) list) h) in
-    both (nat_le lower descriptor.number) (are_ascending_from (descriptor.number + 1) list) (le-leb lower descriptor.number (omega (arith, above, le)))
-    (both_second (nat_le least descriptor.number) (are_ascending_from (descriptor.number + 1) list) h)
+    let above =
+    leb-true least descriptor.number ((and_parts (nat_le least descriptor.number) (are_ascending_from (descriptor.number + 1) list) h).0) in
+    both (nat_le lower descriptor.number) (are_ascending_from (descriptor.number + 1) list)
+    (le-leb lower descriptor.number (omega (arith, above, le)))
+    ((and_parts (nat_le least descriptor.number) (are_ascending_from (descriptor.number + 1) list) h).1)
 
 filtered_ascending : (stays : Descriptor ℕ → Bool) (least : ℕ) (list : List (Descriptor ℕ)) → are_ascending_from least list ≡ true
     → are_ascending_from least (filter stays list) ≡ true
 filtered_ascending stays least [] h = refl
 filtered_ascending stays least (descriptor ∷ list) h =
-    by (stays descriptor) (filtered_ascending stays (descriptor.number + 1) list (both_second (nat_le least descriptor.number) (are_ascending_from (descriptor.number + 1) list) h))
+    by (stays descriptor)
+    (filtered_ascending stays (descriptor.number + 1) list
+    ((and_parts (nat_le least descriptor.number) (are_ascending_from (descriptor.number + 1) list) h).1))
   where
     low : nat_le least descriptor.number ≡ true
-    low = both_first (nat_le least descriptor.number) (are_ascending_from (descriptor.number + 1) list) h
+    low = (and_parts (nat_le least descriptor.number) (are_ascending_from (descriptor.number + 1) list) h).0
 
     by : (b : Bool) → are_ascending_from (descriptor.number + 1) (filter stays list) ≡ true
         → are_ascending_from least (cond b (descriptor ∷ filter stays list) (filter stays list)) ≡ true
@@ -235,7 +232,9 @@ closed_within task number is =
       few = le-leb (length (filter (λ descriptor. not (number == descriptor.number)) task.descriptors)) most_descriptors
           (omega (arith, few, filtered_length (λ descriptor. not (number == descriptor.number)) task.descriptors));
       ascending = filtered_ascending (λ descriptor. not (number == descriptor.number)) 0 task.descriptors limits.ascending;
-      low = all_filtered (λ descriptor. nat_lt descriptor.number most_descriptors) (λ descriptor. not (number == descriptor.number)) task.descriptors limits.low;
+      low =
+          all-filter (λ descriptor. nat_lt descriptor.number most_descriptors)
+          (λ descriptor. not (number == descriptor.number)) task.descriptors limits.low;
       forks = limits.forks;
       depth = limits.depth;
       groups = limits.groups;

@@ -11,6 +11,7 @@ use Rattle.vt_spec.specs.Language.Limits.{most_symlinks}
 use Rattle.vt_spec.specs.Machine.Walk.LastWord.{Dot, DotDot, Named, NoWord}
 use Rattle.vt_spec.specs.Machine.World.{Task, World, is_directory_at}
 use Rattle.vt_spec.specs.PathText.{ends_in_slash, words}
+pub use Rattle.std.proofs.lemmas.Bool.{not-false as not_true}
 
 -- none of the rules fails
 abbrev pub Passed : Rules → Type 0
@@ -82,10 +83,6 @@ pub ok_same : {A : Type 0} (a b : A) (r : Result A Deny) → r ≡ Ok a → r �
 unfolding ok_part
 ok_same a b r p q = ap (ok_part a) (sym p ∙ q)
 
-pub not_true : (b : Bool) → not b ≡ false → b ≡ true
-not_true true e = refl
-not_true false e = sym e
-
 pub no_some : {A : Type 0} (o : Option A) → is_some o ≡ false → o ≡ None
 no_some None e = refl
 no_some (Some a) e = absurd (true≢false e)
@@ -94,16 +91,13 @@ pub first_false : (a b : Bool) → (a || b) ≡ false → a ≡ false
 first_false true b e = e
 first_false false b e = refl
 
-pub second_false : (a b : Bool) → (a || b) ≡ false → b ≡ false
-second_false true b e = absurd (true≢false e)
-second_false false b e = e
-
 -- the place of a name: its directory, and what its entry leads to
 abbrev pub IsPlaceOf : World ℕ → Location ℕ → LastWord → Option (Location ℕ) → Type 0
 IsPlaceOf world parent NoWord object = ⊤
 IsPlaceOf world parent Dot object = ⊤
 IsPlaceOf world parent DotDot object = ⊤
-IsPlaceOf world parent (Named name) object = (is_directory_at nat_eq world parent ≡ true) × (object ≡ entry_location nat_eq world parent name)
+IsPlaceOf world parent (Named name) object =
+    (is_directory_at nat_eq world parent ≡ true) × (object ≡ entry_location nat_eq world parent name)
 
 abbrev pub IsPlace : World ℕ → Place ℕ → Type 0
 IsPlace world place = IsPlaceOf world place.parent place.last place.object
@@ -113,7 +107,8 @@ abbrev pub IsFileOf : World ℕ → Location ℕ → LastWord → Option (Locati
 IsFileOf world parent NoWord object = ⊤
 IsFileOf world parent Dot object = ⊤
 IsFileOf world parent DotDot object = ⊤
-IsFileOf world parent (Named name) object = (is_directory_at nat_eq world parent ≡ true) × (object ≡ None → entry_location nat_eq world parent name ≡ None)
+IsFileOf world parent (Named name) object =
+    (is_directory_at nat_eq world parent ≡ true) × (object ≡ None → entry_location nat_eq world parent name ≡ None)
 
 abbrev pub IsFilePlace : World ℕ → Place ℕ → Type 0
 IsFilePlace world place = IsFileOf world place.parent place.last place.object
@@ -145,12 +140,19 @@ module _ (world : World ℕ) (task : Task ℕ) where
   pub ends_placed : (here : Here ℕ) (word : LastWord) (slash : Bool) → Ends (IsPlace world) (placed nat_eq world task here word slash)
   ends_placed here NoWord slash = tt
   ends_placed here Dot slash =
-      ends_step (IsPlace world) (steps_at nat_eq world task here Dot) (search_rules nat_eq world task here.location) (object_named nat_eq world task here.location Dot) _ (λ passed object e. tt)
+      ends_step (IsPlace world) (steps_at nat_eq world task here Dot) (search_rules nat_eq world task here.location)
+      (object_named nat_eq world task here.location Dot) _ (λ passed object e. tt)
   ends_placed here DotDot slash =
-      ends_step (IsPlace world) (steps_at nat_eq world task here DotDot) (search_rules nat_eq world task here.location) (object_named nat_eq world task here.location DotDot) _ (λ passed object e. tt)
+      ends_step (IsPlace world) (steps_at nat_eq world task here DotDot) (search_rules nat_eq world task here.location)
+      (object_named nat_eq world task here.location DotDot) _ (λ passed object e. tt)
   ends_placed here (Named name) slash =
-      ends_step (IsPlace world) (steps_at nat_eq world task here (Named name)) (search_rules nat_eq world task here.location) (object_named nat_eq world task here.location (Named name)) _
-      (λ passed object e. (not_true (is_directory_at nat_eq world here.location) passed.0, sym (ok_same (entry_location nat_eq world here.location name) object (object_named nat_eq world task here.location (Named name)) refl e)))
+      ends_step (IsPlace world) (steps_at nat_eq world task here (Named name)) (search_rules nat_eq world task here.location)
+      (object_named nat_eq world task here.location (Named name)) _
+      (λ passed object e. (
+        not_true (is_directory_at nat_eq world here.location) passed.0,
+        sym
+            (ok_same (entry_location nat_eq world here.location name) object (object_named nat_eq world task here.location (Named name)) refl e),
+      ))
 
   pub ends_place_walk : (path : List ℕ) → Ends (IsPlace world) (place_walk nat_eq world task path)
   ends_place_walk path =
@@ -180,12 +182,14 @@ module _ (world : World ℕ) (task : Task ℕ) where
   pub ends_old_walk : (path : List ℕ) → Ends IsOldPlace (old_walk nat_eq world task path)
   ends_old_walk path =
       ends_then (IsPlace world) IsOldPlace (place_walk nat_eq world task path) _ (ends_place_walk path)
-      (λ place is. ends_unless IsOldPlace place.steps ((not (is_some place.object), W6) ∷ []) place (λ passed. (is, not_true (is_some place.object) passed.0)))
+      (λ place is. ends_unless IsOldPlace place.steps ((not (is_some place.object), W6) ∷ []) place
+      (λ passed. (is, not_true (is_some place.object) passed.0)))
 
   pub ends_old_leaf_walk : (path : List ℕ) → Ends IsOldPlace (old_leaf_walk nat_eq world task path)
   ends_old_leaf_walk path =
       ends_then IsOldPlace IsOldPlace (old_walk nat_eq world task path) _ (ends_old_walk path)
-      (λ place is. ends_unless IsOldPlace place.steps ((place.slash && not (is_directory_there nat_eq world place), W3) ∷ []) place (λ passed. is))
+      (λ place is. ends_unless IsOldPlace place.steps ((place.slash && not (is_directory_there nat_eq world place), W3) ∷ []) place
+      (λ passed. is))
 
   -- files
   entered_file : (parent : Location ℕ) (last : LastWord) (object : Option (Location ℕ)) → IsPlaceOf world parent last object
@@ -208,7 +212,8 @@ module _ (world : World ℕ) (task : Task ℕ) where
   -- where a link stands there, its text is walked
   abbrev linked_file : ℕ → List ℕ → Bool → Here ℕ → Place ℕ → List ℕ → Result (Place ℕ) (Stop ℕ)
   linked_file depth text slash here place inner =
-      then_walk (walk_unless place.steps (follow_rules nat_eq world (symlink_of here place) inner) (symlink_start nat_eq world task here.location (symlink_of here place) inner))
+      then_walk (walk_unless place.steps (follow_rules nat_eq world (symlink_of here place) inner)
+      (symlink_start nat_eq world task here.location (symlink_of here place) inner))
       (λ next. file_walked nat_eq depth world task next inner (slash || ends_in_slash text))
 
   abbrev file_from : ℕ → List ℕ → Bool → Here ℕ → Result (Place ℕ) (Stop ℕ)
@@ -222,11 +227,14 @@ module _ (world : World ℕ) (task : Task ℕ) where
   ends_file_walked (suc depth) start text slash =
       ends_next (IsFilePlace world) (front_walked nat_eq world task (followed nat_eq world task) start (reverse (words text)))
       (λ here. file_from depth text slash here) (λ here.
-      ends_then (IsPlace world) (IsFilePlace world) (placed nat_eq world task here (final_word (reverse (words text))) (slash || ends_in_slash text))
+      ends_then (IsPlace world) (IsFilePlace world)
+      (placed nat_eq world task here (final_word (reverse (words text))) (slash || ends_in_slash text))
       (λ place. file_or_symlink nat_eq world place (symlink_there nat_eq world place) (linked_file depth text slash here place))
       (ends_placed here (final_word (reverse (words text))) (slash || ends_in_slash text)) (λ place is.
       ends_file_or_link place (symlink_there nat_eq world place) (linked_file depth text slash here place) is (λ inner.
-      ends_next (IsFilePlace world) (walk_unless place.steps (follow_rules nat_eq world (symlink_of here place) inner) (symlink_start nat_eq world task here.location (symlink_of here place) inner))
+      ends_next (IsFilePlace world)
+      (walk_unless place.steps (follow_rules nat_eq world (symlink_of here place) inner)
+      (symlink_start nat_eq world task here.location (symlink_of here place) inner))
       (λ next. file_walked nat_eq depth world task next inner (slash || ends_in_slash text))
       (λ next. ends_file_walked depth next inner (slash || ends_in_slash text)))))
 

@@ -24,6 +24,7 @@ pub(crate) struct Here {
 }
 
 // Where the walk of a text begins: of an absolute one at the task's root, of any other in a directory.
+#[inline(always)]
 pub(crate) fn start_of(who: &Task, directory: Location, text: &[u8]) -> Location
     ensures { location_of result ≡ start_of (task_of who.now) (location_of directory) text.now }
 {
@@ -50,6 +51,7 @@ impl Here {
     }
 
     // The same number of symlinks left, at another location.
+    #[inline(always)]
     pub(crate) fn moved(self, location: Location) -> Here
         ensures value { here_of result ≡ standing (location_of location) self.left }
         ensures location { result.location ≡ location }

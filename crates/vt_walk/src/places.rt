@@ -25,6 +25,7 @@ use vt_text::path::PathText;
 
 // What a last word names in a directory, with no symlink followed. W3, W4: if there is a word, the directory is searched;
 // without a word there is no trailing slash either. W8: `..` of a lost directory.
+#[inline(always)]
 fn placed<'a, L: Look>(
     world: &L,
     who: &Task,

@@ -28,6 +28,7 @@ use vt_text::link;
 use vt_text::path::Words;
 
 // This must be a directory that the task may search: W3, W4. W5 does not occur, since no filesystem is an overlay.
+#[inline(always)]
 pub(crate) fn searched<'a, L: Look>(
     world: &L,
     who: &Task,
@@ -58,6 +59,7 @@ pub(crate) fn searched<'a, L: Look>(
 }
 
 // The entry that a name has in a directory, on the same mount.
+#[inline(always)]
 fn entry_location(here: Location, directory: &Node, name: &[u8]) -> Option<Location>
     ensures { option_map location_of result ≡ option_map (λ object. record { mount = counted here.mount.count; node = object })
         (entry_named name.now (entries_in (node_seen here.node.filesystem (Some directory.now)))) }
@@ -70,6 +72,7 @@ fn entry_location(here: Location, directory: &Node, name: &[u8]) -> Option<Locat
 }
 
 // Where a word leads from a directory: a name through the mounts over the entry. W6: a missing name. W8: `..` of a lost directory.
+#[inline(always)]
 fn stepped<L: Look>(
     world: &L,
     who: &Task,
@@ -114,6 +117,7 @@ pub(crate) fn object_named<L: Look>(
 }
 
 // Where one word leads, with no symlink followed, from a location with this inode.
+#[inline(always)]
 fn word_led<L: Look>(
     world: &L,
     who: &Task,
@@ -153,6 +157,7 @@ pub(crate) fn last_walked<L: Look>(
 }
 
 // The text of a symlink; any other inode has none.
+#[inline(always)]
 pub(crate) fn symlink_text(node: Option<&Node>) -> Option<&[u8]>
     ensures { option_copied result ≡ symlink_text (option_copied node.entry) }
 {
@@ -165,6 +170,7 @@ pub(crate) fn symlink_text(node: Option<&Node>) -> Option<&[u8]>
 }
 
 // Where the walk of a symlink's text begins, if it may be walked, with one symlink less to follow: W9 before W7 before W2.
+#[inline(always)]
 pub(crate) fn link_begun<L: Look>(
     world: &L,
     who: &Task,
@@ -191,6 +197,7 @@ pub(crate) fn link_begun<L: Look>(
 }
 
 // Whether no symlink is followed on the mount of a location: `MS_NOSYMFOLLOW` of mount(2).
+#[inline(always)]
 fn is_nosymfollow<L: Look>(world: &L, link: Location) -> bool
     ensures { result ≡ (mount_at (L.looks world.now) (location_of link)).flags.nosymfollow }
 {
@@ -215,8 +222,9 @@ struct Reached<'a> {
     link: Option<LinkMet<'a>>,
 }
 
-// The words walked as far as the first that leads to a symlink.
-fn walked_to_link<'a, L: Look>(
+// As `walked_to_link`, of some words.
+#[inline(always)]
+fn words_walked_to_link<'a, L: Look>(
     world: &'a L,
     who: &Task,
     start: Here,
@@ -250,6 +258,28 @@ fn walked_to_link<'a, L: Look>(
         }
     }
     Ok(Reached { here, link: None })
+}
+
+// The words walked as far as the first that leads to a symlink. After a symlink there are often none: then nothing is
+// looked up.
+#[inline(always)]
+fn walked_to_link<'a, L: Look>(
+    world: &'a L,
+    who: &Task,
+    start: Here,
+    words: Words<'a>,
+) -> Result<Reached<'a>, Deny>
+    ensures value { (follow : Follow) → and_then result (walked_on_from (L.looks world.now) (task_of who.now) follow)
+        ≡ words_walked (L.looks world.now) (task_of who.now) follow (here_of start) (reverse words.entry) }
+    ensures left { IfOk result (λ reached. reached.here.left ≡ start.left) }
+{
+    if words.is_empty() {
+        return Ok(Reached {
+            here: start,
+            link: None,
+        });
+    }
+    words_walked_to_link(world, who, start, words)
 }
 
 // A text whose walk is not finished, and the words that are left of it.

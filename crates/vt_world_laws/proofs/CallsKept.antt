@@ -33,8 +33,8 @@ use Rattle.vt_tree_laws.proofs.TreesEntered.{found_all}
 use Rattle.vt_tree_laws.proofs.TreesLimits.{outcome_small}
 use Rattle.vt_tree_laws.proofs.TreesOfMounts.{worlds_are_standing}
 use Rattle.vt_tree_laws.proofs.TreesWalked.{no_some}
-use Rattle.vt_world_laws.specs.Worlds.Calls.{CallsKeepWorlds, PermitsFit}
-use Rattle.vt_world_laws.specs.Worlds.Kept.{IsPlain, IsWorldButForUse, KeptByPermits, MountsShow}
+use Rattle.vt_world_laws.specs.Worlds.Calls.{CallsKeepWorlds}
+use Rattle.vt_world_laws.specs.Worlds.Kept.{IsPlain, IsWorldButForUse, MountsShow}
 use Rattle.vt_world_laws.specs.Worlds.Filesystems.{OneFilesystemANumber}
 use Rattle.vt_world_laws.specs.Worlds.Permits.{IsFitPermit}
 use Rattle.vt_world_laws.specs.Worlds.Tasks.{LocationsAreThere, OneTaskAName, OpenFilesAreRegular, TasksStandOnDirectories}

@@ -13,7 +13,7 @@ use Rattle.vt_spec.specs.Machine.Run.{Serves}
 use Rattle.vt_spec.specs.Machine.World.{Task, World, task_called}
 use Rattle.vt_spec.specs.Machine.Invariants.{IsWorld}
 use Rattle.vt_tree_laws.specs.Trees.Calls.{mounts_overlay}
-use Rattle.vt_world_laws.specs.Worlds.Calls.{PermitsFit}
+use Rattle.vt_world_laws.specs.Worlds.Calls.{AllPermitsFit, PermitsFit}
 use Rattle.vt_world_laws.specs.Worlds.Permits.{IsFitPermit}
 use Rattle.vt_world_laws.proofs.FewMountsLeft.{few_left}
 use Rattle.vt_world_laws.proofs.FitPermits.{Fits, Permits, attaches, permitted}
@@ -77,7 +77,11 @@ module _ (fresh : Fresh ℕ) (world : World ℕ) (whole : IsWorld nat_eq world) 
       by true is = fits.1 is
       by false is = few_left fresh world whole serves task called permit is
 
-pub permits_fit : PermitsFit
-permits_fit world fresh task call permit whole plain serves called files judged =
+pub all_permits_fit : AllPermitsFit
+all_permits_fit world fresh task call permit whole serves called files judged =
     fitting fresh world whole task called serves permit
     (subst (Permits fresh world task) judged (call_fits fresh world whole task called call files))
+
+pub permits_fit : PermitsFit
+permits_fit world fresh task call permit whole plain serves called files judged =
+    all_permits_fit world fresh task call permit whole serves called files judged

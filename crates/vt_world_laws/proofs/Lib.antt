@@ -16,6 +16,7 @@ pub mod PermitsShow
 pub mod Placed
 pub mod Roots
 pub mod Seen
+pub mod SeenMerges
 pub mod SeenMounts
 pub mod SeenTrees
 pub mod TasksNamed

@@ -20,7 +20,7 @@ use Rattle.vt_mount_laws.proofs.EndingLazy.{lazy_unmount_keeps_mounts}
 use Rattle.vt_mount_laws.proofs.MountsInvariants.{flags_keep_mounts, type_keeps_mounts}
 use Rattle.vt_mount_laws.proofs.Pivoting.{numbered_mounts_can_pivot, pivot_keeps_mounts}
 use Rattle.vt_mount_laws.proofs.Unsharing.{unshare_keeps_mounts}
-use Rattle.vt_world_laws.specs.Worlds.Kept.{KeptByPermits}
+use Rattle.vt_world_laws.specs.Worlds.Kept.{KeptByAllPermits, KeptByPermits}
 use Rattle.vt_world_laws.specs.Worlds.Permits.{MayPivot, NamesWhatIsThere}
 use Rattle.vt_world_laws.proofs.MountsAlike.{change_of_files, copy_of_files, mounts_of_files, same_mounts, writing_of_files}
 use Rattle.vt_world_laws.proofs.MountsKeptAttaching.{at_root_of, bind_kept, move_kept, new_mount_kept}
@@ -110,6 +110,9 @@ module _ (world : World ℕ) (fresh : Fresh ℕ) (task : Task ℕ) (serves : Ser
       (can_pivot world task new put fits) kept
   mounts_kept_by ToListMounts fits = kept
 
-pub mounts_kept : KeptByPermits (MountInvariants nat_eq)
-mounts_kept world fresh task permit is plain serves called fits =
+pub all_mounts_kept : KeptByAllPermits (MountInvariants nat_eq)
+all_mounts_kept world fresh task permit is serves called fits =
     mounts_kept_by world fresh task serves is.mounts permit fits.names
+
+pub mounts_kept : KeptByPermits (MountInvariants nat_eq)
+mounts_kept world fresh task permit is plain serves called fits = all_mounts_kept world fresh task permit is serves called fits

@@ -24,7 +24,7 @@ use Rattle.vt_mount_laws.proofs.PivotingCounts.{pivot_keeps_counts}
 use Rattle.vt_mount_laws.proofs.Unmounting.{all_but_mounts, unmount_is_of_mounts}
 use Rattle.vt_mount_laws.proofs.UnmountingEnds.{lazy_is_of_mounts}
 use Rattle.vt_mount_laws.proofs.Unsharing.{unshare_keeps_mounts}
-use Rattle.vt_world_laws.specs.Worlds.Kept.{KeptByPermits}
+use Rattle.vt_world_laws.specs.Worlds.Kept.{KeptByAllPermits, KeptByPermits}
 use Rattle.vt_world_laws.specs.Worlds.Permits.{NamesWhatIsThere}
 use Rattle.vt_world_laws.proofs.MountsAlike.{IsOfFiles, change_of_files, copy_of_files, writing_of_files}
 use Rattle.vt_world_laws.proofs.MountsKept.{can_pivot}
@@ -233,8 +233,11 @@ module _ (world : World ℕ) (fresh : Fresh ℕ) (task : Task ℕ) (serves : Ser
       })
   namespaces_kept_by ToListMounts fits = are
 
-pub namespaces_kept : KeptByPermits (NamespaceInvariants nat_eq)
-namespaces_kept world fresh task permit is plain serves called fits =
+pub all_namespaces_kept : KeptByAllPermits (NamespaceInvariants nat_eq)
+all_namespaces_kept world fresh task permit is serves called fits =
     from_namespaces (apply nat_eq fresh world task permit).world
     (namespaces_kept_by world fresh task serves is (called_there world.tasks task.name task called) permit fits.names)
     fits.few_mounts
+
+pub namespaces_kept : KeptByPermits (NamespaceInvariants nat_eq)
+namespaces_kept world fresh task permit is plain serves called fits = all_namespaces_kept world fresh task permit is serves called fits

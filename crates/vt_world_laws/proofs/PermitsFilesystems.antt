@@ -60,7 +60,7 @@ pair_by_numbers (first ∷ rest) =
     ap (λ b. b || any_pair (λ (a b : Filesystem ℕ). nat_eq a.number b.number) rest) (any_by_numbers first.number rest)
     ∙ ap (λ b. list_any (nat_eq first.number) (numbers rest) || b) (pair_by_numbers rest)
 
-appended_apart : (list : List (Filesystem ℕ)) (new : Filesystem ℕ) → AreApart list
+pub appended_apart : (list : List (Filesystem ℕ)) (new : Filesystem ℕ) → AreApart list
     → ((old : Filesystem ℕ) → Among old list → nat_eq old.number new.number ≡ false) → AreApart (list ++ (new ∷ []))
 appended_apart [] new e differ = refl
 appended_apart (first ∷ rest) new e differ =

@@ -19,16 +19,16 @@ use Rattle.vt_spec.specs.Language.Calls.{same_name}
 use Rattle.vt_spec.specs.Machine.Invariants.{ForksAreCounted, TaskInvariants}
 use Rattle.vt_mount_laws.proofs.MountsRetyped.{types_are_of_mounts}
 use Rattle.vt_mount_laws.proofs.UnmountingEnds.{lazy_is_of_mounts}
-use Rattle.vt_world_laws.specs.Worlds.Kept.{IsPlain, KeptByPermits}
+use Rattle.vt_world_laws.specs.Worlds.Kept.{KeptByAllPermits, KeptByPermits}
 use Rattle.vt_world_laws.specs.Worlds.Permits.{NamesWhatIsThere}
 use Rattle.vt_world_laws.specs.Worlds.Tasks.{OneTaskAName, TasksAreWithinLimits}
 use Rattle.vt_world_laws.proofs.PermitsPlaced.{found_among, permits_keep_directories, permits_keep_locations, permits_keep_open_files}
-use Rattle.vt_world_laws.proofs.PermitsSeen.{gone_on, replaced_plain, replaced_tasks, taken_plain, taken_tasks}
-use Rattle.vt_world_laws.proofs.SeenTrees.{change_tasks}
+use Rattle.vt_world_laws.proofs.PermitsSeen.{gone_on, replaced_tasks, taken_tasks}
+use Rattle.vt_world_laws.proofs.SeenMerges.{change_keeps_tasks}
 use Rattle.vt_world_laws.proofs.TasksNamed.{GoOn, counted_among, counted_from, go_on_apart, go_on_counted}
 use Rattle.vt_world_laws.proofs.TasksNamed.GoOn.{all_moved, one_changed, one_left, one_more, same_ones}
 
-module _ (world : World ℕ) (fresh : Fresh ℕ) (task : Task ℕ) (plain : IsPlain world) where
+module _ (world : World ℕ) (fresh : Fresh ℕ) (task : Task ℕ) where
   abbrev after : Permit ℕ → World ℕ
   after permit = (apply nat_eq fresh world task permit).world
 
@@ -37,7 +37,7 @@ module _ (world : World ℕ) (fresh : Fresh ℕ) (task : Task ℕ) (plain : IsPl
 
   changed_alike : (location : Location ℕ) (change : Change ℕ)
       → (with_change nat_eq fresh world location change).tasks ≡ world.tasks
-  changed_alike location change = change_tasks fresh world plain location change
+  changed_alike location change = change_keeps_tasks fresh world location change
 
   copied_alike : (b : Bool) (file : Location ℕ)
       → (with_copy nat_eq b fresh world file).tasks ≡ world.tasks
@@ -59,18 +59,16 @@ module _ (world : World ℕ) (fresh : Fresh ℕ) (task : Task ℕ) (plain : IsPl
       (changed_alike location change)
   tasks_go_on (ToMake directory name node) fits =
       same_ones (after (ToMake directory name node)).tasks
-      (change_tasks (odds fresh) world plain directory
+      (change_keeps_tasks (odds fresh) world directory
       (Make directory.node name (evens fresh 0) node))
   tasks_go_on (ToRemoveDirectory parent name directory) fits =
       same_ones (after (ToRemoveDirectory parent name directory)).tasks
-      (change_tasks fresh (without_mounts_on nat_eq world directory)
-      (taken_plain world (gone_on world directory) plain) parent
+      (change_keeps_tasks fresh (without_mounts_on nat_eq world directory) parent
       (Remove parent.node name directory.node)
       ∙ taken_tasks world (gone_on world directory))
   tasks_go_on (ToRename from old to new object replaced) fits =
       same_ones (after (ToRename from old to new object replaced)).tasks
-      (change_tasks fresh (without_replaced nat_eq world replaced)
-      (replaced_plain world replaced plain) from
+      (change_keeps_tasks fresh (without_replaced nat_eq world replaced) from
       (Move from.node old to.node new object.node)
       ∙ replaced_tasks world replaced)
   tasks_go_on (ToOpen file access) fits =
@@ -81,7 +79,7 @@ module _ (world : World ℕ) (fresh : Fresh ℕ) (task : Task ℕ) (plain : IsPl
       let file : Location ℕ = record { mount = directory.mount; node = evens fresh 0 } in
       one_changed (with_descriptor task file access) (after (ToOpenNew directory name node access)).tasks refl refl
       (ap (map (replaced_if_called (with_descriptor task file access)))
-      (change_tasks (odds fresh) world plain directory
+      (change_keeps_tasks (odds fresh) world directory
       (Make directory.node name (evens fresh 0) node)))
   tasks_go_on (ToWritePart file offset bytes) fits =
       same_ones (after (ToWritePart file offset bytes)).tasks (written_alike file offset bytes)
@@ -125,20 +123,26 @@ module _ (world : World ℕ) (fresh : Fresh ℕ) (task : Task ℕ) (plain : IsPl
       (after (ToPivot new put)).tasks refl
   tasks_go_on ToListMounts fits = same_ones world.tasks refl
 
-pub permits_keep_names : KeptByPermits OneTaskAName
-permits_keep_names world fresh task permit is plain serves called fits =
+pub all_permits_keep_names : KeptByAllPermits OneTaskAName
+all_permits_keep_names world fresh task permit is serves called fits =
     go_on_apart task world.tasks
     (found_among (λ (other : Task ℕ). same_name task.name other.name) world.tasks task called)
-    is.tasks.one_task (counted_among world is.tasks.forks_counted) (after world fresh task plain permit).tasks
-    (tasks_go_on world fresh task plain permit fits.names)
+    is.tasks.one_task (counted_among world is.tasks.forks_counted) (after world fresh task permit).tasks
+    (tasks_go_on world fresh task permit fits.names)
 
-pub permits_keep_counting_forks : KeptByPermits ForksAreCounted
-permits_keep_counting_forks world fresh task permit is plain serves called fits =
-    counted_from (after world fresh task plain permit)
+pub permits_keep_names : KeptByPermits OneTaskAName
+permits_keep_names world fresh task permit is plain serves called fits = all_permits_keep_names world fresh task permit is serves called fits
+
+pub all_permits_keep_counting_forks : KeptByAllPermits ForksAreCounted
+all_permits_keep_counting_forks world fresh task permit is serves called fits =
+    counted_from (after world fresh task permit)
     (go_on_counted task world.tasks
     (found_among (λ (other : Task ℕ). same_name task.name other.name) world.tasks task called)
-    is.tasks.one_task (counted_among world is.tasks.forks_counted) (after world fresh task plain permit).tasks
-    (tasks_go_on world fresh task plain permit fits.names))
+    is.tasks.one_task (counted_among world is.tasks.forks_counted) (after world fresh task permit).tasks
+    (tasks_go_on world fresh task permit fits.names))
+
+pub permits_keep_counting_forks : KeptByPermits ForksAreCounted
+permits_keep_counting_forks world fresh task permit is plain serves called fits = all_permits_keep_counting_forks world fresh task permit is serves called fits
 
 -- All invariants of tasks, where tasks stay within their limits
 pub permits_keep_tasks : KeptByPermits (λ after. TasksAreWithinLimits after → TaskInvariants nat_eq after)

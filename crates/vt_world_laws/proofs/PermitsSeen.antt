@@ -5,6 +5,7 @@ use Rattle.vt_spec.specs.Machine.Apply.{apply}
 use Rattle.vt_spec.specs.Machine.Attach.{bind_tree}
 use Rattle.vt_spec.specs.Language.Changes.{Change}
 use Rattle.vt_spec.specs.Language.Changes.Change.{AddName, CopyUp, Make, Move, Remove, SetAttr, SetBytes, SetMark}
+use Rattle.vt_spec.specs.Machine.Filesystems.{with_change}
 use Rattle.vt_spec.specs.Machine.Detach.{going, taken_away, mounts_on, without_mounts_on}
 use Rattle.vt_spec.specs.Lists.{Fresh, evens, odds}
 use Rattle.vt_spec.specs.Machine.Mounts.{Location, Mount, mount_tree, numbers_by}
@@ -24,7 +25,8 @@ use Rattle.vt_world_laws.specs.Worlds.Kept.{IsPlain}
 use Rattle.vt_world_laws.specs.Worlds.Permits.{NamesWhatIsThere, SetsBytesOfFiles}
 use Rattle.vt_world_laws.proofs.Seen.{KeepsWhatIsSeen, same_seen, seen_alike, seen_on}
 use Rattle.vt_world_laws.proofs.SeenMounts.{attached_seen, copied_seen, ended_seen, flags_seen, lazy_seen, mounted_seen, moved_seen, pivoted_seen, retyped_seen, taken_seen}
-use Rattle.vt_world_laws.proofs.SeenTrees.{MakesNew, change_seen, unused_inode}
+use Rattle.vt_world_laws.proofs.SeenMerges.{AreNewInodes, UppersAreElsewhere, change_keeps_seen, elsewhere_in, new_in, odds_new, served_new, uppers_elsewhere}
+use Rattle.vt_world_laws.proofs.SeenTrees.{MakesNew, unused_inode}
 
 -- what a permit sets or names makes nothing
 pub makes_none : (world : World ℕ) (location : Location ℕ) (change : Change ℕ) → SetsBytesOfFiles world location change
@@ -82,21 +84,42 @@ unshared_seen world fresh task =
     copied_seen world (unshared nat_eq world fresh task)
     (map (copied_mount (numbers_by nat_eq (odds fresh) copied) (evens fresh 0)) copied) refl refl
 
-module _ (fresh : Fresh ℕ) (world : World ℕ) (plain : IsPlain world) where
+pub replaced_filesystems : (world : World ℕ) (replaced : Option (Location ℕ))
+    → (without_replaced nat_eq world replaced).filesystems ≡ world.filesystems
+replaced_filesystems world None = refl
+replaced_filesystems world (Some location) = taken_filesystems world (gone_on world location)
+
+-- a change in a world with these filesystems
+pub change_seen_in : (fresh : Fresh ℕ) (world middle : World ℕ) → UppersAreElsewhere world → AreNewInodes fresh world
+    → middle.filesystems ≡ world.filesystems → (location : Location ℕ) (change : Change ℕ)
+    → MakesNew (files_at nat_eq middle location) change → KeepsWhatIsSeen middle (with_change nat_eq fresh middle location change)
+change_seen_in fresh world middle elsewhere are_new same location change =
+    change_keeps_seen fresh middle (elsewhere_in middle world same elsewhere) (new_in fresh middle world same are_new) location change
+
+module _ (fresh : Fresh ℕ) (world : World ℕ) (elsewhere : UppersAreElsewhere world) (are_new : AreNewInodes fresh world) where
   pub copy_seen : (b : Bool) (file : Location ℕ)
       → KeepsWhatIsSeen world (with_copy nat_eq b fresh world file)
-  copy_seen true file = change_seen fresh world plain file (CopyUp file.node) tt
+  copy_seen true file = change_keeps_seen fresh world elsewhere are_new file (CopyUp file.node) tt
   copy_seen false file = same_seen world
 
   pub written_seen : (file : Location ℕ) (offset : ℕ) (bytes : List ℕ)
       → KeepsWhatIsSeen world (pwritten nat_eq fresh world file offset bytes)
   written_seen file offset [] = same_seen world
-  written_seen file offset (byte ∷ bytes) = change_seen fresh world plain file _ tt
+  written_seen file offset (byte ∷ bytes) = change_keeps_seen fresh world elsewhere are_new file _ tt
 
-module _ (world : World ℕ) (fresh : Fresh ℕ) (task : Task ℕ) (is : IsWorld nat_eq world) (plain : IsPlain world)
+module _ (world : World ℕ) (fresh : Fresh ℕ) (task : Task ℕ) (is : IsWorld nat_eq world)
     (serves : Serves nat_eq world fresh) where
   abbrev after : Permit ℕ → World ℕ
   after permit = (apply nat_eq fresh world task permit).world
+
+  pub elsewhere : UppersAreElsewhere world
+  elsewhere = uppers_elsewhere world is.overlays
+
+  pub are_new : AreNewInodes fresh world
+  are_new = served_new world fresh serves is.files.numbers
+
+  pub odds_are_new : AreNewInodes (odds fresh) world
+  odds_are_new = odds_new world fresh are_new
 
   -- numbers of inodes that are made are new
   pub new_at : (location : Location ℕ) → (files_at nat_eq world location).tree.node (evens fresh 0) ≡ None
@@ -110,32 +133,32 @@ module _ (world : World ℕ) (fresh : Fresh ℕ) (task : Task ℕ) (is : IsWorld
   permits_keep_what_is_seen (ToRead file) names = same_seen world
   permits_keep_what_is_seen (ToReadPart file offset size) names = same_seen world
   permits_keep_what_is_seen (ToChange location change) names =
-      change_seen fresh world plain location change (makes_none world location change names.1)
+      change_keeps_seen fresh world elsewhere are_new location change (makes_none world location change names.1)
   permits_keep_what_is_seen (ToMake directory name node) names =
-      change_seen (odds fresh) world plain directory
+      change_keeps_seen (odds fresh) world elsewhere odds_are_new directory
       (Make directory.node name (evens fresh 0) node) (new_at directory)
   permits_keep_what_is_seen (ToRemoveDirectory parent name directory) names =
       let middle_one = without_mounts_on nat_eq world directory in
       seen_on world middle_one (after (ToRemoveDirectory parent name directory)) (point_removed_seen world directory)
-      (change_seen fresh middle_one (taken_plain world (gone_on world directory) plain) parent
+      (change_seen_in fresh world middle_one elsewhere are_new (taken_filesystems world (gone_on world directory)) parent
       (Remove parent.node name directory.node) tt)
   permits_keep_what_is_seen (ToRename from old to new object replaced) names =
       let middle_one = without_replaced nat_eq world replaced in
       seen_on world middle_one (after (ToRename from old to new object replaced)) (replaced_seen world replaced)
-      (change_seen fresh middle_one (replaced_plain world replaced plain) from
+      (change_seen_in fresh world middle_one elsewhere are_new (replaced_filesystems world replaced) from
       (Move from.node old to.node new object.node) tt)
   permits_keep_what_is_seen (ToOpen file access) names =
       let copied = with_copy nat_eq (is_copied_up nat_eq world file access) fresh world file in
       seen_on world copied (after (ToOpen file access))
-      (copy_seen fresh world plain (is_copied_up nat_eq world file access) file)
+      (copy_seen fresh world elsewhere are_new (is_copied_up nat_eq world file access) file)
       (seen_alike copied (after (ToOpen file access)) refl refl)
   permits_keep_what_is_seen (ToOpenNew directory name node access) names =
       seen_on world (after (ToMake directory name node)) (after (ToOpenNew directory name node access))
-      (change_seen (odds fresh) world plain directory
+      (change_keeps_seen (odds fresh) world elsewhere odds_are_new directory
       (Make directory.node name (evens fresh 0) node) (new_at directory))
       (seen_alike (after (ToMake directory name node)) (after (ToOpenNew directory name node access)) refl refl)
   permits_keep_what_is_seen (ToWritePart file offset bytes) names =
-      written_seen fresh world plain file offset bytes
+      written_seen fresh world elsewhere are_new file offset bytes
   permits_keep_what_is_seen (ToClose descriptor) names = seen_alike world (after (ToClose descriptor)) refl refl
   permits_keep_what_is_seen (ToSetDirectory directory) names =
       seen_alike world (after (ToSetDirectory directory)) refl refl

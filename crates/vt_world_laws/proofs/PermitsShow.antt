@@ -17,16 +17,17 @@ use Rattle.vt_spec.specs.Machine.Run.{Serves}
 use Rattle.vt_spec.specs.Machine.World.{Task, World, mount_at, mount_numbered, node_at, without_task}
 use Rattle.vt_spec.specs.Machine.Invariants.{IsWorld}
 use Rattle.vt_mount_laws.specs.Mounts.Attaching.{is_mount}
-use Rattle.vt_world_laws.specs.Worlds.Kept.{IsPlain, KeptByPermits, MountsShow}
+use Rattle.vt_world_laws.specs.Worlds.Kept.{KeptByAllPermits, KeptByPermits, MountsShow}
 use Rattle.vt_world_laws.specs.Worlds.Permits.{IsReachedDirectory, NamesWhatIsThere}
-use Rattle.vt_world_laws.proofs.PermitsSeen.{copy_seen, gone_on, makes_none, new_at, permits_keep_what_is_seen, replaced_plain, taken_plain, written_seen}
+use Rattle.vt_world_laws.proofs.PermitsSeen.{are_new, change_seen_in, copy_seen, elsewhere, gone_on, makes_none, new_at, odds_are_new, permits_keep_what_is_seen, replaced_filesystems, written_seen}
 use Rattle.vt_world_laws.proofs.Roots.{own_there}
 use Rattle.vt_world_laws.proofs.Seen.{KeepsWhatIsSeen, seen_alike}
-use Rattle.vt_world_laws.proofs.SeenTrees.{change_mounts, change_seen}
+use Rattle.vt_world_laws.proofs.SeenMerges.{change_keeps_mounts, change_keeps_seen}
+use Rattle.vt_tree_laws.proofs.TreesOfWorlds.{taken_filesystems}
 use Rattle.vt_world_laws.proofs.Shows.{AllShow, IsPlace, all_show_after, ended_show, flags_show, lazy_show, mounts_show, own_shows, pivoted_show, retyped_show, taken_show, unshared_show, world_shows}
 use Rattle.vt_world_laws.proofs.ShowsGrafts.{bound_show, mounted_show, moved_show}
 
-module _ (world : World ℕ) (fresh : Fresh ℕ) (task : Task ℕ) (is : IsWorld nat_eq world) (plain : IsPlain world)
+module _ (world : World ℕ) (fresh : Fresh ℕ) (task : Task ℕ) (is : IsWorld nat_eq world)
     (serves : Serves nat_eq world fresh) where
   abbrev after : Permit ℕ → World ℕ
   after permit = (apply nat_eq fresh world task permit).world
@@ -43,25 +44,25 @@ module _ (world : World ℕ) (fresh : Fresh ℕ) (task : Task ℕ) (is : IsWorld
       }
 
   -- a change of a tree
-  changing : (supply : Fresh ℕ) (middle : World ℕ) (also : IsPlain middle) → AllShow middle
+  changing : (supply : Fresh ℕ) (middle : World ℕ) → AllShow middle
       → (location : Location ℕ) (change : Change ℕ)
       → KeepsWhatIsSeen middle (with_change nat_eq supply middle location change)
       → AllShow (with_change nat_eq supply middle location change)
-  changing supply middle also show location change seen =
+  changing supply middle show location change seen =
       all_show_after middle (with_change nat_eq supply middle location change) seen
-      (change_mounts supply middle also location change) show
+      (change_keeps_mounts supply middle location change) show
 
   copying : (b : Bool) (file : Location ℕ) → AllShow (with_copy nat_eq b fresh world file)
-  copying true file = changing fresh world plain shows file (CopyUp file.node)
-      (copy_seen fresh world plain true file)
+  copying true file = changing fresh world shows file (CopyUp file.node)
+      (copy_seen fresh world (elsewhere world fresh task is serves) (are_new world fresh task is serves) true file)
   copying false file = shows
 
   writing : (file : Location ℕ) (offset : ℕ) (bytes : List ℕ)
       → AllShow (pwritten nat_eq fresh world file offset bytes)
   writing file offset [] = shows
   writing file offset (byte ∷ bytes) =
-      changing fresh world plain shows file _
-      (written_seen fresh world plain file offset (byte ∷ bytes))
+      changing fresh world shows file _
+      (written_seen fresh world (elsewhere world fresh task is serves) (are_new world fresh task is serves) file offset (byte ∷ bytes))
 
   replacing : (replaced : Option (Location ℕ)) → AllShow (without_replaced nat_eq world replaced)
   replacing None = shows
@@ -80,25 +81,25 @@ module _ (world : World ℕ) (fresh : Fresh ℕ) (task : Task ℕ) (is : IsWorld
   permits_keep_all_shown (ToRead file) fits = shows
   permits_keep_all_shown (ToReadPart file offset size) fits = shows
   permits_keep_all_shown (ToChange location change) fits =
-      changing fresh world plain shows location change
-      (change_seen fresh world plain location change (makes_none world location change fits.1))
+      changing fresh world shows location change
+      (change_keeps_seen fresh world (elsewhere world fresh task is serves) (are_new world fresh task is serves) location change (makes_none world location change fits.1))
   permits_keep_all_shown (ToMake directory name node) fits =
-      changing (odds fresh) world plain shows directory (Make directory.node name (evens fresh 0) node)
-      (change_seen (odds fresh) world plain directory
+      changing (odds fresh) world shows directory (Make directory.node name (evens fresh 0) node)
+      (change_keeps_seen (odds fresh) world (elsewhere world fresh task is serves) (odds_are_new world fresh task is serves) directory
       (Make directory.node name (evens fresh 0) node)
-      (new_at world fresh task is plain serves directory))
+      (new_at world fresh task is serves directory))
   permits_keep_all_shown (ToRemoveDirectory parent name directory) fits =
-      let also = taken_plain world (gone_on world directory) plain in
-      changing fresh (without_mounts_on nat_eq world directory) also
+      changing fresh (without_mounts_on nat_eq world directory)
       (taken_show world (gone_on world directory) shows) parent
       (Remove parent.node name directory.node)
-      (change_seen fresh (without_mounts_on nat_eq world directory) also parent
+      (change_seen_in fresh world (without_mounts_on nat_eq world directory) (elsewhere world fresh task is serves) (are_new world fresh task is serves)
+      (taken_filesystems world (gone_on world directory)) parent
       (Remove parent.node name directory.node) tt)
   permits_keep_all_shown (ToRename from old to new object replaced) fits =
-      let also = replaced_plain world replaced plain in
-      changing fresh (without_replaced nat_eq world replaced) also (replacing replaced) from
+      changing fresh (without_replaced nat_eq world replaced) (replacing replaced) from
       (Move from.node old to.node new object.node)
-      (change_seen fresh (without_replaced nat_eq world replaced) also from
+      (change_seen_in fresh world (without_replaced nat_eq world replaced) (elsewhere world fresh task is serves) (are_new world fresh task is serves)
+      (replaced_filesystems world replaced) from
       (Move from.node old to.node new object.node) tt)
   permits_keep_all_shown (ToOpen file access) fits =
       alike (with_copy nat_eq (is_copied_up nat_eq world file access) fresh world file)
@@ -106,10 +107,10 @@ module _ (world : World ℕ) (fresh : Fresh ℕ) (task : Task ℕ) (is : IsWorld
       refl refl (copying (is_copied_up nat_eq world file access) file)
   permits_keep_all_shown (ToOpenNew directory name node access) fits =
       alike (after (ToMake directory name node)) (after (ToOpenNew directory name node access)) refl refl
-      (changing (odds fresh) world plain shows directory (Make directory.node name (evens fresh 0) node)
-      (change_seen (odds fresh) world plain directory
+      (changing (odds fresh) world shows directory (Make directory.node name (evens fresh 0) node)
+      (change_keeps_seen (odds fresh) world (elsewhere world fresh task is serves) (odds_are_new world fresh task is serves) directory
       (Make directory.node name (evens fresh 0) node)
-      (new_at world fresh task is plain serves directory)))
+      (new_at world fresh task is serves directory)))
   permits_keep_all_shown (ToWritePart file offset bytes) fits = writing file offset bytes
   permits_keep_all_shown (ToClose descriptor) fits = alike world (after (ToClose descriptor)) refl refl shows
   permits_keep_all_shown (ToSetDirectory directory) fits =
@@ -134,7 +135,7 @@ module _ (world : World ℕ) (fresh : Fresh ℕ) (task : Task ℕ) (is : IsWorld
       bound_show world is fresh source place recursive serves fits.0.directory (reached_place place fits.2.directory)
   permits_keep_all_shown (ToMove mount place) fits =
       moved_show world is fresh mount place serves (own_there world is mount task.namespace fits.own)
-      (permits_keep_what_is_seen world fresh task is plain serves (ToMove mount place) fits)
+      (permits_keep_what_is_seen world fresh task is serves (ToMove mount place) fits)
       (reached_place place fits.destination.directory)
   permits_keep_all_shown (ToUnmount mount) fits =
       taken_show world (going nat_eq world (mount_numbered nat_eq world mount)) shows
@@ -147,7 +148,11 @@ module _ (world : World ℕ) (fresh : Fresh ℕ) (task : Task ℕ) (is : IsWorld
       (own_shows world is task.root.mount task.namespace fits.own_root) (reached_place put fits.destination.directory)
   permits_keep_all_shown ToListMounts fits = shows
 
+pub all_permits_keep_mounts_showing : KeptByAllPermits MountsShow
+all_permits_keep_mounts_showing world fresh task permit is serves called fits =
+    mounts_show (after world fresh task is serves permit)
+    (permits_keep_all_shown world fresh task is serves permit fits.names)
+
 pub permits_keep_mounts_showing : KeptByPermits MountsShow
 permits_keep_mounts_showing world fresh task permit is plain serves called fits =
-    mounts_show (after world fresh task is plain serves permit)
-    (permits_keep_all_shown world fresh task is plain serves permit fits.names)
+    all_permits_keep_mounts_showing world fresh task permit is serves called fits

@@ -1,5 +1,5 @@
 -- What is in use does not go by change numbers, so raising them keeps all invariants.
-use Rattle.std.proofs.Common.{◌≤◌, ◌≡◌, refl, sym, ap, subst, ◌∙◌, ℕ, nat_eq, Bool, true, false, cond, List, [], ◌∷◌, ◌++◌, ◌||◌, ◌&&◌, map, is_some}
+use Rattle.std.proofs.Common.{◌≡◌, refl, sym, ap, subst, ◌∙◌, ℕ, nat_eq, Bool, true, false, cond, List, [], ◌∷◌, ◌++◌, ◌||◌, ◌&&◌, map, is_some}
 use Rattle.std.specs.Prelude.{filter, filter_map}
 use Rattle.std.specs.List.{list_all, list_any}
 use Rattle.std.proofs.lemmas.List.Elements.{All-map, All-weaker}
@@ -11,7 +11,7 @@ use Rattle.vt_spec.specs.Machine.Settled.{filesystem_lives, has_layer_on, is_mou
 use Rattle.vt_spec.specs.Machine.World.{Filesystem, Layer, Namespace, Task, World, all_locations, layers_of, mount_at}
 use Rattle.vt_spec.specs.Language.Calls.{TaskName, same_name}
 use Rattle.vt_spec.specs.Machine.Invariants.{IsWorld}
-use Rattle.vt_spec.proofs.Lists.{all-map, among-from_map, among_from_contains, contains_from_among}
+use Rattle.vt_spec.proofs.Lists.{all-map}
 use Rattle.vt_letting_go.specs.InUse.{AllInUse, is_inode_used}
 use Rattle.vt_letting_go.proofs.InUse.{nothing_goes, what_is_left_is_in_use}
 use Rattle.vt_letting_go.proofs.Lists.{any-map, flat_map-map}

@@ -8,10 +8,8 @@ use Rattle.vt_spec.specs.Language.Script.{Grammar, Request, is_silent, request_o
 use Rattle.vt_spec.specs.Language.Limits.{longest_line}
 use Rattle.vt_spec.specs.Language.Script.Request.{Asking, Calling}
 use Rattle.vt_spec.specs.Machine.World.{World, opening}
-use Rattle.vt_spec.specs.Machine.Invariants.{IsWorld}
 use Rattle.vt_laws.proofs.Unchanged.{directive_changes_nothing, refused_memory_changes_nothing}
 use Rattle.vt_world_laws.specs.Worlds.Calls.{HasNoOverlays, LeadsTo, ScriptsLeadToWorlds, asks_for_overlay}
-use Rattle.vt_world_laws.specs.Worlds.Kept.{IsPlain}
 use Rattle.vt_world_laws.proofs.CallsKept.{Kept, calls_keep_worlds}
 use Rattle.vt_world_laws.proofs.OpeningWorld.{opening_is_a_world}
 use Rattle.vt_world_laws.proofs.WordsFew.{lines_name_few, request_names_few}

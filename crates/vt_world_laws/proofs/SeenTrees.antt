@@ -22,7 +22,7 @@ use Rattle.vt_world_laws.specs.Worlds.Kept.{IsPlain}
 use Rattle.vt_world_laws.proofs.Seen.{KeepsKind, KeepsWhatIsSeen, kind_seen, node_in, same_kind, seen_by_nodes}
 
 -- Changes of an inode
-kind-with_entries : (content : Content ℕ) (entries : List (List ℕ × ℕ))
+pub kind-with_entries : (content : Content ℕ) (entries : List (List ℕ × ℕ))
     → kind_of (with_entries content entries) ≡ kind_of content
 kind-with_entries (Directory parent old opaque) entries = refl
 kind-with_entries (Regular bytes) entries = refl
@@ -40,7 +40,7 @@ kind-without_entry name None = refl
 kind-without_entry name (Some node) =
     ap Some (kind-with_entries node.content (without_entry name (entries_of node.content)))
 
-kind-with_bytes : (bytes : List ℕ) (o : Option (Node ℕ)) → kind_seen (node_with_bytes bytes o) ≡ kind_seen o
+pub kind-with_bytes : (bytes : List ℕ) (o : Option (Node ℕ)) → kind_seen (node_with_bytes bytes o) ≡ kind_seen o
 kind-with_bytes bytes None = refl
 kind-with_bytes bytes (Some node) = by node.content
   where
@@ -50,11 +50,11 @@ kind-with_bytes bytes (Some node) = by node.content
     by (Symlink text) = refl
     by Whiteout = refl
 
-kind-with_attr : (attr : Attr) (o : Option (Node ℕ)) → kind_seen (node_with_attr attr o) ≡ kind_seen o
+pub kind-with_attr : (attr : Attr) (o : Option (Node ℕ)) → kind_seen (node_with_attr attr o) ≡ kind_seen o
 kind-with_attr attr None = refl
 kind-with_attr attr (Some node) = refl
 
-kind-with_mark : (opaque : Bool) (o : Option (Node ℕ)) → kind_seen (node_with_mark opaque o) ≡ kind_seen o
+pub kind-with_mark : (opaque : Bool) (o : Option (Node ℕ)) → kind_seen (node_with_mark opaque o) ≡ kind_seen o
 kind-with_mark opaque None = refl
 kind-with_mark opaque (Some node) = by node.content
   where
@@ -64,7 +64,7 @@ kind-with_mark opaque (Some node) = by node.content
     by (Symlink text) = refl
     by Whiteout = refl
 
-kind-with_parent : (parent : ℕ) (o : Option (Node ℕ)) → kind_seen (node_with_parent parent o) ≡ kind_seen o
+pub kind-with_parent : (parent : ℕ) (o : Option (Node ℕ)) → kind_seen (node_with_parent parent o) ≡ kind_seen o
 kind-with_parent parent None = refl
 kind-with_parent parent (Some node) = by node.content
   where
@@ -75,20 +75,20 @@ kind-with_parent parent (Some node) = by node.content
     by Whiteout = refl
 
 -- Changes of a tree
-abbrev SameKinds : FileTree ℕ → FileTree ℕ → Type 0
+abbrev pub SameKinds : FileTree ℕ → FileTree ℕ → Type 0
 SameKinds before after = (k : ℕ) → kind_seen (after.tree.node k) ≡ kind_seen (before.tree.node k)
 
-kinds-with_name : (files : FileTree ℕ) (directory : ℕ) (name : List ℕ) (number : ℕ)
+pub kinds-with_name : (files : FileTree ℕ) (directory : ℕ) (name : List ℕ) (number : ℕ)
     → SameKinds files (with_name nat_eq files directory name number)
 kinds-with_name files directory name number =
     part_stays files directory (node_with_entry name number) kind_seen (kind-with_entry name number)
 
-kinds-without_name : (files : FileTree ℕ) (directory : ℕ) (name : List ℕ)
+pub kinds-without_name : (files : FileTree ℕ) (directory : ℕ) (name : List ℕ)
     → SameKinds files (without_name nat_eq files directory name)
 kinds-without_name files directory name =
     part_stays files directory (node_without_entry name) kind_seen (kind-without_entry name)
 
-kinds-without_parent : (files : FileTree ℕ) (object : Option ℕ) → SameKinds files (without_parent nat_eq files object)
+pub kinds-without_parent : (files : FileTree ℕ) (object : Option ℕ) → SameKinds files (without_parent nat_eq files object)
 kinds-without_parent files None k = refl
 kinds-without_parent files (Some object) k =
     part_stays files object (node_with_parent object) kind_seen (kind-with_parent object) k
@@ -104,7 +104,7 @@ MakesNew files (SetAttr object attr) = ⊤
 MakesNew files (SetMark directory opaque) = ⊤
 MakesNew files (CopyUp object) = ⊤
 
-keeps-with_inode : (files : FileTree ℕ) (number : ℕ) (node : Node ℕ) → files.tree.node number ≡ None
+pub keeps-with_inode : (files : FileTree ℕ) (number : ℕ) (node : Node ℕ) → files.tree.node number ≡ None
     → (k : ℕ) → KeepsKind (files.tree.node k) ((with_inode nat_eq files number node).tree.node k)
 keeps-with_inode files number node none k test e = by (nat_eq k number) refl
   where
@@ -170,7 +170,7 @@ module _ (new : Filesystem ℕ) where
       ap (λ n. n ∷ map (λ (f : Filesystem ℕ). f.number) (replaced rest)) (replaced_number first)
       ∙ ap (λ ns. first.number ∷ ns) (numbers-replaced rest)
 
-  found_other : (list : List (Filesystem ℕ)) (number : ℕ) → nat_eq new.number number ≡ false
+  pub found_other : (list : List (Filesystem ℕ)) (number : ℕ) → nat_eq new.number number ≡ false
       → numbered number (replaced list) ≡ numbered number list
   found_other [] number other = refl
   found_other (first ∷ rest) number other =

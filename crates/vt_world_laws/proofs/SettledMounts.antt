@@ -16,7 +16,7 @@ use Rattle.vt_mount_laws.proofs.GroupsKept.{settling_keeps_groups}
 use Rattle.vt_mount_laws.proofs.MountsApart.{settling_keeps_apart}
 use Rattle.vt_mount_laws.proofs.MountsKept.{settling_keeps_nowhere}
 use Rattle.vt_mount_laws.specs.Mounts.Conditions.{AreApart}
-use Rattle.vt_world_laws.specs.Worlds.Kept.{IsWorldButForUse}
+use Rattle.vt_world_laws.specs.Worlds.Kept.{IsUnderWay}
 use Rattle.vt_world_laws.proofs.SettledSeen.{attached_lives, found_still, itself, placed_attached}
 
 -- what is found with a place is there
@@ -33,7 +33,7 @@ found_placed (first ∷ rest) number e = by (nat_eq number first.number) e (foun
     by true f later = inl refl
     by false f later = inr (later f)
 
-module _ (world : World ℕ) (unsettled : IsWorldButForUse world) where
+module _ (world : World ℕ) (unsettled : IsUnderWay world) where
   abbrev later : World ℕ
   later = settled nat_eq world
 

@@ -10,7 +10,7 @@ use Rattle.vt_letting_go.proofs.InUse.{number-left}
 use Rattle.vt_letting_go.proofs.Lists.{Among, among-filter, among-map, any_passes, is_among_numbers, map_twice, or_first, or_second, passes}
 use Rattle.vt_letting_go.proofs.PlacesLeft.{found_in_filter, found_itself, nowhere_parts}
 use Rattle.vt_tree_laws.proofs.TreesForgotten.{among_located, used_stays}
-use Rattle.vt_world_laws.specs.Worlds.Kept.{IsWorldButForUse}
+use Rattle.vt_world_laws.specs.Worlds.Kept.{IsUnderWay}
 
 -- an inode of a filesystem by its number, where those of the number stay and keep it
 node_kept : (stays : Filesystem ℕ → Bool) (change : Filesystem ℕ → Filesystem ℕ)
@@ -64,7 +64,7 @@ located_kept world true filesystem object is =
     used_stays world filesystem object (among_located world filesystem object is)
 located_kept world false filesystem object is = refl
 
-module _ (world : World ℕ) (unsettled : IsWorldButForUse world) where
+module _ (world : World ℕ) (unsettled : IsUnderWay world) where
   abbrev mounted : World ℕ
   mounted = without_dead_mounts nat_eq world
 

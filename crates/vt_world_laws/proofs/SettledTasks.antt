@@ -24,7 +24,7 @@ use Rattle.vt_tree_laws.proofs.TreesForgotten.{settling_keeps_trees}
 use Rattle.std.proofs.lemmas.Option.{same_Some}
 use Rattle.vt_spec.specs.TreeLaws.{HasOwnParents, IsTree}
 use Rattle.vt_spec.specs.Machine.Invariants.Stands.{at_root, on_parent}
-use Rattle.vt_world_laws.specs.Worlds.Kept.{IsPlain, IsWorldButForUse, MountsShow, SettlingLeavesAWorld}
+use Rattle.vt_world_laws.specs.Worlds.Kept.{IsPlain, IsUnderWay, IsWorldButForUse, MountsShow, SettlingLeavesAWorld}
 use Rattle.vt_world_laws.proofs.Plain.{uppers_plain}
 use Rattle.vt_world_laws.proofs.RaisedInUse.{world_of}
 use Rattle.vt_world_laws.proofs.SettledMounts.{settled_mounts, settled_namespaces}
@@ -45,7 +45,7 @@ found_listed (first ∷ rest) number h = by (nat_eq number first.number) h (foun
     by true f later = inl refl
     by false f later = inr (later f)
 
-module _ (world : World ℕ) (unsettled : IsWorldButForUse world) where
+module _ (world : World ℕ) (unsettled : IsUnderWay world) where
   abbrev after : World ℕ
   after = settled nat_eq world
 
@@ -66,9 +66,9 @@ module _ (world : World ℕ) (unsettled : IsWorldButForUse world) where
       located_lives world unsettled location m (mount_at nat_eq world location)
       (number_found world.mounts location.mount)
 
-  pub same_node : (location : Location ℕ) → Among location (all_locations world) → node_at nat_eq after location
+  pub still_there : (location : Location ℕ) → Among location (all_locations world) → node_at nat_eq after location
       ≡ node_at nat_eq world location
-  same_node location m =
+  still_there location m =
       seen_stays world unsettled location
       (among-append_left (all_locations world ++ map root_of live_mounts)
       (filter_map (λ mount. mount.mount_point) live_mounts) location
@@ -90,27 +90,27 @@ module _ (world : World ℕ) (unsettled : IsWorldButForUse world) where
       (among-map (λ (mount : Mount ℕ). mount.number) live_mounts (mount_at nat_eq world location)
       (among-filter (mount_lives nat_eq world) world.mounts (mount_at nat_eq world location)
       (located_there location m) (mount_lives_at location m))))
-      (ap is_some (same_node location m)
+      (ap is_some (still_there location m)
       ∙ (and_parts (is_among nat_eq location.mount (map (λ (mount : Mount ℕ). mount.number) world.mounts)) _
       (passes (is_located_well nat_eq world) (all_locations world) unsettled.tasks.locations_live location m)).1)
 
-  pub of_task : (task : Task ℕ) → Among task world.tasks → (location : Location ℕ) → Among location (locations_of task)
+  pub task_location : (task : Task ℕ) → Among task world.tasks → (location : Location ℕ) → Among location (locations_of task)
       → Among location (all_locations world)
-  of_task task m location l = among-flat_map locations_of world.tasks task location m l
+  task_location task m location l = among-flat_map locations_of world.tasks task location m l
 
   on_directories : (task : Task ℕ) → Among task world.tasks → stands_on_directories nat_eq after task
       ≡ stands_on_directories nat_eq world task
   on_directories task m = λ i.
-      (is_directory_node (same_node task.root root i)
+      (is_directory_node (still_there task.root root i)
       && list_all (nat_eq task.namespace) (option_to_list (same_mount task.root root i).namespace))
-      && (is_directory_node (same_node task.directory directory i)
+      && (is_directory_node (still_there task.directory directory i)
       && list_all (nat_eq task.namespace) (option_to_list (same_mount task.directory directory i).namespace))
     where
       root : Among task.root (all_locations world)
-      root = of_task task m task.root (inl refl)
+      root = task_location task m task.root (inl refl)
 
       directory : Among task.directory (all_locations world)
-      directory = of_task task m task.directory (inr (inl refl))
+      directory = task_location task m task.directory (inr (inl refl))
 
   files_open : (task : Task ℕ) → Among task world.tasks → has_regular_files_open nat_eq world task ≡ true
       → has_regular_files_open nat_eq after task ≡ true
@@ -118,13 +118,13 @@ module _ (world : World ℕ) (unsettled : IsWorldButForUse world) where
       all_pass (λ (descriptor : Descriptor ℕ). is_kind_in File (node_at nat_eq after descriptor.location))
       task.descriptors
       (λ descriptor d.
-      ap (is_kind_in File) (same_node descriptor.location
-      (of_task task m descriptor.location
+      ap (is_kind_in File) (still_there descriptor.location
+      (task_location task m descriptor.location
       (inr (inr (among-map (λ (x : Descriptor ℕ). x.location) task.descriptors descriptor d)))))
       ∙ passes (λ (x : Descriptor ℕ). is_kind_in File (node_at nat_eq world x.location)) task.descriptors h
       descriptor d)
 
-  settled_tasks : TaskInvariants nat_eq after
+  pub settled_tasks : TaskInvariants nat_eq after
   settled_tasks = record {
     one_task = unsettled.tasks.one_task;
     small_tasks = unsettled.tasks.small_tasks;
@@ -204,7 +204,7 @@ module _ (world : World ℕ) (unsettled : IsWorldButForUse world) where
           (found_is_there world.mounts place.mount (below_attached place e))
           (attached_lives world unsettled (mount_at nat_eq world place) (below_attached place e))
 
-  settled_roots : MountsShow after
+  pub settled_roots : MountsShow after
   settled_roots =
       all_pass (has_its_root nat_eq after) live_mounts (λ mount m.
       let was = among-from_filter (mount_lives nat_eq world) world.mounts mount m in shows mount was.0 was.1)
@@ -216,23 +216,16 @@ module _ (world : World ℕ) (unsettled : IsWorldButForUse world) where
   abbrev first_round : World ℕ
   first_round = without_dead_in nat_eq is_overlay living
 
-  settled_plain : IsPlain after
-  settled_plain =
-      without_dead_plain (λ f. not (is_overlay f)) first_round
-      (without_dead_plain is_overlay living
-      (All-filter (filesystem_lives nat_eq (without_dead_mounts nat_eq world))
-      (λ f. is_overlay f ≡ false) world.filesystems unsettled.plain))
-
-  pub file_trees : All (λ f. IsFileTree f.files) world.filesystems
-  file_trees = all_from_among (λ f. IsFileTree f.files) world.filesystems (λ f m. record {
+  pub trees_under_way : All (λ f. IsFileTree f.files) world.filesystems
+  trees_under_way = all_from_among (λ f. IsFileTree f.files) world.filesystems (λ f m. record {
     tree = among_from_all (λ g. IsTree g.files.tree) world.filesystems unsettled.files.trees f m;
     numbers = among_from_all (λ g. ListsNumbers nat_eq g.files) world.filesystems unsettled.files.numbers f m;
     own_parents = among_from_all (λ g. HasOwnParents g.files.tree) world.filesystems unsettled.files.own_parents f m;
   })
 
-  settled_trees : TreeInvariants nat_eq after
+  pub settled_trees : TreeInvariants nat_eq after
   settled_trees =
-      let trees : All (λ f. IsFileTree f.files) after.filesystems = settling_keeps_trees world file_trees in
+      let trees : All (λ f. IsFileTree f.files) after.filesystems = settling_keeps_trees world trees_under_way in
       record {
         trees = All-weaker (λ f. IsFileTree f.files) (λ f. IsTree f.files.tree)
             (λ f is. is.tree) after.filesystems trees;
@@ -259,25 +252,54 @@ module _ (world : World ℕ) (unsettled : IsWorldButForUse world) where
           ∙ ap (nat_eq a.number) (used_number w (chosen b) b) ∙ e)
           apart
 
-  settled_is : IsWorldButForUse after
-  settled_is = record {
-    plain = settled_plain;
-    files = settled_trees;
-    mounts = settled_mounts world unsettled;
-    namespaces = settled_namespaces world unsettled;
-    tasks = settled_tasks;
-    roots = settled_roots;
-  }
-
-  listed_trees : All (λ f. IsListedTree f.files) world.filesystems
+  pub listed_trees : All (λ f. IsListedTree f.files) world.filesystems
   listed_trees =
       All-weaker (λ f. IsFileTree f.files) (λ f. IsListedTree f.files)
       (λ f is. record { tree = is.tree; numbers = is.numbers })
-      world.filesystems file_trees
+      world.filesystems trees_under_way
 
-  settled_leaves : IsWorld nat_eq after × IsPlain after
+-- In a world of plain filesystems
+pub under_way : (world : World ℕ) → IsWorldButForUse world → IsUnderWay world
+under_way world unsettled = record {
+  files = unsettled.files;
+  mounts = unsettled.mounts;
+  namespaces = unsettled.namespaces;
+  tasks = unsettled.tasks;
+  roots = unsettled.roots;
+}
+
+module _ (world : World ℕ) (unsettled : IsWorldButForUse world) where
+  pub same_node : (location : Location ℕ) → Among location (all_locations world) → node_at nat_eq (settled nat_eq world) location
+      ≡ node_at nat_eq world location
+  same_node = still_there world (under_way world unsettled)
+
+  pub of_task : (task : Task ℕ) → Among task world.tasks → (location : Location ℕ) → Among location (locations_of task)
+      → Among location (all_locations world)
+  of_task = task_location world (under_way world unsettled)
+
+  pub file_trees : All (λ f. IsFileTree f.files) world.filesystems
+  file_trees = trees_under_way world (under_way world unsettled)
+
+  settled_plain : IsPlain (settled nat_eq world)
+  settled_plain =
+      without_dead_plain (λ f. not (is_overlay f)) (first_round world (under_way world unsettled))
+      (without_dead_plain is_overlay (living world (under_way world unsettled))
+      (All-filter (filesystem_lives nat_eq (without_dead_mounts nat_eq world))
+      (λ f. is_overlay f ≡ false) world.filesystems unsettled.plain))
+
+  settled_is : IsWorldButForUse (settled nat_eq world)
+  settled_is = record {
+    plain = settled_plain;
+    files = settled_trees world (under_way world unsettled);
+    mounts = settled_mounts world (under_way world unsettled);
+    namespaces = settled_namespaces world (under_way world unsettled);
+    tasks = settled_tasks world (under_way world unsettled);
+    roots = settled_roots world (under_way world unsettled);
+  }
+
+  settled_leaves : IsWorld nat_eq (settled nat_eq world) × IsPlain (settled nat_eq world)
   settled_leaves = (
-    world_of after settled_is (one_sweep_is_enough world listed_trees (uppers_plain world unsettled.plain)),
+    world_of (settled nat_eq world) settled_is (one_sweep_is_enough world (listed_trees world (under_way world unsettled)) (uppers_plain world unsettled.plain)),
     settled_plain,
   )
 

@@ -7,8 +7,6 @@ use Rattle.std.proofs.lemmas.Bool.{or_parts}
 use Rattle.vt_spec.specs.Lists.{Fresh, any_pair, first_of_list, rest_of}
 use Rattle.vt_spec.specs.Machine.Mounts.{Mount}
 use Rattle.vt_spec.specs.Machine.Namespaces.{pivoted_location, pivoted_task}
-use Rattle.vt_spec.specs.Machine.Filesystems.{raised}
-use Rattle.vt_spec.specs.Machine.Policy.{numbers_raised, raised_task}
 use Rattle.vt_spec.specs.Machine.Outcome.Tasks.{child_name, child_of}
 use Rattle.vt_spec.specs.Machine.Invariants.{ForksAreCounted}
 use Rattle.vt_spec.specs.Machine.World.{Task, World, first_task, opening, replaced_if_called}

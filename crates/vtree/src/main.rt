@@ -1,9 +1,17 @@
 //! `vtree run FILE` answers a script of calls on a file tree, each with the rule that decides it.
 #![tactic(auto)]
 
+mod command;
+mod fault;
+mod order;
+#[cfg(test)]
+mod tests;
+
+use crate::command::words;
+use crate::fault::{Fault, status};
+use crate::order::obey;
 use std::io;
 use std::process::ExitCode;
-use vt_program::{Fault, obey, status, words};
 
 fn main(rt: HostRuntime) -> ExitCode {
     let outcome = match words(&rt) {

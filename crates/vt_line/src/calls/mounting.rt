@@ -1,7 +1,7 @@
 //! The calls on mounts that are given more than paths.
 ghost use Rattle.std.specs.Prelude.{◌≡◌, option_map, false};
 ghost use Rattle.vt_spec.specs.Language.Calls.Call.{MountPlain, Remount, SetType};
-ghost use Rattle.vt_location.specs.Flags.{flags_of};
+ghost use Rattle.vt_cred.specs.MountFlags.{flags_of};
 ghost use Rattle.vt_request.specs.Requests.{type_word_of};
 ghost use Rattle.vt_line.specs.Calls.{call_named, call_worded, IsCallRead};
 
@@ -9,7 +9,7 @@ use crate::calls::ReadError;
 use crate::names::CallName;
 use crate::words::{Words, flags_word, path_word, type_word};
 use std::alloc::Global;
-use vt_location::MountFlags;
+use vt_cred::MountFlags;
 use vt_request::{Call, TypeWord};
 
 /// The words of `mount plain PATH [FLAGS]`. The product has no overlays.

@@ -19,7 +19,7 @@ use Rattle.vt_spec.specs.PathText.{is_empty}
 use Rattle.vt_spec.specs.Machine.Settled.{settled}
 use Rattle.vt_spec.specs.Tree.{Content, Node, bytes_in, is_directory_node, names_in}
 use Rattle.vt_spec.specs.Tree.Content.{Directory, Regular, Symlink}
-use Rattle.vt_spec.specs.TreeLaws.{HasOwnParents, IsTree, led}
+use Rattle.vt_spec.specs.TreeLaws.{HasOwnParents, IsReached, IsTree, led}
 use Rattle.vt_spec.specs.Machine.World.{Descriptor, Filesystem, Layer, Namespace, Overlay, Real, Task, World, all_locations, filesystem_numbered, is_directory_at, is_overlay, layers_of, mount_at, mount_numbered, mounts_of, node_at, open_layer, shown_layers}
 use Rattle.vt_spec.specs.Language.Calls.{TaskName, same_name}
 use Rattle.vt_spec.specs.Machine.World.Real.{Below, Upper}
@@ -232,13 +232,15 @@ module _ {N : Type 0} (eq : N → N → Bool) where
     pub fit_filesystems : list_all is_fit_filesystem world.filesystems ≡ true
 
   -- Invariants of overlays: overlayfs. An upper or work directory has no inode in common with another layer of a live
-  -- overlay; so no object of an upper layer lies in one, nor under a lower layer of its own overlay.
+  -- overlay; so no object of an upper layer lies in one, nor under a lower layer of its own overlay. An upper directory keeps
+  -- its name, since it is locked; the directories above it are not, and may be renamed.
   pub record OverlayInvariants (world : World N) : Type 0 where
     pub overlays_merge : (number : N) (overlay : Overlay N) → (filesystem_numbered eq world number).overlay ≡ Some overlay → IsMerged world (filesystem_numbered eq world number) overlay
     pub fit_layers : list_all (of_overlay true has_fit_layers) world.filesystems ≡ true
     pub plain_layers : list_all (of_overlay true (λ overlay. list_all (is_plain_layer world) (layers_of overlay))) world.filesystems ≡ true
     pub changed_apart : any_pair (overlap world) (live_upper_and_work world) ≡ false
     pub lowers_apart : list_any (overlaps_one_of eq world (live_lowers world)) (live_upper_and_work world) ≡ false
+    pub uppers_reached : (number : N) (overlay : Overlay N) (upper : Layer N) → (filesystem_numbered eq world number).overlay ≡ Some overlay → overlay.upper ≡ Some upper → IsReached (filesystem_numbered eq world upper.filesystem).files.tree upper.directory
 
   -- Invariants of mounts: mount_namespaces(7), sharedsubtree
   pub record MountInvariants (world : World N) : Type 0 where

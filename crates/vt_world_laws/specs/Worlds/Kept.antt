@@ -27,10 +27,25 @@ pub record IsWorldButForUse (world : World ℕ) : Type 0 where
   pub tasks : TaskInvariants nat_eq world
   pub roots : MountsShow world
 
+-- of any filesystems, with the invariants of overlays left aside
+pub record IsUnderWay (world : World ℕ) : Type 0 where
+  pub files : TreeInvariants nat_eq world
+  pub mounts : MountInvariants nat_eq world
+  pub namespaces : NamespaceInvariants nat_eq world
+  pub tasks : TaskInvariants nat_eq world
+  pub roots : MountsShow world
+
 -- a permit that fits is applied, and the invariant holds
 abbrev pub KeptByPermits : (World ℕ → Type 0) → Type 0
 KeptByPermits Invariant =
     (world : World ℕ) (fresh : Fresh ℕ) (task : Task ℕ) (permit : Permit ℕ) → IsWorld nat_eq world → IsPlain world
+    → Serves nat_eq world fresh → task_called world task.name ≡ Some task → IsFitPermit fresh world task permit
+    → Invariant (apply nat_eq fresh world task permit).world
+
+-- so in worlds with overlays, too
+abbrev pub KeptByAllPermits : (World ℕ → Type 0) → Type 0
+KeptByAllPermits Invariant =
+    (world : World ℕ) (fresh : Fresh ℕ) (task : Task ℕ) (permit : Permit ℕ) → IsWorld nat_eq world
     → Serves nat_eq world fresh → task_called world task.name ≡ Some task → IsFitPermit fresh world task permit
     → Invariant (apply nat_eq fresh world task permit).world
 

@@ -1,4 +1,4 @@
--- What the judgement of a call sees to, in a world without overlays: the places at which a permitted call changes something,
+-- What the judgement of a call sees to, but of the mount of an overlay: the places at which a permitted call changes something,
 -- and the mounts and namespaces that it names, exist. Of a permit that only looks nothing is said.
 use Rattle.std.specs.Prelude.{None, Some, false, is_some, nat_eq, option_to_list, true, ℕ, ⊤, ◌&&◌, ◌≡◌}
 use Rattle.std.specs.List.{list_all, list_any}

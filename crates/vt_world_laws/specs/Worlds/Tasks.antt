@@ -1,17 +1,10 @@
 -- The invariants of tasks, one by one: credentials(7), path_resolution(7), open(2).
-use Rattle.std.specs.Prelude.{Contains, List, Some, false, nat_eq, true, ℕ, ◌++◌, ◌≡◌, ◌≤◌, ◌∷◌}
+use Rattle.std.specs.Prelude.{false, nat_eq, true, ℕ, ◌≡◌}
 use Rattle.std.specs.List.{list_all}
-use Rattle.vt_spec.specs.Machine.Apply.{apply}
-use Rattle.vt_spec.specs.Lists.{Fresh, any_pair}
-use Rattle.vt_spec.specs.Machine.Permits.{Permit}
-use Rattle.vt_spec.specs.Machine.Policy.{numbers_raised}
-use Rattle.vt_spec.specs.Machine.Run.{Serves}
-use Rattle.vt_spec.specs.Machine.Settled.{settled}
-use Rattle.vt_spec.specs.Machine.World.{Task, World, all_locations, opening, task_called}
-use Rattle.vt_spec.specs.Language.Calls.{TaskName, same_name}
-use Rattle.vt_spec.specs.Machine.Invariants.{IsWorld, has_regular_files_open, is_located_well, is_within_limits, stands_on_directories}
-use Rattle.vt_world_laws.specs.Worlds.Kept.{IsPlain}
-use Rattle.vt_world_laws.specs.Worlds.Permits.{IsFitPermit}
+use Rattle.vt_spec.specs.Lists.{any_pair}
+use Rattle.vt_spec.specs.Machine.World.{Task, World, all_locations}
+use Rattle.vt_spec.specs.Language.Calls.{same_name}
+use Rattle.vt_spec.specs.Machine.Invariants.{has_regular_files_open, is_located_well, is_within_limits, stands_on_directories}
 
 abbrev pub OneTaskAName : World ℕ → Type 0
 OneTaskAName world = any_pair (λ (a b : Task ℕ). same_name a.name b.name) world.tasks ≡ false

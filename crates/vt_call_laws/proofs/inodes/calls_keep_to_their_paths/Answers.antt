@@ -1,5 +1,8 @@
-use Rattle.vt_call_laws.proofs.ReachedLaws.{calls_keep_to_their_paths}
-use Rattle.vt_call_laws.proofs.RootsStay.{roots_stay}
+mod ReachedLaws
+mod RootsStay
+mod ReachedWalks
+use Rattle.vt_call_laws.proofs.inodes.calls_keep_to_their_paths.Answers.ReachedLaws.{calls_keep_to_their_paths}
+use Rattle.vt_call_laws.proofs.inodes.calls_keep_to_their_paths.Answers.RootsStay.{roots_stay}
 use Rattle.vt_call_laws.proofs.inodes.calls_keep_to_their_paths.Goals as goal
 
 pub returns-clause-paths : goal.returns-clause-paths

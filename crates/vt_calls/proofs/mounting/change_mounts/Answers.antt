@@ -1,5 +1,5 @@
 use Rattle.std.proofs.Common.{ap, false, refl}
-use Rattle.vt_location.specs.Flags.{flags_of}
+use Rattle.vt_cred.specs.MountFlags.{flags_of}
 use Rattle.vt_location.specs.Locations.{location_of}
 use Rattle.vt_location.specs.Numbers.{counted}
 use Rattle.vt_request.specs.Requests.{type_word_of}

@@ -1,4 +1,5 @@
-use Rattle.vt_count_laws.proofs.Looks.{counted_tree_is_the_tree, directories_lie_alike}
+mod Looks
+use Rattle.vt_count_laws.proofs.looking.counted_inodes_show_the_tree.Answers.Looks.{counted_tree_is_the_tree, directories_lie_alike}
 use Rattle.vt_count_laws.proofs.looking.counted_inodes_show_the_tree.Goals as goal
 
 pub returns-clause-tree : goal.returns-clause-tree

@@ -1,4 +1,5 @@
-use Rattle.vt_later_laws.proofs.EndedBy.{only_these_end_inodes}
+mod EndedBy
+use Rattle.vt_later_laws.proofs.ends.only_these_calls_end_inodes.Answers.EndedBy.{only_these_end_inodes}
 use Rattle.vt_later_laws.proofs.ends.only_these_calls_end_inodes.Goals as goal
 
 pub returns : goal.returns

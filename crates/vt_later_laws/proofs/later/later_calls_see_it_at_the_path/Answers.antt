@@ -1,10 +1,15 @@
+mod Unlinked
+mod RenamedSeen
+mod WaysFiles
+mod WrittenSeen
+mod LinkedSeen
 use Rattle.vt_later_laws.proofs.AttrSeen.{chmod_then_stat, chown_then_stat}
 use Rattle.vt_later_laws.proofs.CreatedSeen.{exclusive_twice}
-use Rattle.vt_later_laws.proofs.LinkedSeen.{link_then_lstat}
+use Rattle.vt_later_laws.proofs.later.later_calls_see_it_at_the_path.Answers.LinkedSeen.{link_then_lstat}
 use Rattle.vt_later_laws.proofs.MadeSeen.{mkdir_then_list, symlink_then_readlink}
-use Rattle.vt_later_laws.proofs.RenamedSeen.{rename_then_lstat}
-use Rattle.vt_later_laws.proofs.Unlinked.{unlink_then_lstat}
-use Rattle.vt_later_laws.proofs.WrittenSeen.{write_then_read}
+use Rattle.vt_later_laws.proofs.later.later_calls_see_it_at_the_path.Answers.RenamedSeen.{rename_then_lstat}
+use Rattle.vt_later_laws.proofs.later.later_calls_see_it_at_the_path.Answers.Unlinked.{unlink_then_lstat}
+use Rattle.vt_later_laws.proofs.later.later_calls_see_it_at_the_path.Answers.WrittenSeen.{write_then_read}
 use Rattle.vt_later_laws.proofs.later.later_calls_see_it_at_the_path.Goals as goal
 
 pub returns-clause-written : goal.returns-clause-written

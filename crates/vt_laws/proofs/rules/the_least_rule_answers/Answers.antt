@@ -1,4 +1,7 @@
-use Rattle.vt_laws.proofs.LeastAnswers.{first_rules_answer, last_rules_answer, no_task_is_refused, walks_answer_next}
+mod LeastRule
+mod LeastAnswers
+mod AskedRules
+use Rattle.vt_laws.proofs.rules.the_least_rule_answers.Answers.LeastAnswers.{first_rules_answer, last_rules_answer, no_task_is_refused, walks_answer_next}
 use Rattle.vt_laws.proofs.TableOrder.{walks_refuse_as_walks}
 use Rattle.vt_laws.proofs.rules.the_least_rule_answers.Goals as goal
 

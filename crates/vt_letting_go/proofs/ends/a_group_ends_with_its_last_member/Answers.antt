@@ -1,4 +1,5 @@
-use Rattle.vt_letting_go.proofs.GroupsHandedOn.{no_group_is_handed_on, one_group_is_handed_on}
+mod GroupsHandedOn
+use Rattle.vt_letting_go.proofs.ends.a_group_ends_with_its_last_member.Answers.GroupsHandedOn.{no_group_is_handed_on, one_group_is_handed_on}
 use Rattle.vt_letting_go.proofs.ends.a_group_ends_with_its_last_member.Goals as goal
 
 pub returns-clause-one : goal.returns-clause-one

@@ -2,7 +2,7 @@ use Rattle.std.proofs.Common.{[], ◌∷◌, ◌++◌, ℕ, List, append_assoc, 
 use Rattle.vt_spec.specs.Language.Printed.{kind_word, printed_flags, printed_spot, printed_type, spaced}
 use Rattle.vt_io.specs.Sink.{WroteFront}
 use Rattle.vt_io.proofs.Printing.{Wrote-append, WroteFront-part}
-use Rattle.vt_location.specs.Flags.{flags_of}
+use Rattle.vt_cred.specs.MountFlags.{flags_of}
 use Rattle.vt_request.specs.Answers.{mount_line_of, spot_of, type_line_of}
 use Rattle.vt_line.specs.Printing.{shown_words}
 use Rattle.vt_line.proofs.listing.write_shown.Goals as goal

@@ -1,5 +1,5 @@
 use Rattle.vt_merge_laws.proofs.MountedReached.{mounted_layers_are_reached}
-use Rattle.vt_merge_laws.proofs.LayersReached.{layers_are_reached}
+use Rattle.vt_layer_laws.proofs.MountingReached.{layers_are_reached}
 use Rattle.vt_merge_laws.proofs.WorldsRaised.{policy_mounts_a_world, raising_keeps_worlds}
 use Rattle.vt_merge_laws.proofs.MountedWorlds.{mounting_leaves_a_world}
 use Rattle.vt_merge_laws.proofs.MountedLeft.{mounting_leaves_overlays, mounting_leaves_trees, mounting_lets_nothing_go}

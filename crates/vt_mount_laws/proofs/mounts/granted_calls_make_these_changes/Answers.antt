@@ -1,4 +1,5 @@
-use Rattle.vt_mount_laws.proofs.MountsCalls.{bind_binds, exit_ends, lazy_unmounts, mount_mounts, move_moves, overlay_mounts, pivot_pivots, remount_sets_flags, rename_of_one_object, rename_replaces, rmdir_takes_mounts, setns_enters, type_is_set, unshare_copies}
+mod Calls
+use Rattle.vt_mount_laws.proofs.mounts.granted_calls_make_these_changes.Answers.Calls.{bind_binds, exit_ends, lazy_unmounts, mount_mounts, move_moves, overlay_mounts, pivot_pivots, remount_sets_flags, rename_of_one_object, rename_replaces, rmdir_takes_mounts, setns_enters, type_is_set, unshare_copies}
 use Rattle.vt_mount_laws.proofs.mounts.granted_calls_make_these_changes.Goals as goal
 
 pub returns-clause-bind : goal.returns-clause-bind

@@ -1,4 +1,6 @@
-use Rattle.vt_mount_laws.proofs.PropagationUndo.{unmount_undoes_bind, unmount_undoes_new_mount}
+mod Undo
+mod Undone
+use Rattle.vt_mount_laws.proofs.propagation.an_unmount_undoes_a_mount.Answers.Undo.{unmount_undoes_bind, unmount_undoes_new_mount}
 use Rattle.vt_mount_laws.proofs.propagation.an_unmount_undoes_a_mount.Goals as goal
 
 pub returns-clause-new_mount : goal.returns-clause-new_mount

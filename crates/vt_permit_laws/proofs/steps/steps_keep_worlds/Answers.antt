@@ -1,4 +1,6 @@
-use Rattle.vt_permit_laws.proofs.StepsKept.{steps_are_given, steps_keep_worlds, steps_stay_ungrouped}
+mod Ungrouped
+mod Kept
+use Rattle.vt_permit_laws.proofs.steps.steps_keep_worlds.Answers.Kept.{steps_are_given, steps_keep_worlds, steps_stay_ungrouped}
 use Rattle.vt_permit_laws.proofs.steps.steps_keep_worlds.Goals as goal
 
 pub returns-clause-given : goal.returns-clause-given

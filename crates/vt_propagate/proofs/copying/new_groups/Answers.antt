@@ -5,7 +5,12 @@ use Rattle.vt_propagate.proofs.copying.new_groups.Goals as goal
 
 pub returns-clause-ok : goal.returns-clause-ok
 returns-clause-ok c world seen are =
-    let copying : Copying = record { graft = c.args.graft.now; destination = c.in-Some.destination.now; counts = c.args.counts } in
-    c.in-Ok.ensures
+    let copying : Copying = record {
+      graft = c.args.graft.now;
+      destination = c.in-Some.destination.now;
+      counts = c.args.counts;
+      indexes = record { ref_ptr = c.args.graft.ref_ptr; now = c.in-Ok.indexes };
+    } in
+    c.in-Ok-all_groups.ensures
     ∙ groups_planned world c.args.mounts.now c.args.groups.now seen copying
     (first_part c.args.graft.now.parts.now c.in-Some.destination.now c.in-Some.ensures.value _ _ are) are

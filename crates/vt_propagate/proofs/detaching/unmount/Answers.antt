@@ -1,8 +1,8 @@
-use Rattle.std.proofs.Common.{ap, map, nat_eq, sym, ◌∙◌}
+use Rattle.std.proofs.Common.{ap, map, nat_eq, subst, sym, ◌∙◌}
 use Rattle.vt_spec.specs.Machine.Detach.{taken_away}
 use Rattle.vt_spec.specs.Machine.Receives.{regrouped}
 use Rattle.vt_spec.specs.Machine.World.{with_mounts}
-use Rattle.vt_propagate.specs.Falling.{left_by, point_of}
+use Rattle.vt_propagate.specs.Falling.{LeavesBy, left_by, point_of}
 use Rattle.vt_propagate.proofs.Found.{counts}
 use Rattle.vt_propagate.proofs.detaching.unmount.Goals as goal
 
@@ -12,3 +12,11 @@ returns-clause-ok c world seen =
     ∙ c.in_ok-points.ensures.ok world seen.mounts
     ∙ ap (λ ids. regrouped nat_eq (with_mounts world (map (left_by (counts ids) (map point_of c.in_ok-points.points.items)) world.mounts)))
     c.deref.ensures.value
+
+pub returns-clause-gone : goal.returns-clause-gone
+returns-clause-gone c world seen = c.in_ok-gone.ensures.ok world seen
+
+pub returns-clause-left : goal.returns-clause-left
+returns-clause-left c world is =
+    subst (λ ids. LeavesBy world (counts ids) (map point_of c.in_ok-points.points.items)) c.deref.ensures.value
+    (c.in_ok-points.ensures.ok world is)

@@ -1,8 +1,10 @@
-use Rattle.std.proofs.Common.{ap, length, subst, sym, ◌∙◌}
+use Rattle.std.proofs.Common.{ap, length, map, nat_eq, subst, sym, ◌∙◌}
+use Rattle.std.specs.Map.{lookup}
 use Rattle.vt_location.specs.Locations.{location_of}
-use Rattle.vt_mount.specs.MountsValue.{are_ascending}
+use Rattle.vt_location.specs.MountValue.{mount_of}
+use Rattle.vt_mount.specs.MountsValue.{are_ascending, mounts_in}
 use Rattle.vt_propagate.specs.Pushing.{PushesBy, leaver, pushes_from}
-use Rattle.vt_propagate.proofs.Pushed.{all_pushed}
+use Rattle.vt_propagate.proofs.Pushed.{all_pushed, leaver_stays}
 use Rattle.vt_propagate.proofs.pushing.pushes.Goals as goal
 
 pub returns-clause-ok : goal.returns-clause-ok
@@ -12,3 +14,10 @@ returns-clause-ok c world counts same one_child parts copies =
     (sym (c.in-Ok.ensures ∙ (λ i. pushes_from (same i) (leaver graft) (location_of graft.place)
     (length graft.tree.now) (parts i) (copies i))))
     (all_pushed world one_child (ap are_ascending (sym same) ∙ c.are_ascending.ensures) graft counts)
+
+pub returns-clause-leaver : goal.returns-clause-leaver
+returns-clause-leaver c number leaves =
+    let graft = c.args.graft.now in
+    ap (lookup (nat_eq number)) c.in-Ok.ensures
+    ∙ leaver_stays (mounts_in c.args.mounts.now) (leaver graft) (location_of graft.place) (length graft.tree.now) number leaves
+    (map mount_of graft.parts.now) (map mount_of c.args.copies.now)

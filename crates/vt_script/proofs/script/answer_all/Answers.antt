@@ -1,6 +1,5 @@
-use Rattle.std.proofs.Common.{Err, inl, [], refl, sym, ap, subst, ◌∙◌, ◌++◌, take, append_assoc, append-nil, length-take, arith}
+use Rattle.std.proofs.Common.{Err, inl, [], refl, sym, ap, ◌∙◌, ◌++◌, take, append_assoc, append-nil, length-take, arith}
 use Rattle.std.proofs.lemmas.Result.{err_from_is_err_and}
-use Rattle.vt_script.specs.Session.{Fed}
 use Rattle.vt_script.specs.SessionValue.{state_of}
 use Rattle.vt_script.proofs.SessionLemmas.{fed_nothing, fed_then, broke_then}
 use Rattle.vt_script.proofs.ToldLemmas.{whole_held, broke_held, ends_well, ends_badly}
@@ -11,12 +10,12 @@ returns-in-Err-clause-after_read g c = λ is tells holds.
     let inv = c.pieces.invariant in (
       inv.read,
       inv.rest tells ∙ ap (λ rest. inv.read ++ rest) (sym (c.in-Err.ensures.none_lost (inv.source_tells tells))),
-      whole_held g.W.Sink inv.read _ _ _ inv.feeds holds,
+      whole_held c.requires.opening g.W.Sink inv.read _ _ _ inv.feeds holds,
     )
 
 pub pieces-init : goal.pieces-init
 pieces-init g c =
-    let new = state_of c.args.session.now in
+    let new = state_of g.C.Calls.world c.args.session.now in
     let sink = c.args.sink.now in
     record {
       source_failures = refl;
@@ -25,8 +24,7 @@ pieces-init g c =
       source_tells = λ tells. tells;
       read = [];
       rest = λ tells. refl;
-      feeds = subst (λ old. Fed g.W.Sink old [] new sink sink) c.requires.opening
-          (fed_nothing g.W.Sink new [] sink c.requires.reading);
+      feeds = fed_nothing g.W.Sink new [] sink c.requires.reading;
     }
 
 pub pieces-preserved : goal.pieces-preserved
@@ -45,7 +43,7 @@ pieces-preserved g c =
 pub returns-in_err-feed-clause-after_write : goal.returns-in_err-feed-clause-after_write
 returns-in_err-feed-clause-after_write g c = λ is tells holds.
     let inv = c.pieces.invariant in
-    broke_held g.W.Sink _ (inv.read ++ take c.in-Ok.count c.read.new.buffer) (g.R.Source.rest c.read.new.self) _ _
+    broke_held c.requires.opening g.W.Sink _ (inv.read ++ take c.in-Ok.count c.read.new.buffer) (g.R.Source.rest c.read.new.self) _ _
     (inv.rest tells ∙ ap (λ rest. inv.read ++ rest) (c.in-Ok.ensures.bytes (inv.source_tells tells)) ∙ sym (append_assoc inv.read _ _))
     (broke_then g.W.Sink _ inv.read _ _ _ _ _ inv.feeds (c.in_err-feed.ensures.feeds inv.feeds.line inv.feeds.reading)) holds
 
@@ -57,11 +55,11 @@ returns-in_err-feed-clause-no_write_failed g c =
 pub returns-clause-ok : goal.returns-clause-ok
 returns-clause-ok g c =
     let inv = c.pieces.invariant in
-    ends_well g.W.Sink c.finish.result _ inv.read _ _ _ _ inv.feeds (c.finish.ensures.closes inv.feeds.line inv.feeds.reading)
+    ends_well c.requires.opening g.W.Sink c.finish.result _ inv.read _ _ _ _ inv.feeds (c.finish.ensures.closes inv.feeds.line inv.feeds.reading)
     (λ tells. inv.rest tells ∙ ap (λ rest. inv.read ++ rest) (c.in-Ok.ensures.end (inv.source_tells tells) c.if-count-eq0.true) ∙ append-nil inv.read)
 
 pub returns-clause-after_write : goal.returns-clause-after_write
 returns-clause-after_write g c =
     let inv = c.pieces.invariant in
-    ends_badly g.W.Sink c.finish.result _ _ inv.read _ _ _ _ inv.feeds (c.finish.ensures.closes inv.feeds.line inv.feeds.reading)
+    ends_badly c.requires.opening g.W.Sink c.finish.result _ _ inv.read _ _ _ _ inv.feeds (c.finish.ensures.closes inv.feeds.line inv.feeds.reading)
     (λ tells. inv.rest tells ∙ ap (λ rest. inv.read ++ rest) (c.in-Ok.ensures.end (inv.source_tells tells) c.if-count-eq0.true) ∙ append-nil inv.read)

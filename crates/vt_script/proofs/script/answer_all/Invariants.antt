@@ -1,6 +1,5 @@
-use Rattle.std.proofs.Common.{◌≡◌, ◌<◌, ◌+◌, ◌^◌, ℕ, List, ◌++◌}
-use Rattle.vt_script.specs.Progress.{opening_moment}
-use Rattle.vt_script.specs.Session.{lines_begun, Fed}
+use Rattle.std.proofs.Common.{◌≡◌, ◌<◌, ◌+◌, ◌^◌, ℕ, List, [], ◌++◌}
+use Rattle.vt_script.specs.Session.{lines_begun, moment, Fed}
 use Rattle.vt_script.specs.SessionValue.{state_of}
 use Rattle.vt_script.proofs.script.answer_all.Given as goal
 
@@ -8,11 +7,11 @@ abbrev pub invariant-pieces : goal.invariant-pieces
 invariant-pieces g l = record {
   source_failures : g.R.Source.failures l.source ≡ g.R.Source.failures l.initial.source;
   sink_failures : g.W.Sink.failures l.sink ≡ g.W.Sink.failures l.initial.sink;
-  lines : lines_begun (state_of l.session) + g.R.Source.limit l.source < 2 ^ 64;
+  lines : lines_begun (state_of g.C.Calls.world l.session) + g.R.Source.limit l.source < 2 ^ 64;
   source_tells : g.R.Source.tells l.initial.source → g.R.Source.tells l.source;
   read : List ℕ;
   rest : g.R.Source.tells l.initial.source → g.R.Source.rest l.initial.source ≡ read ++ g.R.Source.rest l.source;
-  feeds : Fed g.W.Sink opening_moment read (state_of l.session) l.initial.sink l.sink;
+  feeds : Fed g.W.Sink (moment (state_of g.C.Calls.world l.initial.session) []) read (state_of g.C.Calls.world l.session) l.initial.sink l.sink;
 }
 
 abbrev pub decreases-pieces : goal.decreases-pieces

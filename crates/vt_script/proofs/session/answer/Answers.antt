@@ -4,32 +4,28 @@ use Rattle.vt_spec.specs.Language.Script.{namespaces, request_of}
 use Rattle.vt_io.specs.Sink.{Prints}
 use Rattle.vt_spec.specs.Language.Limits.{longest_line}
 use Rattle.vt_line.specs.Lines.{IsSilent, IsSpoken, IsReadingOf}
-use Rattle.vt_script.specs.SessionValue.{world_seen}
 use Rattle.vt_script.proofs.ReplyLemmas.{kept_whole, replied_silent, replies_call, replies_too_long, replies_unread}
 use Rattle.vt_script.proofs.GrammarLemmas.{line_had}
 use Rattle.vt_script.proofs.session.answer.Goals as goal
 
 pub returns-then-is_overlong-clause-replies : goal.returns-then-is_overlong-clause-replies
-unfolding world_seen
 returns-then-is_overlong-clause-replies g c = λ text held.
-    replies_too_long g.W.Sink c.write_reply.result (world_seen c.args.world.now) text c.args.line.now c.args.number _ _ held
+    replies_too_long g.W.Sink c.write_reply.result (g.C.Calls.world c.args.world.now) text c.args.line.now c.args.number _ _ held
     (sym c.is_overlong.ensures ∙ c.if-is_overlong.true)
     (subst (λ deny. Prints g.W.Sink (reply_line c.args.number (Err deny)) c.write_reply.result c.args.sink.now c.write_reply.new.sink)
     c.denial.ensures c.write_reply.ensures.printed)
 
 pub returns-in-Ok-Silent-clause-replies : goal.returns-in-Ok-Silent-clause-replies
-unfolding world_seen
 returns-in-Ok-Silent-clause-replies g c = λ text held.
     let whole : c.bytes.result.now ≡ text = c.bytes.ensures ∙ kept_whole text c.args.line.now held (sym c.is_overlong.ensures ∙ c.if-is_overlong.false) in
     replied_silent g.W.Sink _ text c.args.number _ (subst IsSilent whole (c.in-Ok-Silent.ensures.silent.0 (ap Ok c.in-Ok-Silent.field-0-is)))
 
 pub returns-in-Ok-Call-clause-replies : goal.returns-in-Ok-Call-clause-replies
-unfolding world_seen
 returns-in-Ok-Call-clause-replies g c = λ text held.
     let whole : c.bytes.result.now ≡ text = c.bytes.ensures ∙ kept_whole text c.args.line.now held (sym c.is_overlong.ensures ∙ c.if-is_overlong.false) in
     let reading = subst (λ l. IsReadingOf l c.in-Ok-Call.field-0) whole c.in-Ok-Call.ensures.reading in
     let asks = subst (IsReadingOf text) c.in-Ok-Call.field-0-is reading in
-    replies_call g.W.Sink c.write_reply-in-Ok-Call.result c.args.world.now c.call-answer.new.self text c.args.number _ _ c.call-answer.result _ _
+    replies_call g.W.Sink g.C.Calls.world c.write_reply-in-Ok-Call.result c.args.world.now c.call-answer.new.self text c.args.number _ _ c.call-answer.result _ _
     asks.0 asks.1 c.call-answer.ensures c.write_reply-in-Ok-Call.ensures.printed
 
 pub call-answer-requires : goal.call-answer-requires
@@ -38,10 +34,9 @@ call-answer-requires g c =
     line_had c.bytes.result.now _ _ reading.1
 
 pub returns-in-Err-clause-replies : goal.returns-in-Err-clause-replies
-unfolding world_seen
 returns-in-Err-clause-replies g c = λ text held.
     let whole : c.bytes.result.now ≡ text = c.bytes.ensures ∙ kept_whole text c.args.line.now held (sym c.is_overlong.ensures ∙ c.if-is_overlong.false) in
-    replies_unread g.W.Sink c.write_reply-in-Err.result c.args.world.now text c.args.number c.in-Err.deny _ _ c.is_held.ensures c.in-Err.ensures.refused
+    replies_unread g.W.Sink c.write_reply-in-Err.result (g.C.Calls.world c.args.world.now) text c.args.number c.in-Err.deny _ _ c.has_numbers.ensures c.in-Err.ensures.refused
     (λ is. subst (λ l. (longest_line < length l) ⊎ (IsSpoken l × (request_of namespaces l ≡ None))) whole (c.in-Err.ensures.no_request.0 (ap Err is)))
     (λ is. subst IsSpoken whole (c.in-Err.ensures.no_memory (ap Err is)).0)
     c.write_reply-in-Err.ensures.printed

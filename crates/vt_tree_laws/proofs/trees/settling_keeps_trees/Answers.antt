@@ -1,4 +1,5 @@
-use Rattle.vt_tree_laws.proofs.SettlingStays
+mod SettlingStays
+use Rattle.vt_tree_laws.proofs.trees.settling_keeps_trees.Answers.SettlingStays
 use Rattle.vt_tree_laws.proofs.TreesForgotten
 use Rattle.vt_tree_laws.proofs.trees.settling_keeps_trees.Goals as goal
 

@@ -1,7 +1,7 @@
 use Rattle.std.proofs.Common.{ap, arith, length, nat_eq, sym, ℕ, ◌≡◌, ◌∙◌}
 use Rattle.std.proofs.lemmas.List.{length-map}
 use Rattle.vt_location.specs.declared.numbers.MountId.{MountId}
-use Rattle.vt_location.specs.Flags.{flags_of}
+use Rattle.vt_cred.specs.MountFlags.{flags_of}
 use Rattle.vt_location.specs.Locations.{location_of}
 use Rattle.vt_location.specs.Numbers.{counted}
 use Rattle.vt_looks.specs.Looking.{permit_of}

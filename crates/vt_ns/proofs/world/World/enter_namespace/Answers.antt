@@ -49,6 +49,7 @@ returns-in-Some-clause-ok c =
     let left = c.in-Some.left in
     let new : WorldValue = record {
       mounts = c.leave_namespace.new.mounts;
+      groups = c.self.inside.groups;
       filesystems = c.leave_namespace.new.filesystems;
       namespaces = entries_of c.leave_namespace.new.namespaces.entries;
       tasks = c.enter.new.self;

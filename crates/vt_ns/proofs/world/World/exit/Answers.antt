@@ -32,6 +32,7 @@ pub returns : goal.returns
 returns c =
     let new : WorldValue = record {
       mounts = c.leave_namespace.new.mounts;
+      groups = c.self.inside.groups;
       filesystems = c.leave_namespace.new.filesystems;
       namespaces = entries_of c.leave_namespace.new.namespaces.entries;
       tasks = c.exit.new.self;

@@ -6,16 +6,14 @@ use Rattle.vt_detach.specs.Events.{Becomes, Permits}
 use Rattle.vt_detach.specs.Uses.{with_location}
 use Rattle.vt_detach.specs.WorldValue.{entries_of}
 use Rattle.vt_ns.proofs.CountingLemmas.{room_left}
-use Rattle.vt_ns.proofs.ForkedTasks.{fork_refused_for_memory, task_is_forked}
+use Rattle.vt_ns.proofs.ForkedTasks.{may_fork, task_is_forked}
 use Rattle.vt_ns.proofs.RemainingTasks.{remade_in}
 use Rattle.vt_ns.proofs.world.World.fork.Goals as goal
 
-pub returns-in_err-child-clause-memory : goal.returns-in_err-child-clause-memory
-returns-in_err-child-clause-memory c =
-    let few = fork_refused_for_memory (the_view c.self.inside) c.self.invariant c.args.name.now c.args.cred
-    (subst (λ value. Permits value c.args.name.now (ToFork c.args.cred)) (sym c.self.view_is) c.requires) in
-    let refused = c.in_err-child.ensures.refused ∙ few in
-    let ends = c.from_residual.ensures in search rules
+pub fork-requires : goal.fork-requires
+fork-requires c =
+    may_fork (the_view c.self.inside) c.self.invariant c.args.name.now c.args.cred
+    (subst (λ value. Permits value c.args.name.now (ToFork c.args.cred)) (sym c.self.view_is) c.requires)
 
 pub hold_once_more-requires-2 : goal.hold_once_more-requires-2
 hold_once_more-requires-2 c =

@@ -1,5 +1,5 @@
 use Rattle.std.proofs.Common.{ap, is_some, nat_eq, sym, ◌∙◌}
-use Rattle.vt_location.specs.Flags.{flags_of}
+use Rattle.vt_cred.specs.MountFlags.{flags_of}
 use Rattle.vt_location.specs.Numbers.{counted}
 use Rattle.vt_spec.specs.Machine.Listing.{groups_seen, number_among}
 use Rattle.vt_detach.specs.WorldValue.{world_of}

@@ -26,11 +26,12 @@ returns-in_err-new-clause-memory c =
 
 pub invariant_of-result : goal.invariant_of-result
 invariant_of-result c =
-    opening_held c.in_ok-first_mounts.field-0 c.in_ok-first_filesystems.field-0 (entries_of c.in_ok-first_namespaces.field-0.entries)
+    opening_held c.in_ok-first_mounts.field-0 c.new-2.result c.in_ok-first_filesystems.field-0 (entries_of c.in_ok-first_namespaces.field-0.entries)
     c.in_ok-new.field-0
     (c.in_ok-first_mounts.ensures.ok
     ∙ mounts_made c.new-number.result c.new-namespace.result c.new-filesystem.result c.plain.result
     c.new-number.ensures c.new-namespace.ensures c.new-filesystem.ensures c.plain.ensures)
+    c.new-2.ensures
     (c.in_ok-first_filesystems.ensures.ok ∙ ap (λ (id : FilesystemId). first_shown id.count) c.new-filesystem.ensures)
     (c.in_ok-first_namespaces.ensures.ok
     ∙ namespaces_made c.new-number.result c.new-namespace.result c.new-filesystem.result c.plain.result
@@ -41,11 +42,12 @@ invariant_of-result c =
 
 pub returns-clause-opening : goal.returns-clause-opening
 returns-clause-opening c =
-    opening_seen c.in_ok-first_mounts.field-0 c.in_ok-first_filesystems.field-0 (entries_of c.in_ok-first_namespaces.field-0.entries)
+    opening_seen c.in_ok-first_mounts.field-0 c.new-2.result c.in_ok-first_filesystems.field-0 (entries_of c.in_ok-first_namespaces.field-0.entries)
     c.in_ok-new.field-0
     (c.in_ok-first_mounts.ensures.ok
     ∙ mounts_made c.new-number.result c.new-namespace.result c.new-filesystem.result c.plain.result
     c.new-number.ensures c.new-namespace.ensures c.new-filesystem.ensures c.plain.ensures)
+    c.new-2.ensures
     (c.in_ok-first_filesystems.ensures.ok ∙ ap (λ (id : FilesystemId). first_shown id.count) c.new-filesystem.ensures)
     (c.in_ok-first_namespaces.ensures.ok
     ∙ namespaces_made c.new-number.result c.new-namespace.result c.new-filesystem.result c.plain.result

@@ -5,16 +5,14 @@ use Rattle.vt_spec.specs.Machine.Permits.Permit.{ToOpen}
 use Rattle.vt_ns.specs.contracts.world.World.{the_view}
 use Rattle.vt_detach.specs.Events.{Becomes, Permits}
 use Rattle.vt_detach.specs.Uses.{kept, with_location}
-use Rattle.vt_ns.proofs.FilesOpened.{file_is_opened, nothing_copied, refused_for_memory}
+use Rattle.vt_ns.proofs.FilesOpened.{file_is_opened, may_open_more, nothing_copied}
 use Rattle.vt_detach.proofs.Remaining.{remade}
 use Rattle.vt_ns.proofs.world.World.open.Goals as goal
 
-pub returns-in_err-number-clause-memory : goal.returns-in_err-number-clause-memory
-returns-in_err-number-clause-memory c =
-    let few = refused_for_memory (the_view c.self.inside) c.self.invariant c.args.name.now (location_of c.args.file) (access_of c.args.access)
-    (subst (λ value. Permits value c.args.name.now (ToOpen (location_of c.args.file) (access_of c.args.access))) (sym c.self.view_is) c.requires) in
-    let refused = c.in_err-number.ensures.refused ∙ few in
-    let ends = c.from_residual.ensures in search rules
+pub open-requires : goal.open-requires
+open-requires c =
+    may_open_more (the_view c.self.inside) c.self.invariant c.args.name.now (location_of c.args.file) (access_of c.args.access)
+    (subst (λ value. Permits value c.args.name.now (ToOpen (location_of c.args.file) (access_of c.args.access))) (sym c.self.view_is) c.requires)
 
 pub invariant_of-self-in_default : goal.invariant_of-self-in_default
 invariant_of-self-in_default c =

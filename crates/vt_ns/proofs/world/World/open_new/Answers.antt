@@ -12,7 +12,7 @@ use Rattle.vt_request.specs.Requests.{access_of}
 use Rattle.vt_ns.specs.contracts.world.World.{the_view}
 use Rattle.vt_detach.specs.Events.{Becomes, Permits}
 use Rattle.vt_detach.proofs.ChangedFiles.{with_filesystems}
-use Rattle.vt_ns.proofs.OpeningNew.{has_next, make_fits, new_in_directory, new_opens, next_is_numbered, room_for_one, used_once}
+use Rattle.vt_ns.proofs.OpeningNew.{has_next, make_fits, may_open_one, new_in_directory, new_opens, next_is_numbered, used_once}
 use Rattle.vt_detach.proofs.Remaining.{remade}
 use Rattle.vt_detach.proofs.Shown.{pins}
 use Rattle.vt_ns.proofs.world.World.open_new.Goals as goal
@@ -23,10 +23,9 @@ unwrap-file-requires c =
     (subst (λ value. Permits value c.args.name.now (ToOpenNew (location_of c.args.directory) c.args.entry.items (node_seen c.args.directory.node.filesystem.count c.args.node) (access_of c.args.access))) (sym c.self.view_is) c.requires)
     c.next_number.result c.next_number.ensures.number
 
-pub returns-in-Err-clause-memory : goal.returns-in-Err-clause-memory
-returns-in-Err-clause-memory c =
-    c.in-Err.ensures.refused
-    ∙ room_for_one (the_view c.self.inside) c.self.invariant c.args.name.now c.args.directory c.args.entry.items c.args.node (access_of c.args.access) (omega arith)
+pub open-requires : goal.open-requires
+open-requires c =
+    may_open_one (the_view c.self.inside) c.self.invariant c.args.name.now c.args.directory c.args.entry.items c.args.node (access_of c.args.access) (omega arith)
     (subst (λ value. Permits value c.args.name.now (ToOpenNew (location_of c.args.directory) c.args.entry.items (node_seen c.args.directory.node.filesystem.count c.args.node) (access_of c.args.access))) (sym c.self.view_is) c.requires)
 
 pub create-requires-clause-directory : goal.create-requires-clause-directory

@@ -25,7 +25,7 @@ returns-in_err-take_line-clause-feeds g c =
     ∙ sym (append_assoc inv.read line after) in
     rw p.1 (λ begun reading.
     let first = inv.feeds begun reading in
-    subst (λ bytes. Broke g.W.Sink (moment (state_of c.args.self.now) begun) bytes c.args.sink.now c.take_line.new.sink) (sym split)
+    subst (λ bytes. Broke g.W.Sink (moment (state_of g.C.Calls.world c.args.self.now) begun) bytes c.args.sink.now c.take_line.new.sink) (sym split)
     (broke_before g.W.Sink _ (inv.read ++ line) after _ _
     (broke_then g.W.Sink _ inv.read line _ _ _ _ first (c.in_err-take_line.ensures.feeds first.line first.reading))))
 
@@ -50,19 +50,19 @@ pub returns-clause-feeds : goal.returns-clause-feeds
 returns-clause-feeds g c = λ begun reading.
     let inv = c.loop-line.invariant in
     let rest = c.loop-line.rest.now in
-    let old = state_of c.loop-line.self in
-    let new = state_of (record c.loop-line.self { line = c.extend.new.self }) in
+    let old = state_of g.C.Calls.world c.loop-line.self in
+    let new = state_of g.C.Calls.world (record c.loop-line.self { line = c.extend.new.self }) in
     let first = inv.feeds begun reading in
     let last = fed_bytes g.W.Sink old new first.line rest c.loop-line.sink first.reading c.in_default.ensures refl refl
     (c.extend.ensures.holds first.line first.reading.held) in
-    subst (λ bytes. Fed g.W.Sink (moment (state_of c.args.self.now) begun) bytes new c.args.sink.now c.loop-line.sink) (sym inv.split)
+    subst (λ bytes. Fed g.W.Sink (moment (state_of g.C.Calls.world c.args.self.now) begun) bytes new c.args.sink.now c.loop-line.sink) (sym inv.split)
     (fed_then g.W.Sink _ inv.read rest _ _ _ _ _ first last)
 
 pub returns-clause-begun : goal.returns-clause-begun
 returns-clause-begun g c =
     let inv = c.loop-line.invariant in
     let rest = c.loop-line.rest.now in
-    let old = state_of c.loop-line.self in
-    let new = state_of (record c.loop-line.self { line = c.extend.new.self }) in
+    let old = state_of g.C.Calls.world c.loop-line.self in
+    let new = state_of g.C.Calls.world (record c.loop-line.self { line = c.extend.new.self }) in
     let grown = lines_begun-grows old new rest refl c.extend.ensures.kept in
     omega (arith, grown, inv.begun, ap length inv.split, length-append inv.read rest)

@@ -1,4 +1,4 @@
-use Rattle.std.proofs.Common.{ℕ, length, ⊎_elim, ◌≡◌, arith, ap, sym, refl, subst, ◌∙◌, option_map, Some}
+use Rattle.std.proofs.Common.{ℕ, ◌≡◌, ap, rules, sym, refl, subst, ◌∙◌, option_map, Some}
 use Rattle.std.specs.Prelude.{option_copied}
 use Rattle.std.specs.Option.{option_copied_mut}
 use Rattle.std.specs.declared.vec.Vec.{Vec}
@@ -11,93 +11,53 @@ use Rattle.vt_spec.specs.Machine.Outcome.Tasks.{child_name}
 use Rattle.vt_spec.specs.Machine.World.{Task}
 use Rattle.vt_tasks.specs.declared.task.Task.{Task as Held}
 use Rattle.vt_tasks.specs.TaskValue.{task_of}
-use Rattle.vt_tasks.specs.TasksValue.{AreFit, Tasks, called, fork_refusal, forked, tasks_of}
-use Rattle.vt_tasks.proofs.TasksLemmas.{called-absent, called-found, fit-forked, forked-so, is_key, name-found, never-absent, refused-depth, refused-forks, refused-memory}
+use Rattle.vt_tasks.specs.TasksValue.{AreFit, Tasks, called, forked, tasks_of}
+use Rattle.vt_tasks.proofs.TasksLemmas.{called-absent, called-found, fit-forked, forked-so, granted-so, granted-there, is_key, never-absent, there-shared}
 use Rattle.vt_tasks.proofs.tasks.Tasks.fork.Goals as goal
-use Rattle.vt_tasks.proofs.tasks.Tasks.fork.Goals.{in-Some-get_mut, in_default-get_mut}
-
-pub returns-in_default-clause-refused : goal.returns-in_default-clause-refused
-returns-in_default-clause-refused c =
-    let map = c.self.inside.by_name in
-    let absent = called-absent c.numbers-numbers.result.now map map c.self.invariant (sym c.get.ensures.value ∙ ap option_copied c.in_default.is) in
-    c.denial.ensures
-    ∙ sym (ap fork_refusal ((λ i. called (sym c.numbers-numbers.ensures.value i) (sym c.self.view_is i)) ∙ absent))
+use Rattle.vt_tasks.proofs.tasks.Tasks.fork.Goals.{in-Some, in_default-get_mut}
 
 -- the parent, under its name
 abbrev the_parent : (q name : TaskName) (tasks : Tasks) (m : IndexMap (Vec ℕ Global) Held (BuildHasherDefault FoldHasher)) (parent : Held) → AreFit m.entries → q ≡ name
     → tasks_of m.entries ≡ tasks → get_by (is_key q) m ≡ Some parent → called name tasks ≡ Some (task_of parent)
 the_parent q name tasks m parent fit same view found = (λ i. called (sym same i) (sym view i)) ∙ called-found q m m fit parent found
 
-pub returns-then-parent-ge-MAX_FORKS-clause-refused : goal.returns-then-parent-ge-MAX_FORKS-clause-refused
-returns-then-parent-ge-MAX_FORKS-clause-refused c =
+pub unwrap-parent-requires : goal.unwrap-parent-requires
+unwrap-parent-requires c =
     let map = c.self.inside.by_name in
-    let parent = c.in-Some.parent.now in
-    let is = sym c.get.ensures.value ∙ ap option_copied c.in-Some.is in
-    let found = the_parent _ _ _ map parent c.self.invariant c.numbers-numbers.ensures.value c.self.view_is is in
-    let own = name-found c.numbers-numbers.result.now map map c.self.invariant parent is in
-    c.denial-then-parent-ge-MAX_FORKS.ensures
-    ∙ ⊎_elim (λ many. refused-forks (task_of parent) many)
-    (λ deep. refused-depth (task_of parent) (omega (arith, deep.1, ap length own))) c.then-parent-ge-MAX_FORKS.either
-    ∙ sym (ap fork_refusal found)
+    there-shared c.get.result
+    (λ none. granted-there _ _ c.requires
+    ((λ i. called (sym c.numbers-numbers.ensures.value i) (sym c.self.view_is i))
+    ∙ called-absent c.numbers-numbers.result.now map map c.self.invariant (sym c.get.ensures.value ∙ none)))
 
-pub returns-in_default-child-clause-refused : goal.returns-in_default-child-clause-refused
-returns-in_default-child-clause-refused c =
-    let map = c.self.inside.by_name in
-    let parent = c.in-Some.parent.now in
-    let is = sym c.get.ensures.value ∙ ap option_copied c.in-Some.is in
-    let found = the_parent _ _ _ map parent c.self.invariant c.numbers-numbers.ensures.value c.self.view_is is in
-    let own = name-found c.numbers-numbers.result.now map map c.self.invariant parent is in
-    c.denial-in_default-child.ensures
-    ∙ refused-memory (task_of parent) c.if-parent-ge-MAX_FORKS.false (omega (arith, c.if-numbers-ge-MAX_DEPTH.false, ap length own))
-    ∙ sym (ap fork_refusal found)
+pub overflow_add-forks : goal.overflow_add-forks
+overflow_add-forks c =
+    let parent = c.unwrap-parent.result.now in
+    let found = the_parent _ _ _ c.self.inside.by_name parent c.self.invariant c.numbers-numbers.ensures.value c.self.view_is
+    (sym c.get.ensures.value ∙ ap option_copied c.unwrap-parent.ensures) in
+    let few = (granted-so _ _ (task_of parent) c.requires found).0 in
+    search rules
 
-pub returns-in_default-clone-clause-refused : goal.returns-in_default-clone-clause-refused
-returns-in_default-clone-clause-refused c =
-    let map = c.self.inside.by_name in
-    let parent = c.in-Some.parent.now in
-    let is = sym c.get.ensures.value ∙ ap option_copied c.in-Some.is in
-    let found = the_parent _ _ _ map parent c.self.invariant c.numbers-numbers.ensures.value c.self.view_is is in
-    let own = name-found c.numbers-numbers.result.now map map c.self.invariant parent is in
-    c.denial-in_default-clone.ensures
-    ∙ refused-memory (task_of parent) c.if-parent-ge-MAX_FORKS.false (omega (arith, c.if-numbers-ge-MAX_DEPTH.false, ap length own))
-    ∙ sym (ap fork_refusal found)
-
-pub returns-in_default-from_slice-clause-refused : goal.returns-in_default-from_slice-clause-refused
-returns-in_default-from_slice-clause-refused c =
-    let map = c.self.inside.by_name in
-    let parent = c.in-Some.parent.now in
-    let is = sym c.get.ensures.value ∙ ap option_copied c.in-Some.is in
-    let found = the_parent _ _ _ map parent c.self.invariant c.numbers-numbers.ensures.value c.self.view_is is in
-    let own = name-found c.numbers-numbers.result.now map map c.self.invariant parent is in
-    c.denial-in_default-from_slice.ensures
-    ∙ refused-memory (task_of parent) c.if-parent-ge-MAX_FORKS.false (omega (arith, c.if-numbers-ge-MAX_DEPTH.false, ap length own))
-    ∙ sym (ap fork_refusal found)
-
-pub returns-in_default-insert-clause-refused : goal.returns-in_default-insert-clause-refused
-returns-in_default-insert-clause-refused c =
-    let map = c.self.inside.by_name in
-    let parent = c.in-Some.parent.now in
-    let is = sym c.get.ensures.value ∙ ap option_copied c.in-Some.is in
-    let found = the_parent _ _ _ map parent c.self.invariant c.numbers-numbers.ensures.value c.self.view_is is in
-    let own = name-found c.numbers-numbers.result.now map map c.self.invariant parent is in
-    c.denial-in_default-insert.ensures
-    ∙ refused-memory (task_of parent) c.if-parent-ge-MAX_FORKS.false (omega (arith, c.if-numbers-ge-MAX_DEPTH.false, ap length own))
-    ∙ sym (ap fork_refusal found)
+pub child-requires : goal.child-requires
+child-requires c =
+    let parent = c.unwrap-parent.result.now in
+    let found = the_parent _ _ _ c.self.inside.by_name parent c.self.invariant c.numbers-numbers.ensures.value c.self.view_is
+    (sym c.get.ensures.value ∙ ap option_copied c.unwrap-parent.ensures) in
+    record { few = (granted-so _ _ (task_of parent) c.requires found).0 }
 
 pub invariant_of-self-2 : goal.invariant_of-self-2
 invariant_of-self-2 c =
     let map = c.self.inside.by_name in
-    let parent = c.in-Some.parent.now in
+    let parent = c.unwrap-parent.result.now in
     let name = c.numbers-numbers.result.now in
-    let is = sym c.get.ensures.value ∙ ap option_copied c.in-Some.is in
+    let is = sym c.get.ensures.value ∙ ap option_copied c.unwrap-parent.ensures in
     let key_is : c.in-Ok-from_slice.key.items ≡ c.in-Ok.child.name = c.in-Ok-from_slice.ensures.items ∙ c.numbers.ensures.value ∙ c.in-Ok-clone.ensures.cases in
     let inserts = c.in-Ok-insert.ensures.entries in
     elim c.match-get_mut.branch [
-      | in-Some-get_mut w ↦
+      | in-Some w ↦
           subst AreFit (sym (ap (λ inside. inside.by_name.entries) w.self-inside-is))
           (fit-forked name map c.insert.new.self _ c.in-Ok-from_slice.key parent c.in-Ok.child c.args.cred c.self.invariant is key_is c.in-Ok.ensures inserts
-          w.in-Some-get_mut.parent.now _
-          (sym c.get_mut.ensures.value ∙ ap option_copied_mut w.in-Some-get_mut.is) refl c.get_mut.ensures.unique (c.get_mut.follows.holds _))
+          w.in-Some.parent.now _
+          (sym c.get_mut.ensures.value ∙ ap option_copied_mut w.in-Some.is) refl c.get_mut.ensures.unique (c.get_mut.follows.holds _))
       | in_default-get_mut w ↦
           absurd (never-absent name map c.insert.new.self c.insert.new.self c.in-Ok-from_slice.key parent c.in-Ok.child c.args.cred c.self.invariant is key_is
           c.in-Ok.ensures inserts (sym c.get_mut.ensures.value ∙ ap option_copied_mut w.in_default-get_mut.is))
@@ -105,25 +65,25 @@ invariant_of-self-2 c =
 
 pub returns-clause-name : goal.returns-clause-name
 returns-clause-name c =
-    let parent = c.in-Some.parent.now in
+    let parent = c.unwrap-parent.result.now in
     let found = the_parent _ _ _ c.self.inside.by_name parent c.self.invariant c.numbers-numbers.ensures.value c.self.view_is
-    (sym c.get.ensures.value ∙ ap option_copied c.in-Some.is) in
+    (sym c.get.ensures.value ∙ ap option_copied c.unwrap-parent.ensures) in
     ap Some (c.in-Ok-clone.ensures.cases ∙ ap (λ (task : Task ℕ). task.name) c.in-Ok.ensures) ∙ sym (ap (option_map child_name) found)
 
 pub returns-clause-ok : goal.returns-clause-ok
 returns-clause-ok c =
     let map = c.self.inside.by_name in
-    let parent = c.in-Some.parent.now in
+    let parent = c.unwrap-parent.result.now in
     let name = c.numbers-numbers.result.now in
-    let is = sym c.get.ensures.value ∙ ap option_copied c.in-Some.is in
+    let is = sym c.get.ensures.value ∙ ap option_copied c.unwrap-parent.ensures in
     let key_is : c.in-Ok-from_slice.key.items ≡ c.in-Ok.child.name = c.in-Ok-from_slice.ensures.items ∙ c.numbers.ensures.value ∙ c.in-Ok-clone.ensures.cases in
     let inserts = c.in-Ok-insert.ensures.entries in
     elim c.match-get_mut.branch [
-      | in-Some-get_mut w ↦
+      | in-Some w ↦
           ap (λ inside. tasks_of inside.by_name.entries) w.self-inside-is
           ∙ forked-so name map c.insert.new.self _ c.in-Ok-from_slice.key parent c.in-Ok.child c.args.cred c.self.invariant is key_is c.in-Ok.ensures inserts
-          w.in-Some-get_mut.parent.now _
-          (sym c.get_mut.ensures.value ∙ ap option_copied_mut w.in-Some-get_mut.is) refl c.get_mut.ensures.unique (c.get_mut.follows.holds _)
+          w.in-Some.parent.now _
+          (sym c.get_mut.ensures.value ∙ ap option_copied_mut w.in-Some.is) refl c.get_mut.ensures.unique (c.get_mut.follows.holds _)
           ∙ (λ i. forked (c.numbers-numbers.ensures.value i) c.args.cred (c.self.view_is i))
       | in_default-get_mut w ↦
           absurd (never-absent name map c.insert.new.self c.insert.new.self c.in-Ok-from_slice.key parent c.in-Ok.child c.args.cred c.self.invariant is key_is

@@ -1,0 +1,141 @@
+-- The numbers that an attachment takes, whatever groups there are: two for each mount of the tree at each part.
+use Rattle.std.proofs.Common.{◌≡◌, refl, sym, ap, subst, ◌∙◌, ℕ, zero, suc, ◌+◌, ◌*◌, ◌-◌, ◌%◌, ◌/◌, ◌==◌, ◌<◌, nat_eq, eq-eqb, lt-ltb, Bool, true, false, cond, ◌&&◌, ◌||◌, List, [], ◌∷◌, Some, length, unwrap_or, arith}
+use Rattle.std.specs.Prelude.{nat_lt}
+use Rattle.vt_laws.specs.Numbers.{KeepsTo}
+use Rattle.vt_permit_laws.proofs.NamedPermits.{permit_left}
+use Rattle.vt_permit_laws.proofs.PermitsKeepTo.{left_renamed}
+use Rattle.vt_permit_laws.proofs.TakenAttached.{index_bound}
+use Rattle.vt_permit_laws.proofs.TakenNumbers.{counted_later}
+use Rattle.vt_permit_laws.specs.Left.{left_by}
+use Rattle.vt_permit_laws.specs.Named.{permit_named}
+use Rattle.vt_run_laws.specs.Handed.{counts_from, handed_from, is_counted_before}
+use Rattle.vt_spec.specs.Lists.{Fresh, odds, place_from}
+use Rattle.vt_spec.specs.Machine.Attach.{Copies, attach, attached_by, bind_tree, copies_from, index_of_group, numbered, parts_of}
+use Rattle.vt_spec.specs.Machine.Mounts.{Location, Mount, index_of, mount_tree, tree_from}
+use Rattle.vt_spec.specs.Machine.Outcome.Mounting.{mounted, new_mount, plain_filesystem, with_new_filesystem}
+use Rattle.vt_spec.specs.Machine.Permits.{Permit}
+use Rattle.vt_spec.specs.Machine.Permits.Permit.{ToBind, ToMountPlain, ToMove}
+use Rattle.vt_spec.specs.Machine.Receives.{is_member_of}
+use Rattle.vt_spec.specs.Machine.Settled.{settled}
+use Rattle.vt_spec.specs.Machine.World.{Task, World, mount_numbered, new_plain, task_called}
+use Rattle.vt_attach.specs.AttachedNumbers.{BindsKeepToNumbers, MovesKeepToNumbers, NewMountsKeepToNumbers, numbers_of_new_mount, numbers_of_parts}
+
+-- places in a table
+
+place_bound : {A : Type 0} (test : A → Bool) (k : ℕ) (list : List A) → 0 < k + length list → unwrap_or (place_from test k list) 0 < k + length list
+place_bound test k [] some = some
+place_bound test k (a ∷ list) some = by (test a) (place_bound test (k + 1) list (omega arith))
+  where
+    by : (b : Bool) → unwrap_or (place_from test (k + 1) list) 0 < k + 1 + length list
+        → unwrap_or (cond b (Some k) (place_from test (k + 1) list)) 0 < k + length (a ∷ list)
+    by true later = omega arith
+    by false later = omega (arith, later)
+
+in_table : (size k i rows : ℕ) → k < rows → i < size → numbered size k i < rows * size
+in_table size k i rows low less =
+    let all : rows ≡ k + 1 + (rows - (k + 1)) = omega (arith, low) in
+    subst (λ n. numbered size k i < n * size) (sym all) (omega (arith, less))
+
+-- Two supplies with the same first numbers
+
+module _ (parts tree : List (Mount ℕ)) (some_parts : 0 < length parts) (some : 0 < length tree) (fresh again : Fresh ℕ)
+    (same : (k : ℕ) → k < 2 * (length parts * length tree) → fresh k ≡ again k) where
+  copy_same : (part origin : ℕ) → (copies_from nat_eq fresh parts tree).copy part origin ≡ (copies_from nat_eq again parts tree).copy part origin
+  copy_same part origin =
+      let less = in_table (length tree) (index_of nat_eq parts part) (index_of nat_eq tree origin) (length parts)
+      (index_bound parts part some_parts) (index_bound tree origin some) in
+      same (2 * numbered (length tree) (index_of nat_eq parts part) (index_of nat_eq tree origin)) (omega (arith, less))
+
+  image_same : (group origin : ℕ) → (copies_from nat_eq fresh parts tree).image group origin ≡ (copies_from nat_eq again parts tree).image group origin
+  image_same group origin =
+      let low = place_bound (is_member_of nat_eq group) 0 parts (omega (arith, some_parts)) in
+      let less = in_table (length tree) (index_of_group nat_eq parts group) (index_of nat_eq tree origin) (length parts)
+      (omega (arith, low)) (index_bound tree origin some) in
+      same (2 * numbered (length tree) (index_of_group nat_eq parts group) (index_of nat_eq tree origin) + 1) (omega (arith, less))
+
+  copies_same : copies_from nat_eq fresh parts tree ≡ copies_from nat_eq again parts tree
+  copies_same = λ i. record { copy = λ part origin. copy_same part origin i; image = λ group origin. image_same group origin i }
+
+attach_same : (world : World ℕ) (place : Location ℕ) (moves : Bool) (tree : List (Mount ℕ)) → 0 < length tree → (fresh again : Fresh ℕ)
+    → ((k : ℕ) → k < numbers_of_parts world place tree → fresh k ≡ again k)
+    → attach nat_eq world fresh place moves tree ≡ attach nat_eq world again place moves tree
+attach_same world place moves tree some fresh again same =
+    ap (λ (new : Copies ℕ). attached_by nat_eq world new place moves tree)
+    (copies_same (parts_of nat_eq world place) tree (omega arith) some fresh again same)
+
+-- a count that is taken is before those that are left over
+counted_here : (next taken k : ℕ) → k < taken → is_counted_before (next + taken) (counts_from next k) ≡ true
+counted_here next taken k low =
+    let rest : (4 * (next + k) + 1) % 4 ≡ 1 = omega arith in
+    either ((4 * (next + k) + 1) % 2 == 0)
+    (λ i. eq-eqb ((4 * (next + k) + 1) % 4) 1 rest i
+    && lt-ltb ((4 * (next + k) + 1) / 4) (next + taken) (omega (arith, low)) i)
+  where
+    either : (a : Bool) {b : Bool} → b ≡ true → (a || b) ≡ true
+    either true e = refl
+    either false e = e
+
+bind_some : (world : World ℕ) (source : Location ℕ) (recursive : Bool) → 0 < length (bind_tree nat_eq world source recursive)
+bind_some world source false = omega arith
+bind_some world source true = omega arith
+
+tree_some : (depth : ℕ) (mounts : List (Mount ℕ)) (mount : Mount ℕ) → 0 < length (tree_from nat_eq depth mounts mount)
+tree_some zero mounts mount = omega arith
+tree_some (suc depth) mounts mount = omega arith
+
+-- Where a permit takes the first numbers of a supply alone, the world that it leaves keeps to those, and to the numbers that it had.
+module _ (next taken : ℕ) (world : World ℕ) (task : Task ℕ) (permit : Permit ℕ) (supply : Fresh ℕ)
+    (called : task_called world task.name ≡ Some task) (keeps : KeepsTo (is_counted_before next) world)
+    (named : permit_named (is_counted_before next) permit ≡ true)
+    (counts : (k : ℕ) → k < taken → is_counted_before (next + taken) (supply k) ≡ true)
+    (alone : (again : Fresh ℕ) → ((k : ℕ) → k < taken → again k ≡ supply k) → left_by again world task permit ≡ left_by supply world task permit) where
+  keeps_to_first : KeepsTo (is_counted_before (next + taken)) (left_by supply world task permit)
+  keeps_to_first renaming leaves =
+      let leaves_old = λ (number : ℕ) (known : is_counted_before next number ≡ true).
+      leaves number (counted_later next (next + taken) number (omega arith) known) in
+      left_renamed renaming supply world task permit called (keeps renaming leaves_old)
+      (permit_left (is_counted_before next) renaming leaves_old permit named)
+      ∙ alone (λ k. renaming.there (supply k)) (λ k low. leaves (supply k) (counts k low))
+
+pub binds_keep_to_numbers : BindsKeepToNumbers
+binds_keep_to_numbers next world task source place recursive called keeps named =
+    keeps_to_first next (numbers_of_parts world place (bind_tree nat_eq world source recursive)) world task (ToBind source place recursive)
+    (counts_from next) called keeps named
+    (counted_here next (numbers_of_parts world place (bind_tree nat_eq world source recursive)))
+    (λ again same. ap (settled nat_eq)
+    (attach_same world place false (bind_tree nat_eq world source recursive) (bind_some world source recursive) again (counts_from next) same))
+
+pub moves_keep_to_numbers : MovesKeepToNumbers
+moves_keep_to_numbers next world task mount place called keeps named =
+    let tree = mount_tree nat_eq world.mounts (mount_numbered nat_eq world mount) in
+    keeps_to_first next (numbers_of_parts world place tree) world task (ToMove mount place)
+    (counts_from next) called keeps named (counted_here next (numbers_of_parts world place tree))
+    (λ again same. ap (settled nat_eq)
+    (attach_same world place true tree (tree_some (length world.mounts) world.mounts (mount_numbered nat_eq world mount)) again (counts_from next) same))
+
+pub new_mounts_keep_to_numbers : NewMountsKeepToNumbers
+new_mounts_keep_to_numbers next inode even world task place flags called keeps named =
+    keeps_to_first next taken world task (ToMountPlain place flags) supply called keeps named
+    counts
+    (λ again same. ap (settled nat_eq)
+    ((λ i. mounted nat_eq (odds again) world place (new_plain nat_eq (same 0 (omega arith) i) (same 2 (omega arith) i)) flags)
+    ∙ attach_same middle place false tree (omega arith) (odds again) (odds supply) (λ k low. same (2 * k + 1) (omega (arith, low)))))
+  where
+    supply : Fresh ℕ
+    supply = handed_from next 2 inode
+
+    middle : World ℕ
+    middle = with_new_filesystem world (plain_filesystem nat_eq supply)
+
+    tree : List (Mount ℕ)
+    tree = new_mount (supply 0) (supply 2) flags ∷ []
+
+    taken : ℕ
+    taken = numbers_of_new_mount middle place
+
+    counts : (k : ℕ) → k < taken → is_counted_before (next + taken) (supply k) ≡ true
+    counts k low = by (k == 2)
+      where
+        by : (b : Bool) → is_counted_before (next + taken) (cond b inode (counts_from next k)) ≡ true
+        by true = λ i. eq-eqb (inode % 2) 0 even i || (inode % 4 == 1 && nat_lt (inode / 4) (next + taken))
+        by false = counted_here next taken k low

@@ -1,0 +1,21 @@
+//! Every world that a script leads to has the invariants of a world, with overlays too.
+ghost use Rattle.vt_overlay_permit_laws.specs.EveryWorld.{EveryCallKeepsWorlds, EveryScriptLeadsToWorlds, SettlingLeavesEveryWorld};
+
+/// Every call, granted or refused, leaves a world that has all invariants, if the world before had them and the numbers handed in
+/// are unused: with overlays or without, and the mount of one among them. A fork is given at most 32 supplementary groups, as the
+/// grammar of its line asks.
+pub fn every_call_leaves_a_world()
+    ensures { EveryCallKeepsWorlds }
+{}
+
+/// Every world that a script leads to has all invariants: from the opening world on, whatever unused numbers its lines are handed,
+/// and whichever lines were refused memory.
+pub fn every_script_leads_to_worlds()
+    ensures { EveryScriptLeadsToWorlds }
+{}
+
+/// In a world that has every invariant but that all is in use, the sweep leaves a world that has them all, with overlays too: their
+/// layers live with them, and what is left of each is what its layers show.
+pub fn the_sweep_leaves_a_world()
+    ensures { SettlingLeavesEveryWorld }
+{}

@@ -1,0 +1,108 @@
+-- Where the first that passes stands in a list, and what notes it.
+use Rattle.std.proofs.Common.{◌≡◌, ℕ, Bool, true, false, cond, List, [], ◌∷◌, ◌++◌, ◌+◌, ◌<◌, ◌||◌, map, nat_eq, Option, None, Some, refl, sym, ap, ◌∙◌, arith, get_or, length, take, eq-eqb, ne_eqb, is_some, true≢false}
+use Rattle.std.specs.Prelude.{if◌then◌else◌, unwrap_or}
+use Rattle.std.specs.List.{list_any}
+use Rattle.std.proofs.lemmas.Option.{same_Some}
+use Rattle.std.proofs.lemmas.Bool.{eqb-false, eqb-true}
+use Rattle.std.proofs.lemmas.List.{length-map, length-take-le, map-append, take_more}
+use Rattle.vt_spec.specs.Lists.{or_else, place_from}
+use Rattle.vt_spec.specs.Machine.Mounts.{Mount}
+use Rattle.vt_location.specs.declared.mounts.Mount.{Mount as Kept}
+use Rattle.vt_location.specs.MountValue.{mount_of}
+
+pub or_none : {A : Type 0} (o : Option A) → or_else o None ≡ o
+or_none None = refl
+or_none (Some a) = refl
+
+pub none_of : {A : Type 0} (o : Option A) → is_some o ≡ false → o ≡ None
+none_of None e = refl
+none_of (Some a) e = absurd (true≢false e)
+
+-- an index is noted under a key
+module _ {K : Type 0} (count : K → ℕ) (one : (a b : K) → count a ≡ count b → a ≡ b) where
+  pub noted : (before after : K → Option ℕ) (key : K) (index : ℕ)
+      → ((q : K) → after q ≡ cond (nat_eq (count key) (count q)) (Some index) (before q)) → before key ≡ None
+      → (q : K) → after q ≡ or_else (before q) (if nat_eq (count q) (count key) then Some index else None)
+  noted before after key index updates none q = by (nat_eq (count q) (count key)) refl
+    where
+      by : (b : Bool) → nat_eq (count q) (count key) ≡ b → after q ≡ or_else (before q) (if b then Some index else None)
+      by true e =
+          let same : count q ≡ count key = eqb-true (count q) (count key) e in
+          updates q ∙ ap (λ b. cond b (Some index) (before q)) (eq-eqb (count key) (count q) (sym same))
+          ∙ sym (ap (λ o. or_else o (Some index)) (ap before (one q key same) ∙ none))
+      by false e =
+          updates q
+          ∙ ap (λ b. cond b (Some index) (before q)) (ne_eqb (count key) (count q) (λ same. eqb-false (count q) (count key) e (sym same)))
+          ∙ sym (or_none (before q))
+
+module _ {A : Type 0} (test : A → Bool) where
+  place_from-last : (k : ℕ) (list : List A) (a : A)
+      → place_from test k (list ++ a ∷ []) ≡ or_else (place_from test k list) (if test a then Some (k + length list) else None)
+  place_from-last k [] a = by (test a)
+    where
+      by : (b : Bool) → (if b then Some k else None) ≡ (if b then Some (k + 0) else None)
+      by true = ap Some (omega arith)
+      by false = refl
+  place_from-last k (first ∷ list) a = by (test first) (place_from-last (k + 1) list a)
+    where
+      later : (b : Bool) → (if b then Some ((k + 1) + length list) else None) ≡ (if b then Some (k + length (first ∷ list)) else None)
+      later true = ap Some (omega arith)
+      later false = refl
+
+      by : (b : Bool)
+          → place_from test (k + 1) (list ++ a ∷ [])
+          ≡ or_else (place_from test (k + 1) list) (if test a then Some ((k + 1) + length list) else None)
+          → (if b then Some k else place_from test (k + 1) (list ++ a ∷ []))
+          ≡ or_else (if b then Some k else place_from test (k + 1) list) (if test a then Some (k + length (first ∷ list)) else None)
+      by true rest = refl
+      by false rest = rest ∙ ap (or_else (place_from test (k + 1) list)) (later (test a))
+
+-- one more of the mounts
+pub place_more : (test : Mount ℕ → Bool) (mounts : List Kept) (i : ℕ) (default : Kept) → i < length mounts
+    → place_from test 0 (map mount_of (take (i + 1) mounts))
+    ≡ or_else (place_from test 0 (map mount_of (take i mounts))) (if test (mount_of (get_or mounts i default)) then Some i else None)
+place_more test mounts i default less =
+    ap (λ l. place_from test 0 (map mount_of l)) (take_more mounts i default less)
+    ∙ ap (place_from test 0) (map-append mount_of (take i mounts) (get_or mounts i default ∷ []))
+    ∙ place_from-last test 0 (map mount_of (take i mounts)) (mount_of (get_or mounts i default))
+    ∙ ap (λ n. or_else (place_from test 0 (map mount_of (take i mounts))) (if test (mount_of (get_or mounts i default))
+    then Some n else None)) sized
+  where
+    sized : 0 + length (map mount_of (take i mounts)) ≡ i
+    sized = omega (arith, length-map (take i mounts) mount_of, length-take-le i mounts (omega (arith, less)))
+
+-- what is noted of one more mount
+pub place_noted : (test : Mount ℕ → Bool) (mounts : List Kept) (i : ℕ) (default : Kept) → i < length mounts
+    → (before after : Option ℕ) (b : Bool)
+    → after ≡ or_else before (if b then Some i else None) → b ≡ test (mount_of (get_or mounts i default))
+    → before ≡ place_from test 0 (map mount_of (take i mounts)) → after ≡ place_from test 0 (map mount_of (take (i + 1) mounts))
+place_noted test mounts i default less before after b is tested sofar =
+    is ∙ (λ j. or_else (sofar j) (if tested j then Some i else None)) ∙ sym (place_more test mounts i default less)
+
+pub is_some-place : {A : Type 0} (test : A → Bool) (k : ℕ) (list : List A) → is_some (place_from test k list) ≡ list_any test list
+is_some-place test k [] = refl
+is_some-place test k (a ∷ list) = by (test a) (is_some-place test (k + 1) list)
+  where
+    by : (b : Bool) → is_some (place_from test (k + 1) list) ≡ list_any test list
+        → is_some (if b then Some k else place_from test (k + 1) list) ≡ (b || list_any test list)
+    by true rest = refl
+    by false rest = rest
+
+below_length : (test : Mount ℕ → Bool) (k : ℕ) (list : List Kept) (i : ℕ)
+    → place_from test k (map mount_of list) ≡ Some i → i < k + length list
+below_length test k [] i e = absurd (true≢false (sym (ap is_some e)))
+below_length test k (a ∷ list) i e = by (test (mount_of a)) e (below_length test (k + 1) list i)
+  where
+    by : (b : Bool) → (if b then Some k else place_from test (k + 1) (map mount_of list)) ≡ Some i
+        → (place_from test (k + 1) (map mount_of list) ≡ Some i → i < (k + 1) + length list) → i < k + length (a ∷ list)
+    by true same later = let at : k ≡ i = same_Some k i same in omega (arith, at)
+    by false found later = let rest : i < (k + 1) + length list = later found in omega (arith, rest)
+
+-- the place of a mount, or 0, is a place of the list
+pub place_within : (test : Mount ℕ → Bool) (mounts : List Kept) (n : ℕ) → n ≡ unwrap_or (place_from test 0 (map mount_of mounts)) 0
+    → 0 < length mounts → n < length mounts
+place_within test mounts n is some = by (place_from test 0 (map mount_of mounts)) (below_length test 0 mounts) is
+  where
+    by : (o : Option ℕ) → ((i : ℕ) → o ≡ Some i → i < 0 + length mounts) → n ≡ unwrap_or o 0 → n < length mounts
+    by None within same = omega (arith, same, some)
+    by (Some i) within same = let less : i < 0 + length mounts = within i refl in omega (arith, same, less)

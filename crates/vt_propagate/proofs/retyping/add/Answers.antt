@@ -1,0 +1,18 @@
+use Rattle.std.proofs.Common.{ap, map, ◌∙◌}
+use Rattle.std.proofs.lemmas.List.{take_all}
+use Rattle.vt_spec.specs.Lists.{folded}
+use Rattle.vt_group.specs.Together.{typed}
+use Rattle.vt_propagate.specs.Retyping.{with_type_in}
+use Rattle.vt_propagate.proofs.Retyped.{typed_next}
+use Rattle.vt_propagate.proofs.retyping.add.Goals as goal
+
+pub loop-mount-preserved : goal.loop-mount-preserved
+loop-mount-preserved c =
+    typed_next c.args.mounts.now c.loop-mount.mounts c.set_propagation.new.self c.args.types.now c.loop-mount.mount-index _
+    c.loop-mount-test.true c.set_propagation.ensures c.loop-mount.invariant
+
+pub returns-clause-types_ok : goal.returns-clause-types_ok
+returns-clause-types_ok c =
+    c.loop-mount.invariant
+    ∙ ap (λ types. folded with_type_in c.args.mounts.now (map typed types))
+    (take_all c.loop-mount.mount-index c.args.types.now c.loop-mount-test.false)

@@ -1,0 +1,29 @@
+-- Where the mounts and the groups of an attachment stand.
+use Rattle.std.specs.Prelude.{Bool, List, Option, map, nat_eq, ℕ, ◌≡◌}
+use Rattle.std.specs.HashMap.{get}
+use Rattle.vt_spec.specs.Lists.{place_from}
+use Rattle.vt_spec.specs.Machine.Mounts.{Mount}
+use Rattle.vt_spec.specs.Machine.Receives.{is_member_of}
+use Rattle.vt_location.specs.declared.numbers.GroupId.{GroupId}
+use Rattle.vt_location.specs.declared.numbers.MountId.{MountId}
+use Rattle.vt_location.specs.MountValue.{mount_of}
+use Rattle.vt_location.specs.Numbers.{counted}
+use Rattle.vt_mount.specs.Listed.{same_id}
+use Rattle.vt_propagate.specs.declared.copying.Graft.{Graft}
+use Rattle.vt_propagate.specs.declared.indexes.Indexes.{Indexes}
+
+abbrev pub same_group : GroupId → GroupId → Bool
+same_group a b = nat_eq a.count b.count
+
+-- where the first mount with a number stands, and the first in a group
+abbrev pub place_of : List (Mount ℕ) → ℕ → Option ℕ
+place_of mounts number = place_from (λ mount. nat_eq number mount.number) 0 mounts
+
+abbrev pub place_of_group : List (Mount ℕ) → ℕ → Option ℕ
+place_of_group mounts group = place_from (is_member_of nat_eq group) 0 mounts
+
+-- these are the indexes of a graft
+pub record IsIndexed (indexes : Indexes) (graft : Graft) : Type 0 where
+  pub parts : (id : MountId) → get same_id indexes.parts id ≡ place_of (map mount_of graft.parts.now) (counted id.count)
+  pub tree : (id : MountId) → get same_id indexes.tree id ≡ place_of (map mount_of graft.tree.now) (counted id.count)
+  pub groups : (group : GroupId) → get same_group indexes.groups group ≡ place_of_group (map mount_of graft.parts.now) (counted group.count)

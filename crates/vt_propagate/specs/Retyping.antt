@@ -1,0 +1,33 @@
+-- Mounts that change with their groups.
+use Rattle.std.specs.Prelude.{All, List, false, if◌then◌else◌, map, nat_eq, ℕ, ◌≡◌}
+use Rattle.vt_spec.specs.Lists.{is_among}
+use Rattle.vt_spec.specs.Machine.Mounts.{Propagation}
+use Rattle.vt_group.specs.Grouping.{Grouping, propagation_in}
+use Rattle.vt_group.specs.Laws.{typed_by}
+use Rattle.vt_mount.specs.MountsValue.{MountEntry, changed}
+
+-- a mount that is kept, with the type that the groups tell; an unbindable one stays so
+abbrev pub typed_entry : Grouping → MountEntry → MountEntry
+typed_entry groups entry = record entry { mount = typed_by groups entry.mount }
+
+-- each mount but these has the type that the groups tell
+abbrev pub AreTyped : Grouping → List ℕ → List MountEntry → Type 0
+AreTyped groups numbers entries =
+    All (λ entry. is_among nat_eq entry.mount.number numbers ≡ false → typed_entry groups entry ≡ entry) entries
+
+-- If each mount but these had the type that the groups told, each has the type that they tell now.
+abbrev pub FollowsTypes : Grouping → Grouping → List ℕ → List MountEntry → List MountEntry → Type 0
+FollowsTypes before now numbers old new = AreTyped before numbers old → new ≡ map (typed_entry now) old
+
+-- one mount with another type
+abbrev pub with_kind : Propagation ℕ → MountEntry → MountEntry
+with_kind kind entry = record entry { mount = record entry.mount { propagation = kind } }
+
+-- one of these mounts with the type that the groups tell, also if it was unbindable
+abbrev pub shared_by : Grouping → List ℕ → MountEntry → MountEntry
+shared_by groups numbers entry =
+    if is_among nat_eq entry.mount.number numbers then with_kind (propagation_in groups entry.mount.number) entry else entry
+
+-- the mounts, one of them with this type
+abbrev pub with_type_in : List MountEntry → ℕ × Propagation ℕ → List MountEntry
+with_type_in entries new = changed new.0 (with_kind new.1) entries

@@ -1,0 +1,103 @@
+//! Where the mounts and the groups of an attachment stand.
+ghost use Rattle.std.specs.Prelude.{◌≡◌, IfOk, None, OnOk, Some, if◌then◌else◌, map, option_map};
+ghost use Rattle.std.specs.HashMap.{get};
+ghost use Rattle.vt_spec.specs.Lists.{or_else};
+ghost use Rattle.vt_spec.specs.Machine.Mounts.{group_of};
+ghost use Rattle.vt_group.specs.Steps.{group_number};
+ghost use Rattle.vt_location.specs.declared.numbers.GroupId.{GroupId};
+ghost use Rattle.vt_location.specs.declared.numbers.MountId.{MountId};
+ghost use Rattle.vt_location.specs.MountValue.{mount_of, propagation_of};
+ghost use Rattle.vt_location.specs.Numbers.{counted};
+ghost use Rattle.vt_mount.specs.Listed.{same_id};
+ghost use Rattle.vt_propagate.specs.Indexes.{IsIndexed, place_of, place_of_group, same_group};
+
+use crate::copying::Graft;
+use std::alloc::{AllocError, Global};
+use std::collections::HashMap;
+use vt_location::{GroupId, Mount, MountId, Propagation};
+
+/// The index of each part and of each mount of a tree by their numbers, and that of the first part in each group.
+#[derive(Debug, Drop)]
+pub(crate) struct Indexes {
+    pub(crate) parts: HashMap<MountId, usize>,
+    pub(crate) tree: HashMap<MountId, usize>,
+    pub(crate) groups: HashMap<GroupId, usize>,
+}
+
+impl Indexes {
+    /// The indexes of a graft.
+    pub(crate) fn new(alloc: Global, graft: &Graft) -> Result<Self, AllocError>
+        ensures { IfOk result (λ indexes. IsIndexed indexes graft.now) }
+    {
+        Ok(Indexes {
+            parts: places(alloc, graft.parts)?,
+            tree: places(alloc, graft.tree)?,
+            groups: group_places(alloc, graft.parts)?,
+        })
+    }
+}
+
+// The index of each of these mounts; of those with one number, the first.
+fn places(alloc: Global, mounts: &[Mount]) -> Result<HashMap<MountId, usize>, AllocError>
+    ensures { IfOk result (λ places. (id : MountId) → get same_id places id ≡ place_of (map mount_of mounts.now) (counted id.count)) }
+{
+    let mut places = HashMap::new(alloc);
+    for (index, mount) in mounts.iter().enumerate() {
+        note_mount(&mut places, mount.number, index)?;
+    }
+    Ok(places)
+}
+
+// The index of the first of these mounts in each group.
+fn group_places(alloc: Global, parts: &[Mount]) -> Result<HashMap<GroupId, usize>, AllocError>
+    ensures { IfOk result (λ places. (group : GroupId)
+        → get same_group places group ≡ place_of_group (map mount_of parts.now) (counted group.count)) }
+{
+    let mut places = HashMap::new(alloc);
+    for (index, part) in parts.iter().enumerate() {
+        if let Some(group) = own_group(part.propagation) {
+            note_group(&mut places, group, index)?;
+        }
+    }
+    Ok(places)
+}
+
+// Notes the index of a mount, unless one was noted before.
+fn note_mount(
+    places: &mut HashMap<MountId, usize>,
+    id: MountId,
+    index: usize,
+) -> Result<(), AllocError>
+    ensures { OnOk result ((q : MountId) → get same_id places.new q
+        ≡ or_else (get same_id places.old q) (if same_id q id then Some index else None)) }
+{
+    if !places.contains_key(&id) {
+        places.insert(id, index)?;
+    }
+    Ok(())
+}
+
+// Notes the index of a member of a group, unless one was noted before.
+fn note_group(
+    places: &mut HashMap<GroupId, usize>,
+    group: GroupId,
+    index: usize,
+) -> Result<(), AllocError>
+    ensures { OnOk result ((q : GroupId) → get same_group places.new q
+        ≡ or_else (get same_group places.old q) (if same_group q group then Some index else None)) }
+{
+    if !places.contains_key(&group) {
+        places.insert(group, index)?;
+    }
+    Ok(())
+}
+
+// The group that a mount of this type is in.
+fn own_group(propagation: Propagation) -> Option<GroupId>
+    ensures { option_map group_number result ≡ group_of (propagation_of propagation) }
+{
+    match propagation {
+        Propagation::Shared(group) => Some(group),
+        Propagation::Slave(_) | Propagation::Private | Propagation::Unbindable => None,
+    }
+}

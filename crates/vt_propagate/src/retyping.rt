@@ -1,0 +1,114 @@
+//! Mounts and their groups change together: mount(2) with `MS_SHARED`, `MS_SLAVE`, `MS_PRIVATE` and `MS_UNBINDABLE`, umount(2).
+//!
+//! The type of a mount is kept twice, in the mounts and in the groups. These functions change both; where a group ends, they set
+//! the types of the slaves that it leaves.
+ghost use Rattle.std.specs.Prelude.{◌≡◌, if◌then◌else◌, IfErr, OnErr, OnOk, map};
+ghost use Rattle.vt_spec.specs.declared.errors.Rule.TheVariants.{S5};
+ghost use Rattle.vt_spec.specs.Errors.{denial};
+ghost use Rattle.vt_spec.specs.Language.Calls.TypeWord.{ToPrivate, ToSlave, ToUnbindable};
+ghost use Rattle.vt_spec.specs.Lists.{folded};
+ghost use Rattle.vt_spec.specs.Machine.Mounts.{is_unbindable};
+ghost use Rattle.vt_spec.specs.Machine.Mounts.Propagation.{Unbindable};
+ghost use Rattle.vt_group.specs.Grouping.{propagation_in};
+ghost use Rattle.vt_group.specs.Together.{GrowsTo, Retypes, Shares, TakesAway, new_group, pair_of, typed};
+ghost use Rattle.vt_location.specs.MountValue.{propagation_of};
+ghost use Rattle.vt_location.specs.Numbers.{counted};
+ghost use Rattle.vt_propagate.specs.Retyping.{FollowsTypes, shared_by, typed_entry, with_type_in};
+
+use vt_group::{Groups, NewGroup};
+use vt_location::{GroupId, Mount, MountId, Propagation};
+use vt_mount::Mounts;
+use vt_spec::errors::Deny;
+
+/// All these mounts leave their groups at once; they were detached, or have become private or unbindable, in `mounts`. Then the
+/// groups without members end. It does not allocate.
+pub fn leave_all(mounts: &mut Mounts, groups: &mut Groups, ids: &[MountId])
+    ensures private { Retypes groups.old groups.new ToPrivate (map (λ id. counted id.count) ids.now) }
+    ensures unbindable { Retypes groups.old groups.new ToUnbindable (map (λ id. counted id.count) ids.now) }
+    ensures detached { TakesAway groups.old groups.new (map (λ id. counted id.count) ids.now) }
+    ensures types { FollowsTypes groups.old groups.new (map (λ id. counted id.count) ids.now) mounts.old mounts.new }
+{
+    groups.leave_all(ids);
+    follow(mounts, groups);
+}
+
+/// Those of these mounts that are members of a group become slaves of it at once. Then the groups without members end. It does
+/// not allocate.
+pub fn make_slaves(mounts: &mut Mounts, groups: &mut Groups, ids: &[MountId])
+    ensures groups { Retypes groups.old groups.new ToSlave (map (λ id. counted id.count) ids.now) }
+    ensures types { FollowsTypes groups.old groups.new (map (λ id. counted id.count) ids.now) mounts.old mounts.new }
+{
+    groups.make_slaves(ids);
+    follow(mounts, groups);
+}
+
+/// All these mounts become shared at once, unbindable ones too. One that is not shared yet is the first member of a new group,
+/// which is given beside it; if it was a slave, its master is the master of that group.
+///
+/// S5 (ENOMEM): an allocation failed.
+pub fn share(
+    mounts: &mut Mounts,
+    groups: &mut Groups,
+    named: &[(MountId, GroupId)],
+) -> Result<(), Deny>
+    ensures groups_ok { OnOk result (Shares groups.old groups.new (map pair_of named.now)) }
+    ensures types_ok { OnOk result (mounts.new
+        ≡ map (shared_by groups.new (map (λ pair. counted pair.0.count) named.now)) mounts.old) }
+    ensures memory { IfErr result (λ deny. deny ≡ denial S5) }
+    ensures groups_err { OnErr result (groups.new ≡ groups.old) }
+    ensures mounts_err { OnErr result (mounts.new ≡ mounts.old) }
+{
+    groups.share(named)?;
+    for pair in named {
+        mounts.set_propagation(pair.0, told(groups, pair.0));
+    }
+    Ok(())
+}
+
+/// Mounts get the types that they have here, and new groups their masters: an attachment. The copies that are attached have their
+/// types already; mounts that move get theirs. A number that no mount has gets a type in the groups alone.
+///
+/// S5 (ENOMEM): an allocation failed. Nothing has changed then, so that this is the last step of an attachment that can fail.
+pub fn add(
+    mounts: &mut Mounts,
+    groups: &mut Groups,
+    types: &[Mount],
+    new: &[NewGroup],
+) -> Result<(), Deny>
+    ensures groups_ok { OnOk result (GrowsTo groups.old groups.new (map typed types.now) (map new_group new.now)) }
+    ensures types_ok { OnOk result (mounts.new ≡ folded with_type_in mounts.old (map typed types.now)) }
+    ensures memory { IfErr result (λ deny. deny ≡ denial S5) }
+    ensures groups_err { OnErr result (groups.new ≡ groups.old) }
+    ensures mounts_err { OnErr result (mounts.new ≡ mounts.old) }
+{
+    groups.add(types, new)?;
+    for mount in types {
+        mounts.set_propagation(mount.number, mount.propagation);
+    }
+    Ok(())
+}
+
+// Every mount gets the type that the groups tell.
+fn follow(mounts: &mut Mounts, groups: &Groups)
+    ensures { mounts.new ≡ map (typed_entry groups.now) mounts.old }
+{
+    mounts.retype(|id, kind| follows(groups, id, kind));
+}
+
+// The type of a mount that had this one: that of the groups, or it stays unbindable.
+fn follows(groups: &Groups, id: MountId, kind: Propagation) -> Propagation
+    ensures { propagation_of result
+        ≡ (if is_unbindable (propagation_of kind) then Unbindable else propagation_in groups.now (counted id.count)) }
+{
+    match kind {
+        Propagation::Unbindable => Propagation::Unbindable,
+        Propagation::Shared(_) | Propagation::Slave(_) | Propagation::Private => told(groups, id),
+    }
+}
+
+// The type that the groups tell of a mount.
+fn told(groups: &Groups, id: MountId) -> Propagation
+    ensures { propagation_of result ≡ propagation_in groups.now (counted id.count) }
+{
+    groups.propagation_of(id).unwrap_or(Propagation::Private)
+}

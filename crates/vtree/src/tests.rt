@@ -1,0 +1,140 @@
+//! Tests of the program's words, faults and exit status.
+use crate::command::words;
+use crate::fault::{Fault, status};
+use crate::order::obey;
+use std::alloc::{AllocError, Global};
+use std::env::FillError;
+use std::fs::File;
+use std::rt::Env;
+use std::test::Fail;
+use std::{env, fs};
+
+fn owned(alloc: Global, words: &[&str]) -> Result<Vec<String>, AllocError> {
+    let mut all = Vec::new(alloc);
+    for word in words {
+        all.push(word.to_string(alloc)?)?;
+    }
+    Ok(all)
+}
+
+// Words that are faults, the status of each, and its text.
+const FAULTS: [(&[&str], u8, &str); 6] = [
+    (
+        &["vtree", "run"],
+        2,
+        "the following required arguments were not provided: <FILE>; `vtree --help` says what it takes",
+    ),
+    (
+        &["vtree", "run", "a", "b"],
+        2,
+        "unexpected argument 'b' found; `vtree --help` says what it takes",
+    ),
+    (
+        &["vtree", "frob"],
+        2,
+        "unrecognized subcommand 'frob'; `vtree --help` says what it takes",
+    ),
+    (&["vtree", "--version"], 2, "vtree 0.3.0\n"),
+    (
+        &["vtree", "run", "/no/such/file"],
+        1,
+        "cannot open /no/such/file: No such file or directory (os error 2); check its name, and that you may read it",
+    ),
+    (
+        &["vtree", "run", "/"],
+        1,
+        "cannot read /: Is a directory (os error 21); the lines before that were answered; give a file that holds a \
+         script",
+    ),
+];
+
+#[test]
+fn faults_name_what_failed_and_what_to_do(rt: HostRuntime) -> Result<(), Fail> {
+    for (words, wanted, text) in FAULTS {
+        let mut output = Vec::new(rt.alloc());
+        let outcome = obey(&rt, owned(rt.alloc(), words)?.as_slice(), &mut output);
+        assert_eq!(rt; status(&outcome), wanted);
+        assert!(rt; output.is_empty());
+        let said = outcome.expect_err(&rt, "no fault").to_string(rt.alloc())?;
+        assert!(rt; said.as_bytes() == text.as_bytes());
+    }
+    Ok(())
+}
+
+#[test]
+fn run_answers_the_script_in_the_file(rt: HostRuntime) -> Result<(), Fail> {
+    let alloc = rt.alloc();
+    let folder = env::temp_dir(&rt)?;
+    let file = format!(in alloc; "{}/vtree-test-of-run.vt", folder.as_str())?;
+    fs::write(&rt, file.as_str(), "t mkdir /d\nt ls /\n")?;
+    let mut output = Vec::new(alloc);
+    let outcome = obey(
+        &rt,
+        owned(alloc, &["vtree", "run", file.as_str()])?.as_slice(),
+        &mut output,
+    );
+    fs::remove_file(&rt, file.as_str())?;
+    assert_eq!(rt; status(&outcome), 0);
+    assert_eq!(rt; output.as_slice(), b"1 ok\n2 ok d\n".as_slice());
+    Ok(())
+}
+
+#[test]
+fn answers_that_cannot_be_written_are_a_fault(rt: HostRuntime) -> Result<(), Fail> {
+    let alloc = rt.alloc();
+    let folder = env::temp_dir(&rt)?;
+    let file = format!(in alloc; "{}/vtree-test-of-writes.vt", folder.as_str())?;
+    fs::write(&rt, file.as_str(), "t ls /\n")?;
+    let mut full = File::create(&rt, "/dev/full")?;
+    let outcome = obey(
+        &rt,
+        owned(alloc, &["vtree", "run", file.as_str()])?.as_slice(),
+        &mut full,
+    );
+    fs::remove_file(&rt, file.as_str())?;
+    assert_eq!(rt; status(&outcome), 1);
+    let said = outcome.expect_err(&rt, "no fault").to_string(alloc)?;
+    assert!(rt;
+        said.starts_with("cannot write the answers: No space left on device (os error 28)")
+    );
+    Ok(())
+}
+
+// An environment whose words are these bytes.
+#[derive(Clone, Copy)]
+struct Words(&'static [&'static [u8]]);
+
+impl Env for Words {
+    fn arg(&self, i: usize, buf: &mut [u8]) -> Result<usize, FillError> {
+        let Some(word) = self.0.get(i) else {
+            return Err(FillError::NotPresent);
+        };
+        let Some(front) = buf.get_mut(..word.len()) else {
+            return Err(FillError::TooLong);
+        };
+        front.copy_from_slice(word);
+        Ok(word.len())
+    }
+
+    fn var(&self, _name: &str, _buf: &mut [u8]) -> Result<usize, FillError> {
+        Err(FillError::NotPresent)
+    }
+
+    fn var_at(&self, _i: usize, _buf: &mut [u8]) -> Result<usize, FillError> {
+        Err(FillError::NotPresent)
+    }
+}
+
+#[test]
+fn a_word_that_is_not_utf_8_is_told_so(rt: HostRuntime) -> Result<(), Fail> {
+    let given = Words(&[b"vtree", b"run", b"\xff"]);
+    let fault = words(&(given, rt.alloc())).expect_err(&rt, "no fault");
+    assert!(rt; matches!(&fault, Fault::Words(_)));
+    let said = fault.to_string(rt.alloc())?;
+    assert!(rt;
+        said.starts_with(
+            "a word is not UTF-8; a script with such a name is given as `vtree run - < FILE`"
+        )
+    );
+    Ok(())
+}
