@@ -34,7 +34,7 @@ use Rattle.vt_spec.specs.Machine.Policy.{policy}
 use Rattle.vt_spec.specs.Machine.Rightful.{node_allows}
 use Rattle.vt_spec.specs.Machine.Rules.Attributes.{attr_at, attr_rules, opaque_rules}
 use Rattle.vt_spec.specs.Machine.Rules.Descriptors.{descriptor_numbered, descriptor_rules, exclusive_word_rules, open_rules, pwrite_rules}
-use Rattle.vt_spec.specs.Machine.Rules.Making.{file_word_rules, hard_link_rules, link_text_rules, make_rules, new_word_rules, rewrite_rules, whiteout_rules}
+use Rattle.vt_spec.specs.Machine.Rules.Making.{file_word_rules, hard_link_rules, symlink_text_rules, make_rules, new_word_rules, rewrite_rules, whiteout_rules}
 use Rattle.vt_spec.specs.Machine.Rules.Mounting.{admin_rules}
 use Rattle.vt_spec.specs.Machine.Rules.Removing.{is_one_object, object_there, old_word_rules, rename_new_walk, rename_rules, rmdir_rules, rmdir_word_rules, same_object_rules, unlink_rules}
 use Rattle.vt_spec.specs.Machine.Walking.{LastWord, Place, Stop, directory_walk, file_walk, is_directory_there, is_dot, is_dot_dot, is_no_word, is_special, name_of, new_leaf_walk, new_walk, object_walk, old_leaf_walk, old_walk, symlink_walk, walk_end}
@@ -185,7 +185,7 @@ module _ (fresh : Fresh ℕ) (world : World ℕ) (task : Task ℕ) where
       walked fresh world task HasRights Searched (new_walk nat_eq looks task path) _ (searched_new_walk world task path) (λ place searched.
       made_named place _ searched)
   names_by_right (SymlinkAt text path) e =
-      ruled fresh world task HasRights (link_text_rules text) _ (λ fits.
+      ruled fresh world task HasRights (symlink_text_rules text) _ (λ fits.
       walked fresh world task HasRights Searched (new_leaf_walk nat_eq looks task path) _ (searched_new_leaf_walk world task path)
       (λ place searched.
       made_named place _ searched))

@@ -24,7 +24,7 @@ use Rattle.vt_spec.specs.Machine.Rules.Attributes.{attr_at, attr_rules, opaque_r
 use Rattle.vt_spec.specs.Machine.Rules.Conditions.{lacks}
 use Rattle.vt_spec.specs.Machine.Rules.Descriptors.{descriptor_at, descriptor_rules, exclusive_word_rules, open_rules, pwrite_rules}
 use Rattle.vt_spec.specs.Machine.Rules.Looking.{exec_rules, list_rules, read_rules, readlink_rules}
-use Rattle.vt_spec.specs.Machine.Rules.Making.{file_word_rules, hard_link_rules, link_text_rules, make_rules, new_word_rules, rewrite_rules, whiteout_rules}
+use Rattle.vt_spec.specs.Machine.Rules.Making.{file_word_rules, hard_link_rules, symlink_text_rules, make_rules, new_word_rules, rewrite_rules, whiteout_rules}
 use Rattle.vt_spec.specs.Machine.Rules.Mounting.{admin_rules, bind_rules, destination_walk, lazy_rules, move_rules, new_mount_rules, pivot_rules, remount_rules, source_walk, type_rules, umount_rules}
 use Rattle.vt_spec.specs.Machine.Rules.Removing.{is_one_object, object_there, old_word_rules, rename_new_walk, rename_rules, rmdir_rules, rmdir_word_rules, same_object_rules, unlink_rules}
 use Rattle.vt_spec.specs.Machine.Rules.Tasks.{enter_rules, fork_rules}
@@ -186,7 +186,7 @@ module _ (looks : Looks ℕ) (overfills : Permit ℕ → Bool) (task : Task ℕ)
       (λ here. ruled Ungroups (exec_rules looks task here.location) _ refl)
   typed (Mkdir path mode) has = walked Ungroups (walk_end (new_walk nat_eq looks task path)) _ (λ place. made_form place _)
   typed (SymlinkAt text path) has =
-      ruled Ungroups (link_text_rules text) _ (walked Ungroups (walk_end (new_leaf_walk nat_eq looks task path)) _
+      ruled Ungroups (symlink_text_rules text) _ (walked Ungroups (walk_end (new_leaf_walk nat_eq looks task path)) _
       (λ place. made_form place _))
   typed (MakeWhiteout path) has =
       walked Ungroups (walk_end (new_leaf_walk nat_eq looks task path)) _

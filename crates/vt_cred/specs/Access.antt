@@ -21,7 +21,7 @@ HasCapability who capability = Includes who.capabilities capability
 abbrev pub IsOwner : Credentials → Attr → Type 0
 IsOwner who attr = who.uid ≡ attr.uid
 
--- the group is the caller's own, or one of the further groups
+-- the group is the caller's own, or one of the supplementary groups
 abbrev pub IsInGroup : Credentials → ℕ → Type 0
 IsInGroup who gid = (who.gid ≡ gid) ⊎ Contains who.groups gid
 

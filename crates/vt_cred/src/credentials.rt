@@ -12,7 +12,7 @@ use std::marker::Model;
 /// The most groups that a task has beside its own.
 pub const MAX_GROUPS: usize = 32;
 
-/// What a task acts as: its user, its group, its further groups and its capabilities.
+/// What a task acts as: its user, its group, its supplementary groups and its capabilities.
 #[derive(Debug, Drop)]
 pub struct Cred {
     uid: u32,
@@ -67,7 +67,7 @@ impl Cred {
         }
     }
 
-    /// User and group 0 with no further groups and all capabilities, as the first task has them.
+    /// User and group 0 with no supplementary groups and all capabilities, as the first task has them.
     pub fn root(alloc: Global) -> Self
         ensures { result ≡ record { uid = 0; gid = 0; groups = []; capabilities = all_capabilities } }
     {
@@ -116,7 +116,7 @@ impl Cred {
         self.caps.contains(wanted)
     }
 
-    /// Whether the group is the task's own, or one of its further groups.
+    /// Whether the group is the task's own, or one of its supplementary groups.
     pub fn is_member(&self, gid: u32) -> bool
         ensures value { result ≡ is_member self.now gid }
         ensures meaning { IsTrue result ↔ IsInGroup self.now gid }

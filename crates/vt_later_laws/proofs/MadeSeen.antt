@@ -25,7 +25,7 @@ use Rattle.vt_spec.specs.Machine.Permits.Permit.{ToMake}
 use Rattle.vt_spec.specs.Machine.Policy.{policy, raised_task}
 use Rattle.vt_spec.specs.Machine.Rightful.{node_allows}
 use Rattle.vt_spec.specs.Machine.Rows.{exact_attr, new_attr}
-use Rattle.vt_spec.specs.Machine.Rules.Making.{link_text_rules, make_rules, new_word_rules}
+use Rattle.vt_spec.specs.Machine.Rules.Making.{symlink_text_rules, make_rules, new_word_rules}
 use Rattle.vt_spec.specs.Machine.Run.{Serves}
 use Rattle.vt_spec.specs.Machine.Walking.{Here, LastWord, Place, Stop, is_special, name_of, new_leaf_walk, new_name_rules, new_walk, place_walk, stepped, walk_end}
 use Rattle.vt_spec.specs.Machine.World.{Task, World, files_at, mount_at, node_at, task_called}
@@ -279,7 +279,7 @@ symlink_parts : (looks : Looks ℕ) (task : Task ℕ) (text path : List ℕ) (pe
     × (permit ≡ make_permit place (record { attr = exact_attr task symlink_mode; content = Symlink text }))
 unfolding symlink_permit
 symlink_parts looks task text path permit e =
-    let steps = both_gave (walk_end (new_leaf_walk nat_eq looks task path)) _ permit (passing (link_text_rules text) _ permit e).1 in
+    let steps = both_gave (walk_end (new_leaf_walk nat_eq looks task path)) _ permit (passing (symlink_text_rules text) _ permit e).1 in
     let node : Node ℕ = record { attr = exact_attr task symlink_mode; content = Symlink text } in
     let parts = passing (new_word_rules steps.0 ++ make_rules looks task steps.0 (unnumbered steps.0 node)) (Ok
     (make_permit steps.0 node)) permit steps.2 in

@@ -6,7 +6,7 @@ use Rattle.vt_spec.specs.Errors.{Rules, and_then, denial, unless}
 use Rattle.vt_spec.specs.FileTree.{symlink_text}
 use Rattle.vt_spec.specs.Machine.Looks.{Looks, is_directory_at, may, mount_at, mounter_may}
 use Rattle.vt_spec.specs.Machine.Mounts.{Location}
-use Rattle.vt_spec.specs.Machine.Walking.{Follow, Here, LastWord, Stop, follow_rules, if_link, last_word, search_rules, slash_rules, start_of, stepped, steps_with, stopped_by, symlink_start, symlink_walked, then_walk, walk_unless, word_walked, words_walked}
+use Rattle.vt_spec.specs.Machine.Walking.{Follow, Here, LastWord, Stop, follow_rules, if_symlink, last_word, search_rules, slash_rules, start_of, stepped, steps_with, stopped_by, symlink_start, symlink_walked, then_walk, walk_unless, word_walked, words_walked}
 use Rattle.vt_spec.specs.Machine.World.{Task}
 use Rattle.vt_spec.specs.PathText.{ends_in_slash, is_absolute, words}
 use Rattle.vt_spec.specs.Rights.{execute_right}
@@ -192,7 +192,7 @@ module _ (looks later : Looks ℕ) (task reader : Task ℕ) (Refused : Deny → 
       let fronts = both_walked (words_walked nat_eq looks task follow start front) _ end e in
       let reached = fronts.0 in
       let nexts = both_walked (word_walked nat_eq looks task reached (last_word word))
-      (λ next. if_link next (symlink_text (looks.node next.location)) (follow reached.location next)) end fronts.2 in
+      (λ next. if_symlink next (symlink_text (looks.node next.location)) (follow reached.location next)) end fronts.2 in
       let next = nexts.0 in
       let gave = word_gave looks task reached next (last_word word) nexts.1 in
       let before = words_too most follow other follows start front reached less fronts.1 in
@@ -207,15 +207,15 @@ module _ (looks later : Looks ℕ) (task reader : Task ℕ) (Refused : Deny → 
             (word_too reached next (last_word word) steps_there known_there gave.0 same
             (leads.step reached.location (last_word word) next.location known_there (not-false _ gave.0.0) gave.1))
             (λ steps_next known_next.
-            subst (λ o. Ends (if_link (at next steps_next) o (other reached.location (at next steps_next))) end)
+            subst (λ o. Ends (if_symlink (at next steps_next) o (other reached.location (at next steps_next))) end)
             (sym (leads.link next.location known_next)) (after.1 known_there known_next steps_next))),
       )
     where
       linked : (reached next end : Here ℕ) (text : Option (List ℕ)) → next.left ≤ most
-          → if_link next text (follow reached.location next) ≡ Ok end
+          → if_symlink next text (follow reached.location next) ≡ Ok end
           → (end.left ≤ next.left)
           × (Known reached.location → Known next.location → (steps : List (List ℕ))
-          → Ends (if_link (at next steps) text (other reached.location (at next steps))) end)
+          → Ends (if_symlink (at next steps) text (other reached.location (at next steps))) end)
       linked reached next end None less e =
           let same = same_end next end e in (
             subst (λ (h : Here ℕ). h.left ≤ next.left) same (omega arith),

@@ -7,7 +7,7 @@ use Rattle.vt_spec.specs.FileTree.{symlink_text}
 use Rattle.vt_spec.specs.Language.Limits.{most_symlinks}
 use Rattle.vt_spec.specs.Machine.Looks.{Looks, is_directory_at}
 use Rattle.vt_spec.specs.Machine.Mounts.{Location}
-use Rattle.vt_spec.specs.Machine.Walking.{Here, LastWord, Place, Stop, directory_walk, final_word, followed, front_walked, if_link, is_special, last_walked, last_word, object_named, object_walk, path_text, path_walked, place_walk, placed, search_rules, slash_rules, stepped, steps_at, steps_with, stopped_by, symlink_walk, symlink_walk_by, then_walk, walk_start, walk_unless, word_walked, words_walked}
+use Rattle.vt_spec.specs.Machine.Walking.{Here, LastWord, Place, Stop, directory_walk, final_word, followed, front_walked, if_symlink, is_special, last_walked, last_word, object_named, object_walk, path_text, path_walked, place_walk, placed, search_rules, slash_rules, stepped, steps_at, steps_with, stopped_by, symlink_walk, symlink_walk_by, then_walk, walk_start, walk_unless, word_walked, words_walked}
 use Rattle.vt_spec.specs.Machine.Walking.LastWord.{Dot, DotDot, Named, NoWord}
 use Rattle.vt_spec.specs.Machine.World.{Task}
 use Rattle.vt_spec.specs.PathText.{ends_in_slash, parsed_path, path_rules, words}
@@ -275,19 +275,19 @@ module _ (looks later : Looks ℕ) (task reader : Task ℕ) (Refused : Deny → 
         where
           goes_on : List (List ℕ) → Here ℕ → Result (Here ℕ) (Stop ℕ)
           goes_on steps there =
-              if_link there (symlink_text (later.node there.location)) (followed nat_eq later reader parts.here.location there)
+              if_symlink there (symlink_text (later.node there.location)) (followed nat_eq later reader parts.here.location there)
 
           by : (steps : List (List ℕ)) → EndsThere Refused (word_walked nat_eq later reader (at parts.here steps)
               (last_word parts.word)) next parts.here.left
               → EndsThere Refused (then_walk (word_walked nat_eq later reader (at parts.here steps) (last_word parts.word)) (λ there.
-              if_link there (symlink_text (later.node there.location))
+              if_symlink there (symlink_text (later.node there.location))
               (followed nat_eq later reader parts.here.location there))) next parts.here.left
           by steps (inl e) =
               inl (
                 e.0,
                 ap (λ r. then_walk r (λ there.
-                    if_link there (symlink_text (later.node there.location)) (followed nat_eq later reader parts.here.location there))) e.1
-                    ∙ ap (λ o. if_link (record { location = next; left = parts.here.left; steps = e.0 }) o
+                    if_symlink there (symlink_text (later.node there.location)) (followed nat_eq later reader parts.here.location there))) e.1
+                    ∙ ap (λ o. if_symlink (record { location = next; left = parts.here.left; steps = e.0 }) o
                     (followed nat_eq later reader parts.here.location
                     (record { location = next; left = parts.here.left; steps = e.0 }))) no_link,
               )
@@ -295,7 +295,7 @@ module _ (looks later : Looks ℕ) (task reader : Task ℕ) (Refused : Deny → 
             stop.0,
             stop.1,
             ap (λ r. then_walk r (λ there.
-                if_link there (symlink_text (later.node there.location)) (followed nat_eq later reader parts.here.location there))) stop.2,
+                if_symlink there (symlink_text (later.node there.location)) (followed nat_eq later reader parts.here.location there))) stop.2,
           )
 
       unfollowed_too : EndsThere Refused (symlink_walk_by nat_eq false later reader path) next parts.here.left
@@ -360,7 +360,7 @@ module _ (looks later : Looks ℕ) (task reader : Task ℕ) (Refused : Deny → 
             stop.0,
             stop.1,
             ap (λ r. then_walk r (λ there.
-                if_link there (symlink_text (later.node there.location)) (followed nat_eq later reader parts.here.location there))) stop.2,
+                if_symlink there (symlink_text (later.node there.location)) (followed nat_eq later reader parts.here.location there))) stop.2,
           ))
           (λ stop refused. (stop, refused, refl)))
 

@@ -19,7 +19,7 @@ use Rattle.vt_spec.specs.Machine.Namespaces.{namespace_entered, namespaces_ended
 use Rattle.vt_spec.specs.Machine.Outcome.Attributes.{attr_rules, attr_set, chmod_outcome, chown_outcome, opaque_outcome, opaque_rules}
 use Rattle.vt_spec.specs.Machine.Outcome.Descriptors.{close_outcome, create_file, descriptor_at, descriptor_rules, exclusive_word_rules, open_by, open_file, open_outcome, open_rules, opened_or_created, pread_outcome, pwrite_outcome, pwrite_rules}
 use Rattle.vt_spec.specs.Machine.Outcome.Looking.{exec_outcome, exec_rules, list_outcome, list_rules, lstat_outcome, read_outcome, read_rules, readlink_outcome, readlink_rules, stat_outcome}
-use Rattle.vt_spec.specs.Machine.Outcome.Making.{file_mode, file_word_rules, hard_link_outcome, hard_link_rules, link_text_rules, linking, made_at, make_rules, mkdir_outcome, new_file, new_rules, rewrite_rules, symlink_outcome, whiteout_outcome, whiteout_rules, write_outcome, written}
+use Rattle.vt_spec.specs.Machine.Outcome.Making.{file_mode, file_word_rules, hard_link_outcome, hard_link_rules, symlink_text_rules, linking, made_at, make_rules, mkdir_outcome, new_file, new_rules, rewrite_rules, symlink_outcome, whiteout_outcome, whiteout_rules, write_outcome, written}
 use Rattle.vt_spec.specs.Language.Limits.{largest_file}
 use Rattle.vt_spec.specs.Machine.Outcome.Mounting.{admin_rules, bind_outcome, bind_rules, bound_at, destination_walk, layer_rules, layers_walked, lazy_outcome, lazy_rules, mount_overlay_outcome, mount_plain_outcome, mounted, move_outcome, move_rules, moved_to, new_mount_rules, overlay_at, overlay_by, overlay_mounted, pivot_outcome, pivot_rules, plain_filesystem, remount_outcome, remount_rules, source_walk, type_outcome, type_rules, umount_outcome, umount_rules}
 use Rattle.vt_spec.specs.Machine.Outcome.Removing.{is_one_object, object_there, old_word_rules, rename_new_walk, rename_outcome, rename_rules, renamed_by, rmdir_outcome, rmdir_rules, rmdir_word_rules, same_object_rules, unlink_outcome, unlink_rules}
@@ -106,7 +106,7 @@ module _ (fresh : Fresh ℕ) (world : World ℕ) (task : Task ℕ) where
       → IsApplied (symlink_outcome nat_eq fresh world task text path) (symlink_permit nat_eq looks task text path)
   unfolding symlink_outcome symlink_permit
   symlink_judged text path =
-      ruled (link_text_rules text) _ _
+      ruled (symlink_text_rules text) _ _
       (then_applied (walk_end (new_leaf_walk nat_eq world task path)) _ _ (λ place. made_judged place _))
 
   whiteout_judged : (path : List ℕ)

@@ -22,7 +22,7 @@ use Rattle.vt_spec.specs.Machine.Mounts.{Location}
 use Rattle.vt_spec.specs.Machine.Outcome.Attributes.{attr_at, attr_rules, attr_with_mode, attr_with_owner, may_chown, chmod_outcome, chown_outcome, opaque_outcome, opaque_rules}
 use Rattle.vt_spec.specs.Machine.Outcome.Descriptors.{close_outcome, copy_rules, descriptor_at, descriptor_rules, exclusive_word_rules, is_copied_up, open_outcome, open_rules, opened_or_created, pread_outcome, pwrite_outcome, pwrite_rules}
 use Rattle.vt_spec.specs.Machine.Outcome.Looking.{exec_outcome, exec_rules, list_outcome, list_rules, lstat_outcome, read_outcome, read_rules, readlink_outcome, readlink_rules, stat_outcome}
-use Rattle.vt_spec.specs.Machine.Outcome.Making.{directory_mode, file_mode, file_word_rules, symlink_mode, new_file, hard_link_outcome, hard_link_rules, link_text_rules, linking, make_rules, mkdir_outcome, new_rules, rewrite_rules, symlink_outcome, whiteout_outcome, whiteout_rules, write_outcome, written}
+use Rattle.vt_spec.specs.Machine.Outcome.Making.{directory_mode, file_mode, file_word_rules, symlink_mode, new_file, hard_link_outcome, hard_link_rules, symlink_text_rules, linking, make_rules, mkdir_outcome, new_rules, rewrite_rules, symlink_outcome, whiteout_outcome, whiteout_rules, write_outcome, written}
 use Rattle.vt_spec.specs.Language.Limits.{largest_file}
 use Rattle.vt_spec.specs.Machine.Outcome.Mounting.{bound_at, mounted, moved_to, overlay_at, overlay_mounted, plain_filesystem, admin_rules, bind_outcome, bind_rules, layer_rules, layers_walked, lazy_outcome, lazy_rules, mount_overlay_outcome, mount_plain_outcome, move_outcome, move_rules, new_mount_rules, overlay_by, pivot_outcome, pivot_rules, remount_outcome, remount_rules, source_walk, destination_walk, type_outcome, type_rules, umount_outcome, umount_rules}
 use Rattle.vt_spec.specs.Machine.Outcome.Removing.{is_one_object, moving, object_there, removing, old_word_rules, rename_new_walk, rename_outcome, rename_rules, renamed_by, rmdir_outcome, rmdir_rules, rmdir_word_rules, same_object_rules, unlink_outcome, unlink_rules}
@@ -212,7 +212,7 @@ module _ {N : Type 0} (eq : N → N → Bool) where
       (record { attr = new_attr task (unwrap_or mode directory_mode); content = new_directory place.parent.node }))) tt)
   call_own fresh world task (SymlinkAt text path) =
       let own = rules_of (SymlinkAt text path) in
-      judged_own own world (link_text_rules text) _ refl
+      judged_own own world (symlink_text_rules text) _ refl
       (walk_own own world (walks_of (SymlinkAt text path) refl) (new_leaf_walk eq world task path) _ (new_leaf_walks eq world task path)
       (λ place.
       judged_own own world (new_rules eq fresh world task place (record { attr = exact_attr task symlink_mode; content = Symlink text })) _

@@ -23,7 +23,7 @@ use Rattle.vt_spec.specs.Language.Calls.Creation.{Exclusive, NoCreation, OrCreat
 use Rattle.vt_spec.specs.Lists.{Fresh, evens}
 use Rattle.vt_spec.specs.Machine.Mounts.{Location}
 use Rattle.vt_spec.specs.Machine.Outcome.Attributes.{attr_at, attr_with_mode, attr_with_owner}
-use Rattle.vt_spec.specs.Machine.Outcome.Making.{directory_mode, file_mode, symlink_mode, link_text_rules, linking, new_file}
+use Rattle.vt_spec.specs.Machine.Outcome.Making.{directory_mode, file_mode, symlink_mode, symlink_text_rules, linking, new_file}
 use Rattle.vt_spec.specs.Machine.Outcome.Mounting.{destination_walk, layers_walked, source_walk}
 use Rattle.vt_spec.specs.Machine.Rows.{exact_attr, making, new_attr}
 use Rattle.vt_spec.specs.Machine.Walk.{Place, Stop, directory_walk, file_walk, is_directory_there, symlink_walk, new_leaf_walk, new_walk, object_walk, old_leaf_walk, old_walk}
@@ -119,7 +119,7 @@ last_in_order fresh world task (Mkdir path mode) =
     ok_walk (new_walk nat_eq world task path) _ (λ place. mounter_in_order (rank B1) refl world place.parent (making place (evens fresh 0)
     (record { attr = new_attr task (unwrap_or mode directory_mode); content = new_directory place.parent.node })))
 last_in_order fresh world task (SymlinkAt text path) =
-    ok_words (link_text_rules text) _
+    ok_words (symlink_text_rules text) _
     (ok_walk (new_leaf_walk nat_eq world task path) _
     (λ place. mounter_in_order (rank B1) refl world place.parent (making place (evens fresh 0)
     (record { attr = exact_attr task symlink_mode; content = Symlink text }))))
@@ -281,7 +281,7 @@ walks_refuse fresh world task (Mkdir path mode) none =
     walk_refuses (last_word_rules (Mkdir path mode)) (new_walk nat_eq world task path) _ (new_walks nat_eq world task path) (λ place.
     tt)
 walks_refuse fresh world task (SymlinkAt text path) none =
-    unless_own (walk_rules ++ last_word_rules (SymlinkAt text path)) (link_text_rules text) _ refl
+    unless_own (walk_rules ++ last_word_rules (SymlinkAt text path)) (symlink_text_rules text) _ refl
     (walk_refuses (last_word_rules (SymlinkAt text path)) (new_leaf_walk nat_eq world task path) _
     (new_leaf_walks nat_eq world task path) (λ place.
     tt))

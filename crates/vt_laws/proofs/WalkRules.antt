@@ -11,7 +11,7 @@ use Rattle.vt_spec.specs.Lists.{last_or}
 use Rattle.vt_spec.specs.Machine.Mounts.{Location, topmost}
 use Rattle.vt_spec.specs.Machine.Outcome.Mounting.{destination_walk, each_walked, layers_walked, source_walk, walked_if_given, work_walked}
 use Rattle.vt_spec.specs.Machine.Outcome.Removing.{rename_new_walk}
-use Rattle.vt_spec.specs.Machine.Walk.{Follow, Here, LastWord, Place, Stop, stopped_by, directory_walk, entry_location, file_or_symlink, file_walk, file_walked, final_word, follow_rules, followed, front_walked, hops, if_link, is_top, last_walked, last_word, symlink_of, symlink_start, symlink_there, symlink_walk, symlink_walk_by, symlink_walked, new_leaf_walk, new_walk, object_named, object_walk, old_leaf_walk, old_walk, path_text, path_walked, place_walk, placed, search_rules, slash_rules, stepped, up_from, walk_start, word_walked, words_walked}
+use Rattle.vt_spec.specs.Machine.Walk.{Follow, Here, LastWord, Place, Stop, stopped_by, directory_walk, entry_location, file_or_symlink, file_walk, file_walked, final_word, follow_rules, followed, front_walked, hops, if_symlink, is_top, last_walked, last_word, symlink_of, symlink_start, symlink_there, symlink_walk, symlink_walk_by, symlink_walked, new_leaf_walk, new_walk, object_named, object_walk, old_leaf_walk, old_walk, path_text, path_walked, place_walk, placed, search_rules, slash_rules, stepped, up_from, walk_start, word_walked, words_walked}
 use Rattle.vt_spec.specs.Language.Limits.{most_symlinks}
 use Rattle.vt_spec.specs.Machine.Walk.LastWord.{Dot, DotDot, Named, NoWord}
 use Rattle.vt_spec.specs.Machine.World.{Task, World}
@@ -53,7 +53,7 @@ module _ {N : Type 0} (eq : N → N → Bool) (world : World N) (task : Task N) 
   FollowsAsWalk follow = (inside : Location N) (next : Here N) (inner : List ℕ) → StopsAsWalk (follow inside next inner)
 
   if_link_walks : (here : Here N) (text : Option (List ℕ)) (follow : List ℕ → Result (Here N) (Stop N))
-      → ((inner : List ℕ) → StopsAsWalk (follow inner)) → StopsAsWalk (if_link here text follow)
+      → ((inner : List ℕ) → StopsAsWalk (follow inner)) → StopsAsWalk (if_symlink here text follow)
   if_link_walks here None follow h = tt
   if_link_walks here (Some text) follow h = h text
 

@@ -13,7 +13,7 @@ use Rattle.vt_spec.specs.Machine.Mounts.{Location}
 use Rattle.vt_spec.specs.Machine.Outcome.Attributes.{attr_at, attr_rules, attr_with_mode, attr_with_owner, may_chown, opaque_rules}
 use Rattle.vt_spec.specs.Machine.Outcome.Descriptors.{descriptor_at, descriptor_rules, open_rules, pwrite_rules}
 use Rattle.vt_spec.specs.Machine.Outcome.Looking.{exec_rules, list_rules, read_rules, readlink_rules}
-use Rattle.vt_spec.specs.Machine.Outcome.Making.{directory_mode, file_mode, file_word_rules, symlink_mode, hard_link_rules, link_text_rules, linking, make_rules, new_file, new_rules, rewrite_rules, whiteout_rules}
+use Rattle.vt_spec.specs.Machine.Outcome.Making.{directory_mode, file_mode, file_word_rules, symlink_mode, hard_link_rules, symlink_text_rules, linking, make_rules, new_file, new_rules, rewrite_rules, whiteout_rules}
 use Rattle.vt_spec.specs.Language.Limits.{largest_file}
 use Rattle.vt_spec.specs.Machine.Outcome.Mounting.{admin_rules, bind_rules, bound_at, destination_walk, layer_rules, layers_walked, lazy_rules, mounted, move_rules, moved_to, new_mount_rules, overlay_at, overlay_mounted, pivot_rules, plain_filesystem, remount_rules, source_walk, type_rules, umount_rules}
 use Rattle.vt_spec.specs.Machine.Outcome.Removing.{is_one_object, object_there, old_word_rules, rename_new_walk, rename_rules, rmdir_rules, rmdir_word_rules, same_object_rules, unlink_rules}
@@ -112,7 +112,7 @@ asked_last fresh world task (Mkdir path mode) =
     Ok (new_rules nat_eq fresh world task place
     (record { attr = new_attr task (unwrap_or mode directory_mode); content = new_directory place.parent.node })))
 asked_last fresh world task (SymlinkAt text path) =
-    unless (link_text_rules text)
+    unless (symlink_text_rules text)
     (walked (new_leaf_walk nat_eq world task path) (λ place.
     Ok (new_rules nat_eq fresh world task place (record { attr = exact_attr task symlink_mode; content = Symlink text }))))
 asked_last fresh world task (MakeWhiteout path) =

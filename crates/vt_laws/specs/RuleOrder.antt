@@ -17,7 +17,7 @@ use Rattle.vt_spec.specs.Machine.Run.Step.{Answered}
 use Rattle.vt_spec.specs.Language.Script.{Grammar, Request, request_of}
 use Rattle.vt_spec.specs.Language.Script.Request.{Asking, Calling}
 use Rattle.vt_spec.specs.Machine.Mounts.{Location}
-use Rattle.vt_spec.specs.Machine.Outcome.Making.{link_text_rules}
+use Rattle.vt_spec.specs.Machine.Outcome.Making.{symlink_text_rules}
 use Rattle.vt_spec.specs.Machine.Outcome.Removing.{rename_new_walk, rmdir_word_rules}
 use Rattle.vt_spec.specs.Machine.Walk.{Here, LastWord, Place, follow_rules, new_leaf_walk, new_name_rules, old_leaf_walk, place_walk, search_rules, stepped, walk_end}
 use Rattle.vt_spec.specs.Machine.World.{Task, World, is_removed_at, task_called}
@@ -176,7 +176,7 @@ LastTablesInOrder = (fresh : Fresh ℕ) (world : World ℕ) (task : Task ℕ) (c
 
 -- a path's text, and the text of a link that is made
 abbrev pub TextRulesInOrder : Type 0
-TextRulesInOrder = (text : List ℕ) → IsInOrder (path_rules text) × IsInOrder (link_text_rules text)
+TextRulesInOrder = (text : List ℕ) → IsInOrder (path_rules text) × IsInOrder (symlink_text_rules text)
 
 -- the rules of one word: the directory that it is looked up in, and then the step itself, by W6 or W8
 abbrev pub StepRulesInOrder : Type 0

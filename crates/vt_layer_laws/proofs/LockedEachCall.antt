@@ -11,7 +11,7 @@ use Rattle.vt_spec.specs.Machine.Locked.{is_locked, is_locked_at}
 use Rattle.vt_spec.specs.Machine.Mounts.{Location}
 use Rattle.vt_spec.specs.Machine.Outcome.Attributes.{attr_rules, attr_set, chmod_outcome, chown_outcome, opaque_outcome, opaque_rules}
 use Rattle.vt_spec.specs.Machine.Outcome.Descriptors.{create_file, descriptor_at, descriptor_rules, exclusive_word_rules, is_copied_up, open_by, open_file, open_outcome, open_rules, opened_or_created, pwrite_outcome, pwrite_rules, pwritten, with_copy}
-use Rattle.vt_spec.specs.Machine.Outcome.Making.{file_mode, file_word_rules, hard_link_outcome, hard_link_rules, link_text_rules, linking, made_at, make_rules, mkdir_outcome, new_file, new_rules, rewrite_rules, symlink_outcome, whiteout_outcome, whiteout_rules, with_new, write_outcome, written}
+use Rattle.vt_spec.specs.Machine.Outcome.Making.{file_mode, file_word_rules, hard_link_outcome, hard_link_rules, symlink_text_rules, linking, made_at, make_rules, mkdir_outcome, new_file, new_rules, rewrite_rules, symlink_outcome, whiteout_outcome, whiteout_rules, with_new, write_outcome, written}
 use Rattle.vt_spec.specs.Language.Limits.{largest_file}
 use Rattle.vt_spec.specs.Machine.Outcome.Removing.{is_one_object, moving, object_there, old_word_rules, rename_new_walk, rename_outcome, rename_rules, renamed_by, removing, rmdir_outcome, rmdir_rules, rmdir_word_rules, same_object_rules, unlink_outcome, unlink_rules, without_replaced}
 use Rattle.vt_spec.specs.Machine.Rightful.{node_allows}
@@ -99,7 +99,7 @@ module _ (world : World ℕ) (fresh : Fresh ℕ) (task : Task ℕ) where
   pub symlink_left : (text path : List ℕ) → Left (symlink_outcome nat_eq fresh world task text path).world
   unfolding symlink_outcome
   symlink_left text path =
-      judged_leads Left world same (link_text_rules text) _ (λ passed.
+      judged_leads Left world same (symlink_text_rules text) _ (λ passed.
       after_leads Left world same (walk_end (new_leaf_walk nat_eq world task path)) _ (λ place. made_left place _))
 
   pub whiteout_left : (path : List ℕ) → Left (whiteout_outcome nat_eq fresh world task path).world

@@ -9,7 +9,7 @@ use Rattle.vt_spec.specs.PathText.{ends_in_slash, is_absolute, words}
 use Rattle.vt_spec.specs.FileTree.{symlink_text}
 use Rattle.vt_spec.specs.Machine.Mounts.{Location}
 use Rattle.vt_spec.specs.Machine.Outcome.Descriptors.{descriptor_at, descriptor_numbered}
-use Rattle.vt_spec.specs.Machine.Walk.{Follow, Here, LastWord, Stop, final_word, follow_rules, followed, front_walked, if_link, last_walked, last_word, symlink_walk_by, symlink_start, symlink_walk, symlink_walked, object_walk, path_text, path_walked, slash_rules, start_of, walk_start, walk_unless, word_walked, words_walked}
+use Rattle.vt_spec.specs.Machine.Walk.{Follow, Here, LastWord, Stop, final_word, follow_rules, followed, front_walked, if_symlink, last_walked, last_word, symlink_walk_by, symlink_start, symlink_walk, symlink_walked, object_walk, path_text, path_walked, slash_rules, start_of, walk_start, walk_unless, word_walked, words_walked}
 use Rattle.vt_spec.specs.Language.Limits.{most_symlinks}
 use Rattle.vt_spec.specs.Machine.Walk.LastWord.{Dot, DotDot, Named, NoWord}
 use Rattle.vt_spec.specs.Machine.World.{Descriptor, Task, World, all_locations, files_at, is_directory_at, locations_of, node_at, task_called}
@@ -64,7 +64,7 @@ module _ (world : World ℕ) (conditions : IsWorld nat_eq world) (task : Task �
       (directory : Location ℕ) (link : Here ℕ) (text : List ℕ) → There directory → EndsThere (follow directory link text)
 
   if_link_there : (next : Here ℕ) (follow : List ℕ → Result (Here ℕ) (Stop ℕ)) → There next.location
-      → ((text : List ℕ) → EndsThere (follow text)) → (o : Option (List ℕ)) → EndsThere (if_link next o follow)
+      → ((text : List ℕ) → EndsThere (follow text)) → (o : Option (List ℕ)) → EndsThere (if_symlink next o follow)
   if_link_there next follow found goes None = found
   if_link_there next follow found goes (Some text) = goes text
 

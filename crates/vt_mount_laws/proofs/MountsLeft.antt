@@ -13,7 +13,7 @@ use Rattle.vt_spec.specs.Machine.Mounts.{Location}
 use Rattle.vt_spec.specs.Machine.Outcome.Attributes.{chmod_outcome, chown_outcome, opaque_outcome, attr_at, attr_rules, attr_set, attr_with_mode, attr_with_owner, may_chown, opaque_rules}
 use Rattle.vt_spec.specs.Machine.Outcome.Descriptors.{close_outcome, create_file, open_by, open_file, open_outcome, opened_or_created, pread_outcome, pwrite_outcome, pwritten, with_copy, descriptor_at, descriptor_rules, exclusive_word_rules, is_copied_up, open_rules, overwritten, pwrite_rules}
 use Rattle.vt_spec.specs.Machine.Outcome.Looking.{exec_outcome, list_outcome, lstat_outcome, read_outcome, readlink_outcome, stat_outcome, exec_rules, list_rules, read_rules, readlink_rules}
-use Rattle.vt_spec.specs.Machine.Outcome.Making.{hard_link_outcome, made_at, mkdir_outcome, symlink_outcome, whiteout_outcome, write_outcome, written, directory_mode, file_mode, file_word_rules, symlink_mode, hard_link_rules, link_text_rules, linking, make_rules, new_file, new_rules, rewrite_rules, whiteout_rules}
+use Rattle.vt_spec.specs.Machine.Outcome.Making.{hard_link_outcome, made_at, mkdir_outcome, symlink_outcome, whiteout_outcome, write_outcome, written, directory_mode, file_mode, file_word_rules, symlink_mode, hard_link_rules, symlink_text_rules, linking, make_rules, new_file, new_rules, rewrite_rules, whiteout_rules}
 use Rattle.vt_spec.specs.Language.Limits.{largest_file}
 use Rattle.vt_spec.specs.Machine.Outcome.Removing.{unlink_outcome, object_there, removing, unlink_rules}
 use Rattle.vt_spec.specs.Machine.Outcome.Tasks.{chdir_outcome, chroot_outcome, drop_outcome, fork_outcome, umask_outcome, child_credentials, enter_rules, fork_rules}
@@ -141,7 +141,7 @@ module _ (world : World ℕ) where
       after_leaves (walk_end (new_walk nat_eq world task path)) _ (λ place.
       made_leaves fresh task place (record { attr = new_attr task (unwrap_or mode directory_mode); content = new_directory place.parent.node }))
   call_leaves fresh task (SymlinkAt text path) e =
-      judged_leaves (link_text_rules text) _ (after_leaves (walk_end (new_leaf_walk nat_eq world task path)) _ (λ place.
+      judged_leaves (symlink_text_rules text) _ (after_leaves (walk_end (new_leaf_walk nat_eq world task path)) _ (λ place.
       made_leaves fresh task place (record { attr = exact_attr task symlink_mode; content = Symlink text })))
   call_leaves fresh task (MakeWhiteout path) e =
       after_leaves (walk_end (new_leaf_walk nat_eq world task path)) _ (λ place.

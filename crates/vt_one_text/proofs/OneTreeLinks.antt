@@ -21,7 +21,7 @@ use Rattle.vt_spec.specs.OneTree.Permits.{Permit}
 use Rattle.vt_spec.specs.OneTree.Permits.Permit.{ToChange}
 use Rattle.vt_spec.specs.OneTree.Policy.{hard_link_permit, rmdir_permit, unlink_permit}
 use Rattle.vt_spec.specs.OneTree.Rules.{is_filled, is_kept, hard_link_rules, may_not, rmdir_rules, unlink_rules}
-use Rattle.vt_spec.specs.OneTree.Walk.{Follow, Here, Place, follow_rules, followed, front_walked, if_link, is_directory_at, is_directory_there, last_walked, symlink_start, symlink_walk, symlink_walked, may, new_leaf_walk, new_walk, object_walk, old_leaf_walk, old_walk, path_walked, slash_rules, stepped, unfollowed_walk, walk_start, word_walked, words_walked}
+use Rattle.vt_spec.specs.OneTree.Walk.{Follow, Here, Place, follow_rules, followed, front_walked, if_symlink, is_directory_at, is_directory_there, last_walked, symlink_start, symlink_walk, symlink_walked, may, new_leaf_walk, new_walk, object_walk, old_leaf_walk, old_walk, path_walked, slash_rules, stepped, unfollowed_walk, walk_start, word_walked, words_walked}
 use Rattle.vt_spec.specs.OneTree.World.{Task, World}
 use Rattle.vt_spec.specs.PathText.{ends_in_slash, is_absolute, parsed_path, words}
 use Rattle.vt_spec.specs.Rights.{Credentials, execute_right, write_right}
@@ -96,19 +96,19 @@ module _ (numbers : List ℕ) (world : World ℕ) (fit : IsFit numbers world) (w
   words_there follow ends start is (word ∷ front) = by (words_walked tree who follow start front) (words_there follow ends start is front)
     where
       linked : (from : ℕ) (next : Here ℕ) → is_some (world.inodes.inode from) ≡ true → IsThere next → (text : Option (List ℕ))
-          → IfOk (if_link next text (follow from next)) IsThere
+          → IfOk (if_symlink next text (follow from next)) IsThere
       linked from next from_is next_is None = next_is
       linked from next from_is next_is (Some text) = ends from next text from_is next_is
 
       stepped_there : (reached : Here ℕ) → IsThere reached → (r : Result (Here ℕ) Deny) → IfOk r IsThere
-          → IfOk (and_then r (λ next. if_link next (symlink_text (tree.node next.node)) (follow reached.node next))) IsThere
+          → IfOk (and_then r (λ next. if_symlink next (symlink_text (tree.node next.node)) (follow reached.node next))) IsThere
       stepped_there reached reached_is (Ok next) next_is = linked reached.node next reached_is next_is (symlink_text (tree.node next.node))
       stepped_there reached reached_is (Err deny) next_is = tt
 
       by : (r : Result (Here ℕ) Deny) → IfOk r IsThere
           → IfOk (and_then r
           (λ reached. and_then (word_walked tree who reached (last_word word))
-          (λ next. if_link next (symlink_text (tree.node next.node)) (follow reached.node next)))) IsThere
+          (λ next. if_symlink next (symlink_text (tree.node next.node)) (follow reached.node next)))) IsThere
       by (Ok reached) reached_is =
           stepped_there reached reached_is (word_walked tree who reached (last_word word)) (word_there reached (last_word word))
       by (Err deny) reached_is = tt

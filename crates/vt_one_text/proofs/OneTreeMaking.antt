@@ -15,7 +15,7 @@ use Rattle.vt_spec.specs.Lists.{Fresh, odds}
 use Rattle.vt_spec.specs.Machine.Outcome.Descriptors as Descriptors
 use Rattle.vt_spec.specs.Language.Limits as DescriptorsLanguage
 use Rattle.vt_spec.specs.Machine.Outcome.Making as Making
-use Rattle.vt_spec.specs.Machine.Outcome.Making.{directory_mode, file_mode, link_text_rules}
+use Rattle.vt_spec.specs.Machine.Outcome.Making.{directory_mode, file_mode, symlink_text_rules}
 use Rattle.vt_spec.specs.Language.Limits.{largest_file, longest_path}
 use Rattle.vt_spec.specs.Machine.Outcomes as Outcomes
 use Rattle.vt_spec.specs.Language.Answers.Answer.{Done}

@@ -19,7 +19,7 @@ use Rattle.vt_spec.specs.Machine.Walk.LastWord.{Dot, DotDot, Named, NoWord}
 use Rattle.vt_spec.specs.Machine.World as MachineWorld
 use Rattle.vt_spec.specs.Language.Calls.{TaskName}
 use Rattle.vt_spec.specs.Inodes.{tree_of}
-use Rattle.vt_spec.specs.OneTree.Walk.{Follow, Here, Place, directory_walk, file_or_symlink, file_walk, file_walked, follow_rules, followed, front_walked, if_link, is_directory_at, last_walked, symlink_of, symlink_start, symlink_there, symlink_walk, symlink_walked, may, new_leaf_walk, new_walk, object_named, object_walk, old_leaf_walk, old_walk, path_walked, placed, rename_new_walk, search_rules, slash_rules, start_of, stepped, unfollowed_walk, walk_start, word_walked, words_walked, is_directory_there}
+use Rattle.vt_spec.specs.OneTree.Walk.{Follow, Here, Place, directory_walk, file_or_symlink, file_walk, file_walked, follow_rules, followed, front_walked, if_symlink, is_directory_at, last_walked, symlink_of, symlink_start, symlink_there, symlink_walk, symlink_walked, may, new_leaf_walk, new_walk, object_named, object_walk, old_leaf_walk, old_walk, path_walked, placed, rename_new_walk, search_rules, slash_rules, start_of, stepped, unfollowed_walk, walk_start, word_walked, words_walked, is_directory_there}
 use Rattle.vt_spec.specs.OneTree.World.{Task, World}
 use Rattle.vt_one_text.specs.OneTree.{Beside, EndsAlike, IsFit, Steps, embedded, here_there, location_there, place_there, task_there}
 use Rattle.vt_one_text.proofs.OneTreeTrees.{lies_under, not_removed}
@@ -210,17 +210,17 @@ module _ (beside : Beside) (world : World ℕ) (entry : TaskName × Task ℕ) (f
       then_alike here_there here_there (words_walked tree who follow start front)
       (Machine.words_walked nat_eq there task other (here_there start steps) front)
       (λ reached. and_then (word_walked tree who reached (last_word word))
-      (λ next. if_link next (symlink_text (tree.node next.node)) (follow reached.node next))) _
+      (λ next. if_symlink next (symlink_text (tree.node next.node)) (follow reached.node next))) _
       (words_alike follow other alike start front steps)
       (λ reached on e. then_alike here_there here_there (word_walked tree who reached (last_word word))
       (Machine.word_walked nat_eq there task (here_there reached on) (last_word word))
-      (λ next. if_link next (symlink_text (tree.node next.node)) (follow reached.node next)) _
+      (λ next. if_symlink next (symlink_text (tree.node next.node)) (follow reached.node next)) _
       (word_alike reached on (last_word word))
       (λ next after e. by reached.node next after (symlink_text (tree.node next.node))))
     where
       by : (from : ℕ) (next : Here ℕ) (after : Steps) (text : Option (List ℕ))
-          → EndsAlike here_there (if_link next text (follow from next))
-          (Machine.if_link (here_there next after) text (other (location_there from) (here_there next after)))
+          → EndsAlike here_there (if_symlink next text (follow from next))
+          (Machine.if_symlink (here_there next after) text (other (location_there from) (here_there next after)))
       by from next after None = (after, refl)
       by from next after (Some text) = alike from next after text
 

@@ -20,7 +20,7 @@ use Rattle.vt_spec.specs.Machine.Permits.{Permit}
 use Rattle.vt_spec.specs.Machine.Rightful.{node_allows}
 use Rattle.vt_spec.specs.Machine.Rows.{exact_attr, new_attr}
 use Rattle.vt_spec.specs.Machine.Rules.Descriptors.{descriptor_rules, exclusive_word_rules, open_rules}
-use Rattle.vt_spec.specs.Machine.Rules.Making.{file_word_rules, hard_link_rules, link_text_rules, make_rules, new_word_rules, rewrite_rules, whiteout_rules}
+use Rattle.vt_spec.specs.Machine.Rules.Making.{file_word_rules, hard_link_rules, symlink_text_rules, make_rules, new_word_rules, rewrite_rules, whiteout_rules}
 use Rattle.vt_spec.specs.Machine.Rules.Removing.{is_one_object, object_there, old_word_rules, rename_new_walk, rename_rules, rmdir_rules, rmdir_word_rules, same_object_rules, unlink_rules}
 use Rattle.vt_spec.specs.Machine.Run.{Serves}
 use Rattle.vt_spec.specs.Machine.Walk.{LastWord, Place, is_dot, is_dot_dot, is_no_word, is_special, name_of, new_name_rules}
@@ -144,7 +144,7 @@ module _ (world : World ℕ) (whole : IsWorld nat_eq world) (task : Task ℕ) (c
   pub symlink_asked : (text path : List ℕ) → Asked (symlink_permit nat_eq looks task text path)
   unfolding symlink_permit
   symlink_asked text path =
-      gives_unless Asks (link_text_rules text) _ (λ passed.
+      gives_unless Asks (symlink_text_rules text) _ (λ passed.
       gives_walk Asks NewPlace (new_leaf_walk nat_eq looks task path) _ (new_leaf_ends path) (λ place is.
       made_asked place (record { attr = exact_attr task symlink_mode; content = Symlink text }) is (inr refl) refl
       (ap (λ b. b && true) (both (not (is_empty text)) (nat_le (length text) longest_path) (ap not passed.0)

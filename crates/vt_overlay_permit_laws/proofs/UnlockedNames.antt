@@ -15,7 +15,7 @@ use Rattle.vt_spec.specs.Machine.Outcome.Descriptors.{is_copied_up}
 use Rattle.vt_spec.specs.Machine.Outcome.Making.{file_mode, linking, new_file}
 use Rattle.vt_spec.specs.Machine.Permits.{Permit}
 use Rattle.vt_spec.specs.Machine.Rules.Descriptors.{descriptor_rules, exclusive_word_rules, open_rules}
-use Rattle.vt_spec.specs.Machine.Rules.Making.{file_word_rules, hard_link_rules, link_text_rules, make_rules, new_word_rules, rewrite_rules, whiteout_rules}
+use Rattle.vt_spec.specs.Machine.Rules.Making.{file_word_rules, hard_link_rules, symlink_text_rules, make_rules, new_word_rules, rewrite_rules, whiteout_rules}
 use Rattle.vt_spec.specs.Machine.Rules.Removing.{is_one_object, object_there, old_word_rules, rename_new_walk, rename_rules, rmdir_rules, rmdir_word_rules, same_object_rules, unlink_rules}
 use Rattle.vt_spec.specs.Machine.Run.{Serves}
 use Rattle.vt_spec.specs.Machine.Walk.{Place, is_special, name_of}
@@ -67,7 +67,7 @@ module _ (world : World ℕ) (whole : IsWorld nat_eq world) (task : Task ℕ) (c
   pub symlink_spared : (text path : List ℕ) → Spared (symlink_permit nat_eq looks task text path)
   unfolding symlink_permit
   symlink_spared text path =
-      gives_unless Spares (link_text_rules text) _ (λ passed.
+      gives_unless Spares (symlink_text_rules text) _ (λ passed.
       gives_walk Spares (λ place. ⊤) (new_leaf_walk nat_eq looks task path) _ (ends_anyhow (new_leaf_walk nat_eq looks task path)) (λ place any.
       made_spared place _))
 

@@ -15,7 +15,7 @@ use Rattle.vt_spec.specs.Machine.Mounts.{Location}
 use Rattle.vt_spec.specs.Machine.Outcome.Making.{directory_mode, file_mode, linking, new_file, symlink_mode}
 use Rattle.vt_spec.specs.Machine.Rows.{exact_attr, new_attr}
 use Rattle.vt_spec.specs.Machine.Rules.Descriptors.{descriptor_rules, exclusive_word_rules, open_rules}
-use Rattle.vt_spec.specs.Machine.Rules.Making.{file_word_rules, hard_link_rules, link_text_rules, make_rules, new_word_rules, rewrite_rules, whiteout_rules}
+use Rattle.vt_spec.specs.Machine.Rules.Making.{file_word_rules, hard_link_rules, symlink_text_rules, make_rules, new_word_rules, rewrite_rules, whiteout_rules}
 use Rattle.vt_spec.specs.Machine.Rules.Removing.{is_one_object, object_there, old_word_rules, rename_new_walk, rename_rules, rmdir_rules, rmdir_word_rules, same_object_rules, unlink_rules}
 use Rattle.vt_spec.specs.Machine.Walk.{Place, entry_location, is_special, name_of, new_name_rules}
 use Rattle.vt_spec.specs.Machine.Walking.{file_walk, is_directory_there, new_leaf_walk, new_walk, object_walk, old_leaf_walk, old_walk, symlink_walk}
@@ -126,7 +126,7 @@ module _ (world : World ℕ) (whole : IsWorld nat_eq world) (plain : IsPlain wor
   pub symlink_seen : (text path : List ℕ) → Seen (symlink_permit nat_eq looks task text path)
   unfolding symlink_permit
   symlink_seen text path =
-      gives_unless (SeesTo world task) (link_text_rules text) _ (λ passed.
+      gives_unless (SeesTo world task) (symlink_text_rules text) _ (λ passed.
       gives_walk (SeesTo world task) NewPlace (new_leaf_walk nat_eq looks task path) _ (new_leaf_ends path) (λ place is.
       made_seen place (record { attr = exact_attr task symlink_mode; content = Symlink text }) is (inr refl)
       (ap (λ b. b && true) (both (not (is_empty text)) (nat_le (length text) longest_path) (ap not passed.0)

@@ -40,7 +40,7 @@ abbrev pub rest_of : {A : Type 0} → List A → List A
 rest_of [] = []
 rest_of (a ∷ rest) = rest
 
--- the non-empty fronts of a list, the shortest first
+-- the non-empty prefixes of a list, the shortest first
 abbrev pub fronts : {A : Type 0} → List A → List (List A)
 fronts [] = []
 fronts (a ∷ rest) = (a ∷ []) ∷ map (λ front. a ∷ front) (fronts rest)

@@ -72,7 +72,7 @@ other_bits mode = mode % 8
 abbrev pub is_sticky : ℕ → Bool
 is_sticky mode = mode / 512 % 2 == 1
 
--- the group is the task's own, or one of its further groups
+-- the group is the task's own, or one of its supplementary groups
 abbrev pub is_member : Credentials → ℕ → Bool
 is_member who gid = who.gid == gid || list_any (λ g. g == gid) who.groups
 

@@ -14,7 +14,7 @@ use Rattle.vt_spec.specs.Lists.{Fresh, evens, odds}
 use Rattle.vt_spec.specs.Machine.Mounts.{Location}
 use Rattle.vt_spec.specs.Machine.Outcome.Attributes.{attr_at, attr_rules, attr_set, attr_with_mode, attr_with_owner, chmod_outcome, chown_outcome, may_chown, opaque_outcome, opaque_rules}
 use Rattle.vt_spec.specs.Machine.Outcome.Descriptors.{create_file, descriptor_at, descriptor_rules, exclusive_word_rules, is_copied_up, open_by, open_file, open_outcome, open_rules, opened, opened_or_created, pwrite_outcome, pwrite_rules, pwritten, with_copy, with_descriptor}
-use Rattle.vt_spec.specs.Machine.Outcome.Making.{directory_mode, file_mode, file_word_rules, symlink_mode, link_text_rules, made_at, make_rules, mkdir_outcome, new_file, new_rules, rewrite_rules, symlink_outcome, whiteout_outcome, whiteout_rules, with_new, write_outcome, written}
+use Rattle.vt_spec.specs.Machine.Outcome.Making.{directory_mode, file_mode, file_word_rules, symlink_mode, symlink_text_rules, made_at, make_rules, mkdir_outcome, new_file, new_rules, rewrite_rules, symlink_outcome, whiteout_outcome, whiteout_rules, with_new, write_outcome, written}
 use Rattle.vt_spec.specs.Language.Limits.{largest_file}
 use Rattle.vt_spec.specs.Machine.Outcomes.{granted}
 use Rattle.vt_spec.specs.Language.Answers.Answer.{Done}
@@ -83,7 +83,7 @@ module _ (fresh : Fresh ℕ) (world : World ℕ) (task : Task ℕ) (conditions :
   pub symlink_keeps : (text path : List ℕ) → IsWorldOfTrees (symlink_outcome nat_eq fresh world task text path).world
   unfolding symlink_outcome
   symlink_keeps text path =
-      judged_holds IsWorldOfTrees world (link_text_rules text) _ conditions (λ passed.
+      judged_holds IsWorldOfTrees world (symlink_text_rules text) _ conditions (λ passed.
       after_ends (IsNewPlace world task) IsWorldOfTrees world (new_leaf_walk nat_eq world task path)
       (λ place. made_at nat_eq fresh world task place (record { attr = exact_attr task symlink_mode; content = Symlink text })) conditions (ends_new_leaf_walk world task path)
       (λ place is. made_keeps place (record { attr = exact_attr task symlink_mode; content = Symlink text }) (inr refl) is))

@@ -25,7 +25,7 @@ use Rattle.vt_spec.specs.Lists.{Fresh, evens, odds}
 use Rattle.vt_spec.specs.Machine.Mounts.{Location}
 use Rattle.vt_spec.specs.Machine.Outcome.Attributes.{attr_at, attr_rules, attr_set, attr_with_mode, attr_with_owner, chmod_outcome, chown_outcome, may_chown, opaque_outcome, opaque_rules}
 use Rattle.vt_spec.specs.Machine.Outcome.Descriptors.{create_file, descriptor_at, descriptor_rules, exclusive_word_rules, is_copied_up, open_by, open_file, open_outcome, open_rules, opened, opened_or_created, overwritten, padded, pwrite_outcome, pwrite_rules, pwritten, with_copy, with_descriptor}
-use Rattle.vt_spec.specs.Machine.Outcome.Making.{directory_mode, file_mode, file_word_rules, symlink_mode, hard_link_outcome, hard_link_rules, link_text_rules, linking, made_at, make_rules, mkdir_outcome, new_file, new_rules, rewrite_rules, symlink_outcome, whiteout_outcome, whiteout_rules, with_new, write_outcome, written}
+use Rattle.vt_spec.specs.Machine.Outcome.Making.{directory_mode, file_mode, file_word_rules, symlink_mode, hard_link_outcome, hard_link_rules, symlink_text_rules, linking, made_at, make_rules, mkdir_outcome, new_file, new_rules, rewrite_rules, symlink_outcome, whiteout_outcome, whiteout_rules, with_new, write_outcome, written}
 use Rattle.vt_spec.specs.Machine.Outcome.Mounting.{plain_filesystem}
 use Rattle.vt_spec.specs.Machine.Outcome.Removing.{is_one_object, moving, object_there, old_word_rules, removing, rename_new_walk, rename_outcome, rename_rules, renamed_by, rmdir_outcome, rmdir_rules, rmdir_word_rules, same_object_rules, unlink_outcome, unlink_rules, without_replaced}
 use Rattle.vt_spec.specs.Machine.Outcomes.{Outcome, granted}
@@ -155,7 +155,7 @@ module _ (fresh : Fresh ℕ) (world : World ℕ) (task : Task ℕ) (conditions :
   fit_symlink : (text path : List ℕ) → IsFitWorld (symlink_outcome nat_eq fresh world task text path).world
   unfolding symlink_outcome
   fit_symlink text path =
-      judged_holds IsFitWorld world (link_text_rules text) _ conditions (λ passed.
+      judged_holds IsFitWorld world (symlink_text_rules text) _ conditions (λ passed.
       after_ends (HasFitLast world task) IsFitWorld world (new_leaf_walk nat_eq world task path)
       (λ place. made_at nat_eq fresh world task place (record { attr = exact_attr task symlink_mode; content = Symlink text })) conditions (fit_new_leaf_walk world task path)
       (λ place last. fit_made place (record { attr = exact_attr task symlink_mode; content = Symlink text }) last

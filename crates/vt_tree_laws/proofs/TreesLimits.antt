@@ -24,7 +24,7 @@ use Rattle.vt_spec.specs.Machine.Outcome.Attributes.{attr_at, attr_rules, attr_s
 use Rattle.vt_spec.specs.Machine.Outcome.Descriptors.{close_outcome, create_file, descriptor_at, descriptor_rules, exclusive_word_rules, is_copied_up, open_by, open_file, open_outcome, open_rules, opened, opened_or_created, pread_outcome, pwrite_outcome, pwrite_rules, pwritten, with_copy, with_descriptor, without_descriptor}
 use Rattle.vt_spec.specs.Language.Limits.{deepest_name, largest_file, most_descriptors, most_forks}
 use Rattle.vt_spec.specs.Machine.Outcome.Looking.{exec_outcome, exec_rules, list_outcome, list_rules, lstat_outcome, read_outcome, read_rules, readlink_outcome, readlink_rules, stat_outcome}
-use Rattle.vt_spec.specs.Machine.Outcome.Making.{directory_mode, file_mode, file_word_rules, symlink_mode, hard_link_outcome, hard_link_rules, link_text_rules, linking, made_at, make_rules, mkdir_outcome, new_file, new_rules, rewrite_rules, symlink_outcome, whiteout_outcome, whiteout_rules, with_new, write_outcome, written}
+use Rattle.vt_spec.specs.Machine.Outcome.Making.{directory_mode, file_mode, file_word_rules, symlink_mode, hard_link_outcome, hard_link_rules, symlink_text_rules, linking, made_at, make_rules, mkdir_outcome, new_file, new_rules, rewrite_rules, symlink_outcome, whiteout_outcome, whiteout_rules, with_new, write_outcome, written}
 use Rattle.vt_spec.specs.Machine.Outcome.Mounting.{admin_rules, bind_outcome, bind_rules, bound_at, destination_walk, layer_rules, layers_walked, lazy_outcome, lazy_rules, mount_overlay_outcome, mount_plain_outcome, mounted, move_outcome, move_rules, moved_to, new_mount_rules, overlay_at, overlay_by, overlay_mounted, pivot_outcome, pivot_rules, plain_filesystem, remount_outcome, remount_rules, source_walk, type_outcome, type_rules, umount_outcome, umount_rules, with_flags}
 use Rattle.vt_spec.specs.Machine.Outcome.Removing.{is_one_object, moving, object_there, old_word_rules, removing, rename_new_walk, rename_outcome, rename_rules, renamed_by, rmdir_outcome, rmdir_rules, rmdir_word_rules, same_object_rules, unlink_outcome, unlink_rules, without_replaced}
 use Rattle.vt_spec.specs.Machine.Outcome.Tasks.{chdir_outcome, child_credentials, child_of, chroot_outcome, drop_outcome, enter_rules, exit_outcome, fork_outcome, fork_rules, setns_outcome, umask_outcome, unshare_outcome}
@@ -182,7 +182,7 @@ module _ (fresh : Fresh ℕ) (world : World ℕ) (task : Task ℕ) (small : HasS
   symlink_small : (text path : List ℕ) → HasSmallTasks (symlink_outcome nat_eq fresh world task text path).world
   unfolding symlink_outcome
   symlink_small text path =
-      judged_holds HasSmallTasks world (link_text_rules text) _ small (λ passed.
+      judged_holds HasSmallTasks world (symlink_text_rules text) _ small (λ passed.
       after_any HasSmallTasks world (new_leaf_walk nat_eq world task path) (λ place. made_at nat_eq fresh world task place (record { attr = exact_attr task symlink_mode; content = Symlink text })) small
       (λ place. made_small place (record { attr = exact_attr task symlink_mode; content = Symlink text })))
 

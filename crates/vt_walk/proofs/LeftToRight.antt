@@ -2,7 +2,7 @@
 use Rattle.std.proofs.Common.{◌≡◌, ℕ, List, None, Some, [], ◌∷◌, ◌++◌, reverse, Result, Ok, Err, sym, ap, ◌∙◌, append_assoc}
 use Rattle.std.proofs.lemmas.List.{append-nil, reverse-append}
 use Rattle.vt_spec.specs.Machine.Walking.{Here, LastWord, last_word}
-use Rattle.vt_walk.specs.PlainWalks.{Follow, if_link, standing, word_led, word_walked, words_walked}
+use Rattle.vt_walk.specs.PlainWalks.{Follow, if_symlink, standing, word_led, word_walked, words_walked}
 use Rattle.vt_spec.specs.declared.errors.Deny.{Deny}
 use Rattle.vt_spec.specs.Errors.{and_then}
 use Rattle.vt_spec.specs.FileTree.{symlink_text}
@@ -15,7 +15,7 @@ use Rattle.vt_walk.proofs.RefusalLemmas.{and_then-ok, and_then-and_then}
 abbrev pub step : Looks ℕ → Task ℕ → Follow → Here ℕ → List ℕ → Result (Here ℕ) Deny
 step looks task follow here word =
     and_then (word_walked looks task here (last_word word)) (λ next.
-    if_link next (symlink_text (looks.node next.location)) (follow here.location next))
+    if_symlink next (symlink_text (looks.node next.location)) (follow here.location next))
 
 -- the walk by the words, of which the first comes first
 abbrev pub walked_on : Looks ℕ → Task ℕ → Follow → Here ℕ → List (List ℕ) → Result (Here ℕ) Deny
@@ -50,21 +50,21 @@ module _ (looks : Looks ℕ) (task : Task ℕ) (follow : Follow) where
       -- a word that is refused ends the walk
       pub word-refused : (deny : Deny) → Err deny ≡ word_walked looks task here (last_word word) → Err deny ≡ words_walked looks task follow start (reverse words)
       word-refused deny refused =
-          by-word (Err deny) (ap (λ r. and_then (and_then r (λ next. if_link next (symlink_text (looks.node next.location)) (follow here.location next))) (λ there. walked_on looks task follow there rest)) refused)
+          by-word (Err deny) (ap (λ r. and_then (and_then r (λ next. if_symlink next (symlink_text (looks.node next.location)) (follow here.location next))) (λ there. walked_on looks task follow there rest)) refused)
           ∙ sym (words_walked-reverse start words)
 
       module _ (next : Here ℕ) (walked : Ok next ≡ word_walked looks task here (last_word word)) where
         by-place : (answer : Result (Here ℕ) Deny)
-            → answer ≡ and_then (if_link next (symlink_text (looks.node next.location)) (follow here.location next)) (λ there. walked_on looks task follow there rest)
+            → answer ≡ and_then (if_symlink next (symlink_text (looks.node next.location)) (follow here.location next)) (λ there. walked_on looks task follow there rest)
             → answer ≡ walked_on looks task follow start words
         by-place answer e =
-            by-word answer (e ∙ ap (λ r. and_then (and_then r (λ next. if_link next (symlink_text (looks.node next.location)) (follow here.location next))) (λ there. walked_on looks task follow there rest)) walked)
+            by-word answer (e ∙ ap (λ r. and_then (and_then r (λ next. if_symlink next (symlink_text (looks.node next.location)) (follow here.location next))) (λ there. walked_on looks task follow there rest)) walked)
 
         -- a word that leads to no link
         pub no-link : None ≡ symlink_text (looks.node next.location) → walked_on looks task follow next rest ≡ walked_on looks task follow start words
         no-link none =
             by-place (walked_on looks task follow next rest)
-            (ap (λ t. and_then (if_link next t (follow here.location next)) (λ there. walked_on looks task follow there rest)) none)
+            (ap (λ t. and_then (if_symlink next t (follow here.location next)) (λ there. walked_on looks task follow there rest)) none)
 
         -- a word that leads to a link
         pub link-met : (text : List ℕ) → Some text ≡ symlink_text (looks.node next.location)
@@ -72,7 +72,7 @@ module _ (looks : Looks ℕ) (task : Task ℕ) (follow : Follow) where
         link-met text link =
             (λ i. and_then (follow here.location next text) (λ there. words_walked-reverse there rest i))
             ∙ by-place (and_then (follow here.location next text) (λ there. walked_on looks task follow there rest))
-            (ap (λ t. and_then (if_link next t (follow here.location next)) (λ there. walked_on looks task follow there rest)) link)
+            (ap (λ t. and_then (if_symlink next t (follow here.location next)) (λ there. walked_on looks task follow there rest)) link)
             ∙ sym (words_walked-reverse start words)
 
 -- where a word leads, the links left are as before

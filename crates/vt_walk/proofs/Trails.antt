@@ -11,7 +11,7 @@ use Rattle.vt_spec.specs.Machine.Walking.LastWord.{Dot, DotDot, Named, NoWord}
 use Rattle.vt_spec.specs.Machine.World.{Task}
 use Rattle.vt_spec.specs.PathText.{ends_in_slash, words}
 use Rattle.vt_walk.proofs.RefusalLemmas.{unless-and_then}
-use Rattle.vt_walk.specs.PlainWalks.{Follow, file_or_symlink, file_walked, followed, front_walked, if_link, last_walked, placed, standing, symlink_start, symlink_walked, word_walked, words_walked}
+use Rattle.vt_walk.specs.PlainWalks.{Follow, file_or_symlink, file_walked, followed, front_walked, if_symlink, last_walked, placed, standing, symlink_start, symlink_walked, word_walked, words_walked}
 use Rattle.vt_walk.specs.WalkValue.{location_end, place_end, without_steps}
 
 abbrev pub plain : Here ℕ → Here ℕ
@@ -69,7 +69,7 @@ location-checked (Ok here) rules further = sym (unless-location here.steps (rule
 location-checked (Err stop) rules further = refl
 
 if-link-plain : (here : Here ℕ) (text : Option (List ℕ)) (follow : List ℕ → Result (Here ℕ) (Stop ℕ)) (after : List ℕ → Result (Here ℕ) Deny)
-    → ((inner : List ℕ) → plain_end (follow inner) ≡ after inner) → plain_end (Walking.if_link here text follow) ≡ if_link (plain here) text after
+    → ((inner : List ℕ) → plain_end (follow inner) ≡ after inner) → plain_end (Walking.if_symlink here text follow) ≡ if_symlink (plain here) text after
 if-link-plain here None follow after same = refl
 if-link-plain here (Some inner) follow after same = same inner
 
@@ -99,12 +99,12 @@ module _ (looks : Looks ℕ) (task : Task ℕ) where
   words-plain follow after alike here [] = refl
   words-plain follow after alike here (word ∷ front) =
       then-plain (Walking.words_walked nat_eq looks task follow here front) _
-      (λ reached. and_then (word_walked looks task reached (last_word word)) (λ next. if_link next (symlink_text (looks.node next.location)) (after reached.location next)))
+      (λ reached. and_then (word_walked looks task reached (last_word word)) (λ next. if_symlink next (symlink_text (looks.node next.location)) (after reached.location next)))
       (λ reached. then-plain (Walking.word_walked nat_eq looks task reached (last_word word)) _
-      (λ next. if_link next (symlink_text (looks.node next.location)) (after reached.location next))
+      (λ next. if_symlink next (symlink_text (looks.node next.location)) (after reached.location next))
       (λ next. if-link-plain next (symlink_text (looks.node next.location)) (follow reached.location next) (after reached.location (plain next)) (alike reached.location next))
-      ∙ ap (λ r. and_then r (λ next. if_link next (symlink_text (looks.node next.location)) (after reached.location next))) (word-plain reached (last_word word)))
-      ∙ ap (λ r. and_then r (λ reached. and_then (word_walked looks task reached (last_word word)) (λ next. if_link next (symlink_text (looks.node next.location)) (after reached.location next))))
+      ∙ ap (λ r. and_then r (λ next. if_symlink next (symlink_text (looks.node next.location)) (after reached.location next))) (word-plain reached (last_word word)))
+      ∙ ap (λ r. and_then r (λ reached. and_then (word_walked looks task reached (last_word word)) (λ next. if_symlink next (symlink_text (looks.node next.location)) (after reached.location next))))
       (words-plain follow after alike here front)
 
   symlink-plain : (depth : ℕ) → FollowAlike (λ directory link text. Walking.symlink_walked nat_eq depth looks task directory link text) (λ directory link text. symlink_walked looks task depth directory link text)

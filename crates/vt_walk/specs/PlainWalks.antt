@@ -20,9 +20,9 @@ standing location left = record { location = location; left = left; steps = [] }
 abbrev pub Follow : Type 0
 Follow = Location ℕ → Here ℕ → List ℕ → Result (Here ℕ) Deny
 
-abbrev pub if_link : Here ℕ → Option (List ℕ) → (List ℕ → Result (Here ℕ) Deny) → Result (Here ℕ) Deny
-if_link here None follow = Ok here
-if_link here (Some text) follow = follow text
+abbrev pub if_symlink : Here ℕ → Option (List ℕ) → (List ℕ → Result (Here ℕ) Deny) → Result (Here ℕ) Deny
+if_symlink here None follow = Ok here
+if_symlink here (Some text) follow = follow text
 
 abbrev pub entered : Looks ℕ → Place ℕ → Place ℕ
 entered looks place = record place { object = option_map (topmost looks) place.object }
@@ -52,7 +52,7 @@ module _ (looks : Looks ℕ) (task : Task ℕ) where
   words_walked follow here (word ∷ front) =
       and_then (words_walked follow here front) (λ reached.
       and_then (word_walked reached (last_word word)) (λ next.
-      if_link next (symlink_text (looks.node next.location)) (follow reached.location next)))
+      if_symlink next (symlink_text (looks.node next.location)) (follow reached.location next)))
 
   abbrev pub symlink_start : Location ℕ → Here ℕ → List ℕ → Here ℕ
   symlink_start directory link text = standing (start_of task directory text) (link.left - 1)

@@ -16,7 +16,7 @@ use Rattle.vt_spec.specs.Machine.Permits.Permit.{Allowed, ToChange, ToList, ToRe
 use Rattle.vt_spec.specs.Machine.Rows.{exact_attr, new_attr}
 use Rattle.vt_spec.specs.Machine.Rules.Attributes.{attr_at, attr_rules, opaque_rules}
 use Rattle.vt_spec.specs.Machine.Rules.Looking.{exec_rules, list_rules, read_rules, readlink_rules}
-use Rattle.vt_spec.specs.Machine.Rules.Making.{file_word_rules, hard_link_rules, link_text_rules, make_rules, new_word_rules, rewrite_rules, whiteout_rules}
+use Rattle.vt_spec.specs.Machine.Rules.Making.{file_word_rules, hard_link_rules, symlink_text_rules, make_rules, new_word_rules, rewrite_rules, whiteout_rules}
 use Rattle.vt_spec.specs.Language.Limits.{largest_file}
 use Rattle.vt_spec.specs.Machine.Rules.Mounting.{admin_rules}
 use Rattle.vt_spec.specs.Machine.Rules.Removing.{is_one_object, object_there, old_word_rules, removing, rename_new_walk, rename_rules, rmdir_rules, rmdir_word_rules, same_object_rules, unlink_rules}
@@ -142,7 +142,7 @@ module _ (fresh : Fresh ℕ) (world : World ℕ) (whole : IsWorld nat_eq world) 
   pub symlink_fits : (text path : List ℕ) → Fit (symlink_permit nat_eq looks task text path)
   unfolding symlink_permit
   symlink_fits text path =
-      permits_unless fresh world task (link_text_rules text) _ (λ passed.
+      permits_unless fresh world task (symlink_text_rules text) _ (λ passed.
       permits_walk fresh world task FoundPlace (new_leaf_walk nat_eq looks task path) _
       (new_leaf_walk_found world whole task called path) (λ place is.
       made_fits place (record { attr = exact_attr task symlink_mode; content = Symlink text }) is))

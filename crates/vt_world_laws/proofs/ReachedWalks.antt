@@ -6,7 +6,7 @@ use Rattle.vt_spec.specs.declared.errors.Rule.TheVariants.{W3}
 use Rattle.vt_spec.specs.PathText.{ends_in_slash, is_absolute, words}
 use Rattle.vt_spec.specs.FileTree.{symlink_text}
 use Rattle.vt_spec.specs.Machine.Mounts.{Location}
-use Rattle.vt_spec.specs.Machine.Walk.{Follow, Here, LastWord, Stop, directory_walk, final_word, follow_rules, followed, front_walked, if_link, last_walked, last_word, symlink_start, symlink_walk, symlink_walk_by, symlink_walked, object_walk, path_text, path_walked, search_rules, slash_rules, start_of, stepped, steps_with, walk_start, walk_unless, word_walked, words_walked}
+use Rattle.vt_spec.specs.Machine.Walk.{Follow, Here, LastWord, Stop, directory_walk, final_word, follow_rules, followed, front_walked, if_symlink, last_walked, last_word, symlink_start, symlink_walk, symlink_walk_by, symlink_walked, object_walk, path_text, path_walked, search_rules, slash_rules, start_of, stepped, steps_with, walk_start, walk_unless, word_walked, words_walked}
 use Rattle.vt_spec.specs.Language.Limits.{most_symlinks}
 use Rattle.vt_spec.specs.Machine.Walk.LastWord.{Dot, DotDot, Named, NoWord}
 use Rattle.vt_spec.specs.Machine.World.{Task, World, all_locations, is_directory_at, locations_of, node_at, task_called}
@@ -89,7 +89,7 @@ module _ (world : World ℕ) (whole : IsWorld nat_eq world) (task : Task ℕ)
 
   if_link_end : (next : Here ℕ) (follow : List ℕ → Result (Here ℕ) (Stop ℕ)) → Found next.location
       → ((text : List ℕ) → EndsAtEnd (follow text))
-      → (o : Option (List ℕ)) → symlink_text (node_at nat_eq world next.location) ≡ o → EndsAtEnd (if_link next o follow)
+      → (o : Option (List ℕ)) → symlink_text (node_at nat_eq world next.location) ≡ o → EndsAtEnd (if_symlink next o follow)
   if_link_end next follow found goes None e = (found, e)
   if_link_end next follow found goes (Some text) e = goes text
 

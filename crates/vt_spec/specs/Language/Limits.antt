@@ -27,7 +27,7 @@ most_descriptors = 256
 abbrev pub most_lowers : ℕ
 most_lowers = 128
 
--- the most links that are followed for one path: MAXSYMLINKS, path_resolution(7)
+-- the most symlinks that are followed for one path: MAXSYMLINKS, path_resolution(7)
 abbrev pub most_symlinks : ℕ
 most_symlinks = 40
 

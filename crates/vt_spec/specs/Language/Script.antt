@@ -133,7 +133,7 @@ name_of_parts (first ∷ children) = if bytes_eq first (codes "t") then each_of 
 abbrev pub task_word : List ℕ → Option TaskName
 task_word text = name_of_parts (parts 46 text)
 
--- a path, or the text of a link: any text without byte 0
+-- a path, or the text of a symlink: any text without byte 0
 abbrev pub path_word : List ℕ → Option (List ℕ)
 path_word text = if list_any (λ byte. byte == 0) text then None else Some text
 

@@ -24,7 +24,7 @@ use Rattle.vt_spec.specs.Machine.Rules.Attributes.{attr_at, attr_rules, opaque_r
 use Rattle.vt_spec.specs.Machine.Rules.Conditions.{lacks}
 use Rattle.vt_spec.specs.Machine.Rules.Descriptors.{descriptor_at, descriptor_rules, exclusive_word_rules, open_rules, pwrite_rules}
 use Rattle.vt_spec.specs.Machine.Rules.Looking.{exec_rules, list_rules, read_rules, readlink_rules}
-use Rattle.vt_spec.specs.Machine.Rules.Making.{file_word_rules, hard_link_rules, link_text_rules, make_rules, new_word_rules, rewrite_rules, whiteout_rules}
+use Rattle.vt_spec.specs.Machine.Rules.Making.{file_word_rules, hard_link_rules, symlink_text_rules, make_rules, new_word_rules, rewrite_rules, whiteout_rules}
 use Rattle.vt_spec.specs.Language.Limits.{largest_file}
 use Rattle.vt_spec.specs.Machine.Rules.Mounting.{admin_rules, bind_rules, destination_walk, layer_rules, layers_walked, lazy_rules, move_rules, new_mount_rules, overlay_at, pivot_rules, remount_rules, source_walk, type_rules, umount_rules}
 use Rattle.vt_spec.specs.Machine.Rules.Removing.{is_one_object, object_there, old_word_rules, removing, rename_new_walk, rename_rules, rmdir_rules, rmdir_word_rules, same_object_rules, unlink_rules}
@@ -133,7 +133,7 @@ module _ {N : Type 0} (eq : N → N → Bool) where
 
   unfoldable pub symlink_permit : Looks N → Task N → List ℕ → List ℕ → Judgement N
   symlink_permit looks task text path =
-      unless (link_text_rules text)
+      unless (symlink_text_rules text)
       (and_then (walk_end (new_leaf_walk eq looks task path)) (λ place.
       made_permit looks task place (record { attr = exact_attr task symlink_mode; content = Symlink text })))
 

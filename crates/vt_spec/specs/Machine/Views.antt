@@ -29,7 +29,7 @@ module _ {N : Type 0} where
   hides None = false
   hides (Some node) = not (is_directory (kind_of node.content)) || is_opaque_in (Some node)
 
-  -- the layer cuts lower ones at a path: it hides at a non-empty front of it, or at the path itself
+  -- the layer cuts lower ones at a path: it hides at a non-empty prefix of it, or at the path itself
   abbrev pub cuts : View N → List (List ℕ) → Bool
   cuts view path = list_any (λ front. hides (node_led view front)) (fronts path)
 

@@ -6,7 +6,7 @@ use Rattle.vt_spec.specs.Machine.Looks.{looks_of}
 use Rattle.vt_spec.specs.Machine.Mounts.{Location}
 use Rattle.vt_spec.specs.Machine.Walking
 use Rattle.vt_spec.specs.Machine.World.{Task, World}
-pub use Rattle.vt_spec.specs.Machine.Walking.{Follow, Here, LastWord, Place, Stop, all_met, also_met, final_word, if_link, is_dot, is_dot_dot, is_no_word, is_special, last_word, symlink_of, name_of, path_text, start_of, stopped_by, then_walk, walk_end, walk_start, walk_unless}
+pub use Rattle.vt_spec.specs.Machine.Walking.{Follow, Here, LastWord, Place, Stop, all_met, also_met, final_word, if_symlink, is_dot, is_dot_dot, is_no_word, is_special, last_word, symlink_of, name_of, path_text, start_of, stopped_by, then_walk, walk_end, walk_start, walk_unless}
 pub use Rattle.vt_spec.specs.Machine.Walking.LastWord.{Dot, DotDot, Named, NoWord}
 
 module _ {N : Type 0} (eq : N → N → Bool) where

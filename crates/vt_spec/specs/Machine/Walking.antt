@@ -1,4 +1,4 @@
--- Where a path leads: path_resolution(7). A walk is by recursion on the front of its path, and a link that is followed
+-- Where a path leads: path_resolution(7). A walk is by recursion on the prefixes of its path, and a symlink that is followed
 -- is a walk of its own text.
 use Rattle.std.specs.Prelude.{Bool, Err, List, None, Ok, Option, Result, Some, [], codes, false, flat_map, if◌then◌else◌, is_some, length, map, nat_lt, not, ok_or, option_map, option_to_list, reverse, suc, true, unwrap_or, zero, ℕ, ◌&&◌, ◌++◌, ◌+◌, ◌-◌, ◌==◌, ◌||◌, ◌∷◌}
 use Rattle.std.specs.List.{list_any}
@@ -60,7 +60,7 @@ name_of Dot = []
 name_of DotDot = []
 name_of (Named name) = name
 
--- Where a walk stands: the place, the links that it may still follow, and for each word walked, the last one first, the
+-- Where a walk stands: the place, the symlinks that it may still follow, and for each word walked, the last one first, the
 -- filesystems that it met.
 pub record Here (N : Type 0) : Type 0 where
   pub location : Location N
@@ -85,7 +85,7 @@ abbrev pub final_word : List (List ℕ) → LastWord
 final_word [] = NoWord
 final_word (word ∷ front) = last_word word
 
--- how a link's text is walked: from the directory that the link stands in
+-- how a symlink's text is walked: from the directory that the symlink stands in
 abbrev pub Follow : Type 0 → Type 0
 Follow N = Location N → Here N → List ℕ → Result (Here N) (Stop N)
 
@@ -116,14 +116,14 @@ module _ {N : Type 0} where
   all_met filesystems [] = []
   all_met filesystems (met ∷ steps) = (filesystems ++ met) ∷ steps
 
-  -- the start of a path, or of the text of a link in a directory
+  -- the start of a path, or of the text of a symlink in a directory
   abbrev pub start_of : Task N → Location N → List ℕ → Location N
   start_of task directory path = if is_absolute path then task.root else directory
 
-  -- what is no link is reached; a link is followed
-  abbrev pub if_link : Here N → Option (List ℕ) → (List ℕ → Result (Here N) (Stop N)) → Result (Here N) (Stop N)
-  if_link here None follow = Ok here
-  if_link here (Some text) follow = follow text
+  -- what is no symlink is reached; a symlink is followed
+  abbrev pub if_symlink : Here N → Option (List ℕ) → (List ℕ → Result (Here N) (Stop N)) → Result (Here N) (Stop N)
+  if_symlink here None follow = Ok here
+  if_symlink here (Some text) follow = follow text
 
   abbrev pub walk_start : Task N → List ℕ → Here N
   walk_start task path = record { location = start_of task task.directory path; left = most_symlinks; steps = [] }
@@ -215,7 +215,7 @@ module _ {N : Type 0} (eq : N → N → Bool) where
       (and_then (unless (search_rules looks task here.location) (stepped looks task here.location word))
       (λ reached. Ok (record { location = reached; left = here.left; steps = steps_with looks task here word })))
 
-  -- a link's text may be walked: W9 before W7 before W2 (profile)
+  -- a symlink's text may be walked: W9 before W7 before W2 (profile)
   abbrev pub follow_rules : Looks N → Here N → List ℕ → Rules
   follow_rules looks link text =
       ((mount_at looks link.location).flags.nosymfollow, W9)
@@ -223,7 +223,7 @@ module _ {N : Type 0} (eq : N → N → Bool) where
       ∷ (list_any (λ word. nat_lt longest_name (length word)) (words text), W2)
       ∷ []
 
-  -- where the walk of a link's text begins, in the directory that the link stands in
+  -- where the walk of a symlink's text begins, in the directory that the symlink stands in
   abbrev pub symlink_start : Looks N → Task N → Location N → Here N → List ℕ → Here N
   symlink_start looks task directory link text = record {
     location = start_of task directory text;
@@ -235,16 +235,16 @@ module _ {N : Type 0} (eq : N → N → Bool) where
   abbrev pub slash_rules : Looks N → List ℕ → Location N → Rules
   slash_rules looks path here = ((if ends_in_slash path then not (is_directory_at looks here) else false), W3) ∷ []
 
-  -- The walk by words, of which the last comes first; every link is followed, a link's text by the walk given.
+  -- The walk by words, of which the last comes first; every symlink is followed, a symlink's text by the walk given.
   abbrev pub words_walked : Looks N → Task N → Follow N → Here N → List (List ℕ) → Result (Here N) (Stop N)
   words_walked looks task follow here [] = Ok here
   words_walked looks task follow here (word ∷ front) =
       then_walk (words_walked looks task follow here front) (λ reached.
       then_walk (word_walked looks task reached (last_word word)) (λ next.
-      if_link next (symlink_text (looks.node next.location)) (follow reached.location next)))
+      if_symlink next (symlink_text (looks.node next.location)) (follow reached.location next)))
 
-  -- A link is a walk of its text from its directory or the task's root, with what is left of the links. Links stand in
-  -- one another's texts no deeper than there are links to follow.
+  -- A symlink is a walk of its text from its directory or the task's root, with what is left of the symlinks. Symlinks stand in
+  -- one another's texts no deeper than there are symlinks to follow.
   abbrev pub symlink_walked : ℕ → Looks N → Task N → Location N → Here N → List ℕ → Result (Here N) (Stop N)
   symlink_walked zero looks task directory link text = Err (record { deny = denial W7; steps = link.steps })
   symlink_walked (suc depth) looks task directory link text =
@@ -257,13 +257,13 @@ module _ {N : Type 0} (eq : N → N → Bool) where
   abbrev pub followed : Looks N → Task N → Location N → Here N → List ℕ → Result (Here N) (Stop N)
   followed looks task directory link text = symlink_walked (most_symlinks + 1) looks task directory link text
 
-  -- every word of the path walked, a final link too
+  -- every word of the path walked, a final symlink too
   abbrev pub path_walked : Looks N → Task N → List ℕ → Result (Here N) (Stop N)
   path_walked looks task path =
       then_walk (path_text path) (λ text.
       words_walked looks task (followed looks task) (walk_start task text) (reverse (words text)))
 
-  -- the object that a path leads to, a final link followed
+  -- the object that a path leads to, a final symlink followed
   abbrev pub object_walk : Looks N → Task N → List ℕ → Result (Here N) (Stop N)
   object_walk looks task path =
       then_walk (path_walked looks task path) (λ here.
@@ -280,7 +280,7 @@ module _ {N : Type 0} (eq : N → N → Bool) where
   front_walked looks task follow here [] = Ok here
   front_walked looks task follow here (word ∷ front) = words_walked looks task follow here front
 
-  -- the object that a path leads to, a final link itself unless a slash follows: lstat(2)
+  -- the object that a path leads to, a final symlink itself unless a slash follows: lstat(2)
   abbrev pub last_walked : Looks N → Task N → Here N → LastWord → Result (Here N) (Stop N)
   last_walked looks task here NoWord = Ok here
   last_walked looks task here Dot = word_walked looks task here Dot
@@ -299,7 +299,7 @@ module _ {N : Type 0} (eq : N → N → Bool) where
 
   -- Parent walks
 
-  -- what a last word stands for, without a link followed or a mount entered
+  -- what a last word stands for, without a symlink followed or a mount entered
   abbrev pub object_named : Looks N → Task N → Location N → LastWord → Result (Option (Location N)) Deny
   object_named looks task here NoWord = Ok (Some here)
   object_named looks task here Dot = Ok (Some here)
@@ -373,7 +373,7 @@ module _ {N : Type 0} (eq : N → N → Bool) where
       then_walk (old_walk looks task path) (λ place.
       walk_unless place.steps ((place.slash && not (is_directory_there looks place), W3) ∷ []) place)
 
-  -- The place of a file that is opened or made: a final link is followed, also to a missing name: open(2) with O_CREAT
+  -- The place of a file that is opened or made: a final symlink is followed, also to a missing name: open(2) with O_CREAT
   abbrev pub entered_mounts : Looks N → Place N → List (Location N)
   entered_mounts looks place =
       if is_special place.last then [] else flat_map looks.mounts_over (option_to_list place.object)

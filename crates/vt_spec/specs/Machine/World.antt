@@ -163,7 +163,7 @@ module _ {N : Type 0} (eq : N → N → Bool) where
       record { tree = (filesystem_numbered world layer.filesystem).files.tree; directory = layer.directory }
 
 -- The opening world: one namespace with one root mount of one tree, an empty root directory of mode 0755, and a task
--- with uid 0, gid 0, no further groups, all capabilities and umask 022 (profile).
+-- with uid 0, gid 0, no supplementary groups, all capabilities and umask 022 (profile).
 abbrev pub root_attr : Attr
 root_attr = record { uid = 0; gid = 0; mode = 493 }
 

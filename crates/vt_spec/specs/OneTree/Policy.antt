@@ -12,7 +12,7 @@ use Rattle.vt_spec.specs.Language.Changes.Change.{AddName, Make, Move, Remove, S
 use Rattle.vt_spec.specs.Machine.Outcome.Attributes.{attr_with_mode, attr_with_owner, may_chown}
 use Rattle.vt_spec.specs.Machine.Outcome.Descriptors.{overwritten}
 use Rattle.vt_spec.specs.Machine.Outcome.Looking.{stat_line}
-use Rattle.vt_spec.specs.Machine.Outcome.Making.{directory_mode, file_mode, symlink_mode, link_text_rules}
+use Rattle.vt_spec.specs.Machine.Outcome.Making.{directory_mode, file_mode, symlink_mode, symlink_text_rules}
 use Rattle.vt_spec.specs.Machine.Outcome.Tasks.{capabilities_of, child_credentials, permission_bits, with_dropped}
 use Rattle.vt_spec.specs.Language.Answers.Answer.{Bytes, Child, Done, Names, Opened, Told}
 use Rattle.vt_spec.specs.Machine.Walk.{is_special, name_of}
@@ -80,7 +80,7 @@ module _ {N : Type 0} where
 
   unfoldable pub symlink_permit : N → Tree N → Task N → List ℕ → List ℕ → Result (Permit N) Deny
   symlink_permit number tree task text path =
-      unless (link_text_rules text)
+      unless (symlink_text_rules text)
       (and_then (new_leaf_walk tree task.credentials path) (λ place.
       unless (new_rules tree task.credentials place) (Ok (making place number (record { attr = link_attr task; content = Symlink text })))))
 

@@ -1,4 +1,4 @@
--- Where a path leads in one tree: path_resolution(7). A walk is by recursion on the front of its path, and a link that is
+-- Where a path leads in one tree: path_resolution(7). A walk is by recursion on the prefixes of its path, and a symlink that is
 -- followed is a walk of its own text.
 use Rattle.std.specs.Prelude.{Bool, Err, List, None, Ok, Option, Result, Some, [], false, if◌then◌else◌, is_some, length, nat_lt, not, ok_or, reverse, suc, unwrap_or, zero, ◌&&◌, ◌+◌, ◌-◌, ◌==◌, ◌||◌, ◌∷◌, ℕ}
 use Rattle.std.specs.List.{list_any}
@@ -15,7 +15,7 @@ use Rattle.vt_spec.specs.PathText.{ends_in_slash, is_absolute, parsed_path, word
 use Rattle.vt_spec.specs.Rights.{Credentials, execute_right}
 use Rattle.vt_spec.specs.Tree.{Tree, entries_in, entry_named, is_directory_node, parent_in}
 
--- where a walk stands, and how many links it may still follow
+-- where a walk stands, and how many symlinks it may still follow
 pub record Here (N : Type 0) : Type 0 where
   pub node : N
   pub left : ℕ
@@ -28,7 +28,7 @@ pub record Place (N : Type 0) : Type 0 where
   pub object : Option N
   pub slash : Bool
 
--- how a link's text is walked: from the directory that the link stands in
+-- how a symlink's text is walked: from the directory that the symlink stands in
 abbrev pub Follow : Type 0 → Type 0
 Follow N = N → Here N → List ℕ → Result (Here N) Deny
 
@@ -63,39 +63,39 @@ module _ {N : Type 0} where
       unless (search_rules tree who here.node)
       (and_then (stepped tree here.node word) (λ next. Ok (record { node = next; left = here.left })))
 
-  -- a link's text may be walked: W7 before W2 (profile)
+  -- a symlink's text may be walked: W7 before W2 (profile)
   abbrev pub follow_rules : Here N → List ℕ → Rules
   follow_rules link text =
       (link.left == 0, W7)
       ∷ (list_any (λ word. nat_lt longest_name (length word)) (words text), W2)
       ∷ []
 
-  -- the start of a path, or of the text of a link in a directory
+  -- the start of a path, or of the text of a symlink in a directory
   abbrev pub start_of : Tree N → N → List ℕ → N
   start_of tree directory text = if is_absolute text then tree.root else directory
 
   abbrev pub symlink_start : Tree N → N → Here N → List ℕ → Here N
   symlink_start tree directory link text = record { node = start_of tree directory text; left = link.left - 1 }
 
-  -- what is no link is reached; a link is followed
-  abbrev pub if_link : Here N → Option (List ℕ) → (List ℕ → Result (Here N) Deny) → Result (Here N) Deny
-  if_link here None follow = Ok here
-  if_link here (Some text) follow = follow text
+  -- what is no symlink is reached; a symlink is followed
+  abbrev pub if_symlink : Here N → Option (List ℕ) → (List ℕ → Result (Here N) Deny) → Result (Here N) Deny
+  if_symlink here None follow = Ok here
+  if_symlink here (Some text) follow = follow text
 
   -- a trailing slash asks for a directory
   abbrev pub slash_rules : Tree N → List ℕ → N → Rules
   slash_rules tree path here = (ends_in_slash path && not (is_directory_at tree here), W3) ∷ []
 
-  -- The walk by words, of which the last comes first; every link is followed, a link's text by the walk given.
+  -- The walk by words, of which the last comes first; every symlink is followed, a symlink's text by the walk given.
   abbrev pub words_walked : Tree N → Credentials → Follow N → Here N → List (List ℕ) → Result (Here N) Deny
   words_walked tree who follow here [] = Ok here
   words_walked tree who follow here (word ∷ front) =
       and_then (words_walked tree who follow here front) (λ reached.
       and_then (word_walked tree who reached (last_word word)) (λ next.
-      if_link next (symlink_text (tree.node next.node)) (follow reached.node next)))
+      if_symlink next (symlink_text (tree.node next.node)) (follow reached.node next)))
 
-  -- A link is a walk of its text from its directory or the root, with what is left of the links. Links stand in one another's
-  -- texts no deeper than there are links to follow.
+  -- A symlink is a walk of its text from its directory or the root, with what is left of the symlinks. Symlinks stand in one another's
+  -- texts no deeper than there are symlinks to follow.
   abbrev pub symlink_walked : ℕ → Tree N → Credentials → N → Here N → List ℕ → Result (Here N) Deny
   symlink_walked zero tree who directory link text = Err (denial W7)
   symlink_walked (suc depth) tree who directory link text =
@@ -111,11 +111,11 @@ module _ {N : Type 0} where
   abbrev pub walk_start : Tree N → Here N
   walk_start tree = record { node = tree.root; left = most_symlinks }
 
-  -- every word of the path walked, a final link too
+  -- every word of the path walked, a final symlink too
   abbrev pub path_walked : Tree N → Credentials → List ℕ → Result (Here N) Deny
   path_walked tree who text = words_walked tree who (followed tree who) (walk_start tree) (reverse (words text))
 
-  -- the object that a path leads to, a final link followed
+  -- the object that a path leads to, a final symlink followed
   abbrev pub object_walk : Tree N → Credentials → List ℕ → Result (Here N) Deny
   object_walk tree who path =
       and_then (parsed_path path) (λ text.
@@ -133,7 +133,7 @@ module _ {N : Type 0} where
   front_walked tree who here [] = Ok here
   front_walked tree who here (word ∷ front) = words_walked tree who (followed tree who) here front
 
-  -- the object that a path leads to, a final link itself unless a slash follows: lstat(2)
+  -- the object that a path leads to, a final symlink itself unless a slash follows: lstat(2)
   abbrev pub last_walked : Tree N → Credentials → Here N → LastWord → Result (Here N) Deny
   last_walked tree who here NoWord = Ok here
   last_walked tree who here word = word_walked tree who here word
@@ -148,7 +148,7 @@ module _ {N : Type 0} where
       if ends_in_slash path then object_walk tree who path
       else and_then (parsed_path path) (unfollowed_walk tree who)
 
-  -- Parent walks: what a last word stands for, without a link followed
+  -- Parent walks: what a last word stands for, without a symlink followed
   abbrev pub placed : Tree N → Credentials → N → LastWord → Bool → Result (Place N) Deny
   placed tree who here NoWord slash = Ok (record { parent = here; last = NoWord; object = Some here; slash = false })
   placed tree who here word slash =
@@ -189,7 +189,7 @@ module _ {N : Type 0} where
       and_then (new_walk tree who path) (λ place.
       unless ((place.slash && not old_is_directory, W3) ∷ []) (Ok place))
 
-  -- The place of a file that is opened or made: a final link is followed, also to a missing name: open(2) with O_CREAT
+  -- The place of a file that is opened or made: a final symlink is followed, also to a missing name: open(2) with O_CREAT
   abbrev pub symlink_there : Tree N → Place N → Option (List ℕ)
   symlink_there tree place = then_some place.object (λ object. symlink_text (tree.node object))
 

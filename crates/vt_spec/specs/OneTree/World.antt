@@ -91,7 +91,7 @@ module _ {N : Type 0} where
   without_descriptor task number =
       record task { descriptors = filter (λ descriptor. not (number == descriptor.number)) task.descriptors }
 
--- The opening world: an empty root directory of mode 0755, and a task with uid 0, gid 0, no further groups, all
+-- The opening world: an empty root directory of mode 0755, and a task with uid 0, gid 0, no supplementary groups, all
 -- capabilities and umask 022 (profile).
 abbrev pub first_task : {N : Type 0} → Task N
 first_task = record { credentials = first_credentials; umask = 18; descriptors = []; forks = 0 }

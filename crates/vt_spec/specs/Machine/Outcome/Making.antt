@@ -17,7 +17,7 @@ use Rattle.vt_spec.specs.Machine.Walk.{Place, file_walk, is_special, symlink_wal
 use Rattle.vt_spec.specs.Machine.World.{Task, World}
 use Rattle.vt_spec.specs.Machine.Looks.{looks_of}
 use Rattle.vt_spec.specs.Machine.Rules.Making
-pub use Rattle.vt_spec.specs.Machine.Rules.Making.{file_word_rules, link_text_rules, new_word_rules}
+pub use Rattle.vt_spec.specs.Machine.Rules.Making.{file_word_rules, symlink_text_rules, new_word_rules}
 
 -- mkdir asks for 0777 where no mode is given: mkdir(1)
 abbrev pub directory_mode : ℕ
@@ -65,7 +65,7 @@ module _ {N : Type 0} (eq : N → N → Bool) where
   -- symlink(2)
   unfoldable pub symlink_outcome : Fresh N → World N → Task N → List ℕ → List ℕ → Outcome N
   symlink_outcome fresh world task text path =
-      judged world (link_text_rules text)
+      judged world (symlink_text_rules text)
       (after world (walk_end (new_leaf_walk eq world task path)) (λ place.
       made_at fresh world task place (record { attr = exact_attr task symlink_mode; content = Symlink text })))
 

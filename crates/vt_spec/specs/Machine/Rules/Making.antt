@@ -15,8 +15,8 @@ use Rattle.vt_spec.specs.declared.attributes.Kind.TheVariants.{White}
 use Rattle.vt_spec.specs.declared.errors.Rule.TheVariants.{B1, C1, E1, E2, E6, E7, E9, F1, F2, L1, O4, P2, W1, W2}
 
 -- W1 and W2 of a link's text as a whole: symlink(2), ENOENT and ENAMETOOLONG
-abbrev pub link_text_rules : List ℕ → Rules
-link_text_rules text =
+abbrev pub symlink_text_rules : List ℕ → Rules
+symlink_text_rules text =
     (is_empty text, W1)
     ∷ (nat_lt longest_path (length text), W2)
     ∷ []

@@ -24,7 +24,7 @@ use Rattle.vt_spec.specs.Machine.Permits.{Permit}
 use Rattle.vt_spec.specs.Machine.Permits.Permit.{ToChange, ToMake, ToMountPlain, ToOpenNew, ToRemoveDirectory, ToRename, ToWritePart}
 use Rattle.vt_spec.specs.Machine.Rules.Attributes.{attr_rules, opaque_rules}
 use Rattle.vt_spec.specs.Machine.Rules.Descriptors.{descriptor_at, descriptor_numbered, descriptor_rules, exclusive_word_rules, open_rules, pwrite_rules}
-use Rattle.vt_spec.specs.Machine.Rules.Making.{file_word_rules, hard_link_rules, link_text_rules, make_rules, new_word_rules, rewrite_rules, whiteout_rules}
+use Rattle.vt_spec.specs.Machine.Rules.Making.{file_word_rules, hard_link_rules, symlink_text_rules, make_rules, new_word_rules, rewrite_rules, whiteout_rules}
 use Rattle.vt_spec.specs.Machine.Rules.Mounting.{admin_rules}
 use Rattle.vt_spec.specs.Machine.Rules.Removing.{is_one_object, object_there, old_word_rules, rename_new_walk, rename_rules, rmdir_rules, rmdir_word_rules, same_object_rules, unlink_rules}
 use Rattle.vt_spec.specs.Machine.Walk.{Place, Stop, directory_walk, file_walk, is_directory_there, is_special, name_of, new_leaf_walk, new_walk, object_walk, old_leaf_walk, old_walk, symlink_walk, then_walk, walk_end, walk_unless}
@@ -331,7 +331,7 @@ module _ (fresh : Fresh ℕ) (world : World ℕ) (task : Task ℕ) (filesystem n
       walked (new_walk nat_eq world task path) _ (λ place e.
       made_spares place _ (subst (λ walk. Apart (directory_and_new_at fresh walk)) e apart))
   spares (SymlinkAt text path) apart root =
-      passing (link_text_rules text) _ (λ fits.
+      passing (symlink_text_rules text) _ (λ fits.
       walked (new_leaf_walk nat_eq world task path) _ (λ place e.
       made_spares place _ (subst (λ walk. Apart (directory_and_new_at fresh walk)) e apart)))
   spares (MakeWhiteout path) apart root =

@@ -10,7 +10,7 @@ use Rattle.vt_spec.specs.FileTree.{symlink_text}
 use Rattle.vt_spec.specs.Lists.{then_some}
 use Rattle.vt_spec.specs.Machine.Looks.{Looks, is_directory_at, topmost}
 use Rattle.vt_spec.specs.Machine.Mounts.{Location}
-use Rattle.vt_spec.specs.Machine.Walking.{Here, LastWord, Place, Stop, entered, entry_location, file_or_symlink, file_walked, final_word, follow_rules, followed, front_walked, if_link, is_special, last_word, name_of, object_named, placed, search_rules, slash_rules, start_of, stepped, steps_at, stopped_by, symlink_of, symlink_start, symlink_there, symlink_walked, then_walk, walk_unless, word_walked, words_walked}
+use Rattle.vt_spec.specs.Machine.Walking.{Here, LastWord, Place, Stop, entered, entry_location, file_or_symlink, file_walked, final_word, follow_rules, followed, front_walked, if_symlink, is_special, last_word, name_of, object_named, placed, search_rules, slash_rules, start_of, stepped, steps_at, stopped_by, symlink_of, symlink_start, symlink_there, symlink_walked, then_walk, walk_unless, word_walked, words_walked}
 use Rattle.vt_spec.specs.Machine.Walking.LastWord.{Dot, DotDot, Named, NoWord}
 use Rattle.vt_spec.specs.Machine.World.{Task}
 use Rattle.vt_spec.specs.PathText.{ends_in_slash, is_absolute, words}
@@ -151,20 +151,20 @@ module _ (looks later : Looks ℕ) (task reader : Task ℕ) (Refused : Deny → 
       by : (steps_there : List (List ℕ))
           → EndsThere Refused (word_walked nat_eq later reader (at here steps_there) (last_word word)) next here.left
           → EndsThere Refused (then_walk (word_walked nat_eq later reader (at here steps_there) (last_word word)) (λ there.
-          if_link there (symlink_text (later.node there.location)) (followed_to depth later reader here.location there))) next here.left
+          if_symlink there (symlink_text (later.node there.location)) (followed_to depth later reader here.location there))) next here.left
       by steps_there (inl e) =
           inl (
             e.0,
             ap (λ r. then_walk r (λ there.
-                if_link there (symlink_text (later.node there.location)) (followed_to depth later reader here.location there))) e.1
-                ∙ ap (λ o. if_link (record { location = next; left = here.left; steps = e.0 }) o
+                if_symlink there (symlink_text (later.node there.location)) (followed_to depth later reader here.location there))) e.1
+                ∙ ap (λ o. if_symlink (record { location = next; left = here.left; steps = e.0 }) o
                 (followed_to depth later reader here.location (record { location = next; left = here.left; steps = e.0 }))) no_link,
           )
       by steps_there (inr stop) = inr (
         stop.0,
         stop.1,
         ap (λ r. then_walk r (λ there.
-            if_link there (symlink_text (later.node there.location)) (followed_to depth later reader here.location there))) stop.2,
+            if_symlink there (symlink_text (later.node there.location)) (followed_to depth later reader here.location there))) stop.2,
       )
 
   -- words, of which the last leads to a link whose text leads there
@@ -192,7 +192,7 @@ module _ (looks later : Looks ℕ) (task reader : Task ℕ) (Refused : Deny → 
       (word_too looks later task reader Refused Known leads here link (last_word word) steps_there known_there searched same
       (leads.step here.location (last_word word) link.location known_there (not-false _ searched.0) stepping))
       (λ steps_link known_link.
-      subst (λ o. EndsThere Refused (if_link (at link steps_link) o (followed_to (suc depth) later reader here.location
+      subst (λ o. EndsThere Refused (if_symlink (at link steps_link) o (followed_to (suc depth) later reader here.location
       (at link steps_link))) next left)
       (sym (leads.link link.location known_link ∙ text))
       (by steps_link (walk_passed steps_link (follow_rules nat_eq later (at link steps_link) inner) _
