@@ -19,6 +19,10 @@ most_forks = 64
 abbrev pub deepest_name : ℕ
 deepest_name = 8
 
+-- the most supplementary groups of a task (profile; NGROUPS_MAX of setgroups(2))
+abbrev pub most_groups : ℕ
+most_groups = 32
+
 -- open files of a task (profile; RLIMIT_NOFILE of setrlimit(2))
 abbrev pub most_descriptors : ℕ
 most_descriptors = 256

@@ -9,6 +9,7 @@ use Rattle.vt_spec.specs.Language.Calls.CapabilityWord.{Held, These}
 use Rattle.vt_spec.specs.Language.Calls.Creation.{Exclusive, NoCreation, OrCreate}
 use Rattle.vt_spec.specs.Language.Calls.Directive.{AskPeers, AskSealed}
 use Rattle.vt_spec.specs.Language.Calls.TypeWord.{ToPrivate, ToShared, ToSlave, ToUnbindable}
+use Rattle.vt_spec.specs.Language.Limits.{most_groups}
 use Rattle.vt_spec.specs.Lists.{folded, or_else, then_some, when}
 use Rattle.vt_spec.specs.PathText.{is_empty, parts, words_between}
 use Rattle.vt_spec.specs.Rights.{cap_chown, cap_dac_override, cap_dac_read_search, cap_fowner, cap_setgid, cap_setuid, cap_sys_admin, cap_sys_chroot}
@@ -180,7 +181,7 @@ kept_or_identity text =
 abbrev pub groups_word : List ℕ → Option (List ℕ)
 groups_word text =
     if bytes_eq text (codes "-") then Some []
-    else if nat_le (length (parts 44 text)) 32 then each_of identity_word (parts 44 text)
+    else if nat_le (length (parts 44 text)) most_groups then each_of identity_word (parts 44 text)
     else None
 
 -- any text

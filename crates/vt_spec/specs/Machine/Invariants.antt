@@ -12,7 +12,7 @@ use Rattle.vt_spec.specs.Machine.Merging.{layer_node, merged_at, real_object}
 use Rattle.vt_spec.specs.Machine.Mounts.{Location, Mount, Propagation, same_location, source_of}
 use Rattle.vt_spec.specs.Machine.Mounts.Propagation.{Private, Shared, Slave, Unbindable}
 use Rattle.vt_spec.specs.Machine.Namespaces.{has_tasks}
-use Rattle.vt_spec.specs.Language.Limits.{deepest_name, largest_file, longest_name, longest_path, most_descriptors, most_forks, most_lowers}
+use Rattle.vt_spec.specs.Language.Limits.{deepest_name, largest_file, longest_name, longest_path, most_descriptors, most_forks, most_groups, most_lowers}
 use Rattle.vt_spec.specs.Machine.Policy.{same_bool}
 use Rattle.vt_spec.specs.Machine.Receives.{groups_up, has_members}
 use Rattle.vt_spec.specs.PathText.{is_empty}
@@ -59,7 +59,7 @@ module _ {N : Type 0} where
   is_within_limits task =
       nat_le (length task.descriptors) most_descriptors && are_ascending_from 0 task.descriptors
       && list_all (λ descriptor. nat_lt descriptor.number most_descriptors) task.descriptors && nat_le task.forks most_forks
-      && nat_le (length task.name) deepest_name && nat_le (length task.credentials.groups) 32 && nat_lt task.umask 512
+      && nat_le (length task.name) deepest_name && nat_le (length task.credentials.groups) most_groups && nat_lt task.umask 512
 
   -- a task has counted its forks: where a task's name goes on from its own, the next number is no more than its count
   -- (profile)
@@ -71,7 +71,7 @@ module _ {N : Type 0} where
   abbrev pub is_no_larger : FileTree N → N → Bool
   is_no_larger files number = not (is_kind_in File (files.tree.node number)) || nat_le (length (bytes_in (files.tree.node number))) largest_file
 
-  -- a name of a directory, and the text of a link, are not empty and not too long: path_resolution(7), symlink(2)
+  -- a name of a directory, and the text of a symlink, are not empty and not too long: path_resolution(7), symlink(2)
   abbrev pub has_fit_names : FileTree N → N → Bool
   has_fit_names files number =
       list_all (λ name. not (is_empty name) && nat_le (length name) longest_name) (names_in (files.tree.node number))
