@@ -46,7 +46,7 @@ use Rattle.vt_detach.proofs.LocationsSeen.{seen_where_located}
 use Rattle.vt_detach.proofs.Moving.{map_itself}
 use Rattle.vt_detach.proofs.Remaining.{remade}
 use Rattle.vt_detach.proofs.Staying.{IsDone, world_is_plain}
-use Rattle.vt_detach.proofs.TypedEvents.{typed_done, typed_entry, typed_value}
+use Rattle.vt_detach.proofs.TypedEvents.{typed_done, typed_free, typed_value}
 use Rattle.vt_detach.proofs.Ungrouped.{nothing_regrouped}
 
 -- What is kept of a world with its invariants
@@ -236,9 +236,8 @@ pub detached_typed : (value : WorldValue) (name : TaskName) (permit : Permit ℕ
     (mounts : List MountEntry) (filesystems : Filesystems) → IsHeld value → HasChildrenOf gone (mounts_in value.mounts)
     → TakesAway value.groups groups gone → IsApplied value name permit task (taken_away nat_eq (world_of value) gone)
     → IsDetaching value [] (living (detached_world gone (world_of value))) [] (kept mounts filesystems)
-    → list_all (λ (entry : MountEntry). is_ungrouped entry.mount.propagation) (map (typed_entry groups) mounts) ≡ true
     → IsDone value name permit (typed_value groups (remade value mounts filesystems value.tasks))
-detached_typed value name permit task gone groups mounts filesystems whole closed follows is detaching free =
+detached_typed value name permit task gone groups mounts filesystems whole closed follows is detaching =
     let after = detached_world gone (world_of value) in
     let new = remade value mounts filesystems value.tasks in
     let kept_last = subst (λ one. IsKeptBut value [] [] [] detaching.lost one (kept mounts filesystems)) detaching.ends detaching.is in
@@ -255,4 +254,4 @@ detached_typed value name permit task gone groups mounts filesystems whole close
     (detached_counted value after [] detaching.lost new kept_last refl
     (all_from_among (CountsWhatIsInIt (world_of new)) value.namespaces (λ entry m.
     let was = among_from_all (CountsWhatIsInIt (world_of value)) value.namespaces whole.namespaces entry m in record { tasks = was.tasks })))
-    free refl
+    (typed_free value whole groups gone follows mounts) refl
