@@ -54,8 +54,10 @@ fn judged_call(world: &mut World, name: &TaskName, call: Call) -> Result<Answer,
     requires { namespaces.has (call_of call) ≡ true }
     ensures { Ends world.old name.now (call_of call) result world.new }
 {
-    let permit = permit_of(world, name, call)?;
-    spend(world, name, permit)
+    match permit_of(world, name, call) {
+        Ok(permit) => spend(world, name, permit),
+        Err(deny) => Err(deny),
+    }
 }
 
 // What a call is permitted in the world. S2 (ESRCH): there is no such task. The other rules are those of the call.

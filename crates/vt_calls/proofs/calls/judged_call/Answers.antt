@@ -1,5 +1,5 @@
 use Rattle.vt_request.specs.Requests.{call_of}
 use Rattle.vt_calls.proofs.calls.judged_call.Goals as goal
 
-pub returns : goal.returns
-returns c = c.spend.ensures (call_of c.args.call) c.in_ok-permit.ensures.ok
+pub returns-in-Ok : goal.returns-in-Ok
+returns-in-Ok c = c.spend.ensures (call_of c.args.call) c.in-Ok.ensures.ok
