@@ -1,4 +1,4 @@
-use Rattle.std.proofs.Common.{ap, refl, length, option_copied, option_map, subst, sym, ◌*◌, ◌+◌, ◌∙◌, ◌≡◌, ◌++◌, ◌∷◌, []}
+use Rattle.std.proofs.Common.{ap, length, option_copied, option_map, subst, sym, ◌*◌, ◌+◌, ◌∙◌, ◌≡◌, ◌++◌, ◌∷◌, []}
 use Rattle.vt_location.specs.declared.numbers.NamespaceId.{NamespaceId}
 use Rattle.vt_location.specs.Locations.{location_of}
 use Rattle.vt_location.specs.Numbers.{counted}
