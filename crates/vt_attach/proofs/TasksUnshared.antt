@@ -39,11 +39,11 @@ pub record IsUnshared (value : WorldValue) (name : TaskName) (own : Own) (copies
   pub uses : moved ≡ with_use_moved (counted own.directory.mount.count) (counted directory.mount.count)
       (with_use_moved (counted own.root.mount.count) (counted root.mount.count) mounts)
   pub entered : namespaces ≡ value.namespaces ++ (record { count = value.next; tasks = 1 } ∷ [])
-  pub left : MountsAreLeft (counted own.namespace.count) (namespace_entry own.namespace.count namespaces) (kept moved filesystems) (kept new.mounts new.filesystems)
+  pub left : MountsAreLeft (counted own.namespace.count) (namespace_entry own.namespace.count namespaces) (kept moved filesystems) value.groups
+      (kept new.mounts new.filesystems) new.groups
   pub namespaces_left : new.namespaces ≡ with_one_task_less own.namespace.count namespaces
   pub tasks : new.tasks ≡ changed_called name
       (λ task. record task { namespace = counted value.next; root = location_of root; directory = location_of directory }) value.tasks
-  pub groups : new.groups ≡ value.groups
   pub before : list_all (λ mount. nat_lt mount.number (counted value.next)) (mounts_in value.mounts) ≡ true
   pub next : new.next ≡ value.next + 2 * length (attached_in (counted own.namespace.count) value.mounts)
 
@@ -57,12 +57,12 @@ task_is_unshared value whole name permits own is copies root directory mounts fi
     (copies_gain value whole name permits.task permits.called (counts_from value.next) permits.given.serves copies same_copies facts.slots)
     (copies_there value whole name permits.task permits.called (counts_from value.next) permits.given.serves copies same_copies facts.slots)
     new
-    (subst (λ all. MountsAreLeft (counted own.namespace.count) (namespace_entry own.namespace.count all) (kept moved_entries filesystems) (kept new.mounts new.filesystems)) facts.entered
-    (subst (λ all. MountsAreLeft (counted own.namespace.count) (namespace_entry own.namespace.count namespaces) (kept all filesystems) (kept new.mounts new.filesystems)) uses_are facts.left))
+    (subst (λ all. MountsAreLeft (counted own.namespace.count) (namespace_entry own.namespace.count all) (kept moved_entries filesystems) value.groups (kept new.mounts new.filesystems) new.groups) facts.entered
+    (subst (λ all. MountsAreLeft (counted own.namespace.count) (namespace_entry own.namespace.count namespaces) (kept all filesystems) value.groups (kept new.mounts new.filesystems) new.groups) uses_are facts.left))
     (facts.namespaces_left ∙ ap (with_one_task_less own.namespace.count) facts.entered)
     tasks_are
     (facts.next ∙ ap (λ n. value.next + 2 * length (attached_in n value.mounts)) in_namespace)
-    facts.groups facts.before
+    facts.before
   where
     own_is : task_of own ≡ permits.task
     own_is = same_Some (task_of own) permits.task (is ∙ permits.called)

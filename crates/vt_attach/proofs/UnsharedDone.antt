@@ -50,7 +50,7 @@ use Rattle.vt_detach.proofs.NamespacesEnded.{left_counted}
 use Rattle.vt_detach.proofs.OwnInodesKept.{IsOwn}
 use Rattle.vt_detach.proofs.Staying.{IsDone, becomes_so, world_is_plain}
 use Rattle.vt_attach.proofs.TakingNumbers.{TakesNumbers, left_is_world, left_keeps}
-use Rattle.vt_attach.proofs.UnsharedLeft.{IsLeft, leaves}
+use Rattle.vt_attach.proofs.UnsharedLeft.{IsLeft, groups_stay, leaves}
 use Rattle.vt_attach.proofs.UnsharedTasks as Tasks
 use Rattle.vt_attach.proofs.UnsharedWorlds as Worlds
 
@@ -112,9 +112,10 @@ module _ (value : WorldValue) (whole : IsHeld value) (name : TaskName) (permits 
 
   module _ (uses_gained : (test : Inode → Bool) → times test (map (inode_at (with_added value added tasks)) (places_of added)) ≡ times test (gained_by copies))
       (gained_there : (was : FilesystemEntry) → Among was value.filesystems → AreThere (counted was.count) (inodes_seen was) (gained_by copies))
-      (new : WorldValue) (is_left : MountsAreLeft (counted count) (namespace_entry count entries) (kept moved_entries filesystems) (kept new.mounts new.filesystems))
+      (new : WorldValue) (is_left : MountsAreLeft (counted count) (namespace_entry count entries) (kept moved_entries filesystems) value.groups
+      (kept new.mounts new.filesystems) new.groups)
       (namespaces_are : new.namespaces ≡ with_one_task_less count entries) (tasks_are : new.tasks ≡ tasks)
-      (next_is : new.next ≡ value.next + 2 * length (attached_in task.namespace value.mounts)) (groups_are : new.groups ≡ value.groups)
+      (next_is : new.next ≡ value.next + 2 * length (attached_in task.namespace value.mounts))
       (before : list_all (λ mount. nat_lt mount.number (counted value.next)) (mounts_in value.mounts) ≡ true) where
     abbrev ended : World ℕ
     ended = Begins.ended value whole added tasks come_to gone_from inside
@@ -127,7 +128,7 @@ module _ (value : WorldValue) (whole : IsHeld value) (name : TaskName) (permits 
         is_added (gained_by copies) (kept moved_entries filesystems) keeps uses_gained gained_there
 
     left : IsLeft value ended (gained_by copies) (λ mount. inside mount.namespace) (kept new.mounts new.filesystems)
-    left = leaves value whole ended (gained_by copies) (counted count) (kept moved_entries filesystems) (kept new.mounts new.filesystems)
+    left = leaves value whole ended (gained_by copies) (counted count) (kept moved_entries filesystems) (kept new.mounts new.filesystems) new.groups
         count tasks entries (Worlds.entries_count value whole name task permits.called permits.given.serves count in_namespace)
         (namespace_entry count entries) is_left begins
 
@@ -167,7 +168,9 @@ module _ (value : WorldValue) (whole : IsHeld value) (name : TaskName) (permits 
         (ap (map (λ (n : Rattle.vt_spec.specs.Machine.World.Namespace ℕ). record n { change = 0 })) (ap (map namespace_of) (sym namespaces_are)))
 
     has : Has (settled nat_eq ended) new.groups
-    has = subst (Has (settled nat_eq ended)) (sym groups_are)
+    has = subst (Has (settled nat_eq ended))
+        (sym (groups_stay value whole (counted count) (kept moved_entries filesystems) (kept new.mounts new.filesystems) new.groups
+        (namespace_entry count entries) is_left))
         (reached_has_none value ended (gained_by copies) (λ mount. inside mount.namespace) (kept new.mounts new.filesystems) left.reached left.all_gone new refl (sym tasks_are)
         whole still_rising)
 

@@ -1,11 +1,11 @@
 -- Events after which a task has left locations and a namespace.
-use Rattle.std.proofs.Common.{◌≡◌, refl, sym, ap, subst, ◌∙◌, ℕ, nat_eq, eq-eqb, Bool, true, false, ◌&&◌, List, [], map, filter, Option, Some, None, is_some}
+use Rattle.std.proofs.Common.{◌≡◌, refl, sym, ap, subst, ◌∙◌, ℕ, nat_eq, eq-eqb, Bool, true, false, true≢false, cond, ◌&&◌, List, [], map, filter, Option, Some, None, is_some}
 use Rattle.std.specs.Prelude.{option_to_list}
 use Rattle.std.specs.List.{list_all}
 use Rattle.vt_spec.specs.Language.Calls.{TaskName}
 use Rattle.vt_spec.specs.Lists.{folded, holds_of}
 use Rattle.vt_spec.specs.Machine.Detach.{taken_away}
-use Rattle.vt_spec.specs.Machine.Mounts.{Mount}
+use Rattle.vt_spec.specs.Machine.Mounts.{Mount, detached}
 use Rattle.vt_spec.specs.Machine.Namespaces.{has_tasks, is_in_ended, namespaces_ended}
 use Rattle.vt_spec.specs.Machine.Permits.{Permit}
 use Rattle.vt_spec.specs.Machine.Receives.{regrouped}
@@ -14,25 +14,27 @@ use Rattle.vt_spec.specs.Machine.Invariants.{is_listed}
 use Rattle.vt_fs.specs.FilesystemsValue.{Filesystems}
 use Rattle.vt_group.specs.Grouping.{Grouping}
 use Rattle.vt_group.specs.Together.{TakesAway}
-use Rattle.vt_letting_go.proofs.Lists.{Among, among-from_map, fails, filter_alike, passes}
+use Rattle.vt_group.proofs.Together.{regrouped_living}
+use Rattle.vt_letting_go.proofs.Lists.{Among, fails, filter_alike, map_same, passes}
 use Rattle.vt_location.specs.Numbers.{counted}
-use Rattle.vt_mount.specs.MountsValue.{MountEntry, mounts_in}
+use Rattle.vt_mount.specs.MountsValue.{MountEntry}
 use Rattle.vt_tasks.specs.TasksValue.{Tasks}
-use Rattle.vt_detach.specs.Held.{CountsWhatIsInIt, IsHeld, is_ungrouped}
-use Rattle.vt_detach.specs.NamespacesLeft.{EndsIf, MountsAreLeft, has_one_task, is_attached_in, namespace_entry, with_one_task_less}
+use Rattle.vt_detach.specs.Held.{CountsWhatIsInIt, IsHeld}
+use Rattle.vt_detach.specs.NamespacesLeft.{EndsIf, MountsAreLeft, NamespaceEnds, has_one_task, is_attached_in, namespace_entry, numbers_inside, with_one_task_less}
 use Rattle.vt_detach.specs.Uses.{Kept, kept}
 use Rattle.vt_detach.specs.WorldValue.{NamespaceEntry, WorldValue, namespace_of, world_of}
 use Rattle.vt_detach.proofs.Bridging.{IsSwept}
 use Rattle.vt_detach.proofs.Finishing.{CountsBeside, IsApplied, finished}
-use Rattle.vt_detach.proofs.Grouped.{rising_mapped}
-use Rattle.vt_detach.proofs.Midway.{Reached, gone_if, gone_number}
+use Rattle.vt_detach.proofs.Grouped.{left_has}
+use Rattle.vt_detach.proofs.Midway.{Reached, gone_if}
 use Rattle.vt_detach.proofs.MidwayBegins.{begins, ended, goes_attached, k_begins, parent_stays}
-use Rattle.vt_detach.proofs.MidwayDone.{detaches_all, leave_use, leaves_all, reached_counted, reached_has_none, reached_swept}
-use Rattle.vt_detach.proofs.Moving.{Moves, Use, inodes_of_uses}
-use Rattle.vt_detach.proofs.NamespacesEnded.{CountsOneMore, ends_by, in_ended_is, left_counted, namespaces_are, taken_alone_away}
-use Rattle.vt_detach.proofs.NamespacesTyped.{left_has_groups, nowhere_private, taken_is_left}
+use Rattle.vt_detach.proofs.MidwayDone.{detaches_all, leave_use, leaves_all, reached_counted, reached_swept}
+use Rattle.vt_detach.proofs.Moving.{Moves, Use, inodes_of_uses, same_moved_mounts}
+use Rattle.vt_detach.proofs.NamespaceMounts.{inside_stays}
+use Rattle.vt_detach.proofs.NamespacesEnded.{CountsOneMore, ends_by, in_ended_is, left_counted, namespaces_are}
+use Rattle.vt_detach.proofs.NamespacesTyped.{left_has_groups, nowhere_private, regrouped_beside, taken_is_left}
 use Rattle.vt_detach.proofs.Staying.{IsDone, after, world_is_plain}
-use Rattle.vt_detach.proofs.TypedEvents.{typed_done, typed_entry, typed_value}
+use Rattle.vt_detach.proofs.TypedEvents.{typed_done, typed_free, typed_value}
 
 module _ (value : WorldValue) (whole : IsHeld value) (tasks : Tasks) (more less : List Use) (moves : Moves value tasks more less)
     (count : ℕ) (entries : List NamespaceEntry) (counts : (entry : NamespaceEntry) → Among entry entries → CountsOneMore count tasks entry)
@@ -77,108 +79,125 @@ module _ (value : WorldValue) (whole : IsHeld value) (tasks : Tasks) (more less 
       ∙ taken_is_left value whole tasks going (filter (has_tasks nat_eq next) next.namespaces)
       (parent_stays value whole tasks more less moves inside nowhere_stays (filter (has_tasks nat_eq next) next.namespaces))
 
-  -- where no mount is in a group, none ends
-  pub ended_so : namespaces_ended nat_eq next ≡ start
-  ended_so =
-      (λ i. record (taken_away nat_eq next (map (λ (mount : Mount ℕ). mount.number) (same_mounts i))) { namespaces = filter (has_tasks nat_eq next) next.namespaces })
-      ∙ (λ i. record (taken_alone_away next whole.in_world.mounts.one_number plain going
-      (parent_stays value whole tasks more less moves inside nowhere_stays (filter (has_tasks nat_eq next) next.namespaces)) i) { namespaces = filter (has_tasks nat_eq next) next.namespaces })
+  -- where no namespace ends, no mount goes
+  module _ (none : ends ≡ false) where
+    same_start : map (gone_if going) world.mounts ≡ world.mounts
+    same_start = map_same (gone_if going) world.mounts (λ mount m.
+        ap (λ b. cond b (detached mount) mount) (ap (λ b. b && holds_of (nat_eq (counted count)) mount.namespace) none))
+
+    pub ended_so : namespaces_ended nat_eq next ≡ start
+    ended_so =
+        ended_regrouped
+        ∙ ap (λ (mounts : List (Mount ℕ)). regrouped nat_eq (record start { mounts = mounts })) same_start
+        ∙ regrouped_beside world (filter (has_tasks nat_eq next) next.namespaces) tasks
+        ∙ ap (λ (one : World ℕ). record one { namespaces = filter (has_tasks nat_eq next) next.namespaces; tasks = tasks })
+        (regrouped_living world whole.in_world.mounts.groups)
+        ∙ ap (λ (mounts : List (Mount ℕ)). record start { mounts = mounts }) (sym same_start)
+
+  abbrev k_left : Kept
+  k_left = folded (leave_use world) (folded (Rattle.vt_detach.proofs.Moving.gain world) (kept value.mounts value.filesystems) more) less
+
+  abbrev gained : List Rattle.vt_letting_go.specs.OneByOne.Inode
+  gained = inodes_of_uses world more
+
+  abbrev k_gained : Kept
+  k_gained = k_begins value whole tasks more less moves inside nowhere_stays (filter (has_tasks nat_eq next) next.namespaces)
+
+  reached_gains : Reached value start gained going less k_gained
+  reached_gains = begins value whole tasks more less moves inside nowhere_stays (filter (has_tasks nat_eq next) next.namespaces)
+
+  reached_uses : Reached value start gained going [] k_left
+  reached_uses = leaves_all value whole start gained going attached less k_gained reached_gains
+
+  -- the mounts that are to go are still those of the namespace that ends
+  abbrev is_inside : Mount ℕ → Bool
+  is_inside mount = holds_of (nat_eq (counted count)) mount.namespace
+
+  inside_left : ends ≡ true → numbers_inside (counted count) k_left.mounts ≡ map (λ (mount : Mount ℕ). mount.number) (filter going world.mounts)
+  inside_left last =
+      ap (map (λ (mount : Mount ℕ). mount.number))
+      (inside_stays is_inside nowhere value whole start gained going attached less k_gained reached_gains
+      ∙ ap (filter is_inside) (same_moved_mounts world more [] (kept value.mounts value.filesystems))
+      ∙ ap (λ b. filter (λ (mount : Mount ℕ). b && is_inside mount) world.mounts) (sym last))
     where
-      plain : (mount : Mount ℕ) → Among mount next.mounts → is_ungrouped mount.propagation ≡ true
-      plain mount m =
-          let from = among-from_map (λ (e : MountEntry). e.mount) value.mounts mount m in
-          ap (λ (x : Mount ℕ). is_ungrouped x.propagation) from.2 ∙ passes (λ entry. is_ungrouped entry.mount.propagation) value.mounts whole.ungrouped from.0 from.1
+      nowhere : (mount : Mount ℕ) → is_some mount.namespace ≡ false → is_inside mount ≡ false
+      nowhere mount e = by mount.namespace e
+        where
+          by : (o : Option ℕ) → is_some o ≡ false → holds_of (nat_eq (counted count)) o ≡ false
+          by None f = refl
+          by (Some number) f = absurd (true≢false f)
 
-  module _ (mounts : List MountEntry) (filesystems : Filesystems) (namespaces : List NamespaceEntry)
-      (are : namespaces ≡ with_one_task_less count entries)
-      (left : MountsAreLeft (counted count) (namespace_entry count entries)
-      (folded (leave_use world) (folded (Rattle.vt_detach.proofs.Moving.gain world) (kept value.mounts value.filesystems) more) less) (kept mounts filesystems)) where
-    abbrev pub new : WorldValue
-    new = record value { mounts = mounts; filesystems = filesystems; namespaces = namespaces; tasks = tasks }
+  module _ (filesystems : Filesystems) (namespaces : List NamespaceEntry) (are : namespaces ≡ with_one_task_less count entries)
+      (name : TaskName) (permit : Permit ℕ) (task : Task ℕ) (is : IsApplied value name permit task (namespaces_ended nat_eq next)) where
+    -- the world of the code but for types
+    abbrev untyped : List MountEntry → WorldValue
+    untyped mounts = record value { mounts = mounts; filesystems = filesystems; namespaces = namespaces; tasks = tasks }
 
-    abbrev k_left : Kept
-    k_left = folded (leave_use world) (folded (Rattle.vt_detach.proofs.Moving.gain world) (kept value.mounts value.filesystems) more) less
+    module _ (mounts : List MountEntry) (at : Reached value start gained going [] (kept mounts filesystems))
+        (all_gone : (entry : MountEntry) → Among entry mounts → going entry.mount ≡ false) where
+      left_swept : IsSwept value start gained at.lost (untyped mounts)
+      left_swept =
+          reached_swept value start gained going (kept mounts filesystems) at all_gone (untyped mounts) refl refl (world_is_plain value)
+          (ap (map (λ (n : Namespace ℕ). record n { change = 0 })) (namespaces_are count tasks entries counts next refl same_namespaces ∙ ap (map namespace_of) (sym are)))
 
-    abbrev gained : List Rattle.vt_letting_go.specs.OneByOne.Inode
-    gained = inodes_of_uses world more
-
-    reached_uses : Reached value start gained going [] k_left
-    reached_uses =
-        leaves_all value whole start gained going attached less
-        (k_begins value whole tasks more less moves inside nowhere_stays (filter (has_tasks nat_eq next) next.namespaces))
-        (begins value whole tasks more less moves inside nowhere_stays (filter (has_tasks nat_eq next) next.namespaces))
-
-    record IsThere : Type 0 where
-      at : Reached value start gained going [] (kept mounts filesystems)
-      all_gone : (entry : MountEntry) → Among entry mounts → going entry.mount ≡ false
+      left_counts : CountsBeside (untyped mounts)
+      left_counts =
+          reached_counted value start gained going (kept mounts filesystems) at all_gone (untyped mounts) refl refl
+          (subst (λ all. Rattle.std.specs.Prelude.All (CountsWhatIsInIt (world_of (untyped mounts))) all) (sym are) (left_counted count tasks entries counts (world_of (untyped mounts)) refl))
 
     -- no namespace ends
-    all_stay : ends ≡ false → kept mounts filesystems ≡ k_left → IsThere
-    all_stay none same = record {
-      at = subst (Reached value start gained going []) (sym same) reached_uses;
-      all_gone = λ entry m. ap (λ b. b && holds_of (nat_eq (counted count)) entry.mount.namespace) none;
-    }
+    all_stay : ends ≡ false → (mounts : List MountEntry) → kept mounts filesystems ≡ k_left → IsDone value name permit (untyped mounts)
+    all_stay none mounts same =
+        let at : Reached value start gained going [] (kept mounts filesystems) = subst (Reached value start gained going []) (sym same) reached_uses in
+        let gone = λ (entry : MountEntry) (m : Among entry mounts). ap (λ b. b && holds_of (nat_eq (counted count)) entry.mount.namespace) none in
+        finished value whole name permit task start
+        (record { called = is.called; given = is.given; named = is.named; applied = λ fresh. is.applied fresh ∙ ended_so none })
+        gained at.lost (untyped mounts) (left_swept mounts at gone)
+        (left_has value whole start (same_start none) (λ group. refl))
+        (left_counts mounts at gone) refl
 
-    there : IsThere
-    there = by (namespace_entry count entries) refl left
+    -- one does: its mounts leave their groups at once, and all mounts get the types that the groups then tell
+    one_ends : ends ≡ true → (mounts : List MountEntry) → NamespaceEnds (counted count) k_left (kept mounts filesystems)
+        → (groups : Grouping) → TakesAway value.groups groups (numbers_inside (counted count) k_left.mounts)
+        → IsDone value name permit (typed_value groups (untyped mounts))
+    one_ends last mounts h groups follows =
+        let stays = parent_stays value whole tasks more less moves inside nowhere_stays (filter (has_tasks nat_eq next) next.namespaces) in
+        let taken = subst (TakesAway value.groups groups) (inside_left last) follows in
+        let at = detaches_all value whole start gained going attached (counted count)
+        (λ mount its. (λ i. last i && holds_of (nat_eq (counted count)) (its i)) ∙ eq-eqb (counted count) (counted count) refl)
+        h.gone [] k_left (kept mounts filesystems) h.detached reached_uses in
+        let gone = λ (entry : MountEntry) (m : Among entry mounts).
+        ap (λ b. ends && b) (fails (is_attached_in (counted count)) mounts h.none_left entry m) ∙ nothing ends in
+        typed_done value whole name permit task start
+        (record { called = is.called; given = is.given; named = is.named; applied = λ fresh. is.applied fresh ∙ ended_regrouped })
+        groups (left_has_groups value whole tasks going (filter (has_tasks nat_eq next) next.namespaces) stays groups taken)
+        (nowhere_private value whole tasks going (filter (has_tasks nat_eq next) next.namespaces) stays)
+        gained at.lost (untyped mounts) (left_swept mounts at gone) (left_counts mounts at gone)
+        (typed_free value whole groups _ follows mounts) refl
       where
         nothing : (b : Bool) → (b && false) ≡ false
         nothing true = refl
         nothing false = refl
 
-        by : (o : Option NamespaceEntry) → namespace_entry count entries ≡ o → MountsAreLeft (counted count) o k_left (kept mounts filesystems) → IsThere
-        by None e same = all_stay (ap (ends_by count tasks entries counts) e) same
+    pub departs : (mounts : List MountEntry) (groups : Grouping)
+        → MountsAreLeft (counted count) (namespace_entry count entries) k_left value.groups (kept mounts filesystems) groups
+        → IsDone value name permit (record (untyped mounts) { groups = groups })
+    departs mounts groups left = by (namespace_entry count entries) refl left
+      where
+        stay : ends ≡ false → (kept mounts filesystems ≡ k_left) × (groups ≡ value.groups)
+            → IsDone value name permit (record (untyped mounts) { groups = groups })
+        stay none same =
+            subst (λ now. IsDone value name permit (record (untyped mounts) { groups = now })) (sym same.1) (all_stay none mounts same.0)
+
+        by : (o : Option NamespaceEntry) → namespace_entry count entries ≡ o
+            → MountsAreLeft (counted count) o k_left value.groups (kept mounts filesystems) groups
+            → IsDone value name permit (record (untyped mounts) { groups = groups })
+        by None e same = stay (ap (ends_by count tasks entries counts) e) same
         by (Some entry) e same = chosen (has_one_task entry) refl same
           where
-            chosen : (b : Bool) → has_one_task entry ≡ b → EndsIf b (counted count) k_left (kept mounts filesystems) → IsThere
-            chosen false f h = all_stay (ap (ends_by count tasks entries counts) e ∙ f) h
+            chosen : (b : Bool) → has_one_task entry ≡ b → EndsIf b (counted count) k_left value.groups (kept mounts filesystems) groups
+                → IsDone value name permit (record (untyped mounts) { groups = groups })
+            chosen false f h = stay (ap (ends_by count tasks entries counts) e ∙ f) h
             chosen true f h =
-                let last : ends ≡ true = ap (ends_by count tasks entries counts) e ∙ f in
-                record {
-                  at = detaches_all value whole start gained going attached (counted count)
-                      (λ mount is. (λ i. last i && holds_of (nat_eq (counted count)) (is i)) ∙ eq-eqb (counted count) (counted count) refl)
-                      h.gone [] k_left (kept mounts filesystems) h.detached reached_uses;
-                  all_gone = λ entry m. ap (λ b. ends && b) (fails (is_attached_in (counted count)) mounts h.none_left entry m) ∙ nothing ends;
-                }
-
-    left_swept : IsSwept value start gained there.at.lost new
-    left_swept =
-        reached_swept value start gained going (kept mounts filesystems) there.at there.all_gone new refl refl (world_is_plain value)
-        (ap (map (λ (n : Namespace ℕ). record n { change = 0 })) (namespaces_are count tasks entries counts next refl same_namespaces ∙ ap (map namespace_of) (sym are)))
-
-    left_counts : CountsBeside new
-    left_counts =
-        reached_counted value start gained going (kept mounts filesystems) there.at there.all_gone new refl refl
-        (subst (λ all. Rattle.std.specs.Prelude.All (CountsWhatIsInIt (world_of new)) all) (sym are) (left_counted count tasks entries counts (world_of new) refl))
-
-    -- where no mount is in a group
-    pub departs : (name : TaskName) (permit : Permit ℕ) (task : Task ℕ) → IsApplied value name permit task (namespaces_ended nat_eq next) → IsDone value name permit new
-    departs name permit task is =
-        let applied : IsApplied value name permit task start = record {
-          called = is.called;
-          given = is.given;
-          named = is.named;
-          applied = λ fresh. is.applied fresh ∙ ended_so;
-        } in
-        finished value whole name permit task start applied gained there.at.lost new left_swept
-        (reached_has_none value start gained going (kept mounts filesystems) there.at there.all_gone new refl refl whole
-        (rising_mapped (gone_if going) (gone_number going) (mounts_in value.mounts) whole.groups.order))
-        left_counts refl
-
-    -- where the mounts leave their groups at once, and all mounts get the types that the groups then tell
-    pub departs_typed : (groups : Grouping) → TakesAway value.groups groups (map (λ (mount : Mount ℕ). mount.number) (filter going world.mounts))
-        → list_all (λ (entry : MountEntry). is_ungrouped entry.mount.propagation) (map (typed_entry groups) mounts) ≡ true
-        → (name : TaskName) (permit : Permit ℕ) (task : Task ℕ) → IsApplied value name permit task (namespaces_ended nat_eq next)
-        → IsDone value name permit (typed_value groups new)
-    departs_typed groups follows free name permit task is =
-        let stays = parent_stays value whole tasks more less moves inside nowhere_stays (filter (has_tasks nat_eq next) next.namespaces) in
-        typed_done value whole name permit task start
-        (record {
-          called = is.called;
-          given = is.given;
-          named = is.named;
-          applied = λ fresh. is.applied fresh ∙ ended_regrouped;
-        })
-        groups (left_has_groups value whole tasks going (filter (has_tasks nat_eq next) next.namespaces) stays groups follows)
-        (nowhere_private value whole tasks going (filter (has_tasks nat_eq next) next.namespaces) stays)
-        gained there.at.lost new left_swept left_counts free refl
+                subst (λ now. IsDone value name permit (record (untyped now) { groups = groups })) (sym h.types)
+                (one_ends (ap (ends_by count tasks entries counts) e ∙ f) h.entries h.ends groups h.groups)

@@ -7,6 +7,7 @@ use Rattle.vt_spec.specs.Language.Calls.{TaskName}
 use Rattle.vt_spec.specs.Lists.{is_among}
 use Rattle.vt_spec.specs.Machine.Detach.{after_going, mount_point_left, taken_away}
 use Rattle.vt_spec.specs.Machine.Mounts.{Location as Place, Mount, detached, mount_in}
+use Rattle.vt_spec.specs.Machine.Mounts.Propagation.{Private}
 use Rattle.vt_spec.specs.Machine.Permits.{Permit}
 use Rattle.vt_spec.specs.Machine.Receives.{regrouped}
 use Rattle.vt_spec.specs.Machine.SameWorlds.{without_changes}
@@ -46,7 +47,7 @@ use Rattle.vt_detach.proofs.LocationsSeen.{seen_where_located}
 use Rattle.vt_detach.proofs.Moving.{map_itself}
 use Rattle.vt_detach.proofs.Remaining.{remade}
 use Rattle.vt_detach.proofs.Staying.{IsDone, world_is_plain}
-use Rattle.vt_detach.proofs.TypedEvents.{typed_done, typed_entry, typed_value}
+use Rattle.vt_detach.proofs.TypedEvents.{typed_done, typed_free, typed_value}
 use Rattle.vt_detach.proofs.Ungrouped.{nothing_regrouped}
 
 -- What is kept of a world with its invariants
@@ -231,14 +232,22 @@ detached_done value name permit task gone mounts filesystems whole is detaching 
     let was = among_from_all (CountsWhatIsInIt (world_of value)) value.namespaces whole.namespaces entry m in record { tasks = was.tasks })))
     refl
 
+-- a mount that is in no namespace then is private
+pub detached_is_private : (world : World ℕ) (gone : List ℕ) → list_all is_nowhere_or_attached world.mounts ≡ true
+    → (mount : Mount ℕ) → Among mount (detached_world gone world).mounts → is_some mount.namespace ≡ false → mount.propagation ≡ Private
+detached_is_private world gone nowhere mount m none =
+    let from = among-from_map (detached_in gone) world.mounts mount m in
+    ap (λ (x : Mount ℕ). x.propagation) from.2
+    ∙ stays_private from.0 (passes is_nowhere_or_attached world.mounts nowhere from.0 from.1)
+    (is_among nat_eq from.0.number gone) (ap (λ (x : Mount ℕ). is_some x.namespace) (sym from.2) ∙ none)
+
 -- Where they are in groups, they leave them at once, and all mounts get the types that the groups then tell.
 pub detached_typed : (value : WorldValue) (name : TaskName) (permit : Permit ℕ) (task : Task ℕ) (gone : List ℕ) (groups : Grouping)
     (mounts : List MountEntry) (filesystems : Filesystems) → IsHeld value → HasChildrenOf gone (mounts_in value.mounts)
     → TakesAway value.groups groups gone → IsApplied value name permit task (taken_away nat_eq (world_of value) gone)
     → IsDetaching value [] (living (detached_world gone (world_of value))) [] (kept mounts filesystems)
-    → list_all (λ (entry : MountEntry). is_ungrouped entry.mount.propagation) (map (typed_entry groups) mounts) ≡ true
     → IsDone value name permit (typed_value groups (remade value mounts filesystems value.tasks))
-detached_typed value name permit task gone groups mounts filesystems whole closed follows is detaching free =
+detached_typed value name permit task gone groups mounts filesystems whole closed follows is detaching =
     let after = detached_world gone (world_of value) in
     let new = remade value mounts filesystems value.tasks in
     let kept_last = subst (λ one. IsKeptBut value [] [] [] detaching.lost one (kept mounts filesystems)) detaching.ends detaching.is in
@@ -246,13 +255,10 @@ detached_typed value name permit task gone groups mounts filesystems whole close
     typed_done value whole name permit task after
     (record { called = is.called; given = is.given; named = is.named; applied = λ fresh. is.applied fresh ∙ regroups })
     groups (subst (λ one. Has one groups) regroups (follows (world_of value) whole.groups whole.in_world.mounts.groups))
-    (λ mount m none. let from = among-from_map (detached_in gone) (mounts_in value.mounts) mount m in
-    ap (λ (x : Mount ℕ). x.propagation) from.2
-    ∙ stays_private from.0 (passes is_nowhere_or_attached (mounts_in value.mounts) whole.in_world.mounts.nowhere from.0 from.1)
-    (is_among nat_eq from.0.number gone) (ap (λ (x : Mount ℕ). is_some x.namespace) (sym from.2) ∙ none))
+    (detached_is_private (world_of value) gone whole.in_world.mounts.nowhere)
     [] detaching.lost new
     (detached_swept value after [] detaching.lost new kept_last refl (world_is_plain value) refl refl)
     (detached_counted value after [] detaching.lost new kept_last refl
     (all_from_among (CountsWhatIsInIt (world_of new)) value.namespaces (λ entry m.
     let was = among_from_all (CountsWhatIsInIt (world_of value)) value.namespaces whole.namespaces entry m in record { tasks = was.tasks })))
-    free refl
+    (typed_free value whole groups gone follows mounts) refl

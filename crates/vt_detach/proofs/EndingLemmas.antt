@@ -9,6 +9,7 @@ use Rattle.std.proofs.lemmas.Option.{same_Some}
 use Rattle.vt_spec.specs.Lists.{holds_of}
 use Rattle.vt_spec.specs.Machine.Mounts.{Mount}
 use Rattle.vt_fs.specs.FilesystemsValue.{Filesystems}
+use Rattle.vt_group.specs.Grouping.{Grouping}
 use Rattle.vt_letting_go.proofs.Lists.{Among, among-from_filter, among-from_map, among-map, filter-map, none_passes, passes}
 use Rattle.vt_location.specs.declared.locations.Location.{Location}
 use Rattle.vt_location.specs.declared.numbers.MountId.{MountId}
@@ -16,7 +17,7 @@ use Rattle.vt_location.specs.Locations.{location_of}
 use Rattle.vt_location.specs.Numbers.{counted}
 use Rattle.vt_mount.specs.MountsValue.{MountEntry, are_ascending, changed, entry_numbered, mounts_in, without}
 use Rattle.vt_detach.specs.declared.namespaces.Namespace.{Namespace}
-use Rattle.vt_detach.specs.NamespacesLeft.{AreDetached, Detached, EndsIf, IsAttached, MountsAreLeft, NamespaceEnds, entries_left, has_one_task, is_attached_in, left_if, namespace_entry, one_task_less, with_one_task_less}
+use Rattle.vt_detach.specs.NamespacesLeft.{AreDetached, Detached, EndsIf, IsAttached, MountsAreLeft, NamespaceIsLeft, entries_left, has_one_task, is_attached_in, left_if, namespace_entry, one_task_less, with_one_task_less}
 use Rattle.vt_detach.specs.Uses.{Kept, detached_entry, is_unused, kept, let_go_entry, let_go_mount, point_of, without_attachment}
 use Rattle.vt_detach.specs.WorldValue.{NamespaceEntry, entries_of}
 use Rattle.vt_detach.proofs.NamespaceEntries.{Entries, entries_removed, entries_written, entry_found, is_id, same_namespace}
@@ -193,8 +194,10 @@ module _ (count : ℕ) (es : Entries) where
   pub absent_left : (new : Entries) → lookup (is_id count) es ≡ None → new ≡ es → entries_of new ≡ with_one_task_less count (entries_of es)
   absent_left new none same = ap entries_of same ∙ sym (ap (entries_left count (entries_of es)) (entry_found count es None none))
 
-  pub absent_mounts : (namespace : ℕ) (k : Kept) → lookup (is_id count) es ≡ None → MountsAreLeft namespace (namespace_entry count (entries_of es)) k k
-  absent_mounts namespace k none = subst (λ o. MountsAreLeft namespace o k k) (sym (entry_found count es None none)) refl
+  pub absent_mounts : (namespace : ℕ) (k : Kept) (groups : Grouping) → lookup (is_id count) es ≡ None
+      → MountsAreLeft namespace (namespace_entry count (entries_of es)) k groups k groups
+  absent_mounts namespace k groups none =
+      subst (λ o. MountsAreLeft namespace o k groups k groups) (sym (entry_found count es None none)) (refl, refl)
 
   last_or_not : (namespace : Namespace) (b : Bool) → lookup (is_id count) es ≡ Some namespace → nat_le namespace.tasks 1 ≡ b
       → (entry : NamespaceEntry) × (namespace_entry count (entries_of es) ≡ Some entry) × (has_one_task entry ≡ b)
@@ -209,11 +212,12 @@ module _ (count : ℕ) (es : Entries) where
       ∙ sym (ap (entries_left count (entries_of es)) entry.1
       ∙ ap (λ b. cond b (filter (λ (other : NamespaceEntry). not (nat_eq count other.count)) (entries_of es)) (map (left_if count) (entries_of es))) entry.2)
 
-  pub fewer_mounts : (namespace : ℕ) (k : Kept) (old : Namespace) → lookup (is_id count) es ≡ Some old → nat_le old.tasks 1 ≡ false
-      → MountsAreLeft namespace (namespace_entry count (entries_of es)) k k
-  fewer_mounts namespace k old found many =
+  pub fewer_mounts : (namespace : ℕ) (k : Kept) (groups : Grouping) (old : Namespace) → lookup (is_id count) es ≡ Some old
+      → nat_le old.tasks 1 ≡ false → MountsAreLeft namespace (namespace_entry count (entries_of es)) k groups k groups
+  fewer_mounts namespace k groups old found many =
       let entry = last_or_not old false found many in
-      subst (λ o. MountsAreLeft namespace o k k) (sym entry.1) (subst (λ b. EndsIf b namespace k k) (sym entry.2) refl)
+      subst (λ o. MountsAreLeft namespace o k groups k groups) (sym entry.1)
+      (subst (λ b. EndsIf b namespace k groups k groups) (sym entry.2) (refl, refl))
 
   pub last_left : (old : Namespace) (entries : Entries) → lookup (is_id count) es ≡ Some old → nat_le old.tasks 1 ≡ true
       → entries ≡ remove_entry (is_id count) es → lookup (is_id count) entries ≡ None → entries_of entries ≡ with_one_task_less count (entries_of es)
@@ -223,8 +227,10 @@ module _ (count : ℕ) (es : Entries) where
       ∙ sym (ap (entries_left count (entries_of es)) entry.1
       ∙ ap (λ b. cond b (filter (λ (other : NamespaceEntry). not (nat_eq count other.count)) (entries_of es)) (map (left_if count) (entries_of es))) entry.2)
 
-  pub last_mounts : (namespace : ℕ) (k new : Kept) (old : Namespace) → lookup (is_id count) es ≡ Some old → nat_le old.tasks 1 ≡ true
-      → NamespaceEnds namespace k new → MountsAreLeft namespace (namespace_entry count (entries_of es)) k new
-  last_mounts namespace k new old found last ends =
+  pub last_mounts : (namespace : ℕ) (k : Kept) (before : Grouping) (new : Kept) (now : Grouping) (old : Namespace)
+      → lookup (is_id count) es ≡ Some old → nat_le old.tasks 1 ≡ true → NamespaceIsLeft namespace k before new now
+      → MountsAreLeft namespace (namespace_entry count (entries_of es)) k before new now
+  last_mounts namespace k before new now old found last ends =
       let entry = last_or_not old true found last in
-      subst (λ o. MountsAreLeft namespace o k new) (sym entry.1) (subst (λ b. EndsIf b namespace k new) (sym entry.2) ends)
+      subst (λ o. MountsAreLeft namespace o k before new now) (sym entry.1)
+      (subst (λ b. EndsIf b namespace k before new now) (sym entry.2) ends)

@@ -14,6 +14,7 @@ use Rattle.vt_spec.specs.Machine.Run.{numbers_in_use, used_by_filesystem, used_b
 use Rattle.vt_spec.specs.Machine.World.{Namespace, Task, World, mount_numbered, mounts_of, root_mount, task_called, with_task}
 use Rattle.vt_spec.specs.Machine.Invariants.{has_its_root, has_one_root, is_located_well, is_root_mount}
 use Rattle.vt_fs.specs.FilesystemsValue.{Filesystems}
+use Rattle.vt_group.specs.Grouping.{Grouping}
 use Rattle.vt_laws.proofs.Supports.{used_numbers_are_named}
 use Rattle.vt_letting_go.specs.Counts.{times}
 use Rattle.vt_letting_go.proofs.Lists.{Among, among-append_right, among-from_filter, among-from_map, among-map, among_from_all, among_numbers, is_among_numbers, passes}
@@ -211,7 +212,7 @@ held_so value whole at k few well =
     λ i. with_use (counted at.mount.count) (sym (seen_where_located value whole at few well) i, number_of at.node) false k
 
 pub task_enters : (value : WorldValue) (name : TaskName) (count : ℕ) (root : Location) (left : Left)
-    (mounts : List MountEntry) (filesystems : Filesystems) (namespaces : List NamespaceEntry) (new_tasks : Tasks) (k : Kept)
+    (mounts : List MountEntry) (groups : Grouping) (filesystems : Filesystems) (namespaces : List NamespaceEntry) (new_tasks : Tasks) (k : Kept)
     → IsHeld value → Permits value name (ToEnterNamespace (counted count))
     → Some (location_of root) ≡ namespace_root nat_eq (world_of value) (counted count)
     → root.node.slot < 18446744073709551616 → left.root.node.slot < 18446744073709551616 → left.directory.node.slot < 18446744073709551616
@@ -220,10 +221,11 @@ pub task_enters : (value : WorldValue) (name : TaskName) (count : ℕ) (root : L
     → k ≡ without_location left.directory false (without_location left.root false
     (with_location root false (with_location root false (kept value.mounts value.filesystems))))
     → namespaces ≡ with_one_task_less left.namespace.count (with_task_more count value.namespaces)
-    → MountsAreLeft (counted left.namespace.count) (namespace_entry left.namespace.count (with_task_more count value.namespaces)) k (kept mounts filesystems)
+    → MountsAreLeft (counted left.namespace.count) (namespace_entry left.namespace.count (with_task_more count value.namespaces)) k value.groups
+    (kept mounts filesystems) groups
     → IsDone value name (ToEnterNamespace (counted count))
-    (record value { mounts = mounts; filesystems = filesystems; namespaces = namespaces; tasks = new_tasks })
-task_enters value name count root left mounts filesystems namespaces new_tasks k whole permits root_is few few_root few_directory left_is are k_is namespaces_are mounts_are =
+    (record value { mounts = mounts; groups = groups; filesystems = filesystems; namespaces = namespaces; tasks = new_tasks })
+task_enters value name count root left mounts groups filesystems namespaces new_tasks k whole permits root_is few few_root few_directory left_is are k_is namespaces_are mounts_are =
     let task = permits.task in
     let world = world_of value in
     let place = location_of root in
@@ -245,19 +247,22 @@ task_enters value name count root left mounts filesystems namespaces new_tasks k
     ∙ left_so value whole left.directory false (leave_use world held (standing task.root)) few_directory
     (ap (is_located_well nat_eq world) at_directory ∙ located_so task.directory (inr (inl refl)))
     ∙ ap (λ l. leave_use world (leave_use world held (standing task.root)) (standing l)) at_directory in
-    subst (λ all. IsDone value name (ToEnterNamespace (counted count)) (record value { mounts = mounts; filesystems = filesystems; namespaces = namespaces; tasks = all }))
+    subst (λ all. IsDone value name (ToEnterNamespace (counted count))
+    (record value { mounts = mounts; groups = groups; filesystems = filesystems; namespaces = namespaces; tasks = all }))
     (sym (are ∙ ap (changed_by (λ one. entered_at one (counted count) place) value.tasks) permits.called))
     (departs value whole (replaced (entered_at task (counted count) place) value.tasks)
     (standing place ∷ standing place ∷ []) (standing task.root ∷ standing task.directory ∷ [])
     (enter_moves value whole name task permits.called count place well)
     left.namespace.count (with_task_more count value.namespaces)
     (enter_counts value whole name task permits.called count place well left.namespace.count namespace_is)
-    (same_namespaces_more count value.namespaces) mounts filesystems namespaces namespaces_are
-    (subst (λ one. MountsAreLeft (counted left.namespace.count) (namespace_entry left.namespace.count (with_task_more count value.namespaces)) one (kept mounts filesystems)) k_so mounts_are)
+    (same_namespaces_more count value.namespaces) filesystems namespaces namespaces_are
     name (ToEnterNamespace (counted count)) task
     (record {
       called = permits.called;
       given = permits.given;
       named = listed_is_named value whole (counted count) (permit_fits value whole name (ToEnterNamespace (counted count)) permits).names;
       applied = λ fresh. ap (λ o. namespaces_ended nat_eq (with_task world (entered_at task (counted count) (unwrap_or o task.root)))) (sym root_is);
-    }))
+    })
+    mounts groups
+    (subst (λ one. MountsAreLeft (counted left.namespace.count) (namespace_entry left.namespace.count (with_task_more count value.namespaces)) one
+    value.groups (kept mounts filesystems) groups) k_so mounts_are))

@@ -13,6 +13,7 @@ use Rattle.vt_spec.specs.Machine.Permits.Permit.{ToExit}
 use Rattle.vt_spec.specs.Machine.World.{Descriptor, Task, World, all_locations, locations_of, mount_at, task_called}
 use Rattle.vt_spec.specs.Machine.Invariants.{is_located_well}
 use Rattle.vt_fs.specs.FilesystemsValue.{Filesystems}
+use Rattle.vt_group.specs.Grouping.{Grouping}
 use Rattle.vt_letting_go.specs.Counts.{times}
 use Rattle.vt_letting_go.proofs.Lists.{Among, among-append_left, among-append_right, among-map, among_from_all, map_twice, passes}
 use Rattle.vt_location.specs.declared.locations.Location.{Location}
@@ -180,13 +181,15 @@ pub record LeavesAll (old : Kept) (task : Held) (files : List OpenFile) (left : 
   pub is : left ≡ fold without_file (without_location task.directory false (without_location task.root false old)) files
 
 pub task_exits : (value : WorldValue) (name : TaskName) (task : Held) (files : List OpenFile) (left : Kept)
-    (mounts : List MountEntry) (filesystems : Filesystems) (namespaces : List NamespaceEntry) (left_tasks : Tasks)
+    (mounts : List MountEntry) (groups : Grouping) (filesystems : Filesystems) (namespaces : List NamespaceEntry) (left_tasks : Tasks)
     → IsHeld value → Permits value name ToExit → Some (task_of task) ≡ called name value.tasks → left_tasks ≡ without_called name value.tasks
     → LeavesAll (kept value.mounts value.filesystems) task files left
     → namespaces ≡ with_one_task_less task.namespace.count value.namespaces
-    → MountsAreLeft (counted task.namespace.count) (namespace_entry task.namespace.count value.namespaces) left (kept mounts filesystems)
-    → IsDone value name ToExit (record value { mounts = mounts; filesystems = filesystems; namespaces = namespaces; tasks = left_tasks })
-task_exits value name task files left mounts filesystems namespaces left_tasks whole permits found are leaves namespaces_are mounts_are =
+    → MountsAreLeft (counted task.namespace.count) (namespace_entry task.namespace.count value.namespaces) left value.groups
+    (kept mounts filesystems) groups
+    → IsDone value name ToExit
+    (record value { mounts = mounts; groups = groups; filesystems = filesystems; namespaces = namespaces; tasks = left_tasks })
+task_exits value name task files left mounts groups filesystems namespaces left_tasks whole permits found are leaves namespaces_are mounts_are =
     let meant_task = task_of task in
     let called_so : task_called (world_of value) name ≡ Some meant_task = sym found in
     let count = task.namespace.count in
@@ -199,10 +202,10 @@ task_exits value name task files left mounts filesystems namespaces left_tasks w
     ∙ ap (λ one. folded (leave_use (world_of value)) one (map used_by meant_task.descriptors))
     (left_so value whole task.directory false (without_location task.root false k) leaves.directory (well (location_of task.directory) (inr (inl refl)))
     ∙ ap (λ one. leave_use (world_of value) one (standing meant_task.directory)) (left_so value whole task.root false k leaves.root (well (location_of task.root) (inl refl)))) in
-    subst (λ all. IsDone value name ToExit (record value { mounts = mounts; filesystems = filesystems; namespaces = namespaces; tasks = all })) (sym are)
+    subst (λ all. IsDone value name ToExit
+    (record value { mounts = mounts; groups = groups; filesystems = filesystems; namespaces = namespaces; tasks = all })) (sym are)
     (departs value whole (without_called name value.tasks) [] (uses_of_task meant_task) (exit_moves value whole name meant_task called_so)
-    count value.namespaces (exit_counts value whole name meant_task called_so count refl) refl mounts filesystems namespaces namespaces_are
-    (subst (λ one. MountsAreLeft (counted count) (namespace_entry count value.namespaces) one (kept mounts filesystems)) left_is mounts_are)
+    count value.namespaces (exit_counts value whole name meant_task called_so count refl) refl filesystems namespaces namespaces_are
     name ToExit meant_task
     (record {
       called = called_so;
@@ -210,4 +213,7 @@ task_exits value name task files left mounts filesystems namespaces left_tasks w
           (same_Some permits.task meant_task (sym permits.called ∙ called_so)) permits.given;
       named = refl;
       applied = λ fresh. ap (λ own. namespaces_ended nat_eq (Rattle.vt_spec.specs.Machine.World.without_task (world_of value) own)) (name-of-called name value.tasks meant_task called_so);
-    }))
+    })
+    mounts groups
+    (subst (λ one. MountsAreLeft (counted count) (namespace_entry count value.namespaces) one value.groups (kept mounts filesystems) groups)
+    left_is mounts_are))

@@ -41,6 +41,7 @@ pub mod Midway
 pub mod MidwayGoes
 pub mod MidwayDone
 pub mod MidwayBegins
+pub mod NamespaceMounts
 pub mod EndingLemmas
 pub mod NamespacesEnded
 pub mod TypedEvents

@@ -19,7 +19,7 @@ use Rattle.vt_detach.proofs.Midway.{gone_if}
 use Rattle.vt_detach.proofs.NamespacesEnded.{taken_regrouped}
 
 -- Groups are lost by mounts and masters alone
-regrouped_beside : (world : World ℕ) (namespaces : List (Namespace ℕ)) (tasks : Tasks)
+pub regrouped_beside : (world : World ℕ) (namespaces : List (Namespace ℕ)) (tasks : Tasks)
     → regrouped nat_eq (record world { namespaces = namespaces; tasks = tasks })
     ≡ record (regrouped nat_eq world) { namespaces = namespaces; tasks = tasks }
 regrouped_beside world namespaces tasks = by (list_any (lost_a_group nat_eq world) world.mounts)

@@ -1,32 +1,62 @@
 -- Events after which mounts have the types of other groups: they are done if they are but for the types.
-use Rattle.std.proofs.Common.{◌≡◌, sym, ap, subst, ◌∙◌, ℕ, nat_eq, true, false, List, map, is_some}
+use Rattle.std.proofs.Common.{◌≡◌, refl, sym, ap, subst, ◌∙◌, ℕ, nat_eq, Bool, true, false, cond, ◌&&◌, List, [], ◌∷◌, None, map, is_some}
 use Rattle.std.specs.List.{list_all}
 use Rattle.vt_spec.specs.Language.Calls.{TaskName}
-use Rattle.vt_spec.specs.Machine.Mounts.{Mount}
-use Rattle.vt_spec.specs.Machine.Mounts.Propagation.{Private}
+use Rattle.vt_spec.specs.Machine.Mounts.{Mount, is_unbindable}
+use Rattle.vt_spec.specs.Machine.Mounts.Propagation.{Private, Unbindable}
 use Rattle.vt_spec.specs.Machine.Permits.{Permit}
 use Rattle.vt_spec.specs.Machine.Receives.{regrouped}
 use Rattle.vt_spec.specs.Machine.World.{Filesystem, Task, World}
+use Rattle.vt_spec.specs.Machine.Invariants.{HasLivingGroups}
 use Rattle.vt_count_laws.specs.Sweeping.{living}
 use Rattle.vt_count_laws.specs.Using.{Exchanges}
-use Rattle.vt_group.specs.Grouping.{Grouping, Has}
+use Rattle.vt_group.specs.Grouping.{Grouping, Has, no_groups}
 use Rattle.vt_group.specs.Laws.{typed_by}
+use Rattle.vt_group.specs.Together.{TakesAway}
+use Rattle.vt_group.proofs.Showing.{has_one_grouping}
 use Rattle.vt_letting_go.specs.Counts.{times}
 use Rattle.vt_letting_go.specs.OneByOne.{Inode}
 use Rattle.vt_letting_go.proofs.Lists.{Among, all_from_among, among-from_map, among_from_all, map_twice}
 use Rattle.vt_location.specs.Numbers.{counted}
 use Rattle.vt_mount.specs.MountsValue.{MountEntry, mounts_in}
 use Rattle.vt_detach.specs.Held.{CountsItsUses, CountsWhatIsInIt, IsHeld, is_ungrouped}
+use Rattle.vt_detach.specs.Typed.{typed_entry}
 use Rattle.vt_detach.specs.WorldValue.{WorldValue, world_of}
 use Rattle.vt_detach.proofs.Bridging.{IsSwept}
 use Rattle.vt_detach.proofs.Finishing.{CountsBeside, IsApplied, finished_as}
+use Rattle.vt_detach.proofs.Grouped.{held_has_none}
 use Rattle.vt_detach.proofs.Staying.{IsDone}
 use Rattle.vt_detach.proofs.TypedWorlds.{exchanges_typed, living_typed, mounts_showing_typed, settled_typed, settled_typed_has, typed_world}
 
--- the code's world with these groups, and each mount with the type that they tell
-abbrev pub typed_entry : Grouping → MountEntry → MountEntry
-typed_entry groups entry = record entry { mount = typed_by groups entry.mount }
+-- Where no mount is in a group, the mounts that leave their groups leave none in one.
 
+abbrev nothing : World ℕ
+nothing = record { mounts = []; master = λ group. None; filesystems = []; namespaces = []; tasks = []; change = 0 }
+
+pub none_taken : (groups : Grouping) (gone : List ℕ) → TakesAway no_groups groups gone → groups ≡ no_groups
+none_taken groups gone follows =
+    let has : Has nothing no_groups = record { order = refl; peers = refl; masters_order = refl; masters = λ group. refl } in
+    has_one_grouping nothing groups no_groups
+    (follows nothing has (all_from_among (HasLivingGroups nat_eq nothing) [] (λ mount m. absurd m))) has
+
+pub typed_free : (value : WorldValue) → IsHeld value → (groups : Grouping) (gone : List ℕ) → TakesAway value.groups groups gone
+    → (entries : List MountEntry)
+    → list_all (λ (entry : MountEntry). is_ungrouped entry.mount.propagation) (map (typed_entry groups) entries) ≡ true
+typed_free value whole groups gone follows entries =
+    ap (λ (now : Grouping). list_all (λ (entry : MountEntry). is_ungrouped entry.mount.propagation) (map (typed_entry now) entries))
+    (none_taken groups gone (subst (λ before. TakesAway before groups gone) (held_has_none value whole) follows))
+    ∙ free entries
+  where
+    free_kind : (b : Bool) → is_ungrouped (cond b Unbindable Private) ≡ true
+    free_kind true = refl
+    free_kind false = refl
+
+    free : (entries : List MountEntry)
+        → list_all (λ (entry : MountEntry). is_ungrouped entry.mount.propagation) (map (typed_entry no_groups) entries) ≡ true
+    free [] = refl
+    free (entry ∷ rest) = λ i. free_kind (is_unbindable entry.mount.propagation) i && free rest i
+
+-- the code's world with these groups, and each mount with the type that they tell
 abbrev pub typed_value : Grouping → WorldValue → WorldValue
 typed_value groups value = record value { mounts = map (typed_entry groups) value.mounts; groups = groups }
 

@@ -1,9 +1,12 @@
 -- Mounts that leave their namespaces one after the other.
 use Rattle.std.specs.Prelude.{IfSome, List, None, Option, Some, [], filter, flat_map, map, nat_eq, option_map, ℕ, ◌<◌, ◌∷◌, ◌≡◌}
 use Rattle.vt_spec.specs.Machine.Mounts.{Mount, mount_in, mount_tree}
+use Rattle.vt_group.specs.Grouping.{Grouping}
+use Rattle.vt_group.specs.Together.{TakesAway}
 use Rattle.vt_location.specs.declared.locations.Location.{Location}
 use Rattle.vt_location.specs.Locations.{location_of, number_of}
-use Rattle.vt_mount.specs.MountsValue.{stands_over}
+use Rattle.vt_mount.specs.MountsValue.{MountEntry, stands_over}
+use Rattle.vt_detach.specs.Typed.{typed_entry}
 use Rattle.vt_detach.specs.Uses.{Kept, point_of, without_attachment}
 
 -- Each in its turn is detached from its mount point, and goes if nothing is on it.
@@ -13,6 +16,13 @@ LeaveInTurn (number ∷ rest) k last =
     (point : Option Location) × (option_map location_of point ≡ point_of number k.mounts)
     × IfSome point (λ point. point.node.slot < 18446744073709551616)
     × LeaveInTurn rest (without_attachment number point k) last
+
+-- They leave their groups at once, too, and then each mount has the type that the groups tell.
+pub record LeaveTogether (numbers : List ℕ) (old : Kept) (before : Grouping) (new : Kept) (now : Grouping) : Type 0 where
+  pub entries : List MountEntry
+  pub turn : LeaveInTurn numbers old (record new { mounts = entries })
+  pub groups : TakesAway before now numbers
+  pub types : new.mounts ≡ map (typed_entry now) entries
 
 -- the numbers of a mount and of all its descendants
 abbrev pub tree_numbers : List (Mount ℕ) → ℕ → List ℕ

@@ -3,6 +3,7 @@ pub mod Held
 pub mod Events
 pub mod Looking
 pub mod Uses
+pub mod Typed
 pub mod Detached
 pub mod Forking
 pub mod NamespacesLeft

@@ -3,10 +3,13 @@ use Rattle.std.specs.List.{list_any}
 use Rattle.std.specs.Prelude.{Bool, IfSome, List, None, Option, Some, [], false, filter, find, if◌then◌else◌, map, nat_eq, nat_le, nat_lt, not, option_map, true, ℕ, ◌<◌, ◌-◌, ◌∷◌, ◌≡◌}
 use Rattle.vt_location.specs.declared.locations.Location.{Location}
 use Rattle.vt_location.specs.Locations.{location_of}
-use Rattle.vt_mount.specs.MountsValue.{MountEntry, entry_numbered}
+use Rattle.vt_group.specs.Grouping.{Grouping}
+use Rattle.vt_group.specs.Together.{TakesAway}
+use Rattle.vt_mount.specs.MountsValue.{MountEntry, entry_numbered, mounts_in}
 use Rattle.vt_spec.specs.Lists.{holds_of}
 use Rattle.vt_request.specs.Requests.{access_of}
 use Rattle.vt_tasks.specs.declared.descriptors.OpenFile.{OpenFile}
+use Rattle.vt_detach.specs.Typed.{typed_entry}
 use Rattle.vt_detach.specs.Uses.{Kept, without_attachment, without_location}
 use Rattle.vt_detach.specs.WorldValue.{NamespaceEntry}
 
@@ -64,14 +67,26 @@ pub record NamespaceEnds (namespace : ℕ) (old new : Kept) : Type 0 where
   pub detached : AreDetached namespace gone old new
   pub none_left : list_any (is_attached_in namespace) new.mounts ≡ false
 
-abbrev pub EndsIf : Bool → ℕ → Kept → Kept → Type 0
-EndsIf true namespace old new = NamespaceEnds namespace old new
-EndsIf false namespace old new = new ≡ old
+-- the numbers of the mounts in a namespace
+abbrev pub numbers_inside : ℕ → List MountEntry → List ℕ
+numbers_inside namespace entries =
+    map (λ mount. mount.number) (filter (λ mount. holds_of (nat_eq namespace) mount.namespace) (mounts_in entries))
+
+-- all its mounts are, and leave their groups at once; then each mount has the type that the groups tell
+pub record NamespaceIsLeft (namespace : ℕ) (old : Kept) (before : Grouping) (new : Kept) (now : Grouping) : Type 0 where
+  pub entries : List MountEntry
+  pub ends : NamespaceEnds namespace old (record new { mounts = entries })
+  pub groups : TakesAway before now (numbers_inside namespace old.mounts)
+  pub types : new.mounts ≡ map (typed_entry now) entries
+
+abbrev pub EndsIf : Bool → ℕ → Kept → Grouping → Kept → Grouping → Type 0
+EndsIf true namespace old before new now = NamespaceIsLeft namespace old before new now
+EndsIf false namespace old before new now = (new ≡ old) × (now ≡ before)
 
 -- they are if the task is its last
-abbrev pub MountsAreLeft : ℕ → Option NamespaceEntry → Kept → Kept → Type 0
-MountsAreLeft namespace None old new = new ≡ old
-MountsAreLeft namespace (Some entry) old new = EndsIf (has_one_task entry) namespace old new
+abbrev pub MountsAreLeft : ℕ → Option NamespaceEntry → Kept → Grouping → Kept → Grouping → Type 0
+MountsAreLeft namespace None old before new now = (new ≡ old) × (now ≡ before)
+MountsAreLeft namespace (Some entry) old before new now = EndsIf (has_one_task entry) namespace old before new now
 
 -- Open files
 

@@ -2,11 +2,13 @@
 ghost use Rattle.std.specs.Prelude.{◌<◌, ◌≡◌, IfSome, map, option_map};
 ghost use Rattle.vt_location.specs.Locations.{location_of};
 ghost use Rattle.vt_location.specs.Numbers.{counted};
-ghost use Rattle.vt_detach.specs.Detached.{LeaveInTurn};
+ghost use Rattle.vt_detach.specs.Detached.{LeaveInTurn, LeaveTogether};
 ghost use Rattle.vt_detach.specs.Uses.{kept, point_of, without_attachment};
 
+use crate::typing::follow;
 use crate::uses::let_go_mount;
 use vt_fs::Filesystems;
+use vt_group::Groups;
 use vt_location::{Location, MountId};
 use vt_mount::Mounts;
 
@@ -32,4 +34,20 @@ pub fn detach_each(mounts: &mut Mounts, filesystems: &mut Filesystems, ids: &[Mo
     for id in ids {
         detach(mounts, filesystems, *id);
     }
+}
+
+/// Mounts leave their namespaces one after the other, and their groups at once: the slaves of a group that ends get its master. It
+/// takes no memory.
+pub fn detach_together(
+    mounts: &mut Mounts,
+    groups: &mut Groups,
+    filesystems: &mut Filesystems,
+    ids: &[MountId],
+)
+    ensures { LeaveTogether (map (λ id. counted id.count) ids.now) (kept mounts.old filesystems.old) groups.old
+        (kept mounts.new filesystems.new) groups.new }
+{
+    groups.leave_all(ids);
+    detach_each(mounts, filesystems, ids);
+    follow(mounts, groups);
 }

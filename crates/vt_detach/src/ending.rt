@@ -7,21 +7,25 @@ ghost use Rattle.vt_detach.specs.WorldValue.{entries_of};
 
 use crate::detaching::detach;
 use crate::namespaces::Namespace;
+use crate::typing::follow;
 use indexmap::IndexMap;
 use vt_fs::Filesystems;
+use vt_group::Groups;
 use vt_location::NamespaceId;
 use vt_mount::Mounts;
 
-/// One task less of a namespace. With its last it goes, and its mounts are detached. It takes no memory.
+/// One task less of a namespace. With its last it goes, and its mounts are detached: they leave their groups at once, and the
+/// slaves of a group that ends get its master. It takes no memory.
 pub fn leave_namespace(
     mounts: &mut Mounts,
+    groups: &mut Groups,
     filesystems: &mut Filesystems,
     namespaces: &mut IndexMap<NamespaceId, Namespace>,
     id: NamespaceId,
 )
     ensures namespaces { entries_of namespaces.new.entries ≡ with_one_task_less id.count (entries_of namespaces.old.entries) }
     ensures mounts { MountsAreLeft (counted id.count) (namespace_entry id.count (entries_of namespaces.old.entries))
-        (kept mounts.old filesystems.old) (kept mounts.new filesystems.new) }
+        (kept mounts.old filesystems.old) groups.old (kept mounts.new filesystems.new) groups.new }
 {
     let Some(namespace) = namespaces.get_mut(&id) else {
         return;
@@ -31,7 +35,9 @@ pub fn leave_namespace(
         return;
     }
     namespaces.shift_remove(&id);
+    groups.leave_all(mounts.attached_in(id));
     detach_all(mounts, filesystems, id);
+    follow(mounts, groups);
 }
 
 // Detaches the mounts of a namespace, the last one first.

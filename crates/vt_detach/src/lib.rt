@@ -4,4 +4,5 @@
 pub mod detaching;
 pub mod ending;
 pub mod namespaces;
+pub mod typing;
 pub mod uses;

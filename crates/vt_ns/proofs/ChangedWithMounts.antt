@@ -1,7 +1,7 @@
 -- A tree is changed first, and then mounts are detached that stand on what is removed: rmdir(2), rename(2).
 use Rattle.std.proofs.Common.{◌≡◌, refl, sym, ap, subst, ◌∙◌, ℕ, nat_eq, eq-eqb, Bool, true, false, cond, not, ◌&&◌, List, [], ◌∷◌, ◌++◌, map, filter, flat_map, None, Some, unwrap_or}
 use Rattle.std.specs.Prelude.{filter_map}
-use Rattle.std.specs.List.{list_all}
+use Rattle.std.specs.List.{list_all, list_any}
 use Rattle.vt_spec.specs.Language.Calls.{TaskName}
 use Rattle.vt_spec.specs.Language.Changes.{Change}
 use Rattle.vt_spec.specs.Language.Changes as Trees
@@ -12,15 +12,18 @@ use Rattle.vt_spec.specs.Machine.Filesystems.{filesystem_changed, with_change, w
 use Rattle.vt_spec.specs.Machine.Mounts.{Location, Mount, root_of}
 use Rattle.vt_spec.specs.Machine.Permits.{Permit}
 use Rattle.vt_spec.specs.Machine.Permits.Permit.{ToChange}
+use Rattle.vt_spec.specs.Machine.Receives.{inheriting, lost_a_group, regrouped, regrouped_by}
 use Rattle.vt_spec.specs.Machine.SameWorlds.{SameWorlds}
 use Rattle.vt_spec.specs.Machine.Settled.{layers_in, located_in, named_in, objects_of_overlay, settled}
 use Rattle.vt_spec.specs.Machine.World.{Filesystem, World, all_locations, filesystem_at, filesystem_numbered, mount_at, replaced_if_numbered, with_filesystem}
-use Rattle.vt_spec.specs.Machine.Invariants.{IsWorld, ListsNumbers, is_within_limits}
+use Rattle.vt_spec.specs.Machine.Invariants.{IsWorld, ListsNumbers, TreeInvariants, is_within_limits}
 use Rattle.vt_spec.specs.TreeLaws.{IsTree}
 use Rattle.vt_count_laws.specs.Changing.{filesystem_of}
 use Rattle.vt_count_laws.specs.Counted.{IsPlain}
 use Rattle.vt_count_laws.specs.Sweeping.{living}
 use Rattle.vt_fs.specs.FilesystemsValue.{Filesystems, filesystem_seen, inodes_seen, no_entry}
+use Rattle.vt_group.specs.Grouping.{Grouping, Has}
+use Rattle.vt_group.specs.Together.{TakesAway}
 use Rattle.vt_permit_laws.specs.Named.{permit_named}
 use Rattle.vt_permit_laws.proofs.PermitsKeepTo.{same_keeps_to_numbers_too}
 use Rattle.vt_permit_laws.proofs.PermitsLeave.{given_permits_are_under_way, given_permits_leave_worlds}
@@ -33,8 +36,9 @@ use Rattle.vt_letting_go.specs.FileChanges.{MayChange, names_lost}
 use Rattle.vt_letting_go.specs.InUse.{IsListedTree, is_inode_used}
 use Rattle.vt_letting_go.specs.OneByOne.{let_go_inode, let_go_inode_of, without_inode}
 use Rattle.vt_letting_go.specs.TreeChanges.{ChangesTree}
-use Rattle.vt_mount.specs.MountsValue.{MountEntry, mounts_in}
+use Rattle.vt_mount.specs.MountsValue.{MountEntry}
 use Rattle.vt_run_laws.specs.Handed.{is_counted_before}
+use Rattle.vt_run_laws.proofs.AlikeMounts.{regrouped_alike}
 use Rattle.vt_run_laws.proofs.AlikeSettled.{settled_alike}
 use Rattle.vt_run_laws.proofs.AlikeWorlds.{alike_from_same, same_from_alike, sameness_is_an_equivalence}
 use Rattle.vt_world_laws.specs.Worlds.Kept.{IsWorldButForUse}
@@ -46,14 +50,14 @@ use Rattle.vt_world_laws.proofs.PermitsPlaced.{permits_keep_directories, permits
 use Rattle.vt_world_laws.proofs.PermitsShow.{permits_keep_mounts_showing}
 use Rattle.vt_world_laws.proofs.SettledTasks.{settling_leaves_a_world}
 use Rattle.vt_detach.specs.Events.{Permits, supply_of}
-use Rattle.vt_detach.specs.Detached.{LeaveInTurn}
+use Rattle.vt_detach.specs.Detached.{LeaveInTurn, LeaveTogether}
 use Rattle.vt_detach.specs.Held.{CountsItsMounts, CountsWhatIsInIt, HasOwnInodes, IsHeld}
 use Rattle.vt_detach.specs.Uses.{kept}
 use Rattle.vt_detach.specs.WorldValue.{WorldValue, world_of}
 use Rattle.vt_detach.proofs.ChangedFiles.{ChangesFiles, change_is_held, change_is_swept, with_filesystems}
 use Rattle.vt_detach.proofs.Bridging.{swept_has, swept_is_counted, swept_is_same}
 use Rattle.vt_detach.proofs.DetachingBegins.{HasChildrenOf, detached_world, detaching_begins, filesystem_kept}
-use Rattle.vt_detach.proofs.DetachingEnds.{detached_counted, detached_has_none, detached_rises, detached_swept, held_is_kept}
+use Rattle.vt_detach.proofs.DetachingEnds.{detached_counted, detached_is_private, detached_swept, held_is_kept, taken_regroups}
 use Rattle.vt_detach.proofs.Finishing.{own_exchanged}
 use Rattle.vt_detach.proofs.FilesSeen.{files_are_plain}
 use Rattle.vt_detach.proofs.Keeping.{IsKeptBut, detached_in}
@@ -62,6 +66,8 @@ use Rattle.vt_detach.proofs.NumbersBeside.{found_by_number}
 use Rattle.vt_detach.proofs.OwnInodesKept.{IsOwn}
 use Rattle.vt_detach.proofs.Remaining.{remade}
 use Rattle.vt_detach.proofs.Staying.{IsDone, becomes_so, held_is_settled, world_is_plain}
+use Rattle.vt_detach.proofs.TypedEvents.{counts_typed, swept_typed, typed_free, typed_value}
+use Rattle.vt_detach.proofs.TypedWorlds.{settled_typed, settled_typed_has, typed_world}
 use Rattle.vt_detach.proofs.UnmountedLazily.{all_detached}
 
 module _ (value : WorldValue) (held : IsHeld value) (location : Location ℕ) (change : Change ℕ) (filesystems : Filesystems)
@@ -94,24 +100,74 @@ module _ (value : WorldValue) (held : IsHeld value) (location : Location ℕ) (c
       ∙ ap (λ overlay. filesystem_changed nat_eq fresh (detached_world gone world) (filesystem_at nat_eq world location) overlay change) no_overlay
       ∙ ap (detached_world gone) (sym (changed_is fresh))
 
+  -- also where the groups that lost their last member end
+  abbrev loses : World ℕ → Bool
+  loses one = list_any (lost_a_group nat_eq one) one.mounts
+
+  pub changed_regrouped : (fresh : Fresh ℕ) (gone : List ℕ)
+      → with_change nat_eq fresh (regrouped nat_eq (detached_world gone world)) location change
+      ≡ regrouped nat_eq (detached_world gone (changed_first fresh))
+  changed_regrouped fresh gone =
+      by (loses (detached_world gone world))
+      ∙ ap (λ b. regrouped_by nat_eq b (detached_world gone (changed_first fresh)))
+      (ap (λ w. loses (detached_world gone w)) (sym (changed_is fresh)))
+    where
+      by : (b : Bool) → with_change nat_eq fresh (regrouped_by nat_eq b (detached_world gone world)) location change
+          ≡ regrouped_by nat_eq b (detached_world gone (changed_first fresh))
+      by false = changed_detached fresh gone
+      by true =
+          ap (λ n. filesystem_changed nat_eq fresh (regrouped_by nat_eq true (detached_world gone world)) (filesystem_numbered nat_eq world n)
+          (filesystem_numbered nat_eq world n).overlay change)
+          (filesystem_kept (inheriting nat_eq (detached_world gone world)) (λ mount. refl) (λ mount. refl) (detached_world gone world).mounts location.mount
+          ∙ filesystem_kept (detached_in gone) (pending_number gone) (pending_filesystem gone) world.mounts location.mount)
+          ∙ ap (λ overlay. filesystem_changed nat_eq fresh (regrouped_by nat_eq true (detached_world gone world)) (filesystem_at nat_eq world location)
+          overlay change) no_overlay
+          ∙ ap (λ w. regrouped_by nat_eq true (detached_world gone w)) (sym (changed_is fresh))
+
   module _ (name : TaskName) (permit : Permit ℕ) (permits : Permits value name permit) (gone : List ℕ)
       (names : NamesWhatIsThere world permits.task (ToChange location change))
       (named : permit_named (is_counted_before value.next) (ToChange location change) ≡ true)
       (is_named : permit_named (is_counted_before value.next) permit ≡ true)
-      (applied : (supply : Fresh ℕ) → (apply nat_eq supply world permits.task permit).world ≡ with_change nat_eq supply (detached_world gone world) location change) where
+      (applied : (supply : Fresh ℕ) → (apply nat_eq supply world permits.task permit).world
+      ≡ with_change nat_eq supply (regrouped nat_eq (detached_world gone world)) location change) where
     abbrev fresh : Fresh ℕ
     fresh = supply_of value permit
 
     -- what the permit leaves before the sweep, whatever numbers are handed in
-    leaves : (supply : Fresh ℕ) → (apply nat_eq supply world permits.task permit).world ≡ detached_world gone (changed_first fresh)
+    leaves : (supply : Fresh ℕ) → (apply nat_eq supply world permits.task permit).world
+        ≡ regrouped nat_eq (detached_world gone (changed_first fresh))
     leaves supply =
-        applied supply ∙ changed_detached supply gone
-        ∙ ap (detached_world gone) (changed_is supply ∙ sym (changed_is fresh))
+        applied supply ∙ changed_regrouped supply gone
+        ∙ ap (λ w. regrouped nat_eq (detached_world gone w)) (changed_is supply ∙ sym (changed_is fresh))
 
-    last_under_way : IsWorldButForUse (detached_world gone (changed_first fresh))
+    last_under_way : IsWorldButForUse (regrouped nat_eq (detached_world gone (changed_first fresh)))
     last_under_way =
         subst IsWorldButForUse (leaves fresh)
         (given_permits_are_under_way world fresh permits.task permit held.in_world (files_are_plain value.filesystems) permits.given)
+
+    -- groups that end leave the trees as they are
+    trees_under_way : (b : Bool) → IsWorldButForUse (regrouped_by nat_eq b (detached_world gone (changed_first fresh)))
+        → IsPlain (changed_first fresh) × TreeInvariants nat_eq (changed_first fresh)
+    trees_under_way true last = (
+      last.plain,
+      record {
+        trees = last.files.trees;
+        own_parents = last.files.own_parents;
+        numbers = last.files.numbers;
+        one_filesystem = last.files.one_filesystem;
+        fit_filesystems = last.files.fit_filesystems;
+      },
+    )
+    trees_under_way false last = (
+      last.plain,
+      record {
+        trees = last.files.trees;
+        own_parents = last.files.own_parents;
+        numbers = last.files.numbers;
+        one_filesystem = last.files.one_filesystem;
+        fit_filesystems = last.files.fit_filesystems;
+      },
+    )
 
     fit : IsFitPermit fresh world permits.task (ToChange location change)
     fit = record {
@@ -126,16 +182,10 @@ module _ (value : WorldValue) (held : IsHeld value) (location : Location ℕ) (c
         let serves = permits.given.serves in
         let found = permits.given.called in
         let task = permits.task in
-        let last = last_under_way in
+        let last = trees_under_way (loses (detached_world gone (changed_first fresh))) last_under_way in
         record {
-          plain = last.plain;
-          files = record {
-            trees = last.files.trees;
-            own_parents = last.files.own_parents;
-            numbers = last.files.numbers;
-            one_filesystem = last.files.one_filesystem;
-            fit_filesystems = last.files.fit_filesystems;
-          };
+          plain = last.0;
+          files = last.1;
           mounts = mounts_kept world fresh task (ToChange location change) is plain serves found fit;
           namespaces = namespaces_kept world fresh task (ToChange location change) is plain serves found fit;
           tasks = record {
@@ -259,62 +309,93 @@ module _ (value : WorldValue) (held : IsHeld value) (location : Location ℕ) (c
       same_first : SameWorlds (changed_first fresh) (world_of value_changed)
       same_first = subst (λ w. SameWorlds w (world_of value_changed)) still (change_is_swept value held location change filesystems made fresh)
 
-      same_left : SameWorlds (settled nat_eq last) (settled nat_eq after)
+      same_left : SameWorlds (settled nat_eq (regrouped nat_eq last)) (settled nat_eq (regrouped nat_eq after))
       same_left =
           let alike = alike_from_same (changed_first fresh) (world_of value_changed) same_first first_under_way.plain in
-          same_from_alike (settled nat_eq last) (settled nat_eq after) (settled_alike last after (record {
+          same_from_alike (settled nat_eq (regrouped nat_eq last)) (settled nat_eq (regrouped nat_eq after))
+          (settled_alike (regrouped nat_eq last) (regrouped nat_eq after) (regrouped_alike last after (record {
             mounts = ap (map (detached_in gone)) alike.mounts;
             master = alike.master;
             filesystems = alike.filesystems;
             namespaces = alike.namespaces;
             tasks = alike.tasks;
-          }))
+          })))
 
-      left_world : IsWorld nat_eq (settled nat_eq last) × IsPlain (settled nat_eq last)
+      left_world : IsWorld nat_eq (settled nat_eq (regrouped nat_eq last)) × IsPlain (settled nat_eq (regrouped nat_eq last))
       left_world =
           subst (λ w. IsWorld nat_eq (settled nat_eq w) × IsPlain (settled nat_eq w)) (leaves fresh)
           (given_permits_leave_worlds world fresh permits.task permit held.in_world (files_are_plain value.filesystems) permits.given)
 
-      after_world : IsWorld nat_eq (settled nat_eq after) × IsPlain (settled nat_eq after)
-      after_world = same_worlds_are_worlds (settled nat_eq last) (settled nat_eq after) same_left left_world.1 left_world.0
+      -- They leave their groups at once, and all mounts get the types that the groups then tell.
+      module _ (groups : Grouping) (follows : TakesAway value.groups groups gone) where
+        has_after : Has (regrouped nat_eq after) groups
+        has_after =
+            subst (λ one. Has one groups) (taken_regroups (world_of value_changed) gone closed)
+            (follows (world_of value_changed) changed_first_is_held.groups changed_first_is_held.in_world.mounts.groups)
 
-      pub changed_then_detached : (mounts : List MountEntry) (others : Filesystems)
-          → LeaveInTurn gone (kept value.mounts filesystems) (kept mounts others) → IsDone value name permit (remade value mounts others value.tasks)
-      changed_then_detached mounts others turn =
-          let new = remade value mounts others value.tasks in
-          let held_first = changed_first_is_held in
-          let detaching = all_detached value_changed [] (living after) gone (kept value.mounts filesystems) (kept mounts others)
-          (detaching_begins value_changed [] [] (world_of value_changed) (kept value.mounts filesystems) (held_is_kept value_changed held_first) gone closed) turn in
-          let lost = detaching.lost in
-          let kept_last = subst (λ one. IsKeptBut value_changed [] [] [] lost one (kept mounts others)) detaching.ends detaching.is in
-          let swept = detached_swept value_changed after [] lost new kept_last refl (world_is_plain value_changed) refl refl in
-          let has = detached_has_none value_changed after [] lost new kept_last refl held_first (detached_rises gone (mounts_in value.mounts) held.groups.order) in
-          let same = sameness_is_an_equivalence.onward (settled nat_eq last) (settled nat_eq after) (world_of new) same_left
-          (swept_is_same value_changed held_first after [] lost new swept has after_world) in
-          let is = (same_worlds_are_worlds (settled nat_eq last) (world_of new) same left_world.1 left_world.0).0 in
-          let counts = detached_counted value_changed after [] lost new kept_last refl
-          (all_from_among (CountsWhatIsInIt (world_of new)) value.namespaces (λ entry m.
-          let was = among_from_all (CountsWhatIsInIt (world_of value)) value.namespaces held.namespaces entry m in record { tasks = was.tasks })) in
-          record {
-            held = record {
-              in_world = is;
-              groups = swept_has value_changed held_first after [] lost new swept has after_world;
-              ungrouped = counts.ungrouped;
-              given = same_keeps_to_numbers_too (is_counted_before value.next) (λ k. 0) world permits.task permit (world_of new)
-                  permits.given.called held.given (λ k. refl) is_named
-                  (subst (λ w. SameWorlds (settled nat_eq w) (world_of new)) (sym (leaves (λ k. 0))) same) (files_are_plain others);
-              mounts = counts.uses;
-              filesystems = all_from_among (CountsItsMounts (world_of new)) others (λ entry m. record {
-                mounts = counts.mounts entry m;
-                inodes = swept_is_counted value_changed held_first after [] lost new swept has after_world entry m is;
-              });
-              own_inodes = all_from_among HasOwnInodes others (λ entry m. let from = swept.entries entry m in
-                  subst (λ count. IsOwn count (inodes_seen entry)) (sym from.count)
-                  (subst (IsOwn from.was.count) (sym from.inodes)
-                  (own_exchanged from.was.count [] lost (inodes_seen from.was)
-                  (among_from_all HasOwnInodes filesystems held_first.own_inodes from.was from.among))));
-              namespaces = counts.namespaces;
-            };
-            becomes = becomes_so value name permit new permits.task permits.called
-                (subst (λ w. SameWorlds (settled nat_eq w) (world_of new)) (sym (leaves fresh)) same);
-          }
+        abbrev typed : World ℕ
+        typed = typed_world groups after
+
+        same_typed : SameWorlds (settled nat_eq (regrouped nat_eq last)) (settled nat_eq typed)
+        same_typed = subst (SameWorlds (settled nat_eq (regrouped nat_eq last))) (settled_typed after groups has_after) same_left
+
+        typed_is_world : IsWorld nat_eq (settled nat_eq typed) × IsPlain (settled nat_eq typed)
+        typed_is_world =
+            same_worlds_are_worlds (settled nat_eq (regrouped nat_eq last)) (settled nat_eq typed) same_typed left_world.1 left_world.0
+
+        has_typed : Has (settled nat_eq typed) groups
+        has_typed =
+            settled_typed_has after groups has_after
+            (detached_is_private (world_of value_changed) gone changed_first_is_held.in_world.mounts.nowhere)
+
+        typed_then_detached : (mounts : List MountEntry) (others : Filesystems)
+            → LeaveInTurn gone (kept value.mounts filesystems) (kept mounts others)
+            → IsDone value name permit (typed_value groups (remade value mounts others value.tasks))
+        typed_then_detached mounts others turn =
+            let untyped = remade value mounts others value.tasks in
+            let new = typed_value groups untyped in
+            let held_first = changed_first_is_held in
+            let detaching = all_detached value_changed [] (living after) gone (kept value.mounts filesystems) (kept mounts others)
+            (detaching_begins value_changed [] [] (world_of value_changed) (kept value.mounts filesystems) (held_is_kept value_changed held_first) gone closed) turn in
+            let lost = detaching.lost in
+            let kept_last = subst (λ one. IsKeptBut value_changed [] [] [] lost one (kept mounts others)) detaching.ends detaching.is in
+            let swept = swept_typed groups untyped value_changed after [] lost
+            (detached_swept value_changed after [] lost untyped kept_last refl (world_is_plain value_changed) refl refl) in
+            let same = sameness_is_an_equivalence.onward (settled nat_eq (regrouped nat_eq last)) (settled nat_eq typed) (world_of new) same_typed
+            (swept_is_same value_changed held_first typed [] lost new swept has_typed typed_is_world) in
+            let is = (same_worlds_are_worlds (settled nat_eq (regrouped nat_eq last)) (world_of new) same left_world.1 left_world.0).0 in
+            let counts = counts_typed groups untyped
+            (detached_counted value_changed after [] lost untyped kept_last refl
+            (all_from_among (CountsWhatIsInIt (world_of untyped)) value.namespaces (λ entry m.
+            let was = among_from_all (CountsWhatIsInIt (world_of value)) value.namespaces held.namespaces entry m in record { tasks = was.tasks })))
+            (typed_free value held groups gone follows mounts) in
+            record {
+              held = record {
+                in_world = is;
+                groups = swept_has value_changed held_first typed [] lost new swept has_typed typed_is_world;
+                ungrouped = counts.ungrouped;
+                given = same_keeps_to_numbers_too (is_counted_before value.next) (λ k. 0) world permits.task permit (world_of new)
+                    permits.given.called held.given (λ k. refl) is_named
+                    (subst (λ w. SameWorlds (settled nat_eq w) (world_of new)) (sym (leaves (λ k. 0))) same) (files_are_plain others);
+                mounts = counts.uses;
+                filesystems = all_from_among (CountsItsMounts (world_of new)) others (λ entry m. record {
+                  mounts = counts.mounts entry m;
+                  inodes = swept_is_counted value_changed held_first typed [] lost new swept has_typed typed_is_world entry m is;
+                });
+                own_inodes = all_from_among HasOwnInodes others (λ entry m. let from = swept.entries entry m in
+                    subst (λ count. IsOwn count (inodes_seen entry)) (sym from.count)
+                    (subst (IsOwn from.was.count) (sym from.inodes)
+                    (own_exchanged from.was.count [] lost (inodes_seen from.was)
+                    (among_from_all HasOwnInodes filesystems held_first.own_inodes from.was from.among))));
+                namespaces = counts.namespaces;
+              };
+              becomes = becomes_so value name permit new permits.task permits.called
+                  (subst (λ w. SameWorlds (settled nat_eq w) (world_of new)) (sym (leaves fresh)) same);
+            }
+
+      pub changed_then_detached : (mounts : List MountEntry) (groups : Grouping) (others : Filesystems)
+          → LeaveTogether gone (kept value.mounts filesystems) value.groups (kept mounts others) groups
+          → IsDone value name permit (record (remade value mounts others value.tasks) { groups = groups })
+      changed_then_detached mounts groups others together =
+          subst (λ all. IsDone value name permit (record (remade value all others value.tasks) { groups = groups })) (sym together.types)
+          (typed_then_detached groups together.groups together.entries others together.turn)

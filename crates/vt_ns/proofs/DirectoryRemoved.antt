@@ -10,10 +10,12 @@ use Rattle.vt_spec.specs.Machine.Filesystems.{with_change}
 use Rattle.vt_spec.specs.Machine.Mounts.{Mount}
 use Rattle.vt_spec.specs.Machine.Permits.{Permit}
 use Rattle.vt_spec.specs.Machine.Permits.Permit.{ToChange, ToRemoveDirectory}
+use Rattle.vt_spec.specs.Machine.Receives.{regrouped}
 use Rattle.vt_spec.specs.Machine.World.{World, mount_numbered}
 use Rattle.vt_spec.specs.Fits.{Fits}
 use Rattle.vt_spec.specs.Inodes.{Inodes, changed, tree_of}
 use Rattle.vt_fs.specs.FilesystemsValue.{ChangesInodes, Filesystems, inodes_seen}
+use Rattle.vt_group.specs.Grouping.{Grouping}
 use Rattle.vt_location.specs.declared.locations.Location.{Location}
 use Rattle.vt_location.specs.Locations.{location_of, number_of}
 use Rattle.vt_mount.specs.MountsValue.{MountEntry, mounts_in, stands_over}
@@ -23,7 +25,7 @@ use Rattle.vt_permit_laws.proofs.SeesFit.{given_changes_fit}
 use Rattle.vt_permit_laws.proofs.SeesTasks.{given_permits_are_seen_to}
 use Rattle.vt_run_laws.specs.Handed.{is_counted_before}
 use Rattle.vt_world_laws.specs.Worlds.Permits.{NamesWhatIsThere}
-use Rattle.vt_detach.specs.Detached.{LeaveInTurn, tree_numbers}
+use Rattle.vt_detach.specs.Detached.{LeaveTogether, tree_numbers}
 use Rattle.vt_detach.specs.Events.{Permits, supply_of}
 use Rattle.vt_detach.specs.Held.{IsHeld}
 use Rattle.vt_detach.specs.Uses.{kept}
@@ -31,7 +33,7 @@ use Rattle.vt_detach.specs.WorldValue.{WorldValue, world_of}
 use Rattle.vt_detach.proofs.ChangedFiles.{ChangesFiles, IsFilesEvent, with_filesystems}
 use Rattle.vt_ns.proofs.ChangedWithMounts.{changed_then_detached, nothing_goes}
 use Rattle.vt_detach.proofs.DetachingBegins.{HasChildrenOf, detached_world}
-use Rattle.vt_detach.proofs.DetachingEnds.{held_is_kept, taken_is_detached}
+use Rattle.vt_detach.proofs.DetachingEnds.{taken_regroups}
 use Rattle.vt_detach.proofs.FileEvents.{IsSmall, permit_fits}
 use Rattle.vt_ns.proofs.FileRemoving.{removal_is_done}
 use Rattle.vt_detach.proofs.FilesSeen.{IsLocated, files_are_plain, inodes_named, located, located_filesystem}
@@ -80,9 +82,9 @@ module _ (value : WorldValue) (held : IsHeld value) (name : TaskName) (parent : 
   closed : HasChildrenOf gone world.mounts
   closed = trees_have_children world held.in_world.mounts tops
 
-  applied : (supply : Fresh ℕ) → (apply nat_eq supply world permits.task permit).world ≡ with_change nat_eq supply (detached_world gone world) (location_of parent) change
-  applied supply =
-      ap (λ w. with_change nat_eq supply w (location_of parent) change) (taken_is_detached world gone (held_is_kept value held).ungrouped closed)
+  applied : (supply : Fresh ℕ) → (apply nat_eq supply world permits.task permit).world
+      ≡ with_change nat_eq supply (regrouped nat_eq (detached_world gone world)) (location_of parent) change
+  applied supply = ap (λ w. with_change nat_eq supply w (location_of parent) change) (taken_regroups world gone closed)
 
   fits : (inodes : Inodes ℕ) → inodes ≡ inodes_seen seen.entry → Fits inodes change
   fits inodes same =
@@ -97,11 +99,11 @@ module _ (value : WorldValue) (held : IsHeld value) (name : TaskName) (parent : 
   alone_is_removed none filesystems changes =
       removal_is_done value held name parent entry directory small small_directory permits (none_on world tops none) filesystems changes
 
-  pub directory_is_removed : (filesystems others : Filesystems) (mounts : List MountEntry) → gone ≢ []
+  pub directory_is_removed : (filesystems others : Filesystems) (mounts : List MountEntry) (groups : Grouping) → gone ≢ []
       → ChangesInodes parent.node.filesystem.count (λ inodes. changed nat_eq inodes change) value.filesystems filesystems
-      → LeaveInTurn gone (kept value.mounts filesystems) (kept mounts others)
-      → IsDone value name permit (remade value mounts others value.tasks)
-  directory_is_removed filesystems others mounts some changes turn =
+      → LeaveTogether gone (kept value.mounts filesystems) value.groups (kept mounts others) groups
+      → IsDone value name permit (record (remade value mounts others value.tasks) { groups = groups })
+  directory_is_removed filesystems others mounts groups some changes together =
       let made : ChangesFiles value (location_of parent) change filesystems = record {
         entry = seen.entry;
         among = seen.among;
@@ -123,4 +125,4 @@ module _ (value : WorldValue) (held : IsHeld value) (name : TaskName) (parent : 
       (nothing_goes value held (location_of parent) change filesystems made name permit permits gone reached named is_named applied
       (number_of directory.node) (ap option_to_list sees.1.named) tt on.mount on.among on.place on.placed on.at_inode
       (on.shows ∙ ap (λ n. (mount_numbered nat_eq world n).filesystem) sees.0))
-      closed mounts others turn
+      closed mounts groups others together

@@ -14,10 +14,13 @@ use Rattle.vt_spec.specs.Machine.Mounts.{Mount, mount_tree}
 use Rattle.vt_spec.specs.Machine.Outcome.Removing.{without_replaced}
 use Rattle.vt_spec.specs.Machine.Permits.{Permit}
 use Rattle.vt_spec.specs.Machine.Permits.Permit.{ToChange, ToRename}
+use Rattle.vt_spec.specs.Machine.Receives.{regrouped}
 use Rattle.vt_spec.specs.Machine.World.{World, filesystem_at, filesystem_numbered, mount_at, mount_numbered, with_mounts}
 use Rattle.vt_spec.specs.TreeLaws.{entry_at}
 use Rattle.vt_fs.specs.FilesystemsValue.{ChangesInodes, Filesystems, inodes_seen}
 use Rattle.vt_spec.specs.Inodes.{changed}
+use Rattle.vt_group.specs.Grouping.{Grouping}
+use Rattle.vt_group.proofs.Together.{regrouped_living}
 use Rattle.vt_letting_go.specs.FileChanges.{names_lost}
 use Rattle.vt_letting_go.proofs.Lists.{Among}
 use Rattle.vt_location.specs.declared.locations.Location.{Location}
@@ -27,7 +30,7 @@ use Rattle.vt_permit_laws.specs.Named.{permit_named}
 use Rattle.vt_permit_laws.specs.Sees.{MayBeRenamed}
 use Rattle.vt_run_laws.specs.Handed.{is_counted_before}
 use Rattle.vt_world_laws.specs.Worlds.Permits.{IsReached, NamesWhatIsThere}
-use Rattle.vt_detach.specs.Detached.{LeaveInTurn, trees_of_replaced}
+use Rattle.vt_detach.specs.Detached.{LeaveTogether, trees_of_replaced}
 use Rattle.vt_detach.specs.Events.{Permits}
 use Rattle.vt_detach.specs.Held.{IsHeld}
 use Rattle.vt_detach.specs.Uses.{kept}
@@ -35,7 +38,7 @@ use Rattle.vt_detach.specs.WorldValue.{WorldValue, world_of}
 use Rattle.vt_detach.proofs.ChangedFiles.{ChangesFiles}
 use Rattle.vt_ns.proofs.ChangedWithMounts.{changed_then_detached, nothing_goes}
 use Rattle.vt_detach.proofs.DetachingBegins.{HasChildrenOf, detached_world}
-use Rattle.vt_detach.proofs.DetachingEnds.{held_is_kept, taken_is_detached}
+use Rattle.vt_detach.proofs.DetachingEnds.{taken_regroups}
 use Rattle.vt_detach.proofs.FileEvents.{IsSmall}
 use Rattle.vt_ns.proofs.FileRenaming as Renaming
 use Rattle.vt_detach.proofs.FilesSeen.{inodes_named}
@@ -90,13 +93,16 @@ module _ (value : WorldValue) (held : IsHeld value) (name : TaskName) (from : Lo
   closed : HasChildrenOf gone world.mounts
   closed = trees_have_children world held.in_world.mounts (tops_on_replaced value replaced)
 
-  taken : (o : Option Location) → without_replaced nat_eq world (option_map location_of o) ≡ detached_world (trees_numbers world (tops_on_replaced value o)) world
-  taken None = ap (with_mounts world) (map_itself world.mounts)
+  taken : (o : Option Location) → without_replaced nat_eq world (option_map location_of o)
+      ≡ regrouped nat_eq (detached_world (trees_numbers world (tops_on_replaced value o)) world)
+  taken None =
+      sym (regrouped_living world held.in_world.mounts.groups) ∙ ap (λ mounts. regrouped nat_eq (with_mounts world mounts)) (map_itself world.mounts)
   taken (Some other) =
-      taken_is_detached world (trees_numbers world (tops_on value other)) (held_is_kept value held).ungrouped
+      taken_regroups world (trees_numbers world (tops_on value other))
       (trees_have_children world held.in_world.mounts (tops_on value other))
 
-  applied : (supply : Fresh ℕ) → (apply nat_eq supply world permits.task permit).world ≡ with_change nat_eq supply (detached_world gone world) (location_of from) change
+  applied : (supply : Fresh ℕ) → (apply nat_eq supply world permits.task permit).world
+      ≡ with_change nat_eq supply (regrouped nat_eq (detached_world gone world)) (location_of from) change
   applied supply = ap (λ w. with_change nat_eq supply w (location_of from) change) (taken replaced)
 
   -- a mount that stands on what is replaced
@@ -141,11 +147,11 @@ module _ (value : WorldValue) (held : IsHeld value) (name : TaskName) (from : Lo
         shows = on.shows ∙ ap (λ n. (mount_numbered nat_eq world n).filesystem) (facts other is).1;
       }
 
-  pub rename_is_done : (filesystems others : Filesystems) (mounts : List MountEntry) → gone ≢ []
+  pub rename_is_done : (filesystems others : Filesystems) (mounts : List MountEntry) (groups : Grouping) → gone ≢ []
       → ChangesInodes from.node.filesystem.count (λ inodes. changed nat_eq inodes change) value.filesystems filesystems
-      → LeaveInTurn gone (kept value.mounts filesystems) (kept mounts others)
-      → IsDone value name permit (remade value mounts others value.tasks)
-  rename_is_done filesystems others mounts some changes turn =
+      → LeaveTogether gone (kept value.mounts filesystems) value.groups (kept mounts others) groups
+      → IsDone value name permit (record (remade value mounts others value.tasks) { groups = groups })
+  rename_is_done filesystems others mounts groups some changes together =
       let seen = Renaming.seen value held name from old to new object replaced small small_to small_object permits in
       let made : ChangesFiles value (location_of from) change filesystems = record {
         entry = seen.entry;
@@ -167,4 +173,4 @@ module _ (value : WorldValue) (held : IsHeld value) (name : TaskName) (from : Lo
       changed_then_detached value held (location_of from) change filesystems made name permit permits gone reached named is_named applied
       (nothing_goes value held (location_of from) change filesystems made name permit permits gone reached named is_named applied
       on.inode on.lost (record { named = sees.moves.named; in_directory = sees.moves.in_directory }) on.mount on.among on.place on.placed on.at on.shows)
-      closed mounts others turn
+      closed mounts groups others together

@@ -44,7 +44,14 @@ impl World {
         if let Some(left) = self.tasks.enter(name, namespace, root) {
             leave(mounts, filesystems, left.root, false);
             leave(mounts, filesystems, left.directory, false);
-            leave_namespace(mounts, filesystems, &mut self.namespaces, left.namespace);
+            let groups = &mut self.groups;
+            leave_namespace(
+                mounts,
+                groups,
+                filesystems,
+                &mut self.namespaces,
+                left.namespace,
+            );
         }
         Ok(())
     }

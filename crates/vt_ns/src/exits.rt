@@ -28,7 +28,14 @@ impl World {
         leave(mounts, filesystems, task.root, false);
         leave(mounts, filesystems, task.directory, false);
         leave_files(mounts, filesystems, task.descriptors.files());
-        leave_namespace(mounts, filesystems, &mut self.namespaces, task.namespace);
+        let groups = &mut self.groups;
+        leave_namespace(
+            mounts,
+            groups,
+            filesystems,
+            &mut self.namespaces,
+            task.namespace,
+        );
     }
 }
 

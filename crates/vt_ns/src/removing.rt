@@ -11,7 +11,7 @@ ghost use Rattle.vt_detach.specs.Events.{Becomes, Permits};
 
 use crate::world::World;
 use std::alloc::Global;
-use vt_detach::detaching::detach_each;
+use vt_detach::detaching::detach_together;
 use vt_location::{Location, MountId, NodeRef};
 use vt_mount::Mounts;
 use vt_request::TaskName;
@@ -37,7 +37,12 @@ impl World {
         let gone = trees_on(&self.mounts, directory.node, self.alloc)?;
         self.filesystems.unlink(parent.node, entry, directory.node);
         if !gone.is_empty() {
-            detach_each(&mut self.mounts, &mut self.filesystems, &gone);
+            detach_together(
+                &mut self.mounts,
+                &mut self.groups,
+                &mut self.filesystems,
+                &gone,
+            );
         }
         Ok(())
     }

@@ -12,7 +12,7 @@ ghost use Rattle.vt_detach.specs.Events.{Becomes, Permits};
 use crate::removing::trees_on;
 use crate::world::World;
 use std::alloc::Global;
-use vt_detach::detaching::detach_each;
+use vt_detach::detaching::detach_together;
 use vt_location::{Location, MountId};
 use vt_mount::Mounts;
 use vt_request::TaskName;
@@ -44,7 +44,12 @@ impl World {
         self.filesystems
             .rename(from.node, old, to.node, new, object.node)?;
         if !gone.is_empty() {
-            detach_each(&mut self.mounts, &mut self.filesystems, &gone);
+            detach_together(
+                &mut self.mounts,
+                &mut self.groups,
+                &mut self.filesystems,
+                &gone,
+            );
         }
         Ok(())
     }

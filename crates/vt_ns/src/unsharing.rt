@@ -45,7 +45,13 @@ impl World {
         let _ = self.namespaces.insert(new, Namespace { tasks: 1 });
         self.tasks
             .move_root_and_directory(name, new, new_root, new_directory);
-        leave_namespace(mounts, filesystems, &mut self.namespaces, left);
+        leave_namespace(
+            mounts,
+            &mut self.groups,
+            filesystems,
+            &mut self.namespaces,
+            left,
+        );
         self.next += taken;
         Ok(())
     }

@@ -28,7 +28,7 @@ pub invariant_of-self : goal.invariant_of-self
 invariant_of-self c =
     let left = c.in-Some.left in
     (task_enters (the_view c.self.inside) c.args.name.now c.args.namespace.count c.unwrap-root.result left
-    c.leave_namespace.new.mounts c.leave_namespace.new.filesystems (entries_of c.leave_namespace.new.namespaces.entries) c.enter.new.self
+    c.leave_namespace.new.mounts c.leave_namespace.new.groups c.leave_namespace.new.filesystems (entries_of c.leave_namespace.new.namespaces.entries) c.enter.new.self
     (kept c.leave-in-Some.new.mounts c.leave-in-Some.new.filesystems)
     c.self.invariant
     (subst (λ value. Permits value c.args.name.now (ToEnterNamespace (counted c.args.namespace.count))) (sym c.self.view_is) c.requires)
@@ -41,7 +41,8 @@ invariant_of-self c =
     (c.hold_once_more-2.ensures.held ∙ ap (with_location c.unwrap-root.result false) c.hold_once_more.ensures.held)))
     (c.leave_namespace.ensures.namespaces ∙ ap (with_one_task_less left.namespace.count) c.count_task.ensures)
     (subst (λ all. MountsAreLeft (counted left.namespace.count) (namespace_entry left.namespace.count all)
-    (kept c.leave-in-Some.new.mounts c.leave-in-Some.new.filesystems) (kept c.leave_namespace.new.mounts c.leave_namespace.new.filesystems))
+    (kept c.leave-in-Some.new.mounts c.leave-in-Some.new.filesystems) c.self.inside.groups
+    (kept c.leave_namespace.new.mounts c.leave_namespace.new.filesystems) c.leave_namespace.new.groups)
     c.count_task.ensures c.leave_namespace.ensures.mounts)).held
 
 pub returns-in-Some-clause-ok : goal.returns-in-Some-clause-ok
@@ -49,7 +50,7 @@ returns-in-Some-clause-ok c =
     let left = c.in-Some.left in
     let new : WorldValue = record {
       mounts = c.leave_namespace.new.mounts;
-      groups = c.self.inside.groups;
+      groups = c.leave_namespace.new.groups;
       filesystems = c.leave_namespace.new.filesystems;
       namespaces = entries_of c.leave_namespace.new.namespaces.entries;
       tasks = c.enter.new.self;
@@ -57,7 +58,7 @@ returns-in-Some-clause-ok c =
     } in
     subst (λ value. Becomes value c.args.name.now (ToEnterNamespace (counted c.args.namespace.count)) new) c.self.view_is
     (task_enters (the_view c.self.inside) c.args.name.now c.args.namespace.count c.unwrap-root.result left
-    c.leave_namespace.new.mounts c.leave_namespace.new.filesystems (entries_of c.leave_namespace.new.namespaces.entries) c.enter.new.self
+    c.leave_namespace.new.mounts c.leave_namespace.new.groups c.leave_namespace.new.filesystems (entries_of c.leave_namespace.new.namespaces.entries) c.enter.new.self
     (kept c.leave-in-Some.new.mounts c.leave-in-Some.new.filesystems)
     c.self.invariant
     (subst (λ value. Permits value c.args.name.now (ToEnterNamespace (counted c.args.namespace.count))) (sym c.self.view_is) c.requires)
@@ -70,5 +71,6 @@ returns-in-Some-clause-ok c =
     (c.hold_once_more-2.ensures.held ∙ ap (with_location c.unwrap-root.result false) c.hold_once_more.ensures.held)))
     (c.leave_namespace.ensures.namespaces ∙ ap (with_one_task_less left.namespace.count) c.count_task.ensures)
     (subst (λ all. MountsAreLeft (counted left.namespace.count) (namespace_entry left.namespace.count all)
-    (kept c.leave-in-Some.new.mounts c.leave-in-Some.new.filesystems) (kept c.leave_namespace.new.mounts c.leave_namespace.new.filesystems))
+    (kept c.leave-in-Some.new.mounts c.leave-in-Some.new.filesystems) c.self.inside.groups
+    (kept c.leave_namespace.new.mounts c.leave_namespace.new.filesystems) c.leave_namespace.new.groups)
     c.count_task.ensures c.leave_namespace.ensures.mounts)).becomes

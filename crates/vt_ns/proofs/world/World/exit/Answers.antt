@@ -12,7 +12,7 @@ use Rattle.vt_ns.proofs.world.World.exit.Goals as goal
 pub invariant_of-self-2 : goal.invariant_of-self-2
 invariant_of-self-2 c =
     (task_exits (the_view c.self.inside) c.args.name.now c.in-Some.task c.files.result.now (kept c.leave_files.new.mounts c.leave_files.new.filesystems)
-    c.leave_namespace.new.mounts c.leave_namespace.new.filesystems (entries_of c.leave_namespace.new.namespaces.entries) c.exit.new.self
+    c.leave_namespace.new.mounts c.leave_namespace.new.groups c.leave_namespace.new.filesystems (entries_of c.leave_namespace.new.namespaces.entries) c.exit.new.self
     c.self.invariant
     (subst (λ value. Permits value c.args.name.now ToExit) (sym c.self.view_is) c.requires)
     (sym (ap (option_map task_of) c.in-Some.is) ∙ c.exit.ensures.value)
@@ -32,7 +32,7 @@ pub returns : goal.returns
 returns c =
     let new : WorldValue = record {
       mounts = c.leave_namespace.new.mounts;
-      groups = c.self.inside.groups;
+      groups = c.leave_namespace.new.groups;
       filesystems = c.leave_namespace.new.filesystems;
       namespaces = entries_of c.leave_namespace.new.namespaces.entries;
       tasks = c.exit.new.self;
@@ -40,7 +40,7 @@ returns c =
     } in
     subst (λ value. Becomes value c.args.name.now ToExit new) c.self.view_is
     (task_exits (the_view c.self.inside) c.args.name.now c.in-Some.task c.files.result.now (kept c.leave_files.new.mounts c.leave_files.new.filesystems)
-    c.leave_namespace.new.mounts c.leave_namespace.new.filesystems (entries_of c.leave_namespace.new.namespaces.entries) c.exit.new.self
+    c.leave_namespace.new.mounts c.leave_namespace.new.groups c.leave_namespace.new.filesystems (entries_of c.leave_namespace.new.namespaces.entries) c.exit.new.self
     c.self.invariant
     (subst (λ value. Permits value c.args.name.now ToExit) (sym c.self.view_is) c.requires)
     (sym (ap (option_map task_of) c.in-Some.is) ∙ c.exit.ensures.value)

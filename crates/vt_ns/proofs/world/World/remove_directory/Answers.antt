@@ -3,7 +3,7 @@ use Rattle.vt_location.specs.Locations.{location_of}
 use Rattle.vt_location.specs.Numbers.{counted}
 use Rattle.vt_spec.specs.Machine.Permits.Permit.{ToRemoveDirectory}
 use Rattle.vt_ns.specs.contracts.world.World.{the_view}
-use Rattle.vt_detach.specs.Detached.{LeaveInTurn}
+use Rattle.vt_detach.specs.Detached.{LeaveTogether}
 use Rattle.vt_detach.specs.Events.{Becomes, Permits}
 use Rattle.vt_detach.specs.Uses.{kept}
 use Rattle.vt_detach.proofs.ChangedFiles.{with_filesystems}
@@ -34,14 +34,14 @@ invariant_of-self c =
     let some : length c.in_ok-gone.gone.items ≢ 0 = search rules in
     (directory_is_removed (the_view c.self.inside) c.self.invariant c.args.name.now c.args.parent c.args.entry.now c.args.directory (omega arith) (omega arith)
     (subst (λ value. Permits value c.args.name.now (ToRemoveDirectory (location_of c.args.parent) c.args.entry.now (location_of c.args.directory))) (sym c.self.view_is) c.requires)
-    c.unlink.new.self c.detach_each.new.filesystems c.detach_each.new.mounts
+    c.unlink.new.self c.detach_together.new.filesystems c.detach_together.new.mounts c.detach_together.new.groups
     (λ none. some_counted c.in_ok-gone.gone.items some ((collected_are (the_view c.self.inside) c.self.invariant c.args.name.now c.args.parent c.args.entry.now c.args.directory (omega arith) (omega arith)
     (subst (λ value. Permits value c.args.name.now (ToRemoveDirectory (location_of c.args.parent) c.args.entry.now (location_of c.args.directory))) (sym c.self.view_is) c.requires)
     (map (λ id. counted id.count) c.in_ok-gone.gone.items) c.in_ok-gone.ensures.ok) ∙ none)) c.unlink.ensures
-    (subst (λ ids. LeaveInTurn ids (kept c.self.inside.mounts c.unlink.new.self) (kept c.detach_each.new.mounts c.detach_each.new.filesystems)) (collected_are (the_view c.self.inside) c.self.invariant c.args.name.now c.args.parent c.args.entry.now c.args.directory (omega arith) (omega arith)
+    (subst (λ ids. LeaveTogether ids (kept c.self.inside.mounts c.unlink.new.self) c.self.inside.groups (kept c.detach_together.new.mounts c.detach_together.new.filesystems) c.detach_together.new.groups) (collected_are (the_view c.self.inside) c.self.invariant c.args.name.now c.args.parent c.args.entry.now c.args.directory (omega arith) (omega arith)
     (subst (λ value. Permits value c.args.name.now (ToRemoveDirectory (location_of c.args.parent) c.args.entry.now (location_of c.args.directory))) (sym c.self.view_is) c.requires)
     (map (λ id. counted id.count) c.in_ok-gone.gone.items) c.in_ok-gone.ensures.ok)
-    (subst (λ ids. LeaveInTurn (map (λ id. counted id.count) ids) (kept c.self.inside.mounts c.unlink.new.self) (kept c.detach_each.new.mounts c.detach_each.new.filesystems)) c.deref.ensures.value c.detach_each.ensures))).held
+    (subst (λ ids. LeaveTogether (map (λ id. counted id.count) ids) (kept c.self.inside.mounts c.unlink.new.self) c.self.inside.groups (kept c.detach_together.new.mounts c.detach_together.new.filesystems) c.detach_together.new.groups) c.deref.ensures.value c.detach_together.ensures))).held
 
 pub invariant_of-self-else-not-is_empty : goal.invariant_of-self-else-not-is_empty
 invariant_of-self-else-not-is_empty c =
@@ -58,17 +58,17 @@ returns-clause-ok c = elim c.if-not-is_empty.branch [
       let some : length c.in_ok-gone.gone.items ≢ 0 = search rules in
       subst (λ new. Becomes c.args.self.now c.args.name.now (ToRemoveDirectory (location_of c.args.parent) c.args.entry.now (location_of c.args.directory)) new) (sym w.self-is)
       (subst (λ value. Becomes value c.args.name.now (ToRemoveDirectory (location_of c.args.parent) c.args.entry.now (location_of c.args.directory))
-      (remade (the_view c.self.inside) w.detach_each.new.mounts w.detach_each.new.filesystems (the_view c.self.inside).tasks)) c.self.view_is
+      (record (remade (the_view c.self.inside) w.detach_together.new.mounts w.detach_together.new.filesystems (the_view c.self.inside).tasks) { groups = w.detach_together.new.groups })) c.self.view_is
       (directory_is_removed (the_view c.self.inside) c.self.invariant c.args.name.now c.args.parent c.args.entry.now c.args.directory (omega arith) (omega arith)
       (subst (λ value. Permits value c.args.name.now (ToRemoveDirectory (location_of c.args.parent) c.args.entry.now (location_of c.args.directory))) (sym c.self.view_is) c.requires)
-      c.unlink.new.self w.detach_each.new.filesystems w.detach_each.new.mounts
+      c.unlink.new.self w.detach_together.new.filesystems w.detach_together.new.mounts w.detach_together.new.groups
       (λ none. some_counted c.in_ok-gone.gone.items some ((collected_are (the_view c.self.inside) c.self.invariant c.args.name.now c.args.parent c.args.entry.now c.args.directory (omega arith) (omega arith)
       (subst (λ value. Permits value c.args.name.now (ToRemoveDirectory (location_of c.args.parent) c.args.entry.now (location_of c.args.directory))) (sym c.self.view_is) c.requires)
       (map (λ id. counted id.count) c.in_ok-gone.gone.items) c.in_ok-gone.ensures.ok) ∙ none)) c.unlink.ensures
-      (subst (λ ids. LeaveInTurn ids (kept c.self.inside.mounts c.unlink.new.self) (kept w.detach_each.new.mounts w.detach_each.new.filesystems)) (collected_are (the_view c.self.inside) c.self.invariant c.args.name.now c.args.parent c.args.entry.now c.args.directory (omega arith) (omega arith)
+      (subst (λ ids. LeaveTogether ids (kept c.self.inside.mounts c.unlink.new.self) c.self.inside.groups (kept w.detach_together.new.mounts w.detach_together.new.filesystems) w.detach_together.new.groups) (collected_are (the_view c.self.inside) c.self.invariant c.args.name.now c.args.parent c.args.entry.now c.args.directory (omega arith) (omega arith)
       (subst (λ value. Permits value c.args.name.now (ToRemoveDirectory (location_of c.args.parent) c.args.entry.now (location_of c.args.directory))) (sym c.self.view_is) c.requires)
       (map (λ id. counted id.count) c.in_ok-gone.gone.items) c.in_ok-gone.ensures.ok)
-      (subst (λ ids. LeaveInTurn (map (λ id. counted id.count) ids) (kept c.self.inside.mounts c.unlink.new.self) (kept w.detach_each.new.mounts w.detach_each.new.filesystems)) w.deref.ensures.value w.detach_each.ensures))).becomes)
+      (subst (λ ids. LeaveTogether (map (λ id. counted id.count) ids) (kept c.self.inside.mounts c.unlink.new.self) c.self.inside.groups (kept w.detach_together.new.mounts w.detach_together.new.filesystems) w.detach_together.new.groups) w.deref.ensures.value w.detach_together.ensures))).becomes)
   | else-not-is_empty w ↦
       let none : length c.in_ok-gone.gone.items ≡ 0 = search rules in
       subst (λ new. Becomes c.args.self.now c.args.name.now (ToRemoveDirectory (location_of c.args.parent) c.args.entry.now (location_of c.args.directory)) new) (sym w.self-is)

@@ -3,7 +3,7 @@ use Rattle.vt_location.specs.Locations.{location_of}
 use Rattle.vt_location.specs.Numbers.{counted}
 use Rattle.vt_spec.specs.Machine.Permits.Permit.{ToRename}
 use Rattle.vt_ns.specs.contracts.world.World.{the_view}
-use Rattle.vt_detach.specs.Detached.{LeaveInTurn}
+use Rattle.vt_detach.specs.Detached.{LeaveTogether}
 use Rattle.vt_detach.specs.Events.{Becomes, Permits}
 use Rattle.vt_detach.specs.Uses.{kept}
 use Rattle.vt_detach.proofs.ChangedFiles.{with_filesystems}
@@ -49,14 +49,14 @@ invariant_of-self-then-not-is_empty c =
     let some : length c.in_ok-gone.gone.items ≢ 0 = search rules in
     (rename_is_done (the_view c.self.inside) c.self.invariant c.args.name.now c.args.from c.args.old.now c.args.to c.args.new.items c.args.object c.args.replaced (omega arith) (omega arith) (omega arith) c.trees_replaced.ensures.slot
     (subst (λ value. Permits value c.args.name.now (ToRename (location_of c.args.from) c.args.old.now (location_of c.args.to) c.args.new.items (location_of c.args.object) (option_map location_of c.args.replaced))) (sym c.self.view_is) c.requires)
-    c.rename.new.self c.detach_each.new.filesystems c.detach_each.new.mounts
+    c.rename.new.self c.detach_together.new.filesystems c.detach_together.new.mounts c.detach_together.new.groups
     (λ none. some_counted c.in_ok-gone.gone.items some ((replaced_collected (the_view c.self.inside) c.self.invariant c.args.name.now c.args.from c.args.old.now c.args.to c.args.new.items c.args.object c.args.replaced (omega arith) (omega arith) (omega arith) c.trees_replaced.ensures.slot
     (subst (λ value. Permits value c.args.name.now (ToRename (location_of c.args.from) c.args.old.now (location_of c.args.to) c.args.new.items (location_of c.args.object) (option_map location_of c.args.replaced))) (sym c.self.view_is) c.requires)
     (map (λ id. counted id.count) c.in_ok-gone.gone.items) c.in_ok-gone.ensures.ok) ∙ none)) c.in_ok-rename.ensures.ok
-    (subst (λ ids. LeaveInTurn ids (kept c.self.inside.mounts c.rename.new.self) (kept c.detach_each.new.mounts c.detach_each.new.filesystems)) (replaced_collected (the_view c.self.inside) c.self.invariant c.args.name.now c.args.from c.args.old.now c.args.to c.args.new.items c.args.object c.args.replaced (omega arith) (omega arith) (omega arith) c.trees_replaced.ensures.slot
+    (subst (λ ids. LeaveTogether ids (kept c.self.inside.mounts c.rename.new.self) c.self.inside.groups (kept c.detach_together.new.mounts c.detach_together.new.filesystems) c.detach_together.new.groups) (replaced_collected (the_view c.self.inside) c.self.invariant c.args.name.now c.args.from c.args.old.now c.args.to c.args.new.items c.args.object c.args.replaced (omega arith) (omega arith) (omega arith) c.trees_replaced.ensures.slot
     (subst (λ value. Permits value c.args.name.now (ToRename (location_of c.args.from) c.args.old.now (location_of c.args.to) c.args.new.items (location_of c.args.object) (option_map location_of c.args.replaced))) (sym c.self.view_is) c.requires)
     (map (λ id. counted id.count) c.in_ok-gone.gone.items) c.in_ok-gone.ensures.ok)
-    (subst (λ ids. LeaveInTurn (map (λ id. counted id.count) ids) (kept c.self.inside.mounts c.rename.new.self) (kept c.detach_each.new.mounts c.detach_each.new.filesystems)) c.deref.ensures.value c.detach_each.ensures))).held
+    (subst (λ ids. LeaveTogether (map (λ id. counted id.count) ids) (kept c.self.inside.mounts c.rename.new.self) c.self.inside.groups (kept c.detach_together.new.mounts c.detach_together.new.filesystems) c.detach_together.new.groups) c.deref.ensures.value c.detach_together.ensures))).held
 
 pub invariant_of-self-else-not-is_empty : goal.invariant_of-self-else-not-is_empty
 invariant_of-self-else-not-is_empty c =
@@ -75,17 +75,17 @@ returns-clause-ok c = elim c.if-not-is_empty.branch [
       let some : length c.in_ok-gone.gone.items ≢ 0 = search rules in
       subst (λ new. Becomes c.args.self.now c.args.name.now (ToRename (location_of c.args.from) c.args.old.now (location_of c.args.to) c.args.new.items (location_of c.args.object) (option_map location_of c.args.replaced)) new) (sym w.self-is)
       (subst (λ value. Becomes value c.args.name.now (ToRename (location_of c.args.from) c.args.old.now (location_of c.args.to) c.args.new.items (location_of c.args.object) (option_map location_of c.args.replaced))
-      (remade (the_view c.self.inside) w.detach_each.new.mounts w.detach_each.new.filesystems (the_view c.self.inside).tasks)) c.self.view_is
+      (record (remade (the_view c.self.inside) w.detach_together.new.mounts w.detach_together.new.filesystems (the_view c.self.inside).tasks) { groups = w.detach_together.new.groups })) c.self.view_is
       (rename_is_done (the_view c.self.inside) c.self.invariant c.args.name.now c.args.from c.args.old.now c.args.to c.args.new.items c.args.object c.args.replaced (omega arith) (omega arith) (omega arith) c.trees_replaced.ensures.slot
       (subst (λ value. Permits value c.args.name.now (ToRename (location_of c.args.from) c.args.old.now (location_of c.args.to) c.args.new.items (location_of c.args.object) (option_map location_of c.args.replaced))) (sym c.self.view_is) c.requires)
-      c.rename.new.self w.detach_each.new.filesystems w.detach_each.new.mounts
+      c.rename.new.self w.detach_together.new.filesystems w.detach_together.new.mounts w.detach_together.new.groups
       (λ none. some_counted c.in_ok-gone.gone.items some ((replaced_collected (the_view c.self.inside) c.self.invariant c.args.name.now c.args.from c.args.old.now c.args.to c.args.new.items c.args.object c.args.replaced (omega arith) (omega arith) (omega arith) c.trees_replaced.ensures.slot
       (subst (λ value. Permits value c.args.name.now (ToRename (location_of c.args.from) c.args.old.now (location_of c.args.to) c.args.new.items (location_of c.args.object) (option_map location_of c.args.replaced))) (sym c.self.view_is) c.requires)
       (map (λ id. counted id.count) c.in_ok-gone.gone.items) c.in_ok-gone.ensures.ok) ∙ none)) c.in_ok-rename.ensures.ok
-      (subst (λ ids. LeaveInTurn ids (kept c.self.inside.mounts c.rename.new.self) (kept w.detach_each.new.mounts w.detach_each.new.filesystems)) (replaced_collected (the_view c.self.inside) c.self.invariant c.args.name.now c.args.from c.args.old.now c.args.to c.args.new.items c.args.object c.args.replaced (omega arith) (omega arith) (omega arith) c.trees_replaced.ensures.slot
+      (subst (λ ids. LeaveTogether ids (kept c.self.inside.mounts c.rename.new.self) c.self.inside.groups (kept w.detach_together.new.mounts w.detach_together.new.filesystems) w.detach_together.new.groups) (replaced_collected (the_view c.self.inside) c.self.invariant c.args.name.now c.args.from c.args.old.now c.args.to c.args.new.items c.args.object c.args.replaced (omega arith) (omega arith) (omega arith) c.trees_replaced.ensures.slot
       (subst (λ value. Permits value c.args.name.now (ToRename (location_of c.args.from) c.args.old.now (location_of c.args.to) c.args.new.items (location_of c.args.object) (option_map location_of c.args.replaced))) (sym c.self.view_is) c.requires)
       (map (λ id. counted id.count) c.in_ok-gone.gone.items) c.in_ok-gone.ensures.ok)
-      (subst (λ ids. LeaveInTurn (map (λ id. counted id.count) ids) (kept c.self.inside.mounts c.rename.new.self) (kept w.detach_each.new.mounts w.detach_each.new.filesystems)) w.deref.ensures.value w.detach_each.ensures))).becomes)
+      (subst (λ ids. LeaveTogether (map (λ id. counted id.count) ids) (kept c.self.inside.mounts c.rename.new.self) c.self.inside.groups (kept w.detach_together.new.mounts w.detach_together.new.filesystems) w.detach_together.new.groups) w.deref.ensures.value w.detach_together.ensures))).becomes)
   | else-not-is_empty w ↦
       let none : length c.in_ok-gone.gone.items ≡ 0 = search rules in
       subst (λ new. Becomes c.args.self.now c.args.name.now (ToRename (location_of c.args.from) c.args.old.now (location_of c.args.to) c.args.new.items (location_of c.args.object) (option_map location_of c.args.replaced)) new) (sym w.self-is)

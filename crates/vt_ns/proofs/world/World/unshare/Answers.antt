@@ -1,4 +1,4 @@
-use Rattle.std.proofs.Common.{ap, refl, length, option_copied, option_map, subst, sym, ◌*◌, ◌+◌, ◌∙◌, ◌≡◌, ◌++◌, ◌∷◌, []}
+use Rattle.std.proofs.Common.{ap, length, option_copied, option_map, subst, sym, ◌*◌, ◌+◌, ◌∙◌, ◌≡◌, ◌++◌, ◌∷◌, []}
 use Rattle.vt_location.specs.declared.numbers.NamespaceId.{NamespaceId}
 use Rattle.vt_location.specs.Locations.{location_of}
 use Rattle.vt_location.specs.Numbers.{counted}
@@ -64,7 +64,7 @@ entered c =
 abbrev after : (c : goal.After-self-1) → WorldValue
 after c = record {
   mounts = c.leave_namespace.new.mounts;
-  groups = c.self.inside.groups;
+  groups = c.leave_namespace.new.groups;
   filesystems = c.leave_namespace.new.filesystems;
   namespaces = entries_of c.leave_namespace.new.namespaces.entries;
   tasks = c.move_root_and_directory.new.self;
@@ -89,7 +89,6 @@ done c =
       uses = c.move_use-2.ensures ∙ ap (with_use_moved (counted own.directory.mount.count) (counted directory.mount.count)) c.move_use.ensures;
       entered = entered c;
       left = c.leave_namespace.ensures.mounts;
-      groups = refl;
       before = numbers_before (the_view c.self.inside) c.self.invariant c.are_counted.ensures;
       namespaces_left = c.leave_namespace.ensures.namespaces;
       tasks = c.move_root_and_directory.ensures.rest
