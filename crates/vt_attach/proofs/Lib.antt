@@ -31,3 +31,4 @@ pub mod MovedPoints
 pub mod PlannedPoints
 pub mod PlannedCounts
 pub mod PointsCounted
+pub mod GraftedUses
