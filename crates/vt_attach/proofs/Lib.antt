@@ -32,3 +32,4 @@ pub mod PlannedPoints
 pub mod PlannedCounts
 pub mod PointsCounted
 pub mod GraftedUses
+pub mod GraftedDone
