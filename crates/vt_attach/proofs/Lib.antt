@@ -31,5 +31,6 @@ pub mod MovedPoints
 pub mod PlannedPoints
 pub mod PlannedCounts
 pub mod PointsCounted
+pub mod CopiesAscend
 pub mod GraftedUses
 pub mod GraftedDone
