@@ -55,14 +55,11 @@ writes_none number (task ∷ tasks) none =
 abbrev pub attached_value : WorldValue → List MountEntry → Filesystems → ℕ → WorldValue
 attached_value value mounts filesystems next = record value { mounts = mounts; filesystems = filesystems; next = next }
 
-module _ (value : WorldValue) (whole : IsHeld value) (base filesystems : Filesystems) (new : List Mount) (mounts : List MountEntry) (next : ℕ)
-    (is_kept : kept mounts filesystems ≡ with_attached new (kept value.mounts base))
+-- Mounts that come after all others: nothing is on them
+module _ (value : WorldValue) (whole : IsHeld value) (new : List Mount)
     (ascending : are_ascending (mounts_in value.mounts ++ map mount_of new) ≡ true) where
-  pub mounts_are : mounts_in mounts ≡ mounts_in value.mounts ++ map mount_of new
-  mounts_are = ap (λ k. mounts_in k.mounts) is_kept ∙ mounts_entered value.mounts new
-
   -- no location is on one of them
-  pub not_on_new : (mount : Mount) → Among mount new → (location : meant.Location ℕ) → Among location (all_locations (world_of value))
+  not_on_new : (mount : Mount) → Among mount new → (location : meant.Location ℕ) → Among location (all_locations (world_of value))
       → nat_eq (counted mount.number.count) location.mount ≡ false
   not_on_new mount m location n =
       let on = among_numbers location.mount (map (λ (x : meant.Mount ℕ). x.number) (mounts_in value.mounts))
@@ -73,11 +70,22 @@ module _ (value : WorldValue) (whole : IsHeld value) (base filesystems : Filesys
       let same_number : location.mount ≡ from.0.number = from.2 in
       ne_eqb (counted mount.number.count) location.mount (λ same. absurd (omega (arith, less, same_number, same)))
 
-  new_counts : (mount : Mount) → Among mount new → CountsItsUses (world_of (attached_value value mounts filesystems next)) (unused_entry mount)
-  new_counts mount m = record {
+  pub unused_counts : (mount : Mount) → Among mount new → CountsItsUses (world_of value) (unused_entry mount)
+  unused_counts mount m = record {
     uses = sym (times_none (λ (location : meant.Location ℕ). nat_eq (counted mount.number.count) location.mount) (all_locations (world_of value)) (not_on_new mount m));
     writers = sym (writes_none (counted mount.number.count) value.tasks (not_on_new mount m));
   }
+
+module _ (value : WorldValue) (whole : IsHeld value) (base filesystems : Filesystems) (new : List Mount) (mounts : List MountEntry) (next : ℕ)
+    (is_kept : kept mounts filesystems ≡ with_attached new (kept value.mounts base))
+    (ascending : are_ascending (mounts_in value.mounts ++ map mount_of new) ≡ true) where
+  pub mounts_are : mounts_in mounts ≡ mounts_in value.mounts ++ map mount_of new
+  mounts_are = ap (λ k. mounts_in k.mounts) is_kept ∙ mounts_entered value.mounts new
+
+  new_counts : (mount : Mount) → Among mount new → CountsItsUses (world_of (attached_value value mounts filesystems next)) (unused_entry mount)
+  new_counts mount m =
+      let counts = unused_counts value whole new ascending mount m in
+      record { uses = counts.uses; writers = counts.writers }
 
   pub attached_counts : list_all (λ mount. is_ungrouped mount.propagation) (map mount_of new) ≡ true
       → ((entry : FilesystemEntry) → Among entry base → entry.mounts ≡ mounts_showing (world_of value) (counted entry.count))

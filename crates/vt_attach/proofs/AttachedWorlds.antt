@@ -75,7 +75,7 @@ module _ (after : World ℕ) (is_world : IsWorld nat_eq after) (front : List (me
     point = λ point is. ap (λ filesystem. (filesystem, number_of point.node)) (point_shown mount m point is);
   }
 
-  there_in : (entry : FilesystemEntry) → Among entry base → (node : NodeRef)
+  pub there_in : (entry : FilesystemEntry) → Among entry base → (node : NodeRef)
       → is_directory_node ((filesystem_numbered nat_eq after (counted node.filesystem.count)).files.tree.node (number_of node)) ≡ true
       → (not (nat_eq (counted entry.count) (counted node.filesystem.count)) || is_some ((inodes_seen entry).inode (number_of node))) ≡ true
   there_in entry m node directory = by (nat_eq (counted entry.count) (counted node.filesystem.count)) refl

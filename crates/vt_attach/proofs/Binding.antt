@@ -37,7 +37,7 @@ use Rattle.vt_attach.proofs.AttachedCounts.{attached_counts, attached_value, mou
 use Rattle.vt_attach.proofs.AttachedWorlds.{new_found, new_uses_there, old_is_counted, same_numbers, shown_was}
 use Rattle.vt_detach.proofs.FileEvents.{permit_fits}
 use Rattle.vt_detach.proofs.Finishing.{own_exchanged}
-use Rattle.vt_attach.proofs.AttachedGroups.{attached_has}
+use Rattle.vt_attach.proofs.UngroupedAdded.{attached_has}
 use Rattle.vt_detach.proofs.OwnInodesKept.{IsOwn}
 use Rattle.vt_detach.proofs.Showing.{ShowsAs}
 use Rattle.vt_detach.proofs.Shown.{is_some_mapped}

@@ -4,7 +4,7 @@ pub mod EnteringLemmas
 pub mod AddedUses
 pub mod AttachedWorlds
 pub mod AttachedCounts
-pub mod AttachedGroups
+pub mod UngroupedAdded
 pub mod Grafting
 pub mod Binding
 pub mod TreeBinding
@@ -28,5 +28,9 @@ pub mod GrownGroups
 pub mod FormedGroups
 pub mod PlacedUses
 pub mod MovedPoints
+pub mod PlannedPoints
 pub mod PlannedCounts
 pub mod PointsCounted
+pub mod CopiesAscend
+pub mod GraftedUses
+pub mod GraftedDone

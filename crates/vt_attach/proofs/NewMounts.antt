@@ -47,7 +47,7 @@ use Rattle.vt_detach.specs.Uses.{inode_of, kept, with_attached}
 use Rattle.vt_detach.specs.WorldValue.{WorldValue, world_of}
 use Rattle.vt_attach.proofs.AddedUses.{IsFoundIn, gained_by, mounts_are_gained, with_mounts_on}
 use Rattle.vt_attach.proofs.AttachedCounts.{attached_counts, attached_value, lower_numbers, mounts_are, times_none}
-use Rattle.vt_attach.proofs.AttachedGroups.{attached_has}
+use Rattle.vt_attach.proofs.UngroupedAdded.{attached_has}
 use Rattle.vt_attach.proofs.AttachedWorlds.{new_found, new_uses_there, old_is_counted, same_numbers, shown_was}
 use Rattle.vt_attach.proofs.Binding.{only_index}
 use Rattle.vt_attach.proofs.EnteringLemmas.{ascending_joined}

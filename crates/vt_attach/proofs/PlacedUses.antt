@@ -107,12 +107,12 @@ module _ (number : ℕ) (place : Location) where
 numbers_stay : (points : List Point) (entries : List MountEntry)
     → map (λ (mount : Mount ℕ). mount.number) (mounts_in (with_points points entries)) ≡ map (λ (mount : Mount ℕ). mount.number) (mounts_in entries)
 numbers_stay [] entries = refl
-numbers_stay (point ∷ rest) entries = numbers_one (counted point.0.count) point.1 (with_points rest entries) ∙ numbers_stay rest entries
+numbers_stay (point ∷ rest) entries = numbers_one (counted point.mount.count) point.place (with_points rest entries) ∙ numbers_stay rest entries
 
 shows_stay : (other : ℕ) (points : List Point) (entries : List MountEntry)
     → (mount_in nat_eq (mounts_in (with_points points entries)) other).filesystem ≡ (mount_in nat_eq (mounts_in entries) other).filesystem
 shows_stay other [] entries = refl
-shows_stay other (point ∷ rest) entries = shows_one (counted point.0.count) point.1 other (with_points rest entries) ∙ shows_stay other rest entries
+shows_stay other (point ∷ rest) entries = shows_one (counted point.mount.count) point.place other (with_points rest entries) ∙ shows_stay other rest entries
 
 -- One after the other
 
@@ -125,23 +125,23 @@ one_exchanged : (world : World ℕ) (entries : List MountEntry) (point : Point) 
     → any_pair same_number (mounts_in entries) ≡ false → (filesystem : ℕ)
     → Exchanges (map (inode_at world) (map location_of (taken_at point entries))) (map (inode_at world) (left_at point entries)) filesystem
     world (with_mounts world (mounts_in (moved_to point entries)))
-one_exchanged world entries point are one filesystem = by (split_or_absent (counted point.0.count) point.1 entries one)
+one_exchanged world entries point are one filesystem = by (split_or_absent (counted point.mount.count) point.place entries one)
   where
     after : World ℕ
     after = with_mounts world (mounts_in (moved_to point entries))
 
     Uses : Option MountEntry → Type 0
-    Uses o = Exchanges (map (inode_at world) (map location_of (cond (is_some o) (point.1 ∷ []) [])))
+    Uses o = Exchanges (map (inode_at world) (map location_of (cond (is_some o) (point.place ∷ []) [])))
         (map (inode_at world) (option_to_list (option_and_then (λ (entry : MountEntry). entry.mount.mount_point) o))) filesystem world after
 
-    by : IsSplit (counted point.0.count) point.1 entries ⊎ IsAbsent (counted point.0.count) point.1 entries
-        → Uses (entry_numbered entries (counted point.0.count))
+    by : IsSplit (counted point.mount.count) point.place entries ⊎ IsAbsent (counted point.mount.count) point.place entries
+        → Uses (entry_numbered entries (counted point.mount.count))
     by (inl split) =
         subst Uses (sym split.found)
-        (mount_is_placed world after (mounts_in split.front) (mounts_in split.back) split.entry.mount (placed_entry point.1 split.entry).mount
+        (mount_is_placed world after (mounts_in split.front) (mounts_in split.back) split.entry.mount (placed_entry point.place split.entry).mount
         refl refl
         (sym are ∙ ap mounts_in split.was ∙ map-append (λ (entry : MountEntry). entry.mount) split.front (split.entry ∷ split.back))
-        (ap mounts_in split.is ∙ map-append (λ (entry : MountEntry). entry.mount) split.front (placed_entry point.1 split.entry ∷ split.back))
+        (ap mounts_in split.is ∙ map-append (λ (entry : MountEntry). entry.mount) split.front (placed_entry point.place split.entry ∷ split.back))
         refl refl refl filesystem)
     by (inr absent) =
         subst Uses (sym absent.1)

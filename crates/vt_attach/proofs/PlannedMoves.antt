@@ -54,7 +54,7 @@ pub points_ascend : (points : List Point) (entries : List MountEntry) (back : Li
     → are_ascending (mounts_in (with_points points entries) ++ back) ≡ are_ascending (mounts_in entries ++ back)
 points_ascend [] entries back = refl
 points_ascend (point ∷ rest) entries back =
-    one_ascends (counted point.0.count) point.1 back (with_points rest entries) ∙ points_ascend rest entries back
+    one_ascends (counted point.mount.count) point.place back (with_points rest entries) ∙ points_ascend rest entries back
 
 -- What a look at the mounts tells of a mount that moves
 
@@ -94,16 +94,16 @@ either_way (Err b) P p = tt
 -- The mount points that are taken are among those of the list
 
 pub taken_pass : (test : Location → Bool) (points : List Point) (entries : List MountEntry)
-    → list_all (λ (point : Point). test point.1) points ≡ true → list_all test (points_taken points entries) ≡ true
+    → list_all (λ (point : Point). test point.place) points ≡ true → list_all test (points_taken points entries) ≡ true
 taken_pass test [] entries all = refl
 taken_pass test (point ∷ rest) entries all =
     list_all-append test (points_taken rest entries) (taken_at point (with_points rest entries))
-    ∙ (λ i. taken_pass test rest entries parts.1 i && by (is_some (entry_numbered (with_points rest entries) (counted point.0.count))) i)
+    ∙ (λ i. taken_pass test rest entries parts.1 i && by (is_some (entry_numbered (with_points rest entries) (counted point.mount.count))) i)
   where
-    parts : (test point.1 ≡ true) × (list_all (λ (other : Point). test other.1) rest ≡ true)
-    parts = and_parts (test point.1) (list_all (λ (other : Point). test other.1) rest) all
+    parts : (test point.place ≡ true) × (list_all (λ (other : Point). test other.place) rest ≡ true)
+    parts = and_parts (test point.place) (list_all (λ (other : Point). test other.place) rest) all
 
-    by : (b : Bool) → list_all test (cond b (point.1 ∷ []) []) ≡ true
+    by : (b : Bool) → list_all test (cond b (point.place ∷ []) []) ≡ true
     by true = λ i. parts.0 i && true
     by false = refl
 
@@ -112,10 +112,10 @@ taken_few [] entries = omega arith
 taken_few (point ∷ rest) entries =
     let both = length-append (points_taken rest entries) (taken_at point (with_points rest entries)) in
     let few = taken_few rest entries in
-    let one = by (is_some (entry_numbered (with_points rest entries) (counted point.0.count))) in
+    let one = by (is_some (entry_numbered (with_points rest entries) (counted point.mount.count))) in
     omega (arith, both, few, one)
   where
-    by : (b : Bool) → length (cond b (point.1 ∷ []) []) ≤ 1
+    by : (b : Bool) → length (cond b (point.place ∷ []) []) ≤ 1
     by true = omega arith
     by false = omega arith
 
@@ -219,13 +219,13 @@ unpinned_next points old before after i d less so_far changes =
     ∙ sym (ap (folded unpinned_by old) (take_more points i d less) ∙ folded_more unpinned_by (take i points) (get_or points i d) old)
 
 pub place_next : (most : ℕ) (filesystems : Filesystems) (points : List Point) (i : ℕ) (d : Point) → i < length points
-    → list_all (λ (point : Point). point_has_room most (shown filesystems) (Some point.1)) (take i points) ≡ true → (n : ℕ)
-    → n ≡ uses_in ((inodes_at filesystems (get_or points i d).1.node.filesystem.count).inode (number_of (get_or points i d).1.node)) → n ≤ most
-    → list_all (λ (point : Point). point_has_room most (shown filesystems) (Some point.1)) (take (i + 1) points) ≡ true
+    → list_all (λ (point : Point). point_has_room most (shown filesystems) (Some point.place)) (take i points) ≡ true → (n : ℕ)
+    → n ≡ uses_in ((inodes_at filesystems (get_or points i d).place.node.filesystem.count).inode (number_of (get_or points i d).place.node)) → n ≤ most
+    → list_all (λ (point : Point). point_has_room most (shown filesystems) (Some point.place)) (take (i + 1) points) ≡ true
 place_next most filesystems points i d less so_far n is few =
-    let node = (get_or points i d).1.node in
+    let node = (get_or points i d).place.node in
     let same = uses_are_shown node.filesystem.count (number_of node) filesystems in
-    list_all_more (λ (point : Point). point_has_room most (shown filesystems) (Some point.1)) points i d less
+    list_all_more (λ (point : Point). point_has_room most (shown filesystems) (Some point.place)) points i d less
     ∙ (λ j. so_far j && le-leb (uses_shown (inode_of node) (shown filesystems)) most (omega (arith, is, few, same)) j)
 
 -- mounts that came go again

@@ -28,7 +28,7 @@ module _ (world : World ℕ) where
       → All (CountsItsUses world) (with_points points entries)
   points_count [] entries all = all
   points_count (point ∷ rest) entries all =
-      one_counts (counted point.0.count) point.1 (with_points rest entries) (points_count rest entries all)
+      one_counts (counted point.mount.count) point.place (with_points rest entries) (points_count rest entries all)
 
 one_shows : (filesystem number : ℕ) (place : Location) (entries : List MountEntry)
     → times (λ (mount : Mount ℕ). nat_eq filesystem mount.filesystem) (mounts_in (changed number (placed_entry place) entries))
@@ -46,4 +46,4 @@ pub points_show : (filesystem : ℕ) (points : List Point) (entries : List Mount
     ≡ times (λ (mount : Mount ℕ). nat_eq filesystem mount.filesystem) (mounts_in entries)
 points_show filesystem [] entries = refl
 points_show filesystem (point ∷ rest) entries =
-    one_shows filesystem (counted point.0.count) point.1 (with_points rest entries) ∙ points_show filesystem rest entries
+    one_shows filesystem (counted point.mount.count) point.place (with_points rest entries) ∙ points_show filesystem rest entries

@@ -65,10 +65,11 @@ module _ (value : WorldValue) (whole : IsHeld value) (name : TaskName) (permit :
       (held_is_ungrouped value whole) whole.given
       (subst (λ supply. IsGiven supply (world_of value) task permit) takes.supply takes.given))
 
-  pub numbers_are_taken : (new : WorldValue) → ShowsAs (left_by value task permit) new → CountsBeside new
+  -- what is left keeps to the counts before the next one, whatever numbers were taken
+  pub numbers_are_kept : (new : WorldValue) → ShowsAs (left_by value task permit) new → CountsBeside new
       → ((entry : FilesystemEntry) → Among entry new.filesystems → IsOwn entry.count (inodes_seen entry))
-      → new.next ≡ value.next + counts_taken (world_of value) task permit → IsDone value name permit new
-  numbers_are_taken new shows counts own next =
+      → KeepsTo (is_counted_before new.next) (left_by value task permit) → IsDone value name permit new
+  numbers_are_kept new shows counts own keeps =
       let same = shown_is_same (left_by value task permit) new shows left_is_world.0 in
       let world = same_worlds_are_worlds (left_by value task permit) (world_of new) same left_is_world.1 left_is_world.0 in
       record {
@@ -76,9 +77,7 @@ module _ (value : WorldValue) (whole : IsHeld value) (name : TaskName) (permit :
           in_world = world.0;
           groups = shown_has (left_by value task permit) new shows left_is_world.0;
           ungrouped = counts.ungrouped;
-          given = subst (λ count. KeepsTo (is_counted_before count) (world_of new)) (sym next)
-              (same_worlds_keep_to_numbers (is_counted_before (value.next + counts_taken (world_of value) task permit))
-              (left_by value task permit) (world_of new) same left_is_world.1 left_keeps);
+          given = same_worlds_keep_to_numbers (is_counted_before new.next) (left_by value task permit) (world_of new) same left_is_world.1 keeps;
           mounts = counts.uses;
           filesystems = all_from_among (CountsItsMounts (world_of new)) new.filesystems (λ entry m. record {
             mounts = counts.mounts entry m;
@@ -89,3 +88,10 @@ module _ (value : WorldValue) (whole : IsHeld value) (name : TaskName) (permit :
         };
         becomes = becomes_so value name permit new task takes.called same;
       }
+
+  pub numbers_are_taken : (new : WorldValue) → ShowsAs (left_by value task permit) new → CountsBeside new
+      → ((entry : FilesystemEntry) → Among entry new.filesystems → IsOwn entry.count (inodes_seen entry))
+      → new.next ≡ value.next + counts_taken (world_of value) task permit → IsDone value name permit new
+  numbers_are_taken new shows counts own next =
+      numbers_are_kept new shows counts own
+      (subst (λ count. KeepsTo (is_counted_before count) (left_by value task permit)) (sym next) left_keeps)

@@ -36,7 +36,7 @@ use Rattle.vt_detach.specs.Uses.{kept, with_attached}
 use Rattle.vt_detach.specs.WorldValue.{NamespaceEntry, WorldValue, namespace_of, world_of}
 use Rattle.vt_attach.proofs.AddedBegins as Begins
 use Rattle.vt_attach.proofs.AddedBegins.{IsAdded, KeepsAdded, with_added}
-use Rattle.vt_attach.proofs.AttachedGroups.{ascending_rises}
+use Rattle.vt_attach.proofs.UngroupedAdded.{ascending_rises}
 use Rattle.vt_attach.proofs.CopyLemmas.{ascending_filter}
 use Rattle.vt_attach.proofs.UnsharingLemmas.{copies_ascend}
 use Rattle.vt_attach.proofs.AddedUses.{gained_by, shown_by_all}

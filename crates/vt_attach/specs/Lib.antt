@@ -3,6 +3,7 @@ pub mod BoundCopies
 pub mod Copying
 pub mod Room
 pub mod Planned
+pub mod Grafted
 pub mod AttachedGroups
 pub mod AttachedNumbers
 pub mod PlannedUses

@@ -3,24 +3,24 @@ use Rattle.std.specs.List.{list_all}
 use Rattle.std.specs.Prelude.{Bool, List, Some, [], if◌then◌else◌, is_some, map, nat_lt, option_to_list, true, ℕ, ◌++◌, ◌∷◌, ◌≡◌}
 use Rattle.vt_location.specs.declared.locations.Location.{Location}
 use Rattle.vt_location.specs.declared.mounts.Mount.{Mount}
-use Rattle.vt_location.specs.declared.numbers.MountId.{MountId}
 use Rattle.vt_location.specs.Locations.{location_of}
 use Rattle.vt_location.specs.Numbers.{counted}
 use Rattle.vt_fs.specs.FilesystemsValue.{Shown}
 use Rattle.vt_mount.specs.MountsValue.{MountEntry, changed, entry_numbered}
+use Rattle.vt_propagate.specs.declared.falling.NewPoint.{NewPoint}
 use Rattle.vt_spec.specs.Lists.{folded}
 use Rattle.vt_spec.specs.Machine.Mounts.{Location as Place}
 use Rattle.vt_detach.specs.Uses.{Kept, inode_of, pinned_in, point_of, shown_by, unpinned_in, unused_entry}
 
 -- a mount and its new mount point
 abbrev pub Point : Type 0
-Point = MountId × Location
+Point = NewPoint
 
 abbrev pub placed_entry : Location → MountEntry → MountEntry
 placed_entry place entry = record entry { mount = record entry.mount { mount_point = Some (location_of place) } }
 
 abbrev pub moved_to : Point → List MountEntry → List MountEntry
-moved_to point entries = changed (counted point.0.count) (placed_entry point.1) entries
+moved_to point entries = changed (counted point.mount.count) (placed_entry point.place) entries
 
 -- the last of them first: of two for one mount the first one stays
 abbrev pub with_points : List Point → List MountEntry → List MountEntry
@@ -29,10 +29,10 @@ with_points (point ∷ rest) entries = moved_to point (with_points rest entries)
 
 -- the mount points that a mount gets and leaves so, if it is there
 abbrev pub taken_at : Point → List MountEntry → List Location
-taken_at point entries = if is_some (entry_numbered entries (counted point.0.count)) then point.1 ∷ [] else []
+taken_at point entries = if is_some (entry_numbered entries (counted point.mount.count)) then point.place ∷ [] else []
 
 abbrev pub left_at : Point → List MountEntry → List (Place ℕ)
-left_at point entries = option_to_list (point_of (counted point.0.count) entries)
+left_at point entries = option_to_list (point_of (counted point.mount.count) entries)
 
 abbrev pub points_taken : List Point → List MountEntry → List Location
 points_taken [] entries = []

@@ -21,7 +21,7 @@ PointsAreUses =
 
 -- a mount and its new mount point, as the definitions see them
 abbrev pub point_seen : Point → ℕ × Location ℕ
-point_seen point = (counted point.0.count, location_of point.1)
+point_seen point = (counted point.mount.count, location_of point.place)
 
 -- The mounts get their new mount points as if all at once: of two for one mount the first one counts.
 abbrev pub PointsAreMoved : Type 0

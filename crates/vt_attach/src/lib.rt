@@ -5,5 +5,6 @@
 pub mod attaching;
 pub mod bind_copies;
 pub mod copying;
+pub mod grafted;
 pub mod laws;
 pub mod planned;

@@ -19,8 +19,9 @@ use crate::attaching::{enter_all, have_room, remove_all, show_all};
 use std::alloc::{AllocError, Global};
 use vt_fs::Filesystems;
 use vt_group::{Groups, NewGroup};
-use vt_location::{Location, Mount, MountId};
+use vt_location::{Location, Mount};
 use vt_mount::Mounts;
+use vt_propagate::NewPoint;
 use vt_spec::errors::{Deny, Rule};
 
 /// What is attached, and what moves for it.
@@ -31,7 +32,7 @@ pub struct Planned<'a> {
     /// The groups that they form.
     pub groups: &'a [NewGroup],
     /// New mount points of mounts that are there. Of two for one mount the first one stays.
-    pub points: &'a [(MountId, Location)],
+    pub points: &'a [NewPoint],
 }
 
 // The mount points that mounts get, and those that they leave.
@@ -85,7 +86,7 @@ fn plan_has_room(filesystems: &Filesystems, plan: &Planned) -> bool
         plan.now.copies.now ≡ true }
     ensures points { result ≡ true → list_all
         (λ point. point_has_room (most_counted - (2 * length plan.now.copies.now + length plan.now.points.now))
-        (shown filesystems.now) (Some point.1)) plan.now.points.now ≡ true }
+        (shown filesystems.now) (Some point.place)) plan.now.points.now ≡ true }
     ensures slots { result ≡ true → list_all has_small_slots plan.now.copies.now ≡ true }
 {
     let most = u64::MAX - 2 * plan.copies.len() as u64;
@@ -96,11 +97,11 @@ fn plan_has_room(filesystems: &Filesystems, plan: &Planned) -> bool
 }
 
 // Whether the inodes at new mount points have no more uses than so many.
-fn places_have_room(filesystems: &Filesystems, points: &[(MountId, Location)], most: u64) -> bool
-    ensures { result ≡ true → list_all (λ point. point_has_room most (shown filesystems.now) (Some point.1)) points.now ≡ true }
+fn places_have_room(filesystems: &Filesystems, points: &[NewPoint], most: u64) -> bool
+    ensures { result ≡ true → list_all (λ point. point_has_room most (shown filesystems.now) (Some point.place)) points.now ≡ true }
 {
     for point in points {
-        if filesystems.uses(point.1.node) > most {
+        if filesystems.uses(point.place.node) > most {
             return false;
         }
     }
@@ -186,7 +187,7 @@ fn change_all(
 fn move_all(
     alloc: Global,
     mounts: &mut Mounts,
-    points: &[(MountId, Location)],
+    points: &[NewPoint],
 ) -> Result<Moves, Deny>
     ensures mounts { OnOk result (mounts.new ≡ with_points points.now mounts.old) }
     ensures moves { IfOk result (λ moves. AreMoves points.now mounts.old moves.taken.items moves.left.items) }
@@ -203,7 +204,7 @@ fn move_all(
 }
 
 // A mount moves, if it is there.
-fn move_one(mounts: &mut Mounts, point: (MountId, Location), moves: &mut Moves) -> Result<(), Deny>
+fn move_one(mounts: &mut Mounts, point: NewPoint, moves: &mut Moves) -> Result<(), Deny>
     ensures mounts { OnOk result (mounts.new ≡ moved_to point mounts.old) }
     ensures taken { OnOk result (moves.new.taken.items ≡ moves.old.taken.items ++ taken_at point mounts.old) }
     ensures left { OnOk result
@@ -212,12 +213,12 @@ fn move_one(mounts: &mut Mounts, point: (MountId, Location), moves: &mut Moves) 
         → OnOk result ((list_all is_small moves.new.taken.items ≡ true) × (list_all is_small moves.new.left.items ≡ true)) }
     ensures memory { IfErr result (λ deny. deny ≡ denial S5) }
 {
-    if let Some(mount) = mounts.get(point.0) {
-        let Ok(()) = note(moves, point.1, mount.mount_point) else {
+    if let Some(mount) = mounts.get(point.mount) {
+        let Ok(()) = note(moves, point.place, mount.mount_point) else {
             return Err(Rule::S5.denial());
         };
     }
-    mounts.move_to(point.0, point.1)
+    mounts.move_to(point.mount, point.place)
 }
 
 // A mount point that a mount gets, and the one that it leaves.

@@ -6,6 +6,7 @@ pub mod Indexing
 pub mod Planning
 pub mod Fallen
 pub mod Pushed
+pub mod PushedOnce
 pub mod Attached
 pub mod Retyped
 pub mod Seeing

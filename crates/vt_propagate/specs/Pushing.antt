@@ -1,8 +1,8 @@
 -- Which mounts move onto a copied tree, since they stood at its place.
-use Rattle.std.specs.Prelude.{Contains, List, None, Option, Some, [], drop, false, if◌then◌else◌, nat_eq, option_map, take, true, ℕ, ◌≡◌, ◌∷◌}
-use Rattle.std.specs.List.{cons_option}
+use Rattle.std.specs.Prelude.{Contains, List, None, Option, Some, [], drop, false, if◌then◌else◌, map, nat_eq, option_map, take, true, ℕ, ◌≡◌, ◌∷◌}
+use Rattle.std.specs.List.{cons_option, list_all}
 use Rattle.std.specs.Map.{lookup}
-use Rattle.vt_spec.specs.Lists.{any_pair, first_of_list, holds_of, then_some}
+use Rattle.vt_spec.specs.Lists.{any_pair, first_of_list, holds_of, is_among, then_some}
 use Rattle.vt_spec.specs.Machine.Attach.{parts_of, pushed_up, top_of_copies}
 use Rattle.vt_spec.specs.Machine.Invariants.{share_a_mount_point}
 use Rattle.vt_spec.specs.Machine.Mounts.{Location, Mount, child_at}
@@ -31,6 +31,15 @@ PushesBy world graft counts points =
 -- the mount that leaves gets no new mount point here
 abbrev pub KeepsLeaver : Graft → List (ℕ × Location ℕ) → Type 0
 KeepsLeaver graft points = (number : ℕ) → holds_of (nat_eq number) (leaver graft) ≡ true → lookup (nat_eq number) points ≡ None
+
+-- no two mounts have one number
+abbrev pub EachOnce : List (Mount ℕ) → Type 0
+EachOnce mounts = any_pair (λ (a b : Mount ℕ). nat_eq a.number b.number) mounts ≡ false
+
+-- the mounts that get new mount points are there, and each gets one
+pub record MovesOnce (mounts : List (Mount ℕ)) (points : List (ℕ × Location ℕ)) : Type 0 where
+  pub once : any_pair (λ (a b : ℕ × Location ℕ). nat_eq a.0 b.0) points ≡ false
+  pub there : list_all (λ (point : ℕ × Location ℕ). is_among nat_eq point.0 (map (λ (mount : Mount ℕ). mount.number) mounts)) points ≡ true
 
 -- no two mounts have one mount point
 abbrev pub OneChild : World ℕ → Type 0

@@ -13,8 +13,8 @@ use Rattle.vt_attach.proofs.planned.move_one.Goals.{in-Some+in-Ok, in_default}
 pub returns-clause-taken : goal.returns-clause-taken
 returns-clause-taken c =
     let old = c.args.moves.now.taken.items in
-    let there = there_is c.args.mounts.now (counted c.args.point.0.count) c.get.result c.get.ensures in
-    let point = c.args.point.1 in
+    let there = there_is c.args.mounts.now (counted c.args.point.mount.count) c.get.result c.get.ensures in
+    let point = c.args.point.place in
     let are : c.match-get.moves.taken.items ≡ old ++ taken_at c.args.point c.args.mounts.now =
     elim c.match-get.branch [
       | in-Some+in-Ok w ↦
@@ -30,7 +30,7 @@ pub returns-clause-left : goal.returns-clause-left
 returns-clause-left c =
     let old = c.args.moves.now.left.items in
     let stood = λ (mount : Mount). option_map location_of mount.mount_point in
-    let point = point_is c.args.mounts.now (counted c.args.point.0.count) c.get.result c.get.ensures in
+    let point = point_is c.args.mounts.now (counted c.args.point.mount.count) c.get.result c.get.ensures in
     let are : map location_of c.match-get.moves.left.items ≡ map location_of old ++ left_at c.args.point c.args.mounts.now =
     elim c.match-get.branch [
       | in-Some+in-Ok w ↦

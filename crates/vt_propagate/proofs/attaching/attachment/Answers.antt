@@ -17,3 +17,6 @@ returns-clause-ok c world seen one_child parts =
     (c.in_ok-points.ensures.ok world c.args.counts seen.mounts one_child parts (ap
     (map mount_of) c.deref.ensures.value ∙ copies))
     c.in_ok-points.ensures.leaver
+
+pub returns-clause-once : goal.returns-clause-once
+returns-clause-once c = c.in_ok-points.ensures.once

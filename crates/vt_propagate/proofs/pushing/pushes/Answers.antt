@@ -3,8 +3,10 @@ use Rattle.std.specs.Map.{lookup}
 use Rattle.vt_location.specs.Locations.{location_of}
 use Rattle.vt_location.specs.MountValue.{mount_of}
 use Rattle.vt_mount.specs.MountsValue.{are_ascending, mounts_in}
-use Rattle.vt_propagate.specs.Pushing.{PushesBy, leaver, pushes_from}
+use Rattle.vt_propagate.specs.Falling.{point_of}
+use Rattle.vt_propagate.specs.Pushing.{MovesOnce, PushesBy, leaver, pushes_from}
 use Rattle.vt_propagate.proofs.Pushed.{all_pushed, leaver_stays}
+use Rattle.vt_propagate.proofs.PushedOnce.{pushed_once}
 use Rattle.vt_propagate.proofs.pushing.pushes.Goals as goal
 
 pub returns-clause-ok : goal.returns-clause-ok
@@ -21,3 +23,10 @@ returns-clause-leaver c number leaves =
     ap (lookup (nat_eq number)) c.in-Ok.ensures
     ∙ leaver_stays (mounts_in c.args.mounts.now) (leaver graft) (location_of graft.place) (length graft.tree.now) number leaves
     (map mount_of graft.parts.now) (map mount_of c.args.copies.now)
+
+pub returns-clause-once : goal.returns-clause-once
+returns-clause-once c apart =
+    let graft = c.args.graft.now in
+    subst (MovesOnce (mounts_in c.args.mounts.now)) (sym c.in-Ok.ensures)
+    (pushed_once (mounts_in c.args.mounts.now) c.are_ascending.ensures (leaver graft) (location_of graft.place) (length graft.tree.now)
+    (map mount_of graft.parts.now) (map mount_of c.args.copies.now) apart)
