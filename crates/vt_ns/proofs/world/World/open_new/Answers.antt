@@ -23,8 +23,8 @@ unwrap-file-requires c =
     (subst (λ value. Permits value c.args.name.now (ToOpenNew (location_of c.args.directory) c.args.entry.items (node_seen c.args.directory.node.filesystem.count c.args.node) (access_of c.args.access))) (sym c.self.view_is) c.requires)
     c.next_number.result c.next_number.ensures.number
 
-pub open-requires : goal.open-requires
-open-requires c =
+pub open-opened-requires : goal.open-opened-requires
+open-opened-requires c =
     may_open_one (the_view c.self.inside) c.self.invariant c.args.name.now c.args.directory c.args.entry.items c.args.node (access_of c.args.access) (omega arith)
     (subst (λ value. Permits value c.args.name.now (ToOpenNew (location_of c.args.directory) c.args.entry.items (node_seen c.args.directory.node.filesystem.count c.args.node) (access_of c.args.access))) (sym c.self.view_is) c.requires)
 
