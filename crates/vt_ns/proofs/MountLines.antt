@@ -1,22 +1,23 @@
 -- The list of a namespace's mounts: places in it, and the filesystems that it shows, each once.
-use Rattle.std.proofs.Common.{◌≡◌, ◌<◌, true≢false, refl, sym, ap, ◌∙◌, ℕ, suc, ◌+◌, Bool, true, false, not, cond, ◌||◌, nat_eq, eqb-true, eq-eqb, ne_eqb, List, [], ◌∷◌, ◌++◌, map, filter, find, length, take, get_or, position, Option, Some, None, option_map, unwrap_or, arith}
-use Rattle.std.specs.Prelude.{filter_map, nat_lt}
-use Rattle.std.specs.List.{cons_option, list_all, list_any, position_or_len}
+use Rattle.std.proofs.Common.{◌≡◌, ◌<◌, true≢false, refl, sym, ap, ◌∙◌, ℕ, suc, ◌+◌, Bool, true, false, not, cond, ◌||◌, nat_eq, eqb-true, eq-eqb, ne_eqb, List, [], ◌∷◌, ◌++◌, map, filter, length, take, get_or, position, Option, Some, None, option_map, unwrap_or, append_assoc, arith}
+use Rattle.std.specs.Prelude.{filter_map, flat_map, nat_lt}
+use Rattle.std.specs.List.{cons_option, list_any, position_or_len}
 use Rattle.std.proofs.lemmas.Bool.{lt-ltb, ltb-false, ltb-true}
+use Rattle.std.proofs.lemmas.Grind.{flat_map-append}
 use Rattle.std.proofs.lemmas.List.{append-nil, map-append}
 use Rattle.std.proofs.lemmas.List.Elements.{filter-append}
 use Rattle.indexmap.specs.IndexSet.{insert_key}
 use Rattle.vt_fs.proofs.Entries.{key_eq}
 use Rattle.vt_location.proofs.NumberLemmas.{counted_test}
 use Rattle.vt_location.specs.declared.numbers.FilesystemId.{FilesystemId}
+use Rattle.vt_location.specs.declared.numbers.GroupId.{GroupId}
 use Rattle.vt_location.specs.declared.numbers.MountId.{MountId}
 use Rattle.vt_location.specs.Numbers.{counted}
 use Rattle.vt_spec.specs.Lists.{each_once, place_from}
 use Rattle.vt_spec.specs.Machine.Listing.{number_among}
-use Rattle.vt_spec.specs.Machine.Mounts.{Mount, no_mount}
+use Rattle.vt_spec.specs.Machine.Mounts.{Mount}
 use Rattle.vt_attach.specs.Copying.{AreOf}
-use Rattle.vt_detach.specs.Held.{is_ungrouped}
-use Rattle.vt_attach.proofs.Grafting.{found_ungrouped}
+use Rattle.vt_ns.specs.GroupsListed.{SeesMore, group_numbers}
 use Rattle.vt_attach.proofs.CopyLemmas.{picked_next, place_of, places_alike}
 
 -- Each once, with one more
@@ -60,23 +61,33 @@ once_more x [] = refl
 once_more x (a ∷ xs) =
     ap (λ ks. a ∷ filter (λ b. not (nat_eq a b)) ks) (once_more x xs) ∙ inserted_after a x (each_once nat_eq xs)
 
--- Filesystems by their numbers
+-- Keys by their numbers
+
+module _ {A : Type 0} (number : A → ℕ) (same : A → A → Bool) (tested : (a b : A) → nat_eq (number a) (number b) ≡ same a b) where
+  any_numbered : (k : A) (ids : List A) → list_any (nat_eq (number k)) (map number ids) ≡ list_any (same k) ids
+  any_numbered k [] = refl
+  any_numbered k (id ∷ ids) = λ i. tested k id i || any_numbered k ids i
+
+  inserted_numbers : (k : A) (ids : List A) → map number (insert_key same ids k) ≡ insert_key nat_eq (map number ids) (number k)
+  inserted_numbers k ids =
+      by (list_any (same k) ids)
+      ∙ ap (λ t. cond t (map number ids) (map number ids ++ (number k ∷ []))) (sym (any_numbered k ids))
+    where
+      by : (t : Bool) → map number (cond t ids (ids ++ (k ∷ []))) ≡ cond t (map number ids) (map number ids ++ (number k ∷ []))
+      by true = refl
+      by false = map-append number ids (k ∷ [])
 
 abbrev pub numbers_of : List FilesystemId → List ℕ
 numbers_of ids = map (λ (id : FilesystemId). counted id.count) ids
 
-any_numbered : (k : FilesystemId) (ids : List FilesystemId) → list_any (nat_eq (counted k.count)) (numbers_of ids) ≡ list_any (key_eq k) ids
-any_numbered k [] = refl
-any_numbered k (id ∷ ids) = λ i. counted_test k.count id.count i || any_numbered k ids i
+abbrev pub group_eq : GroupId → GroupId → Bool
+group_eq a b = nat_eq a.count b.count
 
-inserted_numbers : (k : FilesystemId) (ids : List FilesystemId) → numbers_of (insert_key key_eq ids k) ≡ insert_key nat_eq (numbers_of ids) (counted k.count)
-inserted_numbers k ids =
-    by (list_any (key_eq k) ids)
-    ∙ ap (λ t. cond t (numbers_of ids) (numbers_of ids ++ (counted k.count ∷ []))) (sym (any_numbered k ids))
-  where
-    by : (t : Bool) → numbers_of (cond t ids (ids ++ (k ∷ []))) ≡ cond t (numbers_of ids) (numbers_of ids ++ (counted k.count ∷ []))
-    by true = refl
-    by false = map-append (λ (id : FilesystemId). counted id.count) ids (k ∷ [])
+filesystems_tested : (a b : FilesystemId) → nat_eq (counted a.count) (counted b.count) ≡ key_eq a b
+filesystems_tested a b = counted_test a.count b.count
+
+groups_tested : (a b : GroupId) → nat_eq (counted a.count) (counted b.count) ≡ group_eq a b
+groups_tested a b = counted_test a.count b.count
 
 -- the filesystems so far, with that of the next mount
 module _ (h : MountId → Option ℕ) (i : ℕ) (d : MountId) (ids : List MountId) (within : i < length ids)
@@ -84,7 +95,7 @@ module _ (h : MountId → Option ℕ) (i : ℕ) (d : MountId) (ids : List MountI
   pub next_seen : (shown : FilesystemId) → h (get_or ids i d) ≡ Some (counted shown.count)
       → numbers_of (insert_key key_eq seen shown) ≡ each_once nat_eq (filter_map h (take (i + 1) ids))
   next_seen shown is =
-      inserted_numbers shown seen
+      inserted_numbers (λ (id : FilesystemId). counted id.count) key_eq filesystems_tested shown seen
       ∙ ap (λ ks. insert_key nat_eq ks (counted shown.count)) so_far
       ∙ sym (once_more (counted shown.count) (filter_map h (take i ids)))
       ∙ ap (each_once nat_eq) ((λ j. filter_map h (take i ids) ++ cons_option (sym is j) [])
@@ -97,6 +108,46 @@ module _ (h : MountId → Option ℕ) (i : ℕ) (d : MountId) (ids : List MountI
       ∙ (λ j. filter_map h (take i ids) ++ cons_option (sym is j) [])
       ∙ sym (picked_next h i d ids within)
       ∙ ap (λ k. filter_map h (take k ids)) (let same : suc i ≡ i + 1 = omega arith in same))
+
+-- Groups: one more, several one after the other, and none
+
+pub one_more : (seen : List GroupId) (group : GroupId) → SeesMore seen (insert_key group_eq seen group) (counted group.count ∷ [])
+one_more seen group before is =
+    inserted_numbers (λ (id : GroupId). counted id.count) group_eq groups_tested group seen
+    ∙ ap (λ ks. insert_key nat_eq ks (counted group.count)) is
+    ∙ sym (once_more (counted group.count) before)
+
+pub more_after : (old between new : List GroupId) (more others : List ℕ) → SeesMore old between more → SeesMore between new others
+    → SeesMore old new (more ++ others)
+more_after old between new more others first then before is =
+    then (before ++ more) (first before is) ∙ ap (each_once nat_eq) (append_assoc before more others)
+
+pub none_more : (seen : List GroupId) → SeesMore seen seen []
+none_more seen before is = is ∙ ap (each_once nat_eq) (sym (append-nil before))
+
+-- the groups of mounts so far, with those of the next one
+module _ (h : MountId → Option (List ℕ)) (i : ℕ) (d : MountId) (ids : List MountId) (within : i < length ids)
+    (seen : List GroupId) (so_far : group_numbers seen ≡ each_once nat_eq (flat_map (λ more. more) (filter_map h (take i ids)))) where
+  taken_next : (o : Option (List ℕ)) → h (get_or ids i d) ≡ o
+      → flat_map (λ more. more) (filter_map h (take i ids)) ++ unwrap_or o [] ≡ flat_map (λ more. more) (filter_map h (take (i + 1) ids))
+  taken_next o is =
+      by o
+      ∙ sym (flat_map-append (λ more. more) (filter_map h (take i ids)) (cons_option o []))
+      ∙ ap (flat_map (λ more. more)) ((λ j. filter_map h (take i ids) ++ cons_option (sym is j) [])
+      ∙ sym (picked_next h i d ids within)
+      ∙ ap (λ k. filter_map h (take k ids)) (let same : suc i ≡ i + 1 = omega arith in same))
+    where
+      by : (o : Option (List ℕ)) → flat_map (λ more. more) (filter_map h (take i ids)) ++ unwrap_or o []
+          ≡ flat_map (λ more. more) (filter_map h (take i ids)) ++ flat_map (λ more. more) (cons_option o [])
+      by None = refl
+      by (Some more) = ap (λ last. flat_map (λ more. more) (filter_map h (take i ids)) ++ last) (sym (append-nil more))
+
+  pub next_groups : (more : List ℕ) (later : List GroupId) → h (get_or ids i d) ≡ Some more → SeesMore seen later more
+      → group_numbers later ≡ each_once nat_eq (flat_map (λ more. more) (filter_map h (take (i + 1) ids)))
+  next_groups more later is sees = sees _ so_far ∙ ap (each_once nat_eq) (taken_next (Some more) is)
+
+  pub no_groups : h (get_or ids i d) ≡ None → group_numbers seen ≡ each_once nat_eq (flat_map (λ more. more) (filter_map h (take (i + 1) ids)))
+  no_groups is = so_far ∙ ap (each_once nat_eq) (sym (append-nil _) ∙ taken_next None is)
 
 -- Places, from 1 on
 
@@ -134,15 +185,23 @@ place_by_position {A} test k (x ∷ xs) = by (test x) (place_by_position test (k
         ∙ ap (λ b. option_map (λ i. k + i) (cond b (Some (1 + first)) None))
         (sym (next_to first (length xs) (1 + first) (length (x ∷ xs)) refl (omega arith)))
 
-place_by_number : (id : FilesystemId) (k : ℕ) (ids : List FilesystemId)
-    → place_from (nat_eq (counted id.count)) k (numbers_of ids) ≡ place_from (key_eq id) k ids
-place_by_number id k [] = refl
-place_by_number id k (x ∷ ids) = λ i. cond (counted_test id.count x.count i) (Some k) (place_by_number id (k + 1) ids i)
+module _ {A : Type 0} (number : A → ℕ) (same : A → A → Bool) (tested : (a b : A) → nat_eq (number a) (number b) ≡ same a b) where
+  place_by_number : (id : A) (k : ℕ) (ids : List A) → place_from (nat_eq (number id)) k (map number ids) ≡ place_from (same id) k ids
+  place_by_number id k [] = refl
+  place_by_number id k (x ∷ ids) = λ i. cond (tested id x i) (Some k) (place_by_number id (k + 1) ids i)
+
+  index_by_number : (id : A) (ids : List A) (o : Option ℕ) → position (same id) ids ≡ o
+      → number_among nat_eq (map number ids) (number id) ≡ unwrap_or (option_map (λ i. 1 + i) o) 0
+  index_by_number id ids o is =
+      ap (λ place. unwrap_or place 0) (place_by_number id 1 ids ∙ place_by_position (same id) 1 ids ∙ ap (option_map (λ i. 1 + i)) is)
 
 pub numbered_index : (id : FilesystemId) (ids : List FilesystemId) (o : Option ℕ) → position (key_eq id) ids ≡ o
     → number_among nat_eq (numbers_of ids) (counted id.count) ≡ unwrap_or (option_map (λ i. 1 + i) o) 0
-numbered_index id ids o is =
-    ap (λ place. unwrap_or place 0) (place_by_number id 1 ids ∙ place_by_position (key_eq id) 1 ids ∙ ap (option_map (λ i. 1 + i)) is)
+numbered_index id ids o is = index_by_number (λ (one : FilesystemId). counted one.count) key_eq filesystems_tested id ids o is
+
+pub grouped_index : (id : GroupId) (ids : List GroupId) (o : Option ℕ) → position (group_eq id) ids ≡ o
+    → number_among nat_eq (group_numbers ids) (counted id.count) ≡ unwrap_or (option_map (λ i. 1 + i) o) 0
+grouped_index id ids o is = index_by_number (λ (one : GroupId). counted one.count) group_eq groups_tested id ids o is
 
 mapped_places : (n k : ℕ) (all : List (Mount ℕ))
     → place_from (λ (mount : Mount ℕ). nat_eq n mount.number) k all ≡ place_from (nat_eq n) k (map (λ (mount : Mount ℕ). mount.number) all)
@@ -153,9 +212,3 @@ pub numbered_mount : (id : MountId) (ids : List MountId) (all : List (Mount ℕ)
     → unwrap_or (place_of id.count 1 ids) 0 ≡ number_among nat_eq (map (λ (mount : Mount ℕ). mount.number) all) (counted id.count)
 numbered_mount id ids all are =
     ap (λ place. unwrap_or place 0) (places_alike id.count 1 ids all are ∙ mapped_places (counted id.count) 1 all)
-
--- a mount that is found is in no group
-pub one_ungrouped : (mounts : List (Mount ℕ)) → list_all (λ mount. is_ungrouped mount.propagation) mounts ≡ true → (number : ℕ) (mount : Mount ℕ)
-    → Some mount ≡ find (λ (x : Mount ℕ). nat_eq number x.number) mounts → is_ungrouped mount.propagation ≡ true
-one_ungrouped mounts all number mount is =
-    ap (λ o. is_ungrouped (unwrap_or o (no_mount number)).propagation) is ∙ found_ungrouped mounts all number

@@ -1,5 +1,5 @@
 //! The list of a namespace's mounts: mountinfo of proc(5).
-ghost use Rattle.std.specs.Prelude.{List, ℕ, ◌≡◌, IfErr, IfOk, Some, map, nat_eq, option_map, true};
+ghost use Rattle.std.specs.Prelude.{List, ℕ, ◌≡◌, ◌∷◌, [], IfErr, IfOk, OnOk, Some, map, nat_eq, option_map, true};
 ghost use Rattle.vt_location.specs.Locations.{location_of};
 ghost use Rattle.vt_location.specs.MountValue.{mount_of, propagation_of};
 ghost use Rattle.vt_location.specs.Numbers.{counted};
@@ -10,15 +10,15 @@ ghost use Rattle.vt_spec.specs.Language.Answers as answers;
 ghost use Rattle.vt_spec.specs.Machine.Listing as listing;
 ghost use Rattle.vt_spec.specs.Machine.Mounts as meant;
 ghost use Rattle.vt_spec.specs.Machine.Permits.Permit.{ToListMounts};
-ghost use Rattle.vt_spec.specs.Machine.World.{Task, World as Meant, task_called};
+ghost use Rattle.vt_spec.specs.Machine.World.{Task, task_called};
 ghost use Rattle.vt_attach.specs.Copying.{AreOf, are_rising, attached_in};
 ghost use Rattle.vt_detach.specs.Events.{Permits};
-ghost use Rattle.vt_detach.specs.Held.{is_ungrouped};
 ghost use Rattle.vt_detach.specs.WorldValue.{world_of};
+ghost use Rattle.vt_ns.specs.GroupsListed.{SeesMore};
 
 use crate::world::World;
 use indexmap::IndexSet;
-use vt_location::{FilesystemId, Location, Mount, MountId, NamespaceId, Propagation};
+use vt_location::{FilesystemId, GroupId, Location, Mount, MountId, NamespaceId, Propagation};
 use vt_request::{MountLine, Spot, TaskName, TypeLine};
 use vt_spec::errors::{Deny, Rule};
 
@@ -47,10 +47,11 @@ impl World {
         self.mounts.are_ascending();
         let listed = self.mounts.attached_in(namespace);
         let filesystems = self.filesystems_in(namespace)?;
+        let groups = self.groups_in(namespace)?;
         let mut lines = Vec::new(self.alloc);
         for id in listed {
             if let Some(mount) = self.mounts.get(*id) {
-                let line = self.mount_line(&mount, listed, &filesystems)?;
+                let line = self.mount_line(&mount, listed, &filesystems, &groups)?;
                 let Ok(()) = lines.push(line) else {
                     return Err(Rule::S5.denial());
                 };
@@ -78,18 +79,61 @@ impl World {
         Ok(seen)
     }
 
-    // The line of a mount in a list of mounts, by the filesystems of that list in their order.
+    // The groups of the mounts of a namespace, in the order in which they first stand in its list.
+    // S5 (ENOMEM): memory was refused.
+    fn groups_in(&self, namespace: NamespaceId) -> Result<IndexSet<GroupId>, Deny>
+        ensures ok { IfOk result (λ seen. map (λ id. counted id.count) seen.keys
+            ≡ listing.groups_seen nat_eq (world_of self.now) (attached_in (counted namespace.count) self.now.mounts)) }
+        ensures memory { IfErr result (λ deny. deny ≡ denial S5) }
+    {
+        self.mounts.are_ascending();
+        let mut seen = IndexSet::new(self.alloc);
+        for id in self.mounts.attached_in(namespace) {
+            if let Some(mount) = self.mounts.get(*id) {
+                self.see_type(&mut seen, mount.propagation)?;
+            }
+        }
+        Ok(seen)
+    }
+
+    /// The groups of a type are seen, as its line names them: a group before its master.
+    ///
+    /// S5 (ENOMEM): memory was refused.
+    pub(crate) fn see_type(
+        &self,
+        seen: &mut IndexSet<GroupId>,
+        kind: Propagation,
+    ) -> Result<(), Deny>
+        ensures ok { OnOk result (SeesMore seen.old.keys seen.new.keys
+            (listing.groups_in_type (world_of self.now) (propagation_of kind))) }
+        ensures memory { IfErr result (λ deny. deny ≡ denial S5) }
+    {
+        match kind {
+            Propagation::Shared(group) => {
+                see(seen, group)?;
+                match self.groups.master_of(group) {
+                    Some(master) => see(seen, master),
+                    None => Ok(()),
+                }
+            }
+            Propagation::Slave(master) => see(seen, master),
+            Propagation::Private | Propagation::Unbindable => Ok(()),
+        }
+    }
+
+    // The line of a mount in a list of mounts, by the filesystems and the groups of that list in their order.
     // S5 (ENOMEM): memory was refused.
     fn mount_line(
         &self,
         mount: &Mount,
         listed: &[MountId],
         filesystems: &IndexSet<FilesystemId>,
+        groups: &IndexSet<GroupId>,
     ) -> Result<MountLine, Deny>
         requires order { are_rising listed.now ≡ true }
-        requires ungrouped { is_ungrouped (propagation_of mount.now.propagation) ≡ true }
         ensures ok { IfOk result (λ line. (mounts : List (meant.Mount ℕ)) → AreOf listed.now mounts
             → map (λ id. counted id.count) filesystems.now.keys ≡ listing.filesystems_seen nat_eq mounts
+            → map (λ id. counted id.count) groups.now.keys ≡ listing.groups_seen nat_eq (world_of self.now) mounts
             → mount_line_of line ≡ listing.mount_line nat_eq (world_of self.now) mounts (mount_of mount.now)) }
         ensures memory { IfErr result (λ deny. deny ≡ denial S5) }
     {
@@ -99,8 +143,37 @@ impl World {
             filesystem: filesystem_place(mount.root.filesystem, filesystems),
             root: self.root_spot(mount)?,
             flags: mount.flags,
-            kind: kind_shown(mount.propagation),
+            kind: self.type_shown(mount.propagation, groups),
         })
+    }
+
+    // The type of a mount, as its line shows it, by the groups of its list.
+    fn type_shown(&self, kind: Propagation, groups: &IndexSet<GroupId>) -> TypeLine
+        ensures { type_line_of result
+            ≡ listing.type_line nat_eq (world_of self.now) (map (λ id. counted id.count) groups.now.keys) (propagation_of kind) }
+    {
+        match kind {
+            Propagation::Shared(group) => TypeLine::Shared {
+                group: group_place(group, groups),
+                master: self.master_place(group, groups),
+            },
+            Propagation::Slave(master) => TypeLine::Slave {
+                master: group_place(master, groups),
+            },
+            Propagation::Private => TypeLine::Private,
+            Propagation::Unbindable => TypeLine::Unbindable,
+        }
+    }
+
+    /// The place of a group's master among others, if it has a master.
+    pub(crate) fn master_place(&self, group: GroupId, groups: &IndexSet<GroupId>) -> Option<usize>
+        ensures { result ≡ option_map (listing.number_among nat_eq (map (λ id. counted id.count) groups.now.keys))
+            ((world_of self.now).master (counted group.count)) }
+    {
+        match self.groups.master_of(group) {
+            Some(master) => Some(group_place(master, groups)),
+            None => None,
+        }
     }
 
     // A mount point as a list of mounts shows it. S5 (ENOMEM): memory was refused.
@@ -149,13 +222,25 @@ fn filesystem_place(id: FilesystemId, filesystems: &IndexSet<FilesystemId>) -> u
     }
 }
 
-// The type of a mount in no group, as its line shows it.
-fn kind_shown(kind: Propagation) -> TypeLine
-    requires { is_ungrouped (propagation_of kind) ≡ true }
-    ensures { (world : Meant ℕ) (seen : List ℕ) → type_line_of result ≡ listing.type_line nat_eq world seen (propagation_of kind) }
+/// The place of a group among others, from 1 on; 0 if it is not among them.
+pub(crate) fn group_place(id: GroupId, groups: &IndexSet<GroupId>) -> usize
+    ensures { result ≡ listing.number_among nat_eq (map (λ other. counted other.count) groups.now.keys) (counted id.count) }
 {
-    match kind {
-        Propagation::Unbindable => TypeLine::Unbindable,
-        _ => TypeLine::Private,
+    // The index is less than the length, which fits.
+    let _ = groups.len();
+    match groups.get_index_of(&id) {
+        Some(index) => index + 1,
+        None => 0,
+    }
+}
+
+// A group is seen. S5 (ENOMEM): memory was refused.
+fn see(seen: &mut IndexSet<GroupId>, group: GroupId) -> Result<(), Deny>
+    ensures ok { OnOk result (SeesMore seen.old.keys seen.new.keys (counted group.count ∷ [])) }
+    ensures memory { IfErr result (λ deny. deny ≡ denial S5) }
+{
+    match seen.insert(group) {
+        Ok(_) => Ok(()),
+        Err(_) => Err(Rule::S5.denial()),
     }
 }

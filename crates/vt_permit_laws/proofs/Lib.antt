@@ -1,7 +1,9 @@
+pub mod AttachedNamespaces
 pub mod EachHas
 pub mod InUseNamed
 pub mod InUseServes
 pub mod NamedPermits
+pub mod PartsKept
 pub mod PermitsKeepTo
 pub mod PermitsLeave
 pub mod SameInUse

@@ -52,12 +52,12 @@ same_permit one other first next e f g = cc
 
 pub given_permits_are_left : GivenPermitsAreLeft
 unfolding named_judgement
-given_permits_are_left named world task permit fresh ungrouped given keeps renaming leaves =
+given_permits_are_left named world task permit fresh whole given keeps renaming leaves =
     same_permit (renamed_permit renaming.there renaming.back permit) permit
     (renamed_judgement renaming.there renaming.back (judged_called task.name given.call nat_eq (fresh, world)))
     (judge_in nat_eq (λ k. renaming.there (fresh k)) world task given.call)
     (ap (renamed_judgement renaming.there renaming.back) (judged_is fresh ∙ given.judged))
-    (judgements_do_not_see_supplies world task given.call (λ k. renaming.there (fresh k)) fresh ungrouped
+    (judgements_do_not_see_supplies world task given.call (λ k. renaming.there (fresh k)) fresh whole
     given.no_overlay ∙ given.judged)
     (sym (commutes_nat Handed Judgement named_handed named_judgement
     (λ A eq handed. judged_called task.name given.call eq handed) renaming (fresh, world))
@@ -80,7 +80,7 @@ given_permits_keep_to_taken before later world task permit fresh more whole plai
     leaves =
     left_renamed renaming fresh world task permit given.called
     (keeps renaming (λ number named. leaves number (more number named)))
-    (given_permits_are_left before world task permit fresh ungrouped given keeps renaming
+    (given_permits_are_left before world task permit fresh whole given keeps renaming
     (λ number named. leaves number (more number named)))
     ∙ ap (settled nat_eq)
     (applied_same world whole plain ungrouped task given.called (λ k. renaming.there (fresh k)) fresh permit

@@ -1,26 +1,27 @@
 -- A judgement does not go by the numbers handed in.
-use Rattle.std.proofs.Common.{◌≡◌, refl, sym, ap, ◌∙◌, true≢false, ℕ, nat_eq, nat_lt, Bool, false, List, length, map, filter, None, Ok}
+use Rattle.std.proofs.Common.{◌≡◌, refl, sym, ap, ◌∙◌, true≢false, ℕ, nat_eq, nat_lt, Bool, true, false, List, [], ◌∷◌, length, map, filter, None, Ok}
 use Rattle.std.specs.List.{list_any}
 use Rattle.std.proofs.lemmas.List.{length-map}
 use Rattle.vt_letting_go.proofs.Lists.{filter-map}
-use Rattle.vt_permit_laws.proofs.TakenAttached.{copies_at_one, moved_same, namespaces_same}
-use Rattle.vt_permit_laws.proofs.TakenFirst.{found_ungrouped}
-use Rattle.vt_permit_laws.specs.Taken.{GivenWithAnySupply, IsUngrouped, JudgementsDoNotSeeSupplies}
+use Rattle.vt_permit_laws.proofs.AttachedNamespaces.{attached_namespaces, namespaces_after, namespaces_in}
+use Rattle.vt_permit_laws.proofs.PartsKept.{same_parts}
+use Rattle.vt_permit_laws.specs.Taken.{GivenWithAnySupply, JudgementsDoNotSeeSupplies}
 use Rattle.vt_spec.specs.Errors.{and_then, unless}
 use Rattle.vt_spec.specs.Language.Calls.{Call, MountFlags}
 use Rattle.vt_spec.specs.Language.Calls.Call.{Bind, Chdir, Chmod, Chown, Chroot, Close, Drop, Exec, Exit, Fork, Lazy, LinkTo, ListMounts, Ls, Lstat, MakeWhiteout, Mkdir, MountOverlay, MountPlain, MoveMount, Opaque, OpenFile, PivotRoot, Pread, Pwrite, Read, Readlink, Remount, Rename, Rmdir, SetType, Setns, Stat, SymlinkAt, Umask, Umount, Unlink, Unshare, Write}
 use Rattle.vt_spec.specs.Language.Limits.{most_mounts}
-use Rattle.vt_spec.specs.Lists.{Fresh, holds_of, odds}
+use Rattle.vt_spec.specs.Lists.{Fresh, holds_of, odds, rest_of}
 use Rattle.vt_spec.specs.Machine.Apply.{apply, overfills}
-use Rattle.vt_spec.specs.Machine.Attach.{bind_tree, has_too_many}
+use Rattle.vt_spec.specs.Machine.Attach.{Copies, bind_tree, copies_from, has_too_many, parts_of}
+use Rattle.vt_spec.specs.Machine.Invariants.{IsWorld}
 use Rattle.vt_spec.specs.Machine.Judge.{bind_permit, judge_in, mount_plain_permit, move_permit}
 use Rattle.vt_spec.specs.Machine.Looks.{Looks, looks_of}
-use Rattle.vt_spec.specs.Machine.Mounts.{Location, Mount, group_of, mount_tree}
+use Rattle.vt_spec.specs.Machine.Mounts.{Location, Mount, mount_tree}
 use Rattle.vt_spec.specs.Machine.Outcome.Mounting.{new_mount, plain_filesystem, with_new_filesystem}
 use Rattle.vt_spec.specs.Machine.Permits.Permit.{ToBind, ToMountPlain, ToMove}
 use Rattle.vt_spec.specs.Machine.Rules.Mounting.{admin_rules, bind_rules, destination_walk, move_rules, new_mount_rules, source_walk}
 use Rattle.vt_spec.specs.Machine.Walk.{walk_end}
-use Rattle.vt_spec.specs.Machine.World.{Namespace, Task, World, mount_numbered}
+use Rattle.vt_spec.specs.Machine.World.{Namespace, Task, World, mount_at, mount_numbered}
 use Rattle.vt_tree_laws.specs.Trees.Calls.{mounts_overlay}
 
 -- how many mounts a namespace has is told by the namespaces of the mounts
@@ -43,12 +44,23 @@ many_alike one other same alike =
     ∙ (λ i. list_any (λ (namespace : Namespace ℕ). nat_lt most_mounts (sym (count_by other.mounts namespace.number) i))
     other.namespaces)
 
-module _ (world : World ℕ) (ungrouped : IsUngrouped world) (task : Task ℕ) (fresh again : Fresh ℕ) where
+module _ (world : World ℕ) (whole : IsWorld nat_eq world) (task : Task ℕ) (fresh again : Fresh ℕ) where
   abbrev looks : Looks ℕ
   looks = looks_of nat_eq world
 
-  alone : (number : ℕ) → group_of (mount_numbered nat_eq world number).propagation ≡ None
-  alone = found_ungrouped world.mounts ungrouped
+  abbrev supplied : Fresh ℕ → Location ℕ → List (Mount ℕ) → Copies ℕ
+  supplied supply place tree = copies_from nat_eq supply (parts_of nat_eq world place) tree
+
+  -- the mounts of a new filesystem get namespaces that do not go by its numbers
+  new_namespaces : (place : Location ℕ) (flags : MountFlags) (supply : Fresh ℕ)
+      → namespaces_in (apply nat_eq supply world task (ToMountPlain place flags)).world.mounts
+      ≡ namespaces_after false world.mounts (mount_at nat_eq world place) (rest_of (parts_of nat_eq world place)) (mount_at nat_eq world place ∷ [])
+  new_namespaces place flags supply =
+      let added = plain_filesystem nat_eq supply in
+      let larger = with_new_filesystem world added in
+      let tree = new_mount (supply 0) (supply 2) flags ∷ [] in
+      attached_namespaces larger place false tree (copies_from nat_eq (odds supply) (parts_of nat_eq larger place) tree)
+      ∙ ap (λ parts. namespaces_after false world.mounts (mount_at nat_eq world place) (rest_of parts) tree) (same_parts world whole added place)
 
   mount_many : (place : Location ℕ) (flags : MountFlags)
       → overfills nat_eq fresh world task (ToMountPlain place flags)
@@ -56,24 +68,26 @@ module _ (world : World ℕ) (ungrouped : IsUngrouped world) (task : Task ℕ) (
   mount_many place flags =
       many_alike (apply nat_eq fresh world task (ToMountPlain place flags)).world
       (apply nat_eq again world task (ToMountPlain place flags)).world refl
-      (copies_at_one (with_new_filesystem world (plain_filesystem nat_eq fresh))
-      (with_new_filesystem world (plain_filesystem nat_eq again)) refl place (new_mount (fresh 0) (fresh 2) flags)
-      (new_mount (again 0) (again 2) flags) (alone place.mount) (odds fresh) (odds again))
+      (new_namespaces place flags fresh ∙ sym (new_namespaces place flags again))
 
   bind_many : (source place : Location ℕ) (recursive : Bool)
       → overfills nat_eq fresh world task (ToBind source place recursive)
       ≡ overfills nat_eq again world task (ToBind source place recursive)
   bind_many source place recursive =
+      let tree = bind_tree nat_eq world source recursive in
       many_alike (apply nat_eq fresh world task (ToBind source place recursive)).world
       (apply nat_eq again world task (ToBind source place recursive)).world refl
-      (namespaces_same world place (bind_tree nat_eq world source recursive) (alone place.mount) fresh again)
+      (attached_namespaces world place false tree (supplied fresh place tree)
+      ∙ sym (attached_namespaces world place false tree (supplied again place tree)))
 
   move_many : (mount : ℕ) (place : Location ℕ)
       → overfills nat_eq fresh world task (ToMove mount place) ≡ overfills nat_eq again world task (ToMove mount place)
   move_many mount place =
-      ap (has_too_many nat_eq)
-      (moved_same world place (mount_tree nat_eq world.mounts (mount_numbered nat_eq world mount)) (alone place.mount)
-      fresh again)
+      let tree = mount_tree nat_eq world.mounts (mount_numbered nat_eq world mount) in
+      many_alike (apply nat_eq fresh world task (ToMove mount place)).world
+      (apply nat_eq again world task (ToMove mount place)).world refl
+      (attached_namespaces world place true tree (supplied fresh place tree)
+      ∙ sym (attached_namespaces world place true tree (supplied again place tree)))
 
   mount_judged : (path : List ℕ) (flags : MountFlags)
       → mount_plain_permit nat_eq looks (overfills nat_eq fresh world task) task path flags
@@ -152,15 +166,15 @@ module _ (world : World ℕ) (ungrouped : IsUngrouped world) (task : Task ℕ) (
   call_judged ListMounts other = refl
 
 pub judgements_do_not_see_supplies : JudgementsDoNotSeeSupplies
-judgements_do_not_see_supplies world task call fresh again ungrouped other =
-    call_judged world ungrouped task fresh again call other
+judgements_do_not_see_supplies world task call fresh again whole other =
+    call_judged world whole task fresh again call other
 
 pub given_with_any_supply : GivenWithAnySupply
-given_with_any_supply world task permit fresh again ungrouped serves given = record {
+given_with_any_supply world task permit fresh again whole serves given = record {
   serves = serves;
   called = given.called;
   call = given.call;
   no_overlay = given.no_overlay;
   few_groups = given.few_groups;
-  judged = judgements_do_not_see_supplies world task given.call again fresh ungrouped given.no_overlay ∙ given.judged;
+  judged = judgements_do_not_see_supplies world task given.call again fresh whole given.no_overlay ∙ given.judged;
 }

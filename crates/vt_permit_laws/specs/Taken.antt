@@ -95,22 +95,23 @@ HandedCountsGoOn =
     → KeepsTo (is_counted_before next) world → permit_named (is_counted_before next) permit ≡ true
     → KeepsTo (is_counted_before (next + counts_taken world task permit)) (left_by (handed_to next inode permit) world task permit)
 
--- Nor does a judgement depend on the supply: how many mounts a namespace gets does not depend on their numbers.
+-- Nor does a judgement depend on the supply, whatever groups there are: how many mounts a namespace gets does not depend on
+-- their numbers.
 abbrev pub JudgementsDoNotSeeSupplies : Type 0
 JudgementsDoNotSeeSupplies =
-    (world : World ℕ) (task : Task ℕ) (call : Call) (fresh again : Fresh ℕ) → IsUngrouped world → mounts_overlay call ≡ false
+    (world : World ℕ) (task : Task ℕ) (call : Call) (fresh again : Fresh ℕ) → IsWorld nat_eq world → mounts_overlay call ≡ false
     → judge_in nat_eq fresh world task call ≡ judge_in nat_eq again world task call
 
 -- So the permit that a call is given is given to it with whatever supply serves.
 abbrev pub GivenWithAnySupply : Type 0
 GivenWithAnySupply =
-    (world : World ℕ) (task : Task ℕ) (permit : Permit ℕ) (fresh again : Fresh ℕ) → IsUngrouped world
+    (world : World ℕ) (task : Task ℕ) (permit : Permit ℕ) (fresh again : Fresh ℕ) → IsWorld nat_eq world
     → Serves nat_eq world again → IsGiven fresh world task permit → IsGiven again world task permit
 
 -- A permit that a call is given names only numbers to which the world keeps: a renaming of others does not change it.
 abbrev pub GivenPermitsAreLeft : Type 0
 GivenPermitsAreLeft =
-    (named : ℕ → Bool) (world : World ℕ) (task : Task ℕ) (permit : Permit ℕ) (fresh : Fresh ℕ) → IsUngrouped world
+    (named : ℕ → Bool) (world : World ℕ) (task : Task ℕ) (permit : Permit ℕ) (fresh : Fresh ℕ) → IsWorld nat_eq world
     → IsGiven fresh world task permit → KeepsTo named world → (renaming : Renaming ℕ ℕ) → Leaves renaming named
     → renamed_permit renaming.there renaming.back permit ≡ permit
 

@@ -11,7 +11,7 @@ pub fn only_the_first_numbers_are_taken()
     ensures handed { HandedCountsGoOn }
 {}
 
-/// In such a world the judgement of a call but the mount of an overlay is the same, whatever numbers are handed in.
+/// In every world the judgement of a call but the mount of an overlay is the same, whatever numbers are handed in.
 pub fn judgements_do_not_see_supplies()
     ensures judged { JudgementsDoNotSeeSupplies }
     ensures given { GivenWithAnySupply }

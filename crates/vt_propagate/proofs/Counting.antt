@@ -20,7 +20,7 @@ use Rattle.vt_location.specs.declared.numbers.NamespaceId.{NamespaceId}
 use Rattle.vt_location.specs.MountValue.{mount_of}
 use Rattle.vt_location.specs.Numbers.{counted}
 use Rattle.vt_mount.proofs.EntryLemmas.{same_count}
-use Rattle.vt_propagate.specs.Filling.{MovesFrom, is_in, is_overfilled, is_part_in, leaving, mount_count, parts_in, same_namespace}
+use Rattle.vt_propagate.specs.Filling.{GrowsBy, MovesFrom, is_in, is_overfilled, is_part_in, leaving, mount_count, parts_in, same_namespace}
 use Rattle.vt_propagate.specs.declared.filling.Load.{Load}
 use Rattle.vt_propagate.proofs.Found.{numbered, numbers}
 use Rattle.vt_propagate.proofs.Leaving.{found_one, same_from}
@@ -232,98 +232,104 @@ map_same_mounts : (list : List (Mount ℕ)) → map (λ (mount : Mount ℕ). mou
 map_same_mounts [] = refl
 map_same_mounts (mount ∷ list) = ap (λ rest. mount ∷ rest) (map_same_mounts list)
 
+-- a mount in a namespace is in one that is listed
+module _ (world : World ℕ) (invariants : NamespaceInvariants nat_eq world) where
+  listed : (mount : Mount ℕ) (namespace : ℕ) → Among mount world.mounts → mount.namespace ≡ Some namespace → is_listed nat_eq world namespace ≡ true
+  listed mount namespace m is =
+      (and_parts (is_listed nat_eq world namespace) true
+      (ap (λ o. list_all (is_listed nat_eq world) (option_to_list o)) (sym is)
+      ∙ among_from_list_all (λ (one : Mount ℕ). list_all (is_listed nat_eq world) (option_to_list one.namespace)) world.mounts invariants.mounts_listed mount m)).0
+
+-- These parts tell whether a namespace has too many mounts, if a namespace without a part gets no more.
+module _ (world : World ℕ) (parts : List (Mount ℕ)) (invariants : NamespaceInvariants nat_eq world)
+    (part_listed : (part : Mount ℕ) (namespace : ℕ) → Among part parts → part.namespace ≡ Some namespace → is_listed nat_eq world namespace ≡ true)
+    (after : World ℕ) (same : after.namespaces ≡ world.namespaces)
+    (small : (namespace : ℕ) → mount_count parts namespace ≡ 0 → mount_count after.mounts namespace ≤ mount_count world.mounts namespace) where
+  abbrev full : ℕ → Bool
+  full namespace = nat_lt most_mounts (mount_count after.mounts namespace)
+
+  parts_tell : list_any (λ part. holds_of full part.namespace) parts ≡ list_any (λ namespace. full namespace.number) world.namespaces
+  parts_tell = same_from _ _ there back
+    where
+      there : list_any (λ part. holds_of full part.namespace) parts ≡ true → list_any (λ namespace. full namespace.number) world.namespaces ≡ true
+      there h = by found.0.namespace refl
+        where
+          found : (part : Mount ℕ) × Among part parts × (holds_of full part.namespace ≡ true)
+          found = any_among (λ (part : Mount ℕ). holds_of full part.namespace) parts h
+
+          by : (o : Option ℕ) → found.0.namespace ≡ o → list_any (λ namespace. full namespace.number) world.namespaces ≡ true
+          by None e = absurd (true≢false (sym found.2 ∙ ap (holds_of full) e))
+          by (Some namespace) e =
+              let m = among-from_map (λ (one : Namespace ℕ). one.number) world.namespaces namespace
+              (among_numbers (map (λ (one : Namespace ℕ). one.number) world.namespaces) namespace (part_listed found.0 namespace found.1 e)) in
+              any_from_among (λ (one : Namespace ℕ). full one.number) world.namespaces m.0 m.1
+              (ap full (sym m.2) ∙ sym (ap (holds_of full) e) ∙ found.2)
+
+      back : list_any (λ namespace. full namespace.number) world.namespaces ≡ true → list_any (λ part. holds_of full part.namespace) parts ≡ true
+      back h = by (filter (is_in found.0.number) parts) refl
+        where
+          found : (one : Namespace ℕ) × Among one world.namespaces × (full one.number ≡ true)
+          found = any_among (λ (one : Namespace ℕ). full one.number) world.namespaces h
+
+          few : nat_lt most_mounts (mount_count world.mounts found.0.number) ≡ false
+          few = none_among (λ (one : Namespace ℕ). nat_lt most_mounts (mount_count world.mounts one.number)) world.namespaces invariants.few_mounts found.0 found.1
+
+          of_it : (o : Option ℕ) → holds_of (nat_eq found.0.number) o ≡ true → holds_of full o ≡ true
+          of_it None e = absurd (true≢false (sym e))
+          of_it (Some namespace) e = ap full (sym (eqb-true found.0.number namespace e)) ∙ found.2
+
+          by : (list : List (Mount ℕ)) → filter (is_in found.0.number) parts ≡ list → list_any (λ part. holds_of full part.namespace) parts ≡ true
+          by [] e =
+              let low : mount_count after.mounts found.0.number ≤ mount_count world.mounts found.0.number = small found.0.number (ap length e) in
+              absurd (omega (arith, low, ltb-true most_mounts (mount_count after.mounts found.0.number) found.2, ltb-false most_mounts (mount_count world.mounts found.0.number) few))
+          by (part ∷ list) e =
+              let inside : Among part parts × (is_in found.0.number part ≡ true) =
+              among-from_filter (is_in found.0.number) parts part (subst (Among part) (sym e) (inl refl)) in
+              any_from_among (λ (one : Mount ℕ). holds_of full one.namespace) parts part inside.0 (of_it part.namespace inside.1)
+
+  -- the parts as they are kept tell it
+  kept_tell : (mounts : List (Mount ℕ)) → mounts ≡ world.mounts → (kept : List Kept) → map mount_of kept ≡ parts
+      → (load : Load) (counts : NamespaceId → ℕ) → ((namespace : NamespaceId) → counts namespace ≡ parts_in kept namespace)
+      → ((namespace : NamespaceId) → mount_count after.mounts (counted namespace.count)
+      ≡ mount_count world.mounts (counted namespace.count) - leaving load namespace + mount_count parts (counted namespace.count) * load.count)
+      → list_any (λ part. is_overfilled mounts load counts part.namespace) kept ≡ has_too_many nat_eq after
+  kept_tell mounts same_mounts kept are load counts right exact =
+      over kept ∙ ap (list_any (λ part. holds_of full part.namespace)) are ∙ parts_tell
+      ∙ ap (list_any (λ (namespace : Namespace ℕ). full namespace.number)) (sym same)
+    where
+      one : (o : Option NamespaceId) → is_overfilled mounts load counts o ≡ holds_of full (option_map (λ n. counted n.count) o)
+      one None = refl
+      one (Some namespace) =
+          ap (nat_lt most_mounts) (
+          (λ i. mount_count (same_mounts i) (counted namespace.count) - leaving load namespace
+          + (right namespace ∙ sym (parts_counted kept namespace) ∙ ap (λ list. mount_count list (counted namespace.count)) are) i * load.count)
+          ∙ sym (exact namespace))
+
+      over : (list : List Kept) → list_any (λ part. is_overfilled mounts load counts part.namespace) list ≡ list_any (λ part. holds_of full part.namespace) (map mount_of list)
+      over [] = refl
+      over (part ∷ list) = λ i. one part.namespace i || over list i
+
 module _ (world : World ℕ) (place : Location ℕ) where
   abbrev parts : List (Mount ℕ)
   parts = parts_of nat_eq world place
 
-  module _ (invariants : NamespaceInvariants nat_eq world) (after : World ℕ) (same : after.namespaces ≡ world.namespaces)
-      (small : (namespace : ℕ) → mount_count (parts_of nat_eq world place) namespace ≡ 0 → mount_count after.mounts namespace ≤ mount_count world.mounts namespace) where
-    abbrev full : ℕ → Bool
-    full namespace = nat_lt most_mounts (mount_count after.mounts namespace)
+  -- a part in a namespace is a mount of the world
+  part_listed : NamespaceInvariants nat_eq world → (part : Mount ℕ) (namespace : ℕ) → Among part (parts_of nat_eq world place) → part.namespace ≡ Some namespace → is_listed nat_eq world namespace ≡ true
+  part_listed invariants part namespace m is =
+      ⊎_elim (λ e. first (numbered world.mounts place.mount) refl e) (λ l. listed world invariants part namespace (rest l) is) m
+    where
+      rest : Among part (filter (takes_part nat_eq world place) (receivers_of nat_eq world (mount_at nat_eq world place))) → Among part world.mounts
+      rest l =
+          receivers_there world (mount_at nat_eq world place) part
+          (among-from_filter (takes_part nat_eq world place) (receivers_of nat_eq world (mount_at nat_eq world place)) part l).0
 
-    listed : (mount : Mount ℕ) (namespace : ℕ) → Among mount world.mounts → mount.namespace ≡ Some namespace → is_listed nat_eq world namespace ≡ true
-    listed mount namespace m is =
-        (and_parts (is_listed nat_eq world namespace) true
-        (ap (λ o. list_all (is_listed nat_eq world) (option_to_list o)) (sym is)
-        ∙ among_from_list_all (λ (one : Mount ℕ). list_all (is_listed nat_eq world) (option_to_list one.namespace)) world.mounts invariants.mounts_listed mount m)).0
-
-    -- a part in a namespace is a mount of the world
-    part_listed : (part : Mount ℕ) (namespace : ℕ) → Among part parts → part.namespace ≡ Some namespace → is_listed nat_eq world namespace ≡ true
-    part_listed part namespace m is = ⊎_elim (λ e. first (numbered world.mounts place.mount) refl e) (λ l. listed part namespace (rest l) is) m
-      where
-        rest : Among part (filter (takes_part nat_eq world place) (receivers_of nat_eq world (mount_at nat_eq world place))) → Among part world.mounts
-        rest l =
-            receivers_there world (mount_at nat_eq world place) part
-            (among-from_filter (takes_part nat_eq world place) (receivers_of nat_eq world (mount_at nat_eq world place)) part l).0
-
-        first : (o : Option (Mount ℕ)) → numbered world.mounts place.mount ≡ o → part ≡ mount_at nat_eq world place → is_listed nat_eq world namespace ≡ true
-        first None e same =
-            absurd (true≢false (ap (λ (found : Option ℕ). holds_of (λ n. true) found)
-            (sym is ∙ ap (λ (mount : Mount ℕ). mount.namespace) (same ∙ ap (λ found. unwrap_or found (no_mount place.mount)) e))))
-        first (Some mount) e same =
-            listed mount namespace (found_one (λ (one : Mount ℕ). nat_eq place.mount one.number) world.mounts mount e).0
-            (ap (λ (one : Mount ℕ). one.namespace) (sym (same ∙ ap (λ found. unwrap_or found (no_mount place.mount)) e)) ∙ is)
-
-    parts_tell : list_any (λ part. holds_of full part.namespace) parts ≡ list_any (λ namespace. full namespace.number) world.namespaces
-    parts_tell = same_from _ _ there back
-      where
-        there : list_any (λ part. holds_of full part.namespace) parts ≡ true → list_any (λ namespace. full namespace.number) world.namespaces ≡ true
-        there h = by found.0.namespace refl
-          where
-            found : (part : Mount ℕ) × Among part parts × (holds_of full part.namespace ≡ true)
-            found = any_among (λ (part : Mount ℕ). holds_of full part.namespace) parts h
-
-            by : (o : Option ℕ) → found.0.namespace ≡ o → list_any (λ namespace. full namespace.number) world.namespaces ≡ true
-            by None e = absurd (true≢false (sym found.2 ∙ ap (holds_of full) e))
-            by (Some namespace) e =
-                let m = among-from_map (λ (one : Namespace ℕ). one.number) world.namespaces namespace
-                (among_numbers (map (λ (one : Namespace ℕ). one.number) world.namespaces) namespace (part_listed found.0 namespace found.1 e)) in
-                any_from_among (λ (one : Namespace ℕ). full one.number) world.namespaces m.0 m.1
-                (ap full (sym m.2) ∙ sym (ap (holds_of full) e) ∙ found.2)
-
-        back : list_any (λ namespace. full namespace.number) world.namespaces ≡ true → list_any (λ part. holds_of full part.namespace) parts ≡ true
-        back h = by (filter (is_in found.0.number) parts) refl
-          where
-            found : (one : Namespace ℕ) × Among one world.namespaces × (full one.number ≡ true)
-            found = any_among (λ (one : Namespace ℕ). full one.number) world.namespaces h
-
-            few : nat_lt most_mounts (mount_count world.mounts found.0.number) ≡ false
-            few = none_among (λ (one : Namespace ℕ). nat_lt most_mounts (mount_count world.mounts one.number)) world.namespaces invariants.few_mounts found.0 found.1
-
-            of_it : (o : Option ℕ) → holds_of (nat_eq found.0.number) o ≡ true → holds_of full o ≡ true
-            of_it None e = absurd (true≢false (sym e))
-            of_it (Some namespace) e = ap full (sym (eqb-true found.0.number namespace e)) ∙ found.2
-
-            by : (list : List (Mount ℕ)) → filter (is_in found.0.number) parts ≡ list → list_any (λ part. holds_of full part.namespace) parts ≡ true
-            by [] e =
-                let low : mount_count after.mounts found.0.number ≤ mount_count world.mounts found.0.number = small found.0.number (ap length e) in
-                absurd (omega (arith, low, ltb-true most_mounts (mount_count after.mounts found.0.number) found.2, ltb-false most_mounts (mount_count world.mounts found.0.number) few))
-            by (part ∷ list) e =
-                let inside : Among part parts × (is_in found.0.number part ≡ true) =
-                among-from_filter (is_in found.0.number) parts part (subst (Among part) (sym e) (inl refl)) in
-                any_from_among (λ (one : Mount ℕ). holds_of full one.namespace) parts part inside.0 (of_it part.namespace inside.1)
-
-    -- the parts as they are kept tell it
-    kept_tell : (mounts : List (Mount ℕ)) → mounts ≡ world.mounts → (kept : List Kept) → map mount_of kept ≡ parts
-        → (load : Load) (counts : NamespaceId → ℕ) → ((namespace : NamespaceId) → counts namespace ≡ parts_in kept namespace)
-        → ((namespace : NamespaceId) → mount_count after.mounts (counted namespace.count)
-        ≡ mount_count world.mounts (counted namespace.count) - leaving load namespace + mount_count (parts_of nat_eq world place) (counted namespace.count) * load.count)
-        → list_any (λ part. is_overfilled mounts load counts part.namespace) kept ≡ has_too_many nat_eq after
-    kept_tell mounts same_mounts kept are load counts right exact =
-        over kept ∙ ap (list_any (λ part. holds_of full part.namespace)) are ∙ parts_tell
-        ∙ ap (list_any (λ (namespace : Namespace ℕ). full namespace.number)) (sym same)
-      where
-        one : (o : Option NamespaceId) → is_overfilled mounts load counts o ≡ holds_of full (option_map (λ n. counted n.count) o)
-        one None = refl
-        one (Some namespace) =
-            ap (nat_lt most_mounts) (
-            (λ i. mount_count (same_mounts i) (counted namespace.count) - leaving load namespace
-            + (right namespace ∙ sym (parts_counted kept namespace) ∙ ap (λ list. mount_count list (counted namespace.count)) are) i * load.count)
-            ∙ sym (exact namespace))
-
-        over : (list : List Kept) → list_any (λ part. is_overfilled mounts load counts part.namespace) list ≡ list_any (λ part. holds_of full part.namespace) (map mount_of list)
-        over [] = refl
-        over (part ∷ list) = λ i. one part.namespace i || over list i
+      first : (o : Option (Mount ℕ)) → numbered world.mounts place.mount ≡ o → part ≡ mount_at nat_eq world place → is_listed nat_eq world namespace ≡ true
+      first None e same =
+          absurd (true≢false (ap (λ (found : Option ℕ). holds_of (λ n. true) found)
+          (sym is ∙ ap (λ (mount : Mount ℕ). mount.namespace) (same ∙ ap (λ found. unwrap_or found (no_mount place.mount)) e))))
+      first (Some mount) e same =
+          listed world invariants mount namespace (found_one (λ (one : Mount ℕ). nat_eq place.mount one.number) world.mounts mount e).0
+          (ap (λ (one : Mount ℕ). one.namespace) (sym (same ∙ ap (λ found. unwrap_or found (no_mount place.mount)) e)) ∙ is)
 
   module _ (new : Copies ℕ) (moves : Bool) (tree : List (Mount ℕ)) where
     abbrev graft : Graft ℕ
@@ -355,7 +361,7 @@ module _ (world : World ℕ) (place : Location ℕ) where
     abbrev added : World ℕ
     added = attached_by nat_eq world new place false tree
 
-    added_counted : (namespace : ℕ) → mount_count added.mounts namespace ≡ mount_count world.mounts namespace + mount_count parts namespace * length tree
+    pub added_counted : (namespace : ℕ) → mount_count added.mounts namespace ≡ mount_count world.mounts namespace + mount_count parts namespace * length tree
     added_counted namespace =
         ap (λ list. mount_count list namespace) (append_assoc (map (pushed_up nat_eq world new (graft new false tree) parts) world.mounts)
         (copies_at nat_eq world new (graft new false tree) parts (mount_at nat_eq world place))
@@ -368,7 +374,7 @@ module _ (world : World ℕ) (place : Location ℕ) where
         → (counts : NamespaceId → ℕ) → ((namespace : NamespaceId) → counts namespace ≡ parts_in kept namespace)
         → list_any (λ part. is_overfilled mounts load counts part.namespace) kept ≡ has_too_many nat_eq added
     added_tell invariants mounts same kept are load size stay counts right =
-        kept_tell invariants added refl small mounts same kept are load counts right exact
+        kept_tell world parts invariants (part_listed invariants) added refl small mounts same kept are load counts right exact
       where
         small : (namespace : ℕ) → mount_count parts namespace ≡ 0 → mount_count added.mounts namespace ≤ mount_count world.mounts namespace
         small namespace e =
@@ -411,8 +417,32 @@ module _ (world : World ℕ) (place : Location ℕ) where
         twice [] = refl
         twice (mount ∷ list) = ap (λ rest. there_now mount ∷ rest) (twice list)
 
+    -- a mount that is not there comes to the receivers alone
+    pub absent_counted : (mount : Mount ℕ) → tree ≡ mount ∷ [] → is_among nat_eq mount.number (numbers world.mounts) ≡ false
+        → (namespace : ℕ) → mount_count moved.mounts namespace ≡ mount_count world.mounts namespace + mount_count others namespace * length tree
+    absent_counted mount is missing namespace =
+        let put : folded (with_mount nat_eq) world.mounts (copies_at nat_eq world new (graft new true tree) parts (mount_at nat_eq world place)) ≡ world.mounts =
+        ap (folded (with_mount nat_eq) world.mounts) (come ∙ ap (map there_now) is)
+        ∙ put_nowhere world.mounts (there_now mount)
+        (ap (λ n. list_any (λ (other : Mount ℕ). nat_eq n other.number) world.mounts) (keeps_number mount) ∙ none_has world.mounts missing) in
+        let all = count-append (map (pushed_up nat_eq world new (graft new true tree) parts) (folded (with_mount nat_eq) world.mounts (copies_at nat_eq world new (graft new true tree) parts (mount_at nat_eq world place))) ++ [])
+        (flat_map (copies_at nat_eq world new (graft new true tree) parts) others) namespace in
+        let front = count-append (map (pushed_up nat_eq world new (graft new true tree) parts) (folded (with_mount nat_eq) world.mounts (copies_at nat_eq world new (graft new true tree) parts (mount_at nat_eq world place)))) [] namespace in
+        let pushed = pushed_counted new true tree (folded (with_mount nat_eq) world.mounts (copies_at nat_eq world new (graft new true tree) parts (mount_at nat_eq world place))) namespace in
+        let same : mount_count (folded (with_mount nat_eq) world.mounts (copies_at nat_eq world new (graft new true tree) parts (mount_at nat_eq world place))) namespace
+        ≡ mount_count world.mounts namespace = ap (λ list. mount_count list namespace) put in
+        let rest = rest_counted new true tree namespace others in
+        omega (arith, all, front, pushed, same, rest)
+      where
+        none_has : (list : List (Mount ℕ)) → is_among nat_eq mount.number (numbers list) ≡ false
+            → list_any (λ (other : Mount ℕ). nat_eq mount.number other.number) list ≡ false
+        none_has [] none = refl
+        none_has (other ∷ list) none =
+            let parts = or_parts (nat_eq mount.number other.number) _ none in
+            λ i. parts.0 i || none_has list parts.1 i
+
     module _ (own : Own world.mounts) (apart : Own tree) (within : (mount : Mount ℕ) → Among mount tree → Among mount world.mounts) where
-      moved_all : (namespace : ℕ) → mount_count moved.mounts namespace + mount_count tree namespace ≡ mount_count world.mounts namespace + mount_count parts namespace * length tree
+      pub moved_all : (namespace : ℕ) → mount_count moved.mounts namespace + mount_count tree namespace ≡ mount_count world.mounts namespace + mount_count parts namespace * length tree
       moved_all namespace =
           let all = count-append (map (pushed_up nat_eq world new (graft new true tree) parts) (folded (with_mount nat_eq) world.mounts (copies_at nat_eq world new (graft new true tree) parts (mount_at nat_eq world place))) ++ [])
           (flat_map (copies_at nat_eq world new (graft new true tree) parts) others) namespace in
@@ -439,7 +469,7 @@ module _ (world : World ℕ) (place : Location ℕ) where
           → (counts : NamespaceId → ℕ) → ((namespace : NamespaceId) → counts namespace ≡ parts_in kept namespace)
           → list_any (λ part. is_overfilled mounts load counts part.namespace) kept ≡ has_too_many nat_eq moved
       moved_tell invariants mounts same kept are load size inside counts right =
-          kept_tell invariants moved refl small mounts same kept are load counts right exact
+          kept_tell world parts invariants (part_listed invariants) moved refl small mounts same kept are load counts right exact
         where
           small : (namespace : ℕ) → mount_count parts namespace ≡ 0 → mount_count moved.mounts namespace ≤ mount_count world.mounts namespace
           small namespace e =
@@ -478,3 +508,27 @@ moves_tell world place new tree invariants mounts same kept are load size moves 
     invariants mounts same kept are load size
     (λ mount m. among_from_all (λ (one : Mount ℕ). one.namespace ≡ option_map (λ (n : NamespaceId). counted n.count) load.leaves) tree moves.inside mount m)
     counts right
+
+-- a world that has so many more mounts in the namespace of each part
+pub more_tell : (world after : World ℕ) → NamespaceInvariants nat_eq world → (mounts : List (Mount ℕ)) → mounts ≡ world.mounts
+    → (kept : List Kept) (load : Load) → load.leaves ≡ None → GrowsBy world after (map mount_of kept) load.count
+    → (counts : NamespaceId → ℕ) → ((namespace : NamespaceId) → counts namespace ≡ parts_in kept namespace)
+    → list_any (λ part. is_overfilled mounts load counts part.namespace) kept ≡ has_too_many nat_eq after
+more_tell world after invariants mounts same kept load stay grows counts right =
+    kept_tell world (map mount_of kept) invariants
+    (λ part namespace m is. listed world invariants part namespace
+    (among_from_contains world.mounts part (among_from_all (Contains world.mounts) (map mount_of kept) grows.there part m)) is)
+    after grows.namespaces small mounts same kept refl load counts right exact
+  where
+    small : (namespace : ℕ) → mount_count (map mount_of kept) namespace ≡ 0 → mount_count after.mounts namespace ≤ mount_count world.mounts namespace
+    small namespace e =
+        let all = grows.counts namespace in
+        let none : mount_count (map mount_of kept) namespace * load.count ≡ 0 = ap (λ n. n * load.count) e ∙ omega arith in
+        omega (arith, all, none)
+
+    exact : (namespace : NamespaceId) → mount_count after.mounts (counted namespace.count)
+        ≡ mount_count world.mounts (counted namespace.count) - leaving load namespace + mount_count (map mount_of kept) (counted namespace.count) * load.count
+    exact namespace =
+        let all = grows.counts (counted namespace.count) in
+        let none : leaving load namespace ≡ 0 = ap (λ o. cond (holds_of (same_namespace namespace) o) load.count 0) stay in
+        omega (arith, all, none)

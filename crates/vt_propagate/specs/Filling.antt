@@ -42,3 +42,10 @@ pub record MovesFrom (world : World ℕ) (namespace : Option NamespaceId) (tree 
   pub inside : All (λ mount. mount.namespace ≡ option_map (λ one. counted one.count) namespace) tree
   pub one_number : any_pair (λ a b. nat_eq a.number b.number) world.mounts ≡ false
   pub each_once : any_pair (λ a b. nat_eq a.number b.number) tree ≡ false
+
+-- a world that has so many more mounts in the namespace of each of these mounts, for each of them
+pub record GrowsBy (world after : World ℕ) (parts : List (meant.Mount ℕ)) (count : ℕ) : Type 0 where
+  pub there : All (Contains world.mounts) parts
+  pub namespaces : after.namespaces ≡ world.namespaces
+  pub counts : (namespace : ℕ)
+      → mount_count after.mounts namespace ≡ mount_count world.mounts namespace + mount_count parts namespace * count

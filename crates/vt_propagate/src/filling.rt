@@ -13,7 +13,7 @@ ghost use Rattle.vt_spec.specs.Machine.Invariants.{NamespaceInvariants};
 ghost use Rattle.vt_location.specs.declared.numbers.NamespaceId.{NamespaceId};
 ghost use Rattle.vt_location.specs.MountValue.{mount_of};
 ghost use Rattle.vt_mount.specs.MountsValue.{mounts_in};
-ghost use Rattle.vt_propagate.specs.Filling.{MovesFrom, is_overfilled, leaving, is_part_in, parts_in, same_namespace};
+ghost use Rattle.vt_propagate.specs.Filling.{GrowsBy, MovesFrom, is_overfilled, leaving, is_part_in, parts_in, same_namespace};
 
 use std::alloc::{AllocError, Global};
 use std::collections::HashMap;
@@ -43,6 +43,9 @@ pub fn overfills(alloc: Global, mounts: &Mounts, parts: &[Mount], load: Load) ->
         → mounts_in mounts.now ≡ world.mounts → NamespaceInvariants nat_eq world
         → map mount_of parts.now ≡ parts_of nat_eq world place → length tree ≡ load.count → MovesFrom world load.leaves tree
         → too_many ≡ has_too_many nat_eq (attached_by nat_eq world new place true tree)) }
+    ensures more { IfOk result (λ too_many. (world after : World ℕ)
+        → mounts_in mounts.now ≡ world.mounts → NamespaceInvariants nat_eq world → load.leaves ≡ None
+        → GrowsBy world after (map mount_of parts.now) load.count → too_many ≡ has_too_many nat_eq after) }
     ensures memory { IfErr result (λ deny. deny ≡ denial S5) }
 {
     let Ok(counts) = counts_of(alloc, parts) else {

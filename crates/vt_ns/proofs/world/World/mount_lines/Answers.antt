@@ -7,25 +7,20 @@ use Rattle.vt_mount.specs.MountsValue.{mounts_in}
 use Rattle.vt_request.specs.Answers.{mount_line_of}
 use Rattle.vt_spec.specs.Language.Answers as answers
 use Rattle.vt_spec.specs.Lists.{holds_of}
-use Rattle.vt_spec.specs.Machine.Listing.{filesystems_seen, mount_line}
+use Rattle.vt_spec.specs.Machine.Listing.{filesystems_seen, groups_seen, mount_line}
 use Rattle.vt_spec.specs.Machine.Mounts.{Mount}
 use Rattle.vt_attach.specs.Copying.{attached_in}
 use Rattle.vt_detach.specs.WorldValue.{WorldValue, world_of}
 use Rattle.vt_attach.proofs.CopyLemmas.{all_taken, ascending_filter, ascending_found, next_made, none_made, picked, rising_ids}
-use Rattle.vt_attach.proofs.Grafting.{all_ungrouped}
-use Rattle.vt_ns.proofs.MountLines.{one_ungrouped}
 use Rattle.vt_ns.proofs.world.World.mount_lines.Goals as goal
 use Rattle.vt_ns.proofs.world.World.mount_lines.Goals.{in-Some+in_ok-line+in-Ok, in_default}
 
-pub mount_line-requires-clause-order : goal.mount_line-requires-clause-order
-mount_line-requires-clause-order c =
-    rising_ids c.attached_in-listed.result.now (attached_in (counted c.args.namespace.count) c.self.inside.mounts) c.attached_in-listed.ensures
-    (ascending_filter (λ mount. holds_of (nat_eq (counted c.args.namespace.count)) mount.namespace) (mounts_in c.self.inside.mounts) c.are_ascending.ensures)
-
-pub mount_line-requires-clause-ungrouped : goal.mount_line-requires-clause-ungrouped
-mount_line-requires-clause-ungrouped c =
-    one_ungrouped (mounts_in c.self.inside.mounts) (all_ungrouped _ c.self.invariant) _ (mount_of c.in-Some.mount)
-    (sym (ap (option_map mount_of) c.in-Some.is) ∙ c.get.ensures)
+pub mount_line-requires : goal.mount_line-requires
+mount_line-requires c = record {
+  order =
+      rising_ids c.attached_in-listed.result.now (attached_in (counted c.args.namespace.count) c.self.inside.mounts) c.attached_in-listed.ensures
+      (ascending_filter (λ mount. holds_of (nat_eq (counted c.args.namespace.count)) mount.namespace) (mounts_in c.self.inside.mounts) c.are_ascending.ensures);
+}
 
 pub loop-id-preserved : goal.loop-id-preserved
 loop-id-preserved c =
@@ -33,6 +28,8 @@ loop-id-preserved c =
     let change : Mount ℕ → answers.MountLine = mount_line nat_eq (world_of c.args.self.now) all in
     let seen = c.in_ok-filesystems.ensures.ok
     ∙ sym (ap (λ (value : WorldValue). filesystems_seen nat_eq (attached_in (counted c.args.namespace.count) value.mounts)) c.self.view_is) in
+    let groups = c.in_ok-groups.ensures.ok
+    ∙ sym (ap (λ (value : WorldValue). groups_seen nat_eq (world_of c.args.self.now) (attached_in (counted c.args.namespace.count) value.mounts)) c.self.view_is) in
     elim c.match-get.branch [
       | in-Some+in_ok-line+in-Ok w ↦
           ap (λ lines. map mount_line_of lines.items) w.lines-is
@@ -41,7 +38,7 @@ loop-id-preserved c =
           c.loop-id.id-index _ c.attached_in-listed.result.now (let more = c.loop-id-test.true in search rules)
           c.loop-id.lines.items c.loop-id.invariant w.in_ok-line.line
           (ap (option_map change) (sym c.get.ensures ∙ ap (option_map mount_of) w.in-Some.is)
-          ∙ ap Some (sym (w.in_ok-line.ensures.ok all c.attached_in-listed.ensures seen)))
+          ∙ ap Some (sym (w.in_ok-line.ensures.ok all c.attached_in-listed.ensures seen groups)))
       | in_default w ↦
           ap (λ lines. map mount_line_of lines.items) w.lines-is
           ∙ none_made mount_line_of (λ id. option_map change (find (λ mount. nat_eq (counted id.count) mount.number) (mounts_in c.self.inside.mounts)))

@@ -61,7 +61,7 @@ module _ (next inode : ℕ) (world : World ℕ) (counted : KeepsTo (is_counted_b
 
 pub steps_are_given : StepsAreGiven
 steps_are_given next inode world task permit step =
-    given_with_any_supply world task permit (counts_from next) (handed_to next inode permit) step.ungrouped
+    given_with_any_supply world task permit (counts_from next) (handed_to next inode permit) step.whole
     (serves next inode world step.counted step.even permit step.unused)
     (record {
       serves = counts_serve_worlds next world step.counted;

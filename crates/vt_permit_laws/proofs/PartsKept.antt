@@ -1,0 +1,58 @@
+-- A filesystem that is added to a world changes no parts of an attachment.
+use Rattle.std.proofs.Common.{◌≡◌, refl, sym, ap, ◌∙◌, true≢false, ℕ, nat_eq, Bool, not, ◌&&◌, true, List, [], ◌∷◌, ◌++◌, filter, find, Option, None, Some, is_some, unwrap_or}
+use Rattle.std.proofs.lemmas.Bool.{and_parts}
+use Rattle.std.proofs.lemmas.List.Folds.{find-append}
+use Rattle.std.specs.Option.{option_or}
+use Rattle.std.specs.Prelude.{option_map}
+use Rattle.vt_letting_go.proofs.Lists.{Among, among-from_filter, filter_alike, passes}
+use Rattle.vt_spec.specs.FileTree.{is_directory_under}
+use Rattle.vt_spec.specs.Machine.Attach.{parts_of, receivers_of, takes_part}
+use Rattle.vt_spec.specs.Machine.Invariants.{IsWorld, has_its_root}
+use Rattle.vt_spec.specs.Machine.Mounts.{Location, Mount, group_of}
+use Rattle.vt_spec.specs.Machine.Outcome.Mounting.{with_new_filesystem}
+use Rattle.vt_spec.specs.Machine.Receives.{receivers, receives}
+use Rattle.vt_spec.specs.Machine.World.{Filesystem, World, filesystem_numbered, mount_at, no_filesystem}
+use Rattle.vt_spec.specs.Tree.{is_directory_node}
+
+-- receivers are mounts of the world
+pub receivers_there : (world : World ℕ) (mount one : Mount ℕ) → Among one (receivers_of nat_eq world mount) → Among one world.mounts
+receivers_there world mount one = by (group_of mount.propagation)
+  where
+    by : (group : Option ℕ) → Among one (unwrap_or (option_map (receivers nat_eq world) group) []) → Among one world.mounts
+    by None m = absurd m
+    by (Some group) m = (among-from_filter (receives nat_eq world group) world.mounts one m).0
+
+module _ (world : World ℕ) (whole : IsWorld nat_eq world) (added : Filesystem ℕ) where
+  abbrev larger : World ℕ
+  larger = with_new_filesystem world added
+
+  -- what a mount shows is there, so it is found before what is added
+  same_filesystem : (mount : Mount ℕ) → Among mount world.mounts
+      → filesystem_numbered nat_eq larger mount.filesystem ≡ filesystem_numbered nat_eq world mount.filesystem
+  same_filesystem mount m = by (find test world.filesystems) refl
+    where
+      test : Filesystem ℕ → Bool
+      test filesystem = nat_eq mount.filesystem filesystem.number
+
+      shows : is_directory_node ((filesystem_numbered nat_eq world mount.filesystem).files.tree.node mount.root) ≡ true
+      shows = (and_parts _ _ (passes (has_its_root nat_eq world) world.mounts whole.roots mount m)).0
+
+      by : (o : Option (Filesystem ℕ)) → find test world.filesystems ≡ o
+          → unwrap_or (find test (world.filesystems ++ added ∷ [])) (no_filesystem mount.filesystem)
+          ≡ unwrap_or (find test world.filesystems) (no_filesystem mount.filesystem)
+      by None e =
+          absurd (true≢false (sym shows
+          ∙ ap (λ o. is_directory_node ((unwrap_or o (no_filesystem mount.filesystem)).files.tree.node mount.root)) e))
+      by (Some filesystem) e =
+          ap (λ o. unwrap_or o (no_filesystem mount.filesystem))
+          (find-append test world.filesystems (added ∷ []) ∙ ap (λ o. option_or o (find test (added ∷ []))) e ∙ sym e)
+
+  pub same_parts : (place : Location ℕ) → parts_of nat_eq (with_new_filesystem world added) place ≡ parts_of nat_eq world place
+  same_parts place =
+      ap (λ rest. mount_at nat_eq world place ∷ rest)
+      (filter_alike (takes_part nat_eq larger place) (takes_part nat_eq world place) (receivers_of nat_eq world (mount_at nat_eq world place))
+      (λ mount m.
+      ap (λ (filesystem : Filesystem ℕ). not (nat_eq place.mount mount.number) && is_some mount.namespace
+      && nat_eq (mount_at nat_eq world place).filesystem mount.filesystem
+      && is_directory_under nat_eq filesystem.files mount.root place.node)
+      (same_filesystem mount (receivers_there world (mount_at nat_eq world place) mount m))))
