@@ -1,34 +1,27 @@
 -- Every call keeps the invariants of a world, with overlays too.
-use Rattle.std.proofs.Common.{◌≡◌, refl, sym, ap, subst, ◌∙◌, inl, inr, ◌⊎◌, ⊎_elim, ℕ, nat_eq, Bool, true, false, List, [], ◌∷◌, ◌++◌, ◌||◌, not, Option, Some, None, Result, Ok, Err, is_ok, ok_or, true≢false}
-use Rattle.std.proofs.lemmas.Bool.{or_parts}
-use Rattle.vt_spec.specs.declared.errors.Deny.{Deny}
-use Rattle.vt_spec.specs.declared.errors.Rule.TheVariants.{S2}
-use Rattle.vt_spec.specs.Errors.{denial}
-use Rattle.vt_spec.specs.Language.Answers.{Answer}
+use Rattle.std.proofs.Common.{◌≡◌, refl, sym, ap, subst, ◌∙◌, ℕ, nat_eq, Bool, true, false, List, [], ◌∷◌, ◌++◌, Option, Some, None, Ok, true≢false}
 use Rattle.vt_spec.specs.Language.Calls.{Call, TaskName, same_name}
 use Rattle.vt_spec.specs.Language.Calls.Call.{Bind, Chdir, Chmod, Chown, Chroot, Close, Drop, Exec, Exit, Fork, Lazy, LinkTo, ListMounts, Ls, Lstat, MakeWhiteout, Mkdir, MountOverlay, MountPlain, MoveMount, Opaque, OpenFile, PivotRoot, Pread, Pwrite, Read, Readlink, Remount, Rename, Rmdir, SetType, Setns, Stat, SymlinkAt, Umask, Umount, Unlink, Unshare, Write}
 use Rattle.vt_spec.specs.Language.Changes.{Change}
 use Rattle.vt_spec.specs.Language.Changes.Change.{CopyUp}
-use Rattle.vt_spec.specs.Lists.{Fresh, when}
+use Rattle.vt_spec.specs.Lists.{Fresh, evens, when}
 use Rattle.vt_spec.specs.Machine.Apply.{apply}
 use Rattle.vt_spec.specs.Machine.Detach.{going}
 use Rattle.vt_spec.specs.Machine.Filesystems.{filesystem_changed, overlay_changed, with_change}
 use Rattle.vt_spec.specs.Machine.Invariants.{ForksAreCounted, IsWorld, MountInvariants, NamespaceInvariants, OverlayInvariants, TreeInvariants, is_within_limits}
-use Rattle.vt_spec.specs.Machine.Judge.{Judgement, judge_in}
+use Rattle.vt_spec.specs.Machine.Judge.{judge_in}
 use Rattle.vt_spec.specs.Machine.Mounts.{Location}
 use Rattle.vt_spec.specs.Machine.Namespaces.{namespace_entered, unshared}
 use Rattle.vt_spec.specs.Machine.Outcome.Descriptors.{is_copied_up, with_copy}
-use Rattle.vt_spec.specs.Machine.Outcome.Mounting.{plain_filesystem, with_new_filesystem}
+use Rattle.vt_spec.specs.Machine.Outcome.Mounting.{overlay_filesystem, plain_filesystem, with_new_filesystem}
 use Rattle.vt_spec.specs.Machine.Outcomes.{Outcome, after}
 use Rattle.vt_spec.specs.Machine.Permits.{Permit}
 use Rattle.vt_spec.specs.Machine.Permits.Permit.{Allowed, ToBind, ToChange, ToClose, ToEnterNamespace, ToExit, ToFork, ToList, ToListMounts, ToMake, ToMountOverlay, ToMountPlain, ToMove, ToOpen, ToOpenNew, ToPivot, ToRead, ToReadPart, ToRemoveDirectory, ToRename, ToSetCredentials, ToSetDirectory, ToSetFlags, ToSetRoot, ToSetType, ToSetUmask, ToStat, ToUnmount, ToUnmountLazily, ToUnshare, ToWritePart}
-use Rattle.vt_spec.specs.Machine.Policy.{call_outcome, filesystems_changed_by, finished, finished_by, only_looks, policy}
+use Rattle.vt_spec.specs.Machine.Policy.{call_outcome, finished_by, policy}
 use Rattle.vt_spec.specs.Machine.Run.{Serves}
 use Rattle.vt_spec.specs.Machine.Settled.{settled}
-use Rattle.vt_spec.specs.Machine.World.{Layer, Overlay, Task, World, filesystem_at, mount_numbered, task_called, without_task}
+use Rattle.vt_spec.specs.Machine.World.{Filesystem, Layer, Overlay, Task, World, filesystem_at, mount_numbered, task_called, without_task}
 use Rattle.vt_laws.proofs.CallsJudged.{call_is_judged_then_applied}
-use Rattle.vt_laws.proofs.OwnRules.{denial_changes_nothing}
-use Rattle.vt_laws.proofs.Unchanged.{look_changes_nothing}
 use Rattle.vt_letting_go.proofs.Lists.{all_from_among, passes}
 use Rattle.vt_mount_laws.proofs.MountsRetyped.{types_are_of_mounts}
 use Rattle.vt_mount_laws.proofs.UnmountingEnds.{lazy_is_of_mounts}
@@ -41,7 +34,6 @@ use Rattle.vt_layer_laws.proofs.ShownAtPath.{none_is_some}
 use Rattle.vt_world_laws.specs.Worlds.Kept.{IsUnderWay, MountsShow}
 use Rattle.vt_world_laws.specs.Worlds.Permits.{IsFitPermit, NamesWhatIsThere}
 use Rattle.vt_world_laws.specs.Worlds.Tasks.{LocationsAreThere, OneTaskAName, OpenFilesAreRegular, TasksStandOnDirectories}
-use Rattle.vt_world_laws.proofs.CallsKept.{name_found}
 use Rattle.vt_world_laws.proofs.FitPermitsNamed.{all_permits_fit}
 use Rattle.vt_world_laws.proofs.MountsKept.{all_mounts_kept}
 use Rattle.vt_world_laws.proofs.NamespacesKept.{all_namespaces_kept}
@@ -56,6 +48,7 @@ use Rattle.vt_overlay_permit_laws.specs.Unlocked.{SparesLocked, SparesLockedIf}
 use Rattle.vt_overlay_permit_laws.proofs.AskedOverlays.{permits_ask_properly}
 use Rattle.vt_overlay_permit_laws.proofs.KeptOverlays.{overlays_in, permits_keep_overlay_invariants, permits_make_their_change, trees_in}
 use Rattle.vt_overlay_permit_laws.proofs.NewPlain.{new_plain_overlays, new_plain_trees}
+use Rattle.vt_overlay_permit_laws.proofs.PolicyLeads.{policy_leads}
 use Rattle.vt_overlay_permit_laws.proofs.PlainChanges.{plain_change_keeps_overlays, plain_change_keeps_trees}
 use Rattle.vt_overlay_permit_laws.proofs.SweptWorlds.{settled_is_a_world}
 use Rattle.vt_overlay_permit_laws.proofs.UnlockedOthers.{permits_spare_what_is_locked}
@@ -94,47 +87,53 @@ writes world fresh (ToSetType mount word recursive) spares = tt
 writes world fresh (ToPivot new put) spares = tt
 writes world fresh ToListMounts spares = tt
 
--- What a permit leaves of filesystems that asks for no change
+-- What a permit leaves of filesystems that asks for no change: they are as they were, or there is one more, which is an overlay
+-- just where the permit is for the mount of one.
+pub data LeavesFilesystems (world : World ℕ) (fresh : Fresh ℕ) (task : Task ℕ) (permit : Permit ℕ) : Type 0 where
+  as_they_were : (apply nat_eq fresh world task permit).world.filesystems ≡ world.filesystems → LeavesFilesystems world fresh task permit
+  with_plain : (apply nat_eq fresh world task permit).world.filesystems ≡ world.filesystems ++ (plain_filesystem nat_eq fresh ∷ [])
+      → LeavesFilesystems world fresh task permit
+  with_overlay : (NamesWhatIsThere world task permit → ⊥) → (new : Filesystem ℕ)
+      → (apply nat_eq fresh world task permit).world.filesystems ≡ world.filesystems ++ (new ∷ []) → LeavesFilesystems world fresh task permit
+
 module _ (world : World ℕ) (fresh : Fresh ℕ) (task : Task ℕ) where
-  unchanged : (permit : Permit ℕ) → NamesWhatIsThere world task permit → change_asked fresh world permit ≡ None
-      → ((apply nat_eq fresh world task permit).world.filesystems ≡ world.filesystems)
-      ⊎ ((apply nat_eq fresh world task permit).world.filesystems ≡ world.filesystems ++ (plain_filesystem nat_eq fresh ∷ []))
-  unchanged Allowed names e = inl refl
-  unchanged (ToList directory) names e = inl refl
-  unchanged (ToStat object) names e = inl refl
-  unchanged (ToRead file) names e = inl refl
-  unchanged (ToReadPart file offset size) names e = inl refl
-  unchanged (ToChange location change) names e = none_is_some _ (sym e)
-  unchanged (ToMake directory name node) names e = none_is_some _ (sym e)
-  unchanged (ToRemoveDirectory parent name directory) names e = none_is_some _ (sym e)
-  unchanged (ToRename from old to new object replaced) names e = none_is_some _ (sym e)
-  unchanged (ToOpen file access) names e = inl (opens (is_copied_up nat_eq world file access) e)
+  pub unchanged : (permit : Permit ℕ) → change_asked fresh world permit ≡ None → LeavesFilesystems world fresh task permit
+  unchanged Allowed e = as_they_were refl
+  unchanged (ToList directory) e = as_they_were refl
+  unchanged (ToStat object) e = as_they_were refl
+  unchanged (ToRead file) e = as_they_were refl
+  unchanged (ToReadPart file offset size) e = as_they_were refl
+  unchanged (ToChange location change) e = none_is_some _ (sym e)
+  unchanged (ToMake directory name node) e = none_is_some _ (sym e)
+  unchanged (ToRemoveDirectory parent name directory) e = none_is_some _ (sym e)
+  unchanged (ToRename from old to new object replaced) e = none_is_some _ (sym e)
+  unchanged (ToOpen file access) e = as_they_were (opens (is_copied_up nat_eq world file access) e)
     where
       opens : (b : Bool) → when {A = Location ℕ × Change ℕ} b (file, CopyUp file.node) ≡ None → (with_copy nat_eq b fresh world file).filesystems ≡ world.filesystems
       opens true h = none_is_some _ (sym h)
       opens false h = refl
-  unchanged (ToOpenNew directory name node access) names e = none_is_some _ (sym e)
-  unchanged (ToWritePart file offset []) names e = inl refl
-  unchanged (ToWritePart file offset (byte ∷ bytes)) names e = none_is_some _ (sym e)
-  unchanged (ToClose descriptor) names e = inl refl
-  unchanged (ToSetDirectory directory) names e = inl refl
-  unchanged (ToSetRoot root) names e = inl refl
-  unchanged (ToSetUmask umask) names e = inl refl
-  unchanged (ToSetCredentials credentials) names e = inl refl
-  unchanged (ToFork credentials) names e = inl refl
-  unchanged ToExit names e = inl (taken_filesystems (without_task world task.name) _)
-  unchanged ToUnshare names e = inl (taken_filesystems (unshared nat_eq world fresh task) _)
-  unchanged (ToEnterNamespace namespace) names e = inl (taken_filesystems (namespace_entered nat_eq world task namespace) _)
-  unchanged (ToMountPlain place flags) names e = inr refl
-  unchanged (ToMountOverlay place overlay flags) names e = absurd names
-  unchanged (ToBind source place recursive) names e = inl refl
-  unchanged (ToMove mount place) names e = inl refl
-  unchanged (ToUnmount mount) names e = inl (taken_filesystems world (going nat_eq world (mount_numbered nat_eq world mount)))
-  unchanged (ToUnmountLazily mount) names e = inl (lazy_is_of_mounts world mount).filesystems
-  unchanged (ToSetFlags mount flags) names e = inl refl
-  unchanged (ToSetType mount word recursive) names e = inl (types_are_of_mounts world fresh mount word recursive).filesystems
-  unchanged (ToPivot new put) names e = inl refl
-  unchanged ToListMounts names e = inl refl
+  unchanged (ToOpenNew directory name node access) e = none_is_some _ (sym e)
+  unchanged (ToWritePart file offset []) e = as_they_were refl
+  unchanged (ToWritePart file offset (byte ∷ bytes)) e = none_is_some _ (sym e)
+  unchanged (ToClose descriptor) e = as_they_were refl
+  unchanged (ToSetDirectory directory) e = as_they_were refl
+  unchanged (ToSetRoot root) e = as_they_were refl
+  unchanged (ToSetUmask umask) e = as_they_were refl
+  unchanged (ToSetCredentials credentials) e = as_they_were refl
+  unchanged (ToFork credentials) e = as_they_were refl
+  unchanged ToExit e = as_they_were (taken_filesystems (without_task world task.name) _)
+  unchanged ToUnshare e = as_they_were (taken_filesystems (unshared nat_eq world fresh task) _)
+  unchanged (ToEnterNamespace namespace) e = as_they_were (taken_filesystems (namespace_entered nat_eq world task namespace) _)
+  unchanged (ToMountPlain place flags) e = with_plain refl
+  unchanged (ToMountOverlay place overlay flags) e = with_overlay (λ names. names) (overlay_filesystem nat_eq (evens fresh) world overlay) refl
+  unchanged (ToBind source place recursive) e = as_they_were refl
+  unchanged (ToMove mount place) e = as_they_were refl
+  unchanged (ToUnmount mount) e = as_they_were (taken_filesystems world (going nat_eq world (mount_numbered nat_eq world mount)))
+  unchanged (ToUnmountLazily mount) e = as_they_were (lazy_is_of_mounts world mount).filesystems
+  unchanged (ToSetFlags mount flags) e = as_they_were refl
+  unchanged (ToSetType mount word recursive) e = as_they_were (types_are_of_mounts world fresh mount word recursive).filesystems
+  unchanged (ToPivot new put) e = as_they_were refl
+  unchanged ToListMounts e = as_they_were refl
 
 -- A granted call
 module _ (world : World ℕ) (fresh : Fresh ℕ) (task : Task ℕ) (call : Call) (permit : Permit ℕ)
@@ -170,9 +169,6 @@ module _ (world : World ℕ) (fresh : Fresh ℕ) (task : Task ℕ) (call : Call)
   with_a_change : (location : Location ℕ) (change : Change ℕ) → change_asked fresh world permit ≡ Some (location, change) → Files after_permit
   with_a_change location change e = by (filesystem_at nat_eq world location).overlay refl
     where
-
-
-
       same : after_permit.filesystems ≡ (with_change nat_eq (numbers_left fresh permit) world location change).filesystems
       same = permits_make_their_change world fresh task permit location change e
 
@@ -191,8 +187,7 @@ module _ (world : World ℕ) (fresh : Fresh ℕ) (task : Task ℕ) (call : Call)
       by None p =
           let proper = permits_ask_properly world fresh task call permit location change is serves found granted e in
           let spares : SparesLocked world location change = subst (SparesLockedIf world) e spared in
-          files_in after_permit (with_change nat_eq (numbers_left fresh permit) world location change) same
-          (
+          files_in after_permit (with_change nat_eq (numbers_left fresh permit) world location change) same (
             plain_change_keeps_trees (numbers_left fresh permit) world location change is p proper.0 proper.1 spares,
             plain_change_keeps_overlays (numbers_left fresh permit) world location change is p proper.0 proper.1 spares,
           )
@@ -201,12 +196,15 @@ module _ (world : World ℕ) (fresh : Fresh ℕ) (task : Task ℕ) (call : Call)
   files_kept : Files after_permit
   files_kept = by (change_asked fresh world permit) refl
     where
+      left : LeavesFilesystems world fresh task permit → Files after_permit
+      left (as_they_were same) = files_in after_permit world same (is.files, is.overlays)
+      left (with_plain more) =
+          files_in after_permit (with_new_filesystem world (plain_filesystem nat_eq fresh)) more
+          (new_plain_trees world fresh is serves, new_plain_overlays world fresh is serves)
+      left (with_overlay not_named new more) = absurd (not_named fits.names)
+
       by : (o : Option (Location ℕ × Change ℕ)) → change_asked fresh world permit ≡ o → Files after_permit
-      by None e =
-          ⊎_elim (λ same. files_in after_permit world same (is.files, is.overlays))
-          (λ more. files_in after_permit (with_new_filesystem world (plain_filesystem nat_eq fresh)) more
-          (new_plain_trees world fresh is serves, new_plain_overlays world fresh is serves))
-          (unchanged world fresh task permit fits.names e)
+      by None e = left (unchanged world fresh task permit e)
       by (Some made) e = with_a_change made.0 made.1 e
 
   within : is_within_limits task ≡ true
@@ -215,7 +213,7 @@ module _ (world : World ℕ) (fresh : Fresh ℕ) (task : Task ℕ) (call : Call)
       (all_from_among (λ (t : Task ℕ). is_within_limits t ≡ true) world.tasks
       (passes is_within_limits world.tasks is.tasks.small_tasks)) found
 
-  under : IsUnderWay after_call
+  pub under : IsUnderWay after_call
   under = record {
     files = kept_by_call (TreeInvariants nat_eq) files_kept.0;
     mounts = kept_by_call (MountInvariants nat_eq) (all_mounts_kept world fresh task permit is serves found fits);
@@ -234,12 +232,15 @@ module _ (world : World ℕ) (fresh : Fresh ℕ) (task : Task ℕ) (call : Call)
     roots = kept_by_call MountsShow (all_permits_keep_mounts_showing world fresh task permit is serves found fits);
   }
 
+  pub overlays_kept : OverlayInvariants nat_eq after_call
+  overlays_kept = kept_by_call (OverlayInvariants nat_eq) files_kept.1
+
   -- and then what nothing uses goes, and numbers are raised
   finished_keeps : (name : TaskName) (changed : List ℕ)
       → IsWorld nat_eq (finished_by nat_eq false world name changed (call_outcome nat_eq fresh world task call)).world
   finished_keeps name changed =
       raising_keeps_worlds world name changed (settled nat_eq after_call)
-      (settled_is_a_world after_call under (kept_by_call (OverlayInvariants nat_eq) files_kept.1))
+      (settled_is_a_world after_call under overlays_kept)
 
 module _ (world : World ℕ) (fresh : Fresh ℕ) (name : TaskName) (is : IsWorld nat_eq world) (serves : Serves nat_eq world fresh) where
   overlay_call : (call : Call) → mounts_overlay call ≡ true → IsWorld nat_eq (policy nat_eq fresh world name call).world
@@ -283,74 +284,10 @@ module _ (world : World ℕ) (fresh : Fresh ℕ) (name : TaskName) (is : IsWorld
   overlay_call (PivotRoot new put) e = absurd (true≢false (sym e))
   overlay_call ListMounts e = absurd (true≢false (sym e))
 
-  module _ (call : Call) (other : mounts_overlay call ≡ false) (few : names_few_groups call ≡ true) where
-    abbrev Left : Type 0
-    Left = IsWorld nat_eq (policy nat_eq fresh world name call).world
-
-    stays : (policy nat_eq fresh world name call).world ≡ world → Left
-    stays same = subst (IsWorld nat_eq) (sym same) is
-
-    refused : (answer : Result Answer Deny) → (policy nat_eq fresh world name call).answer ≡ answer → is_ok answer ≡ false → Left
-    refused (Ok a) e denied = absurd (true≢false denied)
-    refused (Err deny) e denied = stays (denial_changes_nothing fresh world name call deny e)
-
-    -- the call of a task that is there
-    called : (task : Task ℕ) → task_called world name ≡ Some task → Left
-    called task found = by (only_looks call || not (is_ok outcome.answer)) refl
-      where
-        changed : List ℕ
-        changed = filesystems_changed_by nat_eq world (judge_in nat_eq fresh world task call)
-
-        outcome : Outcome ℕ
-        outcome = call_outcome nat_eq fresh world task call
-
-        it_is : policy nat_eq fresh world name call ≡ finished nat_eq world name call changed outcome
-        it_is = ap (λ o. after world (ok_or o (denial S2))
-            (λ t. finished nat_eq world name call
-            (filesystems_changed_by nat_eq world (judge_in nat_eq fresh world t call))
-            (call_outcome nat_eq fresh world t call))) found
-
-        by : (b : Bool) → (only_looks call || not (is_ok outcome.answer)) ≡ b → Left
-        by true e = looking (only_looks call) refl e
-          where
-            same : policy nat_eq fresh world name call ≡ outcome
-            same = it_is ∙ ap (λ b. finished_by nat_eq b world name changed outcome) e
-
-            not_ok : (b : Bool) → not b ≡ true → b ≡ false
-            not_ok true f = absurd (true≢false (sym f))
-            not_ok false f = refl
-
-            looking : (b : Bool) → only_looks call ≡ b → (b || not (is_ok outcome.answer)) ≡ true → Left
-            looking true looks f = stays (look_changes_nothing fresh world name call looks)
-            looking false looks f =
-                refused outcome.answer (ap (λ (o : Outcome ℕ). o.answer) same) (not_ok (is_ok outcome.answer) f)
-        by false e = judged (judge_in nat_eq fresh world task call) refl
-          where
-            same : policy nat_eq fresh world name call ≡ finished_by nat_eq false world name changed outcome
-            same = it_is ∙ ap (λ b. finished_by nat_eq b world name changed outcome) e
-
-            judged : (judgement : Judgement ℕ) → judge_in nat_eq fresh world task call ≡ judgement → Left
-            judged (Err deny) f =
-                absurd (true≢false
-                (sym (ap (λ (o : Outcome ℕ). not (is_ok o.answer))
-                (call_is_judged_then_applied fresh world task call
-                ∙ ap (λ j. after world j (apply nat_eq fresh world task)) f))
-                ∙ (or_parts (only_looks call) (not (is_ok outcome.answer)) e).1))
-            judged (Ok permit) f =
-                subst (IsWorld nat_eq) (sym (ap (λ (o : Outcome ℕ). o.world) same))
-                (finished_keeps world fresh task call permit is serves
-                (ap (task_called world) (sym (name_found world name task found)) ∙ found) other few f name changed)
-
-    not_mounting : Left
-    not_mounting = by (task_called world name) refl
-      where
-        by : (o : Option (Task ℕ)) → task_called world name ≡ o → Left
-        by None e =
-            stays (ap (λ o. (after world (ok_or o (denial S2))
-            (λ t. finished nat_eq world name call
-            (filesystems_changed_by nat_eq world (judge_in nat_eq fresh world t call))
-            (call_outcome nat_eq fresh world t call))).world) e)
-        by (Some task) e = called task e
+  not_mounting : (call : Call) → mounts_overlay call ≡ false → names_few_groups call ≡ true → IsWorld nat_eq (policy nat_eq fresh world name call).world
+  not_mounting call other few =
+      policy_leads (IsWorld nat_eq) world fresh name call is (λ task permit changed found granted.
+      finished_keeps world fresh task call permit is serves found other few granted name changed)
 
 pub every_call_keeps_worlds : EveryCallKeepsWorlds
 every_call_keeps_worlds world fresh name call is serves few = by (mounts_overlay call) refl

@@ -23,7 +23,7 @@ request_keeps world fresh is serves (Some (Calling name call)) few = every_call_
 request_keeps world fresh is serves (Some (Asking directive)) few =
     subst (IsWorld nat_eq) (sym (directive_changes_nothing world directive)) is
 
-line_keeps : (long silent : Bool) (grammar : Grammar) (world : World ℕ) (line : List ℕ) (fresh : Fresh ℕ) → IsWorld nat_eq world
+pub line_keeps : (long silent : Bool) (grammar : Grammar) (world : World ℕ) (line : List ℕ) (fresh : Fresh ℕ) → IsWorld nat_eq world
     → Serves nat_eq world fresh
     → IsWorld nat_eq (step_world world (line_step_by nat_eq long silent grammar world line (Some fresh)))
 line_keeps true silent grammar world line fresh is serves = is
@@ -31,7 +31,7 @@ line_keeps false true grammar world line fresh is serves = is
 line_keeps false false grammar world line fresh is serves =
     request_keeps world fresh is serves (request_of grammar line) (lines_name_few grammar line)
 
-lines_keep : (grammar : Grammar) (world : World ℕ) (lines : List (List ℕ)) (refused : List Bool) (left : World ℕ)
+pub lines_keep : (grammar : Grammar) (world : World ℕ) (lines : List (List ℕ)) (refused : List Bool) (left : World ℕ)
     → IsWorld nat_eq world → LeadsTo grammar world lines refused left → IsWorld nat_eq left
 lines_keep grammar world [] refused left is leads = subst (IsWorld nat_eq) (sym leads) is
 lines_keep grammar world (line ∷ lines) [] left is leads = absurd leads

@@ -13,9 +13,8 @@ use Rattle.vt_spec.specs.Machine.Outcome.Descriptors.{is_copied_up, with_copy}
 use Rattle.vt_spec.specs.Machine.Permits.{Permit}
 use Rattle.vt_spec.specs.Machine.Permits.Permit.{Allowed, ToBind, ToChange, ToClose, ToEnterNamespace, ToExit, ToFork, ToList, ToListMounts, ToMake, ToMountOverlay, ToMountPlain, ToMove, ToOpen, ToOpenNew, ToPivot, ToRead, ToReadPart, ToRemoveDirectory, ToRename, ToSetCredentials, ToSetDirectory, ToSetFlags, ToSetRoot, ToSetType, ToSetUmask, ToStat, ToUnmount, ToUnmountLazily, ToUnshare, ToWritePart}
 use Rattle.vt_spec.specs.Machine.World.{Filesystem, Layer, Overlay, Task, World, filesystem_numbered, mount_at}
-use Rattle.vt_spec.specs.TreeLaws.{IsReached}
 use Rattle.vt_layer_laws.proofs.LowersMounts.{same_filesystems_without, same_mounted_without}
-use Rattle.vt_overlay_laws.proofs.ApartInvariants.{overlay_invariants_stay, tree_invariants_stay, trees_stay}
+use Rattle.vt_overlay_laws.proofs.ApartInvariants.{overlay_invariants_stay, tree_invariants_stay}
 use Rattle.vt_overlay_permit_laws.specs.Asked.{change_asked}
 use Rattle.vt_overlay_permit_laws.specs.Changed.{numbers_left}
 use Rattle.vt_overlay_permit_laws.specs.Kept.{PermitsKeepOverlayInvariants, PermitsMakeTheirChange}

@@ -12,5 +12,9 @@ pub mod SweptOverlays
 pub mod SweptInodes
 pub mod NewPlain
 pub mod SweptWorlds
+pub mod PolicyLeads
 pub mod EveryCall
 pub mod EveryScript
+pub mod LowersGoOn
+pub mod LowersAfterCalls
+pub mod LowersOverScripts

@@ -27,6 +27,20 @@ use Rattle.vt_world_laws.proofs.SeenTrees.{unused_by_filesystem}
 use Rattle.vt_overlay_permit_laws.proofs.OverlaysGoOn.{GoesOn, are_trees, overlays_go_on, plain_layer}
 use Rattle.vt_overlay_permit_laws.proofs.SweptOverlays.{leads_same, shown_among, upper_among}
 
+-- a filesystem that is found is found in front of another one
+pub found_first : (number : ℕ) (last : Filesystem ℕ) (list : List (Filesystem ℕ)) (f : Filesystem ℕ)
+    → find (λ (f : Filesystem ℕ). nat_eq number f.number) list ≡ Some f
+    → find (λ (f : Filesystem ℕ). nat_eq number f.number) (list ++ last ∷ []) ≡ Some f
+found_first number last [] f e = none_is_some f e
+found_first number last (first ∷ rest) f e = by (nat_eq number first.number) e (found_first number last rest f)
+  where
+    by : (b : Bool) → cond b (Some first) (find (λ (f : Filesystem ℕ). nat_eq number f.number) rest) ≡ Some f
+        → (find (λ (f : Filesystem ℕ). nat_eq number f.number) rest ≡ Some f
+        → find (λ (f : Filesystem ℕ). nat_eq number f.number) (rest ++ last ∷ []) ≡ Some f)
+        → cond b (Some first) (find (λ (f : Filesystem ℕ). nat_eq number f.number) (rest ++ last ∷ [])) ≡ Some f
+    by true e on = e
+    by false e on = on e
+
 module _ (world : World ℕ) (fresh : Fresh ℕ) (conditions : IsWorld nat_eq world) (serves : Serves nat_eq world fresh) where
   abbrev new : Filesystem ℕ
   new = plain_filesystem nat_eq fresh
@@ -55,15 +69,6 @@ module _ (world : World ℕ) (fresh : Fresh ℕ) (conditions : IsWorld nat_eq wo
   abbrev looked_up : ℕ → List (Filesystem ℕ) → Option (Filesystem ℕ)
   looked_up number list = find (λ (f : Filesystem ℕ). nat_eq number f.number) list
 
-  found_first : (number : ℕ) (list : List (Filesystem ℕ)) (f : Filesystem ℕ) → looked_up number list ≡ Some f → looked_up number (list ++ new ∷ []) ≡ Some f
-  found_first number [] f e = none_is_some f e
-  found_first number (first ∷ rest) f e = by (nat_eq number first.number) e (found_first number rest f)
-    where
-      by : (b : Bool) → cond b (Some first) (looked_up number rest) ≡ Some f
-          → (looked_up number rest ≡ Some f → looked_up number (rest ++ new ∷ []) ≡ Some f) → cond b (Some first) (looked_up number (rest ++ new ∷ [])) ≡ Some f
-      by true e on = e
-      by false e on = on e
-
   not_first : (number : ℕ) (list : List (Filesystem ℕ)) → looked_up number list ≡ None → looked_up number (list ++ new ∷ []) ≡ looked_up number (new ∷ [])
   not_first number [] e = refl
   not_first number (first ∷ rest) e = by (nat_eq number first.number) e (not_first number rest)
@@ -77,7 +82,7 @@ module _ (world : World ℕ) (fresh : Fresh ℕ) (conditions : IsWorld nat_eq wo
   stays_found : (number : ℕ) (f : Filesystem ℕ) → looked_up number world.filesystems ≡ Some f
       → filesystem_numbered nat_eq later number ≡ filesystem_numbered nat_eq world number
   stays_found number f e =
-      ap (λ o. unwrap_or o (no_filesystem number)) (found_first number world.filesystems f e)
+      ap (λ o. unwrap_or o (no_filesystem number)) (found_first number new world.filesystems f e)
       ∙ ap (λ o. unwrap_or o (no_filesystem number)) (sym e)
 
   inode_stays : (number inode : ℕ) → is_some ((filesystem_numbered nat_eq world number).files.tree.node inode) ≡ true

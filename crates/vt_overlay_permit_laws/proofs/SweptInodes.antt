@@ -304,7 +304,7 @@ module _ (world : World ℕ) (files : HasFileTrees world) (one : any_pair (λ (a
             by true h = h
             by false h = none_is_some (Upper object) h
 
-  first_goes : (number : ℕ) (after : Overlay ℕ) → (filesystem_numbered nat_eq first_later number).overlay ≡ Some after → GoesOn world first_later number after
+  pub first_goes : (number : ℕ) (after : Overlay ℕ) → (filesystem_numbered nat_eq first_later number).overlay ≡ Some after → GoesOn world first_later number after
   first_goes number after e = by (filesystem_numbered nat_eq world number).overlay refl
     where
       found : IsFound is_overlay world files one number
@@ -456,7 +456,7 @@ module _ (world : World ℕ) (files : HasFileTrees world) (one : any_pair (λ (a
       reached = λ top e. layer_reached top (upper_among overlay top e) (are.uppers_reached number overlay top is e);
     }
 
-  second_goes : (number : ℕ) (after : Overlay ℕ) → (filesystem_numbered nat_eq second_later number).overlay ≡ Some after → GoesOn world second_later number after
+  pub second_goes : (number : ℕ) (after : Overlay ℕ) → (filesystem_numbered nat_eq second_later number).overlay ≡ Some after → GoesOn world second_later number after
   second_goes number after e = by (filesystem_numbered nat_eq world number).overlay refl
     where
       found_it : IsFound is_plain world files one number

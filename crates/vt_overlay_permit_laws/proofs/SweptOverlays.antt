@@ -190,7 +190,7 @@ module _ (world : World ℕ) (files : AreTrees world) (are : OverlayInvariants n
         (eq-eqb f.number layer.filesystem (number_of_filesystem world layer.filesystem)))
         (ap (is_mounted nat_eq world) (number_of_filesystem world number) ∙ is_mounted_itself))))
 
-    living_goes : GoesOn world living number overlay
+    pub living_goes : GoesOn world living number overlay
     living_goes = record {
       before = overlay;
       is = was;

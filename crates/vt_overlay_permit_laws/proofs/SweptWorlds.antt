@@ -42,19 +42,19 @@ module _ (world : World ℕ) (under : IsUnderWay world) (are : OverlayInvariants
   one : any_pair (λ (a b : Filesystem ℕ). nat_eq a.number b.number) world.filesystems ≡ false
   one = under.files.one_filesystem
 
-  mounted_overlays : OverlayInvariants nat_eq mounted
+  pub mounted_overlays : OverlayInvariants nat_eq mounted
   mounted_overlays = overlays_in mounted world refl are
 
-  files_living : HasFileTrees living
+  pub files_living : HasFileTrees living
   files_living = All-filter (filesystem_lives nat_eq mounted) (λ (f : Filesystem ℕ). IsFileTree f.files) world.filesystems files
 
-  one_living : any_pair (λ (a b : Filesystem ℕ). nat_eq a.number b.number) living.filesystems ≡ false
+  pub one_living : any_pair (λ (a b : Filesystem ℕ). nat_eq a.number b.number) living.filesystems ≡ false
   one_living = (living_files mounted (file_trees_are mounted files one) mounted_overlays).one_filesystem
 
-  overlays_living : OverlayInvariants nat_eq living
+  pub overlays_living : OverlayInvariants nat_eq living
   overlays_living = living_overlays mounted (file_trees_are mounted files one) mounted_overlays
 
-  overlays_first : OverlayInvariants nat_eq first
+  pub overlays_first : OverlayInvariants nat_eq first
   overlays_first = first_overlays living files_living one_living overlays_living
 
   overlays_second : OverlayInvariants nat_eq second

@@ -10,8 +10,7 @@ use Rattle.vt_spec.specs.Machine.Mounts.{Location}
 use Rattle.vt_spec.specs.Machine.Permits.{Permit}
 use Rattle.vt_spec.specs.Machine.Permits.Permit.{ToMake, ToOpenNew}
 use Rattle.vt_spec.specs.Machine.Run.{Serves}
-use Rattle.vt_spec.specs.Machine.World.{Layer, Overlay, Task, World, filesystem_at, filesystem_numbered, task_called}
-use Rattle.vt_spec.specs.TreeLaws.{IsReached}
+use Rattle.vt_spec.specs.Machine.World.{Layer, Overlay, Task, World, filesystem_at, task_called}
 use Rattle.vt_layer_laws.specs.Layers.Untouched.{inode_in}
 use Rattle.vt_overlay_laws.specs.WholeChanges.{IsAskedWell}
 use Rattle.vt_overlays_let_go.specs.OverlayChanges.{CanChange}

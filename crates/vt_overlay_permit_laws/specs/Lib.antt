@@ -3,3 +3,4 @@ pub mod Changed
 pub mod Kept
 pub mod Unlocked
 pub mod EveryWorld
+pub mod LockedOverScripts

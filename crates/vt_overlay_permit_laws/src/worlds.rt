@@ -1,4 +1,5 @@
 //! Every world that a script leads to has the invariants of a world, with overlays too.
+ghost use Rattle.vt_overlay_permit_laws.specs.LockedOverScripts.{EveryCallLeavesLowers, LowersStayOverScripts};
 ghost use Rattle.vt_overlay_permit_laws.specs.EveryWorld.{EveryCallKeepsWorlds, EveryScriptLeadsToWorlds, SettlingLeavesEveryWorld};
 
 /// Every call, granted or refused, leaves a world that has all invariants, if the world before had them and the numbers handed in
@@ -18,4 +19,11 @@ pub fn every_script_leads_to_worlds()
 /// layers live with them, and what is left of each is what its layers show.
 pub fn the_sweep_leaves_a_world()
     ensures { SettlingLeavesEveryWorld }
+{}
+
+/// What lies under the lower layers of an overlay is locked from its mounting until it is no longer live: in each call of each task,
+/// granted or refused, and over whole scripts. An overlay goes by its number here; while it is live no other filesystem has that.
+pub fn lower_layers_are_locked_over_scripts()
+    ensures calls { EveryCallLeavesLowers }
+    ensures scripts { LowersStayOverScripts }
 {}
