@@ -18,21 +18,21 @@ use Rattle.vt_permits.specs.Allocating.{TakesMemory}
 use Rattle.vt_permits.specs.Memory.{IsAfterReceivers}
 
 -- S5 stands in place of a grant, or of a rule that is checked after receivers are gathered
-abbrev pub MayBeRefusedMemory : Result spec.Answer Deny → Type 0
-MayBeRefusedMemory (Ok answer) = ⊤
-MayBeRefusedMemory (Err refusal) = IsAfterReceivers refusal
+abbrev pub MayBeRefusedMemory : Call → Result spec.Answer Deny → Type 0
+MayBeRefusedMemory call (Ok answer) = ⊤
+MayBeRefusedMemory call (Err refusal) = IsAfterReceivers call refusal
 
 -- of code's worlds, each of which the definitions see so
 module _ {W : Type 0} (seen : W → World ℕ) where
   -- as the outcome says, or refused memory; a denial changes nothing
-  abbrev pub Meets : Outcome ℕ → Result Answer Deny → W → W → Type 0
-  Meets outcome (Ok answer) old new = (outcome.answer ≡ Ok (answer_of answer)) × SameWorlds outcome.world (seen new)
-  Meets outcome (Err deny) old new =
-      ((outcome.answer ≡ Err deny) ⊎ ((deny ≡ denial S5) × MayBeRefusedMemory outcome.answer)) × (new ≡ old)
+  abbrev pub Meets : Call → Outcome ℕ → Result Answer Deny → W → W → Type 0
+  Meets call outcome (Ok answer) old new = (outcome.answer ≡ Ok (answer_of answer)) × SameWorlds outcome.world (seen new)
+  Meets call outcome (Err deny) old new =
+      ((outcome.answer ≡ Err deny) ⊎ ((deny ≡ denial S5) × MayBeRefusedMemory call outcome.answer)) × (new ≡ old)
 
   -- how a call of a task ends: as the policy says, for some numbers that serve the world and leave endless numbers over
   pub record Ends (old : W) (name : TaskName) (call : Call) (result : Result Answer Deny) (new : W) : Type 0 where
     pub allotment : Allotment
     pub serves : ServesInHand may_be_given (seen old) allotment
-    pub outcome : Meets (policy nat_eq allotment.new (seen old) name call) result old new
+    pub outcome : Meets call (policy nat_eq allotment.new (seen old) name call) result old new
     pub memory : ¬ TakesMemory call → result_of result ≡ (policy nat_eq allotment.new (seen old) name call).answer

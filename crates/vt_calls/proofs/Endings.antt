@@ -57,7 +57,7 @@ module _ (value : WorldValue) (name : TaskName) (call : Call) (held : IsHeld val
 
   -- for want of memory
   short_by : (deny : Deny) → deny ≡ denial S5
-      → MayBeRefusedMemory (policy nat_eq (counts_from value.next) (world_of value) name call).answer
+      → MayBeRefusedMemory call (policy nat_eq (counts_from value.next) (world_of value) name call).answer
       → (¬ TakesMemory call → ⊥) → Ends value name call (Err deny) value
   short_by deny short may takes =
       let supplied = counts value held in record {
@@ -66,7 +66,7 @@ module _ (value : WorldValue) (name : TaskName) (call : Call) (held : IsHeld val
         outcome = (
           inr (
             short,
-            subst (λ fresh. MayBeRefusedMemory (policy nat_eq fresh (world_of value) name call).answer) (sym supplied.1) may,
+            subst (λ fresh. MayBeRefusedMemory call (policy nat_eq fresh (world_of value) name call).answer) (sym supplied.1) may,
           ),
           refl,
         );
@@ -85,12 +85,12 @@ module _ (value : WorldValue) (name : TaskName) (call : Call) (held : IsHeld val
   -- as it is judged
   pub refused : (task : Task ℕ) → task_called (world_of value) name ≡ Some task → (judged : Judgement ℕ)
       → judge_in nat_eq (counts_from value.next) (world_of value) task call ≡ judged → (deny : Deny)
-      → JudgesByReceivers task judged (Err deny) → (¬ TakesMemory call → JudgesAlike task judged (Err deny))
+      → JudgesByReceivers call task judged (Err deny) → (¬ TakesMemory call → JudgesAlike task judged (Err deny))
       → Ends value name call (Err deny) value
   refused task called (Ok permit) e deny short alike =
       let granted = grants (counts_from value.next) (world_of value) task permit in
       short_by deny short
-      (subst MayBeRefusedMemory
+      (subst (MayBeRefusedMemory call)
       (sym (answers (counts_from value.next) (world_of value) name task call called (Ok permit) e ∙ granted.1)) tt)
       (λ none. let same : Ok permit ≡ Err deny = alike none in cc)
   refused task called (Err refusal) e deny (inl same) alike =
@@ -106,7 +106,7 @@ module _ (value : WorldValue) (name : TaskName) (call : Call) (held : IsHeld val
           ap (λ fresh. (policy nat_eq fresh (world_of value) name call).answer) supplied.1 ∙ is in record {
             allotment = supplied.0;
             serves = supplied.2;
-            outcome = (inr (short, subst MayBeRefusedMemory (sym handed) late), refl);
+            outcome = (inr (short, subst (MayBeRefusedMemory call) (sym handed) late), refl);
             memory = λ none. let judged : Err refusal ≡ Err deny =
                 alike none in let same : refusal ≡ deny = cc in sym (handed ∙ ap Err same);
           }
@@ -125,15 +125,15 @@ module _ (old : WorldValue) (name : TaskName) (call : Call) (permit : code.Permi
       let fresh = supply_of old granted in
       let supplied = allotted old given.held granted vacant in
       let judged : judge_in nat_eq fresh (world_of old) given.task call ≡ Ok granted = judged_with old name call permit given fresh in
-      let meets : Meets (policy nat_eq fresh (world_of old) name call) (Ok answer) old new = (
+      let meets : Meets call (policy nat_eq fresh (world_of old) name call) (Ok answer) old new = (
         answers fresh (world_of old) name given.task call given.called (Ok granted) judged ∙ told,
         sameness_is_an_equivalence.onward (policy nat_eq fresh (world_of old) name call).world (left_by old given.task granted)
             (world_of new)
             (leaves fresh (world_of old) name given.task call given.called granted judged given.held.in_world.nothing_unused)
             (becomes given.task given.called),
       ) in
-      let handed : Meets (policy nat_eq supplied.0.new (world_of old) name call) (Ok answer) old new =
-      subst (λ numbers. Meets (policy nat_eq numbers (world_of old) name call) (Ok answer) old new) (sym supplied.1) meets in record {
+      let handed : Meets call (policy nat_eq supplied.0.new (world_of old) name call) (Ok answer) old new =
+      subst (λ numbers. Meets call (policy nat_eq numbers (world_of old) name call) (Ok answer) old new) (sym supplied.1) meets in record {
         allotment = supplied.0;
         serves = supplied.2;
         outcome = handed;
@@ -148,7 +148,7 @@ module _ (old : WorldValue) (name : TaskName) (call : Call) (permit : code.Permi
       let told = grants fresh (world_of old) given.task granted in
       subst (Ends old name call (Err deny)) (sym same)
       (short_by old name call given.held deny short
-      (subst MayBeRefusedMemory
+      (subst (MayBeRefusedMemory call)
       (sym (answers fresh (world_of old) name given.task call given.called (Ok granted) given.judged ∙ told.1)) tt)
       (frees (looks_of nat_eq (world_of old)) (overfills nat_eq fresh (world_of old) given.task) given.task call granted given.judged
       taken))

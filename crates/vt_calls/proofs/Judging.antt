@@ -39,7 +39,7 @@ module _ (value : WorldValue) (name : TaskName) (asked : Call) (held : IsHeld va
   abbrev by_code : Judgement ℕ
   by_code = judge nat_eq (looks_of_value value) (overfills_of value) task (call_of asked)
 
-  pub given : (result : Result Permit Deny) → JudgesByReceivers task by_code result
+  pub given : (result : Result Permit Deny) → JudgesByReceivers (call_of asked) task by_code result
       → IfOk result (λ permit. IsPermitted value name (call_of asked) permit)
   given (Ok permit) judged = record {
     held = held;
@@ -51,12 +51,12 @@ module _ (value : WorldValue) (name : TaskName) (asked : Call) (held : IsHeld va
   }
   given (Err deny) judged = tt
 
-  pub denied : (result : Result Permit Deny) → JudgesByReceivers task by_code result
+  pub denied : (result : Result Permit Deny) → JudgesByReceivers (call_of asked) task by_code result
       → (¬ TakesMemory (call_of asked) → JudgesAlike task by_code result)
       → IfErr result (λ deny. Ends value name (call_of asked) (Err deny) value)
   denied (Ok permit) judged alike = tt
   denied (Err deny) judged alike =
       refused value name (call_of asked) held task called
       (judge_in nat_eq (counts_from value.next) (world_of value) task (call_of asked)) refl deny
-      (subst (λ j. JudgesByReceivers task j (Err deny)) tied judged)
+      (subst (λ j. JudgesByReceivers (call_of asked) task j (Err deny)) tied judged)
       (λ none. subst (λ j. JudgesAlike task j (Err deny)) tied (alike none))

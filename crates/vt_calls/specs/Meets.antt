@@ -7,7 +7,7 @@ use Rattle.vt_request.specs.declared.answer.Answer.{Answer}
 use Rattle.vt_answers.specs.Ends as any
 use Rattle.vt_detach.specs.WorldValue.{WorldValue, world_of}
 
-abbrev pub Meets : Outcome ℕ → Result Answer Deny → WorldValue → WorldValue → Type 0
+abbrev pub Meets : Call → Outcome ℕ → Result Answer Deny → WorldValue → WorldValue → Type 0
 Meets = any.Meets world_of
 
 abbrev pub Ends : WorldValue → TaskName → Call → Result Answer Deny → WorldValue → Type 0

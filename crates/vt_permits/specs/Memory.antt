@@ -4,6 +4,8 @@ use Rattle.std.specs.Prelude.{Err, Ok, Result, ◌≡◌, ◌⊎◌, ℕ}
 use Rattle.vt_spec.specs.declared.errors.Deny.{Deny}
 use Rattle.vt_spec.specs.declared.errors.Rule.TheVariants.{M10, M8, M9, S5}
 use Rattle.vt_spec.specs.Errors.{denial}
+use Rattle.vt_spec.specs.Language.Calls.{Call}
+use Rattle.vt_spec.specs.Language.Calls.Call.{Bind, MountPlain, MoveMount, Umount}
 use Rattle.vt_spec.specs.Machine.Judge.{Judgement}
 use Rattle.vt_spec.specs.Machine.World.{Task}
 use Rattle.vt_permits.specs.declared.permit.Permit.{Permit}
@@ -20,12 +22,17 @@ Judges task judged (Ok permit) = judged ≡ Ok (permit_of task permit)
 Judges task (Ok permit) (Err deny) = deny ≡ denial S5
 Judges task (Err refusal) (Err deny) = deny ≡ refusal
 
--- the rules for which the receivers of an event are gathered, and the rule that is checked after them: umount(2), mount(2)
-abbrev pub IsAfterReceivers : Deny → Type 0
-IsAfterReceivers refusal = (refusal ≡ denial M8) ⊎ (refusal ≡ denial M9) ⊎ (refusal ≡ denial M10)
+-- The rule of a call for which the receivers of its event are gathered, and the rule that is checked after it: umount(2), and
+-- mount(2) where it attaches mounts.
+abbrev pub IsAfterReceivers : Call → Deny → Type 0
+IsAfterReceivers (Umount path) refusal = (refusal ≡ denial M8) ⊎ (refusal ≡ denial M10)
+IsAfterReceivers (MountPlain path flags) refusal = refusal ≡ denial M9
+IsAfterReceivers (Bind source path recursive) refusal = refusal ≡ denial M9
+IsAfterReceivers (MoveMount source path) refusal = (refusal ≡ denial M9) ⊎ (refusal ≡ denial M10)
+IsAfterReceivers call refusal = ⊥
 
--- as the judgement, or S5 in place of a permit or of these rules
-abbrev pub JudgesByReceivers : Task ℕ → Judgement ℕ → Result Permit Deny → Type 0
-JudgesByReceivers task judged (Ok permit) = judged ≡ Ok (permit_of task permit)
-JudgesByReceivers task (Ok permit) (Err deny) = deny ≡ denial S5
-JudgesByReceivers task (Err refusal) (Err deny) = (deny ≡ refusal) ⊎ ((deny ≡ denial S5) × IsAfterReceivers refusal)
+-- as the judgement of a call, or S5 in place of a permit or of these rules
+abbrev pub JudgesByReceivers : Call → Task ℕ → Judgement ℕ → Result Permit Deny → Type 0
+JudgesByReceivers call task judged (Ok permit) = judged ≡ Ok (permit_of task permit)
+JudgesByReceivers call task (Ok permit) (Err deny) = deny ≡ denial S5
+JudgesByReceivers call task (Err refusal) (Err deny) = (deny ≡ refusal) ⊎ ((deny ≡ denial S5) × IsAfterReceivers call refusal)

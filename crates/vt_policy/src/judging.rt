@@ -31,7 +31,7 @@ pub fn judge<L: LookAtMounts>(
     who: &Task,
     call: Call,
 ) -> Result<Permit, Deny>
-    ensures judged { JudgesByReceivers (task_of who.now)
+    ensures judged { JudgesByReceivers (call_of call) (task_of who.now)
         (judge nat_eq (L.looks world.now) (L.overfills world.now) (task_of who.now) (call_of call)) result }
     ensures memory { ¬ TakesMemory (call_of call) → JudgesAlike (task_of who.now)
         (judge nat_eq (L.looks world.now) (L.overfills world.now) (task_of who.now) (call_of call)) result }
@@ -69,7 +69,7 @@ fn judge_on_file<L: LookAtMounts>(
     call: Call,
 ) -> Result<Permit, Deny>
     requires { is_on_file (call_of call) ≡ true }
-    ensures judged { JudgesByReceivers (task_of who.now)
+    ensures judged { JudgesByReceivers (call_of call) (task_of who.now)
         (judge nat_eq (L.looks world.now) (L.overfills world.now) (task_of who.now) (call_of call)) result }
     ensures memory { ¬ TakesMemory (call_of call) → JudgesAlike (task_of who.now)
         (judge nat_eq (L.looks world.now) (L.overfills world.now) (task_of who.now) (call_of call)) result }
@@ -103,7 +103,7 @@ fn judge_on_descriptor<L: LookAtMounts>(
     call: Call,
 ) -> Result<Permit, Deny>
     requires { is_on_descriptor (call_of call) ≡ true }
-    ensures judged { JudgesByReceivers (task_of who.now)
+    ensures judged { JudgesByReceivers (call_of call) (task_of who.now)
         (judge nat_eq (L.looks world.now) (L.overfills world.now) (task_of who.now) (call_of call)) result }
     ensures memory { ¬ TakesMemory (call_of call) → JudgesAlike (task_of who.now)
         (judge nat_eq (L.looks world.now) (L.overfills world.now) (task_of who.now) (call_of call)) result }
@@ -133,7 +133,7 @@ fn judge_on_descriptor<L: LookAtMounts>(
 #[inline(always)]
 fn judge_on_task<L: LookAtMounts>(world: &L, who: &Task, call: Call) -> Result<Permit, Deny>
     requires { is_on_task (call_of call) ≡ true }
-    ensures judged { JudgesByReceivers (task_of who.now)
+    ensures judged { JudgesByReceivers (call_of call) (task_of who.now)
         (judge nat_eq (L.looks world.now) (L.overfills world.now) (task_of who.now) (call_of call)) result }
     ensures memory { ¬ TakesMemory (call_of call) → JudgesAlike (task_of who.now)
         (judge nat_eq (L.looks world.now) (L.overfills world.now) (task_of who.now) (call_of call)) result }
@@ -159,7 +159,7 @@ fn judge_on_task<L: LookAtMounts>(world: &L, who: &Task, call: Call) -> Result<P
 #[inline(always)]
 fn judge_on_mount<L: LookAtMounts>(world: &L, who: &Task, call: Call) -> Result<Permit, Deny>
     requires { is_on_mount (call_of call) ≡ true }
-    ensures judged { JudgesByReceivers (task_of who.now)
+    ensures judged { JudgesByReceivers (call_of call) (task_of who.now)
         (judge nat_eq (L.looks world.now) (L.overfills world.now) (task_of who.now) (call_of call)) result }
     ensures memory { ¬ TakesMemory (call_of call) → JudgesAlike (task_of who.now)
         (judge nat_eq (L.looks world.now) (L.overfills world.now) (task_of who.now) (call_of call)) result }

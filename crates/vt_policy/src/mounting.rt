@@ -1,5 +1,6 @@
 //! Mount calls: mount(2) in its forms, umount(2).
 ghost use Rattle.std.specs.Prelude.{◌≡◌, nat_eq, Err, IfErr, IfOk};
+ghost use Rattle.vt_spec.specs.Language.Calls.Call.{Bind, MountPlain, MoveMount, Umount};
 ghost use Rattle.vt_spec.specs.Machine.Judge.{bind_permit, lazy_permit, mount_plain_permit, move_permit, remount_permit, type_permit, umount_permit};
 ghost use Rattle.vt_cred.specs.MountFlags.{flags_of};
 ghost use Rattle.vt_permits.specs.Memory.{JudgesAlike, JudgesByReceivers};
@@ -44,7 +45,7 @@ pub fn mount_plain<L: LookAtMounts>(
     path: &[u8],
     flags: MountFlags,
 ) -> Result<Permit, Deny>
-    ensures { JudgesByReceivers (task_of who.now)
+    ensures { JudgesByReceivers (MountPlain path.now (flags_of flags)) (task_of who.now)
         (mount_plain_permit nat_eq (L.looks world.now) (L.overfills world.now) (task_of who.now) path.now (flags_of flags)) result }
 {
     if lacks(who, Caps::CAP_SYS_ADMIN) {
@@ -69,7 +70,7 @@ pub fn bind<L: LookAtMounts>(
     path: &[u8],
     recursive: bool,
 ) -> Result<Permit, Deny>
-    ensures { JudgesByReceivers (task_of who.now)
+    ensures { JudgesByReceivers (Bind source.now path.now recursive) (task_of who.now)
         (bind_permit nat_eq (L.looks world.now) (L.overfills world.now) (task_of who.now) source.now path.now recursive) result }
 {
     if lacks(who, Caps::CAP_SYS_ADMIN) {
@@ -107,7 +108,7 @@ pub fn move_mount<L: LookAtMounts>(
     source: &[u8],
     path: &[u8],
 ) -> Result<Permit, Deny>
-    ensures { JudgesByReceivers (task_of who.now)
+    ensures { JudgesByReceivers (MoveMount source.now path.now) (task_of who.now)
         (move_permit nat_eq (L.looks world.now) (L.overfills world.now) (task_of who.now) source.now path.now) result }
 {
     if lacks(who, Caps::CAP_SYS_ADMIN) {
@@ -129,7 +130,8 @@ pub fn move_mount<L: LookAtMounts>(
 /// K1 (EPERM), and after the rules of the walk M2 (EINVAL), M7 (EINVAL), M8 (EBUSY), M10 (EINVAL).
 #[tactic(auto, unfolding(vt_spec::specs::Machine::Judge::umount_permit))]
 pub fn umount<L: LookAtMounts>(world: &L, who: &Task, path: &[u8]) -> Result<Permit, Deny>
-    ensures { JudgesByReceivers (task_of who.now) (umount_permit nat_eq (L.looks world.now) (task_of who.now) path.now) result }
+    ensures { JudgesByReceivers (Umount path.now) (task_of who.now)
+        (umount_permit nat_eq (L.looks world.now) (task_of who.now) path.now) result }
 {
     let here = root_at(world, who, path)?;
     if world.is_busy(here.mount)? {

@@ -1,12 +1,14 @@
 -- What code answers of a judgement: a refusal, a permit, or want of memory.
-use Rattle.std.proofs.Common.{◌≡◌, ℕ, Bool, true, false, [], ◌∷◌, Result, Ok, Err, inl, inr, ◌∙◌}
+use Rattle.std.proofs.Common.{◌≡◌, subst, ℕ, Bool, true, false, List, [], ◌∷◌, Result, Ok, Err, inl, inr, ◌∙◌}
 use Rattle.vt_spec.specs.declared.errors.Deny.{Deny}
 use Rattle.vt_spec.specs.declared.errors.Rule.TheVariants.{M10, M9, S5}
 use Rattle.vt_spec.specs.Errors.{denial, unless}
+use Rattle.vt_spec.specs.Language.Calls.{Call}
+use Rattle.vt_spec.specs.Language.Calls.Call.{MoveMount}
 use Rattle.vt_spec.specs.Machine.Judge.{Judgement}
 use Rattle.vt_spec.specs.Machine.Permits as meant
 use Rattle.vt_spec.specs.Machine.World.{Task}
-use Rattle.vt_permits.specs.Memory.{Judges, JudgesAlike, JudgesByReceivers}
+use Rattle.vt_permits.specs.Memory.{IsAfterReceivers, Judges, JudgesAlike, JudgesByReceivers}
 use Rattle.vt_permits.specs.declared.permit.Permit.{Permit}
 
 pub refused : (task : Task ℕ) (judged : Judgement ℕ) (deny : Deny) → judged ≡ Err deny → Judges task judged (Err deny)
@@ -18,27 +20,29 @@ pub without_memory : (task : Task ℕ) (judged : Judgement ℕ) (permit : meant.
 without_memory task (Ok other) permit deny e memory = memory
 without_memory task (Err refusal) permit deny e memory = absurd cc
 
-pub refused_before : (task : Task ℕ) (judged : Judgement ℕ) (deny : Deny) → judged ≡ Err deny
-    → JudgesByReceivers task judged (Err deny)
-refused_before task (Ok permit) deny e = absurd cc
-refused_before task (Err refusal) deny e = inl cc
+pub refused_before : (call : Call) (task : Task ℕ) (judged : Judgement ℕ) (deny : Deny) → judged ≡ Err deny
+    → JudgesByReceivers call task judged (Err deny)
+refused_before call task (Ok permit) deny e = absurd cc
+refused_before call task (Err refusal) deny e = inl cc
 
 -- want of memory for the receivers, before what is asked after them: ENOSPC of mount(2)
-pub no_receivers : (task : Task ℕ) (judged : Judgement ℕ) (overfull : Bool) (permit : meant.Permit ℕ) (deny : Deny)
-    → judged ≡ unless ((overfull, M9) ∷ []) (Ok permit) → deny ≡ denial S5 → JudgesByReceivers task judged (Err deny)
-no_receivers task (Ok other) overfull permit deny e memory = memory
-no_receivers task (Err refusal) true permit deny e memory = inr (memory, inr (inl cc))
-no_receivers task (Err refusal) false permit deny e memory = absurd cc
+pub no_receivers : (call : Call) (task : Task ℕ) (judged : Judgement ℕ) (overfull : Bool) (permit : meant.Permit ℕ) (deny : Deny)
+    → IsAfterReceivers call (denial M9)
+    → judged ≡ unless ((overfull, M9) ∷ []) (Ok permit) → deny ≡ denial S5 → JudgesByReceivers call task judged (Err deny)
+no_receivers call task (Ok other) overfull permit deny late e memory = memory
+no_receivers call task (Err refusal) true permit deny late e memory =
+    inr (memory, subst (IsAfterReceivers call) (let same : denial M9 ≡ refusal = cc in same) late)
+no_receivers call task (Err refusal) false permit deny late e memory = absurd cc
 
 -- the same of a move, with its last rule: EINVAL
-pub no_receivers_of_move : (task : Task ℕ) (judged : Judgement ℕ) (overfull rootless : Bool)
+pub no_receivers_of_move : (source path : List ℕ) (task : Task ℕ) (judged : Judgement ℕ) (overfull rootless : Bool)
     (permit : meant.Permit ℕ) (deny : Deny)
     → judged ≡ unless ((overfull, M9) ∷ (rootless, M10) ∷ []) (Ok permit) → deny ≡ denial S5
-    → JudgesByReceivers task judged (Err deny)
-no_receivers_of_move task (Ok other) overfull rootless permit deny e memory = memory
-no_receivers_of_move task (Err refusal) true rootless permit deny e memory = inr (memory, inr (inl cc))
-no_receivers_of_move task (Err refusal) false true permit deny e memory = inr (memory, inr (inr cc))
-no_receivers_of_move task (Err refusal) false false permit deny e memory = absurd cc
+    → JudgesByReceivers (MoveMount source path) task judged (Err deny)
+no_receivers_of_move source path task (Ok other) overfull rootless permit deny e memory = memory
+no_receivers_of_move source path task (Err refusal) true rootless permit deny e memory = inr (memory, inl cc)
+no_receivers_of_move source path task (Err refusal) false true permit deny e memory = inr (memory, inr cc)
+no_receivers_of_move source path task (Err refusal) false false permit deny e memory = absurd cc
 
 -- of one judgement code answers as of the same one, written otherwise
 pub answers_alike : (task : Task ℕ) (judged other : Judgement ℕ) (result : Result Permit Deny) → judged ≡ other

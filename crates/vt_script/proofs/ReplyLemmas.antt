@@ -117,7 +117,7 @@ module _ {W : Type 0} (sink : Ghosts W) where
     -- the reply to a call that met its outcome
     replies_met : {T E : Type 0} (r : Result T E) (old new : V) (line : List ℕ) (number : ℕ) (allotment : Allotment) (task : TaskName) (call : Call) (answer : Result Answer Deny) (x y : W) →
         ServesInHand may_be_given (seen old) allotment → IsSpoken line → request_of namespaces line ≡ Some (Calling task call) →
-        Meets seen (policy nat_eq allotment.new (seen old) task call) answer old new →
+        Meets seen call (policy nat_eq allotment.new (seen old) task call) answer old new →
         Prints sink (reply_line number (result_of answer)) r x y → Replies sink (seen old) line number r (seen new) x y
     replies_met r old new line number allotment task call (Ok answer) x y serves spoken asks meets wrote =
         let step = step_spoken (seen old) line allotment.new _ spoken asks in

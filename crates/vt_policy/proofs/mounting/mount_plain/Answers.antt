@@ -1,6 +1,7 @@
-use Rattle.std.proofs.Common.{nat_eq, sym, ◌∙◌}
+use Rattle.std.proofs.Common.{nat_eq, refl, sym, ◌∙◌}
 use Rattle.std.proofs.lemmas.Result.{err_from_is_err_and}
 use Rattle.vt_spec.specs.declared.errors.Rule.TheVariants.{M2}
+use Rattle.vt_spec.specs.Language.Calls.Call.{MountPlain}
 use Rattle.vt_spec.specs.Machine.Judge.{mount_plain_permit}
 use Rattle.vt_spec.specs.Machine.Permits.Permit.{ToMountPlain}
 use Rattle.vt_cred.specs.MountFlags.{flags_of}
@@ -20,7 +21,7 @@ returns-in_err-overfills g c =
     let place = location_of c.in_ok-place.place in
     let permit = ToMountPlain place flags in
     let p = err_from_is_err_and c.from_residual-in_err-overfills.result c.from_residual-in_err-overfills.ensures.1 in
-    rw (p.1, p.2) (no_receivers task (mount_plain_permit nat_eq looks overfills task c.args.path.now flags) (overfills permit) permit _
+    rw (p.1, p.2) (no_receivers (MountPlain c.args.path.now flags) task (mount_plain_permit nat_eq looks overfills task c.args.path.now flags) (overfills permit) permit _ refl
     (mount_plain_asked looks overfills task c.args.path.now flags place (sym c.lacks.ensures ∙ c.if-lacks.false) c.in_ok-place.ensures.ok
     ∙ skipped _ M2 _ _ (sym c.is_elsewhere.ensures ∙ c.if-is_elsewhere.false))
     c.in_err-overfills.ensures.memory)

@@ -1,6 +1,7 @@
 use Rattle.std.proofs.Common.{[], ◌∷◌, is_some, nat_eq, not, Ok}
 use Rattle.std.proofs.lemmas.Result.{err_from_is_err_and}
 use Rattle.vt_spec.specs.declared.errors.Rule.TheVariants.{M10, M8}
+use Rattle.vt_spec.specs.Language.Calls.Call.{Umount}
 use Rattle.vt_spec.specs.Machine.Judge.{umount_permit}
 use Rattle.vt_spec.specs.Machine.Looks.{mount_at}
 use Rattle.vt_spec.specs.Machine.Permits.Permit.{ToUnmount}
@@ -15,7 +16,7 @@ returns-in_err-here g c =
     let looks = g.L.Look.looks c.args.world.now in
     let task = task_of c.args.who.now in
     let p = err_from_is_err_and c.from_residual.result c.from_residual.ensures.1 in
-    rw (p.1, p.2) (refused_before task (umount_permit nat_eq looks task c.args.path.now) _
+    rw (p.1, p.2) (refused_before (Umount c.args.path.now) task (umount_permit nat_eq looks task c.args.path.now) _
     (root_refused looks task c.args.path.now
     (λ at. (looks.is_busy at.mount, M8) ∷ (not (is_some (mount_at looks at).mount_point), M10) ∷ []) (λ at. Ok (ToUnmount at.mount)) _
     c.in_err-here.ensures.err))
