@@ -22,6 +22,7 @@ pub mod MountsMoved
 pub mod MountsChanged
 pub mod Places
 pub mod Remaining
+pub mod TypesChanged
 pub mod TypesSet
 pub mod Shown
 pub mod Splits
