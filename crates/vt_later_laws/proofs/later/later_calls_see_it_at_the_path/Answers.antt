@@ -1,5 +1,6 @@
 mod Unlinked
 mod RenamedSeen
+mod RemovedSeen
 mod WaysFiles
 mod WrittenSeen
 mod LinkedSeen
@@ -7,6 +8,7 @@ use Rattle.vt_later_laws.proofs.AttrSeen.{chmod_then_stat, chown_then_stat}
 use Rattle.vt_later_laws.proofs.CreatedSeen.{exclusive_twice}
 use Rattle.vt_later_laws.proofs.later.later_calls_see_it_at_the_path.Answers.LinkedSeen.{link_then_lstat}
 use Rattle.vt_later_laws.proofs.MadeSeen.{mkdir_then_list, symlink_then_readlink}
+use Rattle.vt_later_laws.proofs.later.later_calls_see_it_at_the_path.Answers.RemovedSeen.{rmdir_then_lstat}
 use Rattle.vt_later_laws.proofs.later.later_calls_see_it_at_the_path.Answers.RenamedSeen.{rename_then_lstat}
 use Rattle.vt_later_laws.proofs.later.later_calls_see_it_at_the_path.Answers.Unlinked.{unlink_then_lstat}
 use Rattle.vt_later_laws.proofs.later.later_calls_see_it_at_the_path.Answers.WrittenSeen.{write_then_read}
@@ -32,6 +34,9 @@ returns-clause-named c = link_then_lstat
 
 pub returns-clause-unlinked : goal.returns-clause-unlinked
 returns-clause-unlinked c = unlink_then_lstat
+
+pub returns-clause-removed : goal.returns-clause-removed
+returns-clause-removed c = rmdir_then_lstat
 
 pub returns-clause-renamed : goal.returns-clause-renamed
 returns-clause-renamed c = rename_then_lstat
