@@ -22,3 +22,4 @@ pub mod WaysRemoved
 pub mod SettledRoots
 pub mod AfterRemoval
 pub mod RemovalFits
+pub mod AfterRename

@@ -29,7 +29,7 @@ use Rattle.vt_world_laws.proofs.Reached.{IsFoundDirectory, IsOn, namespace_below
 
 -- Chains that agree end at one place
 module _ {A : Type 0} where
-  stops : (n : ℕ) (next : A → Option A) (a : A) → next a ≡ None → last_or a (chain n next a) ≡ a
+  pub stops : (n : ℕ) (next : A → Option A) (a : A) → next a ≡ None → last_or a (chain n next a) ≡ a
   stops zero next a e = refl
   stops (suc n) next a e = ap (last_or a) (chain_ends next n a e)
 
@@ -108,6 +108,45 @@ pub record SeenAlike (before after : Mount ℕ) : Type 0 where
   pub root : after.root ≡ before.root
   pub flags : after.flags ≡ before.flags
   pub mount_point : after.mount_point ≡ before.mount_point
+
+-- What stands somewhere when mounts are taken away with all that stands on them, stood there.
+module _ (world : World ℕ) (is : IsWorld nat_eq world) (gone : List ℕ) (closed : AreClosed world gone) where
+  pub placed_before : (new : Mount ℕ) (place : Location ℕ) → Among new (taken_away nat_eq world gone).mounts → new.mount_point ≡ Some place
+      → (was : Mount ℕ) × Among was world.mounts × (was.mount_point ≡ Some place)
+  placed_before new place m e = by (is_going nat_eq gone new.number) refl
+    where
+      itself : mount_numbered nat_eq (taken_away nat_eq world gone) new.number ≡ new
+      itself =
+          found_itself (taken_away nat_eq world gone).mounts (taking_away_keeps_numbers world gone is.mounts.one_number) new m
+
+      at : (mount_numbered nat_eq (taken_away nat_eq world gone) new.number).mount_point ≡ Some place
+      at = ap (λ (m : Mount ℕ). m.mount_point) itself ∙ e
+
+      on : is_going nat_eq gone new.number ≡ false → (before : Location ℕ) → (mount_numbered nat_eq world new.number).mount_point ≡ Some before
+          → (b : Bool) → is_going nat_eq gone before.mount ≡ b
+          → (was : Mount ℕ) × Among was world.mounts × (was.mount_point ≡ Some place)
+      on keeps before f true g =
+          let there = placed_among world.mounts new.number before f in
+          absurd (true≢false
+          (sym (ap (is_going nat_eq gone) (sym (number_found world.mounts new.number))
+          ∙ closed (mount_numbered nat_eq world new.number) before there f g) ∙ keeps))
+      on keeps before f false g = (
+        mount_numbered nat_eq world new.number,
+        placed_among world.mounts new.number before f,
+        f ∙ ap Some (same_Some before place (sym (place_kept world gone new.number before keeps f g) ∙ at)),
+      )
+
+      by_place : is_going nat_eq gone new.number ≡ false → (o : Option (Location ℕ)) → (mount_numbered nat_eq world new.number).mount_point ≡ o
+          → (was : Mount ℕ) × Among was world.mounts × (was.mount_point ≡ Some place)
+      by_place keeps None f =
+          none_is_not (mount_numbered nat_eq (taken_away nat_eq world gone) new.number).mount_point place (root_stays world gone new.number f) at
+      by_place keeps (Some before) f = on keeps before f (is_going nat_eq gone before.mount) refl
+
+      by : (b : Bool) → is_going nat_eq gone new.number ≡ b → (was : Mount ℕ) × Among was world.mounts × (was.mount_point ≡ Some place)
+      by true f =
+          none_is_not (mount_numbered nat_eq (taken_away nat_eq world gone) new.number).mount_point place
+          (ap (λ (m : Mount ℕ). m.mount_point) (detached_by_number world gone new.number f)) at
+      by false f = by_place f (mount_numbered nat_eq world new.number).mount_point refl
 
 module _ (world later : World ℕ) (is : IsWorld nat_eq world) (is_later : IsWorld nat_eq later) (task : Task ℕ) (gone : List ℕ)
     (closed : AreClosed world gone) (lives : Mount ℕ → Bool) (living : later.mounts ≡ filter lives (taken_away nat_eq world gone).mounts)
@@ -205,40 +244,11 @@ module _ (world later : World ℕ) (is : IsWorld nat_eq world) (is_later : IsWor
 
   none_there : (place : Location ℕ) → child_at nat_eq world.mounts place ≡ None → (new : Mount ℕ)
       → child_at nat_eq later.mounts place ≡ Some new → ⊥
-  none_there place none new e = by (is_going nat_eq gone new.number) refl
-    where
-      found : Among new later.mounts × (stands_at nat_eq place new ≡ true)
-      found = found_in (stands_at nat_eq place) later.mounts new e
-
-      itself : mount_numbered nat_eq taken new.number ≡ new
-      itself = found_itself taken.mounts one_taken new (from_taken new found.0)
-
-      at : (mount_numbered nat_eq taken new.number).mount_point ≡ Some place
-      at = ap (λ (m : Mount ℕ). m.mount_point) itself ∙ stands_there place new found.1
-
-      on : is_going nat_eq gone new.number ≡ false → (before : Location ℕ) → (mount_numbered nat_eq world new.number).mount_point ≡ Some before
-          → (b : Bool) → is_going nat_eq gone before.mount ≡ b → ⊥
-      on keeps before f true g =
-          let there = placed_among world.mounts new.number before f in
-          true≢false
-          (sym (ap (is_going nat_eq gone) (sym (number_found world.mounts new.number))
-          ∙ closed (mount_numbered nat_eq world new.number) before there f g) ∙ keeps)
-      on keeps before f false g =
-          let same : before ≡ place = same_Some before place (sym (place_kept world gone new.number before keeps f g) ∙ at) in
-          let there = placed_among world.mounts new.number before f in
-          true≢false
-          (sym (stands_at_its_place place (mount_numbered nat_eq world new.number) (f ∙ ap Some same))
-          ∙ unfound (stands_at nat_eq place) world.mounts none (mount_numbered nat_eq world new.number) there)
-
-      by_place : is_going nat_eq gone new.number ≡ false → (o : Option (Location ℕ)) → (mount_numbered nat_eq world new.number).mount_point ≡ o → ⊥
-      by_place keeps None f = none_is_not (mount_numbered nat_eq taken new.number).mount_point place (root_stays world gone new.number f) at
-      by_place keeps (Some before) f = on keeps before f (is_going nat_eq gone before.mount) refl
-
-      by : (b : Bool) → is_going nat_eq gone new.number ≡ b → ⊥
-      by true f =
-          none_is_not (mount_numbered nat_eq taken new.number).mount_point place
-          (ap (λ (m : Mount ℕ). m.mount_point) (detached_by_number world gone new.number f)) at
-      by false f = by_place f (mount_numbered nat_eq world new.number).mount_point refl
+  none_there place none new e =
+      let found = found_in (stands_at nat_eq place) later.mounts new e in
+      let was = placed_before world is gone closed new place (from_taken new found.0) (stands_there place new found.1) in
+      true≢false
+      (sym (stands_at_its_place place was.0 was.2) ∙ unfound (stands_at nat_eq place) world.mounts none was.0 was.1)
 
   child_same : (place : Location ℕ) → IsOn world is task place.mount → child_root later place ≡ child_root world place
   child_same place own = by (child_at nat_eq world.mounts place) refl
