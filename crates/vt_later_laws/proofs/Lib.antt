@@ -16,3 +16,10 @@ pub mod Readers
 pub mod MadeSeen
 pub mod AttrSeen
 pub mod CreatedSeen
+pub mod WaysMounts
+pub mod WaysLeft
+pub mod WaysRemoved
+pub mod SettledRoots
+pub mod AfterRemoval
+pub mod RemovalFits
+pub mod AfterRename

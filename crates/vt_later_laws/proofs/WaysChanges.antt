@@ -67,7 +67,7 @@ link_with_entry : (name : List ℕ) (number : ℕ) (o : Option (Node ℕ)) → s
 link_with_entry name number None = refl
 link_with_entry name number (Some node) = link_with_entries node.content node.attr (with_entry name number (entries_of node.content))
 
-link_without : (name : List ℕ) (o : Option (Node ℕ)) → symlink_text (node_without_entry name o) ≡ symlink_text o
+pub link_without : (name : List ℕ) (o : Option (Node ℕ)) → symlink_text (node_without_entry name o) ≡ symlink_text o
 link_without name None = refl
 link_without name (Some node) = link_with_entries node.content node.attr (without_entry name (entries_of node.content))
 
@@ -97,7 +97,7 @@ allows_with_entry name number who wanted None = refl
 allows_with_entry name number who wanted (Some node) =
     allows_with_entries node.content node.attr (with_entry name number (entries_of node.content)) who wanted
 
-allows_without : (name : List ℕ) (who : Credentials) (wanted : ℕ) (o : Option (Node ℕ))
+pub allows_without : (name : List ℕ) (who : Credentials) (wanted : ℕ) (o : Option (Node ℕ))
     → node_allows who wanted (node_without_entry name o) ≡ node_allows who wanted o
 allows_without name who wanted None = refl
 allows_without name who wanted (Some node) =

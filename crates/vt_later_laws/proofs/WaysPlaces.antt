@@ -234,7 +234,7 @@ module _ (looks later : Looks ℕ) (task reader : Task ℕ) (Refused : Deny → 
         → stepped nat_eq later reader parts.here.location (last_word parts.word) ≡ next
     stepped_there next e = (λ i. stepped nat_eq later reader (parts.parent_is i) (parts.last_is i)) ∙ e
 
-    parent_known : Known parts.here.location → Known place.parent
+    pub parent_known : Known parts.here.location → Known place.parent
     parent_known known = subst Known parts.parent_is known
 
     pub front_too : EndsSo (words_walked nat_eq later reader (followed nat_eq later reader) (walk_start reader path) parts.front) parts.here

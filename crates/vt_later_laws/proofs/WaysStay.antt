@@ -1,6 +1,7 @@
 -- In a world that a call left, in which mounts stay and names stay or are missing, walks lead where they led.
 use Rattle.std.proofs.Common.{◌≡◌, refl, sym, ap, subst, ◌∙◌, inl, inr, ◌⊎◌, true≢false, ℕ, nat_eq, Bool, true, false, cond, not, ◌||◌, List, [], ◌∷◌, length, Option, Some, None, is_some, option_map, ok_or, Result, Ok, Err}
 use Rattle.std.proofs.lemmas.Bool.{and_parts}
+use Rattle.std.specs.Prelude.{⊤}
 use Rattle.vt_spec.specs.declared.errors.Deny.{Deny}
 use Rattle.vt_spec.specs.declared.errors.Rule.TheVariants.{W4, W6, W8}
 use Rattle.vt_spec.specs.Errors.{denial, unless}
@@ -31,7 +32,7 @@ use Rattle.vt_later_laws.proofs.Ways.{LeadsToo}
 use Rattle.vt_later_laws.proofs.WaysTrees.{DirectoryNamesStay, present_later, under_later}
 
 -- the root of a mount is a directory
-mount_root : (world : World ℕ) → IsWorld nat_eq world → (number : ℕ) → is_among nat_eq number (numbers_of world.mounts) ≡ true
+pub mount_root : (world : World ℕ) → IsWorld nat_eq world → (number : ℕ) → is_among nat_eq number (numbers_of world.mounts) ≡ true
     → is_directory_node ((filesystem_numbered nat_eq world (mount_numbered nat_eq world number).filesystem).files.tree.node
     (mount_numbered nat_eq world number).root) ≡ true
 mount_root world is number listed =
@@ -236,9 +237,9 @@ module _ (world later : World ℕ) (is : IsWorld nat_eq world) (plain : IsPlain 
           subst (λ (m : Mount ℕ). IsFileTree (filesystem_numbered nat_eq later m.filesystem).files) (same_mount here.mount)
           (tree_here later is_later plain_later reader here known.1.1)
 
-      names : DirectoryNamesStay (tree_in world (mount_at nat_eq world here).filesystem)
+      names : DirectoryNamesStay (λ n. ⊤) (tree_in world (mount_at nat_eq world here).filesystem)
           (tree_in later (mount_at nat_eq world here).filesystem)
-      names directory name number entry is_directory is_there =
+      names directory name number entry is_directory keeps is_there =
           by (stay.entry (mount_at nat_eq world here).filesystem directory name number entry is_there)
         where
           by : (entry_at (tree_in later (mount_at nat_eq world here).filesystem) directory name ≡ Some number)
@@ -260,15 +261,15 @@ module _ (world later : World ℕ) (is : IsWorld nat_eq world) (plain : IsPlain 
 
       present : is_removed nat_eq files_later.tree here.node ≡ false
       present =
-          present_later files_here files_later (tree_here world is plain task here known.0.1).tree tree_later
-          (stay.root (mount_at nat_eq world here).filesystem) names (mount_at nat_eq world here).root here.node known.0.1
-          is_directory_later root_there parts.0 (not_false _ parts.1)
+          present_later (λ n. ⊤) files_here files_later (tree_here world is plain task here known.0.1).tree tree_later
+          (stay.root (mount_at nat_eq world here).filesystem) (λ directory name number entry keeps. tt) names
+          (mount_at nat_eq world here).root here.node known.0.1 is_directory_later tt root_there parts.0 (not_false _ parts.1)
 
       under : is_directory_under nat_eq files_later point.root here.node ≡ true
       under =
-          under_later files_here files_later (tree_here world is plain task here known.0.1).tree tree_later
-          (stay.root (mount_at nat_eq world here).filesystem) names (mount_at nat_eq world here).root here.node known.0.1
-          is_directory_later root_there parts.0 (not_false _ parts.1)
+          under_later (λ n. ⊤) files_here files_later (tree_here world is plain task here known.0.1).tree tree_later
+          (stay.root (mount_at nat_eq world here).filesystem) (λ directory name number entry keeps. tt) names
+          (mount_at nat_eq world here).root here.node known.0.1 is_directory_later tt root_there parts.0 (not_false _ parts.1)
 
   up_too : (here next : Location ℕ) → KnownDirectory here → stepped nat_eq world task here DotDot ≡ Ok next
       → stepped nat_eq later reader here DotDot ≡ Ok next

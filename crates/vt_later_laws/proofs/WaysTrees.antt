@@ -83,26 +83,40 @@ module _ (tree : Tree ℕ) (conditions : IsTree tree) where
       let step = found (λ next. led tree next names) (entry_at tree from name) to e in
       node_with_entries name step.0 (tree.node from) step.1
 
--- Names of directories stay, where the directory that has them does
-abbrev pub DirectoryNamesStay : Tree ℕ → Tree ℕ → Type 0
-DirectoryNamesStay tree later =
-    (directory : ℕ) (name : List ℕ) (number : ℕ) → entry_at tree directory name ≡ Some number → IsDirectory tree number
+-- Names of these directories stay, where the directory that has them does
+abbrev pub DirectoryNamesStay : (ℕ → Type 0) → Tree ℕ → Tree ℕ → Type 0
+DirectoryNamesStay Keeps tree later =
+    (directory : ℕ) (name : List ℕ) (number : ℕ) → entry_at tree directory name ≡ Some number → IsDirectory tree number → Keeps number
     → is_some (later.node directory) ≡ true → entry_at later directory name ≡ Some number
 
-module _ (tree later : Tree ℕ) (before : IsTree tree) (after : IsTree later) (stay : DirectoryNamesStay tree later) where
-  pub led_stays : (from : ℕ) (names : List (List ℕ)) (to : ℕ) → led tree from names ≡ Some to → IsDirectory tree to
-      → is_some (later.node from) ≡ true → led later from names ≡ Some to
-  led_stays from [] to e is there = e
-  led_stays from (name ∷ names) to e is there =
+-- with such a directory those above it are such
+abbrev pub KeepsAbove : (ℕ → Type 0) → Tree ℕ → Type 0
+KeepsAbove Keeps tree =
+    (directory : ℕ) (name : List ℕ) (number : ℕ) → entry_at tree directory name ≡ Some number → Keeps number → Keeps directory
+
+module _ (Keeps : ℕ → Type 0) (tree later : Tree ℕ) (before : IsTree tree) (after : IsTree later) (above : KeepsAbove Keeps tree)
+    (stay : DirectoryNamesStay Keeps tree later) where
+  keeps_through : (from : ℕ) (names : List (List ℕ)) (to : ℕ) → led tree from names ≡ Some to → Keeps to → Keeps from
+  keeps_through from [] to e keeps = subst Keeps (sym (same_Some from to e)) keeps
+  keeps_through from (name ∷ names) to e keeps =
       let step = found (λ next. led tree next names) (entry_at tree from name) to e in
-      let entry = stay from name step.0 step.1 (led_through tree before step.0 names to step.2 is) there in
+      above from name step.0 step.1 (keeps_through step.0 names to step.2 keeps)
+
+  pub led_stays : (from : ℕ) (names : List (List ℕ)) (to : ℕ) → led tree from names ≡ Some to → IsDirectory tree to → Keeps to
+      → is_some (later.node from) ≡ true → led later from names ≡ Some to
+  led_stays from [] to e is keeps there = e
+  led_stays from (name ∷ names) to e is keeps there =
+      let step = found (λ next. led tree next names) (entry_at tree from name) to e in
+      let entry = stay from name step.0 step.1 (led_through tree before step.0 names to step.2 is)
+      (keeps_through step.0 names to step.2 keeps) there in
       ap (option_and_then (λ next. led later next names)) entry
-      ∙ led_stays step.0 names to step.2 is (after.alive from name step.0 entry)
+      ∙ led_stays step.0 names to step.2 is keeps (after.alive from name step.0 entry)
 
 -- so a directory that is not lost, under another that is there, is not lost later
-module _ (files later : FileTree ℕ) (before : IsTree files.tree) (after : IsFileTree later) (root : later.tree.root ≡ files.tree.root)
-    (stay : DirectoryNamesStay files.tree later.tree) (top d : ℕ) (is : IsDirectory files.tree d) (is_later : IsDirectory later.tree d)
-    (top_there : is_some (later.tree.node top) ≡ true)
+module _ (Keeps : ℕ → Type 0) (files later : FileTree ℕ) (before : IsTree files.tree) (after : IsFileTree later)
+    (root : later.tree.root ≡ files.tree.root) (above : KeepsAbove Keeps files.tree)
+    (stay : DirectoryNamesStay Keeps files.tree later.tree) (top d : ℕ) (is : IsDirectory files.tree d)
+    (is_later : IsDirectory later.tree d) (keeps : Keeps d) (top_there : is_some (later.tree.node top) ≡ true)
     (present : is_removed nat_eq files.tree d ≡ false) (under : is_directory_under nat_eq files top d ≡ true) where
   reached : IsReached files.tree d
   reached = not_removed_reached files.tree before d is present
@@ -111,7 +125,7 @@ module _ (files later : FileTree ℕ) (before : IsTree files.tree) (after : IsFi
   reached_later = (
     reached.0,
     ap (λ n. led later.tree n reached.0) root
-        ∙ led_stays files.tree later.tree before after.tree stay files.tree.root reached.0 d reached.1 is
+        ∙ led_stays Keeps files.tree later.tree before after.tree above stay files.tree.root reached.0 d reached.1 is keeps
         (subst (λ n. is_some (later.tree.node n) ≡ true) root (directory_used later.tree later.tree.root after.tree.root_directory)),
   )
 
@@ -122,4 +136,4 @@ module _ (files later : FileTree ℕ) (before : IsTree files.tree) (after : IsFi
   under_later =
       let names = under_led files.tree before (length files.numbers) top d is reached under in
       under_seen later after d is_later reached_later top names.0
-      (led_stays files.tree later.tree before after.tree stay top names.0 d names.1 is top_there)
+      (led_stays Keeps files.tree later.tree before after.tree above stay top names.0 d names.1 is keeps top_there)

@@ -3,24 +3,25 @@
 use Rattle.std.specs.Prelude.{Bool, Err, List, None, Ok, Option, Some, [], false, length, nat_eq, nat_le, true, ℕ, ◌||◌, ◌≡◌, ◌⊎◌}
 use Rattle.vt_spec.specs.declared.attributes.Attr.{Attr}
 use Rattle.vt_spec.specs.declared.errors.Rule.{Rule}
-use Rattle.vt_spec.specs.declared.errors.Rule.TheVariants.{C1, E1, W4, W6}
+use Rattle.vt_spec.specs.declared.errors.Rule.TheVariants.{C1, E1, W4, W6, W8}
 use Rattle.vt_spec.specs.Errors.{denial}
 use Rattle.vt_spec.specs.Language.Answers.{Answer, StatLine}
 use Rattle.vt_spec.specs.Language.Answers.Answer.{Bytes, Done, Names, Opened, Told}
 use Rattle.vt_spec.specs.Language.Calls.{Access, Call, TaskName}
-use Rattle.vt_spec.specs.Language.Calls.Call.{Chmod, Chown, LinkTo, Ls, Lstat, Mkdir, OpenFile, Read, Readlink, Rename, Stat, SymlinkAt, Unlink, Write}
+use Rattle.vt_spec.specs.Language.Calls.Call.{Chmod, Chown, LinkTo, Ls, Lstat, Mkdir, OpenFile, Read, Readlink, Rename, Rmdir, Stat, SymlinkAt, Unlink, Write}
 use Rattle.vt_spec.specs.Language.Calls.Creation.{Exclusive}
 use Rattle.vt_spec.specs.Language.Limits.{most_descriptors}
 use Rattle.vt_spec.specs.Lists.{Fresh}
 use Rattle.vt_spec.specs.Machine.Outcome.Attributes.{attr_with_mode, attr_with_owner}
+use Rattle.vt_spec.specs.Machine.Outcome.Removing.{object_there}
 use Rattle.vt_spec.specs.Machine.Policy.{policy}
 use Rattle.vt_spec.specs.Machine.Run.{Serves}
-use Rattle.vt_spec.specs.Machine.Walk.{Place, is_directory_there, new_walk, old_leaf_walk}
+use Rattle.vt_spec.specs.Machine.Walk.{Place, is_directory_there, new_walk, old_leaf_walk, old_walk}
 use Rattle.vt_spec.specs.Machine.World.{Task, World, task_called}
 use Rattle.vt_spec.specs.Machine.Invariants.{IsWorld}
 use Rattle.vt_spec.specs.Rights.{Credentials, cap_dac_override, cap_dac_read_search, has_all}
 use Rattle.vt_world_laws.specs.Worlds.Kept.{IsPlain}
-use Rattle.vt_later_laws.specs.Later.{IsAnswered}
+use Rattle.vt_later_laws.specs.Later.{IsAnswered, IsOneInode}
 
 -- The world that a granted call leaves is so for its task, where the numbers that were handed in were not in use.
 abbrev pub AfterGranted : Call → (World ℕ → TaskName → Task ℕ → Type 0) → Type 0
@@ -90,6 +91,28 @@ UnlinkThenLstat =
     (path : List ℕ)
     → AfterGranted (Unlink path) (λ later name task.
     IsRefused W6 later name (Lstat path) × IsRefusedToAll W6 later task (Lstat path))
+
+-- refused by this rule, or by the other
+abbrev pub IsRefusedBy : Rule → Rule → World ℕ → TaskName → Call → Type 0
+IsRefusedBy rule other world name call =
+    (fresh : Fresh ℕ)
+    → ((policy nat_eq fresh world name call).answer ≡ Err (denial rule))
+    ⊎ ((policy nat_eq fresh world name call).answer ≡ Err (denial other))
+
+-- So is the name of a directory that was removed, for the task and for each that looks from where it stands. Mounts that stood on the
+-- directory in other namespaces are gone. W8 may be the refusal where the working directory is the one that was removed, since `..`
+-- leads nowhere from it.
+abbrev pub RmdirThenLstat : Type 0
+RmdirThenLstat =
+    (path : List ℕ) (world : World ℕ) (fresh : Fresh ℕ) (name : TaskName) (task : Task ℕ) (place : Place ℕ)
+    → IsWorld nat_eq world → IsPlain world → Serves nat_eq world fresh → task_called world name ≡ Some task
+    → old_walk nat_eq world task path ≡ Ok place → (policy nat_eq fresh world name (Rmdir path)).answer ≡ Ok Done
+    → IsRefusedBy W6 W8 (policy nat_eq fresh world name (Rmdir path)).world name (Lstat path)
+    × ((reader : TaskName) (reading : Task ℕ) → LooksFrom (policy nat_eq fresh world name (Rmdir path)).world task reader reading
+    → IsRefusedBy W6 W8 (policy nat_eq fresh world name (Rmdir path)).world reader (Lstat path))
+    × (¬ (IsOneInode world task.directory (object_there place))
+    → IsRefused W6 (policy nat_eq fresh world name (Rmdir path)).world name (Lstat path)
+    × IsRefusedToAll W6 (policy nat_eq fresh world name (Rmdir path)).world task (Lstat path))
 
 -- A name more leads to the object that the old one leads to: all that lstat told of it before.
 abbrev pub LinkThenLstat : Type 0

@@ -1,3 +1,4 @@
 pub mod Later
 pub mod LaterPaths
 pub mod Ends
+pub mod LaterNames

@@ -1,5 +1,6 @@
 //! What later calls of the machine see of earlier ones.
-ghost use Rattle.vt_later_laws.specs.LaterPaths.{ChmodThenStat, ChownThenStat, ExclusiveTwice, LinkThenLstat, MkdirThenList, RenameThenLstat, SymlinkThenReadlink, UnlinkThenLstat, WriteThenRead};
+ghost use Rattle.vt_later_laws.specs.LaterNames.{RenameThenFound, RenameThenListed};
+ghost use Rattle.vt_later_laws.specs.LaterPaths.{ChmodThenStat, ChownThenStat, ExclusiveTwice, LinkThenLstat, MkdirThenList, RenameThenLstat, RmdirThenLstat, SymlinkThenReadlink, UnlinkThenLstat, WriteThenRead};
 ghost use Rattle.vt_later_laws.specs.Later.{CreateThenPread, ExclusiveThenPread, OpenOrCreateThenPread, OpenThenPread, PwriteThenPread};
 
 /// What a granted call did is seen by the calls after it, in a world that has the invariants, and no overlay.
@@ -26,6 +27,9 @@ pub fn later_calls_see_it_at_the_path()
     ensures owner_set { ChownThenStat }
     ensures named { LinkThenLstat }
     ensures unlinked { UnlinkThenLstat }
+    ensures removed { RmdirThenLstat }
     ensures renamed { RenameThenLstat }
+    ensures found { RenameThenFound }
+    ensures listed { RenameThenListed }
     ensures created_once { ExclusiveTwice }
 {}

@@ -1,12 +1,16 @@
 mod Unlinked
 mod RenamedSeen
+mod RemovedSeen
+mod FoundByName
 mod WaysFiles
 mod WrittenSeen
 mod LinkedSeen
 use Rattle.vt_later_laws.proofs.AttrSeen.{chmod_then_stat, chown_then_stat}
 use Rattle.vt_later_laws.proofs.CreatedSeen.{exclusive_twice}
+use Rattle.vt_later_laws.proofs.later.later_calls_see_it_at_the_path.Answers.FoundByName.{rename_then_found, rename_then_listed}
 use Rattle.vt_later_laws.proofs.later.later_calls_see_it_at_the_path.Answers.LinkedSeen.{link_then_lstat}
 use Rattle.vt_later_laws.proofs.MadeSeen.{mkdir_then_list, symlink_then_readlink}
+use Rattle.vt_later_laws.proofs.later.later_calls_see_it_at_the_path.Answers.RemovedSeen.{rmdir_then_lstat}
 use Rattle.vt_later_laws.proofs.later.later_calls_see_it_at_the_path.Answers.RenamedSeen.{rename_then_lstat}
 use Rattle.vt_later_laws.proofs.later.later_calls_see_it_at_the_path.Answers.Unlinked.{unlink_then_lstat}
 use Rattle.vt_later_laws.proofs.later.later_calls_see_it_at_the_path.Answers.WrittenSeen.{write_then_read}
@@ -33,8 +37,17 @@ returns-clause-named c = link_then_lstat
 pub returns-clause-unlinked : goal.returns-clause-unlinked
 returns-clause-unlinked c = unlink_then_lstat
 
+pub returns-clause-removed : goal.returns-clause-removed
+returns-clause-removed c = rmdir_then_lstat
+
 pub returns-clause-renamed : goal.returns-clause-renamed
 returns-clause-renamed c = rename_then_lstat
+
+pub returns-clause-found : goal.returns-clause-found
+returns-clause-found c = rename_then_found
+
+pub returns-clause-listed : goal.returns-clause-listed
+returns-clause-listed c = rename_then_listed
 
 pub returns-clause-created_once : goal.returns-clause-created_once
 returns-clause-created_once c = exclusive_twice

@@ -2,6 +2,7 @@
 use Rattle.std.proofs.Common.{◌≡◌, ◌≢◌, refl, sym, ap, subst, ◌∙◌, inl, inr, ◌⊎◌, ⊎_elim, true≢false, ℕ, nat_eq, Bool, true, false, not, ◌&&◌, List, [], ◌∷◌, Option, Some, None, is_some, option_map, Ok, Err}
 use Rattle.std.specs.Prelude.{option_to_list, unwrap_or}
 use Rattle.std.proofs.lemmas.Option.{same_Some}
+use Rattle.vt_spec.specs.declared.errors.Deny.{Deny}
 use Rattle.vt_spec.specs.declared.errors.Rule.TheVariants.{W3, W6}
 use Rattle.vt_spec.specs.Errors.{denial}
 use Rattle.vt_spec.specs.Language.Answers.{StatLine}
@@ -58,10 +59,10 @@ use Rattle.vt_later_laws.proofs.WaysPlaces.{named_place, symlink_missing, symlin
 use Rattle.vt_later_laws.proofs.WaysStay.{StandsAs, node_in}
 
 -- walks of a world lead where they lead
-itself_leads : (world : World ℕ) (is : IsWorld nat_eq world) → IsPlain world → (task : Task ℕ)
+pub itself_leads : (Refused : Deny → Type 0) (world : World ℕ) (is : IsWorld nat_eq world) → IsPlain world → (task : Task ℕ)
     → task_called world task.name ≡ Some task
-    → LeadsToo (looks_of nat_eq world) (looks_of nat_eq world) task task Never (IsFound world is task)
-itself_leads world is plain task called = record {
+    → LeadsToo (looks_of nat_eq world) (looks_of nat_eq world) task task Refused (IsFound world is task)
+itself_leads Refused world is plain task called = record {
   root = refl;
   working = refl;
   root_known = directory_found world is task task.root (root_found world is task called);
@@ -223,7 +224,7 @@ module _ (world : World ℕ) (fresh : Fresh ℕ) (name : TaskName) (old new : Li
       let own = called_own world fresh name (Rename old new) Done is plain serves refl refl did in
       let walk = surely _ _ _ (symlink_named_too (looks_of nat_eq world) (looks_of nat_eq world) did.task did.task Never
       (IsFound world is did.task)
-      (itself_leads world is plain did.task own) old from parts.from_named at_name (record { mount = from.parent.mount; node = object })
+      (itself_leads Never world is plain did.task own) old from parts.from_named at_name (record { mount = from.parent.mount; node = object })
       (λ known. stepped_by world did.task from.parent from.last parts.from_named (Some object) may.moves.named
       ∙ ap Ok (uncovered world is (record { mount = from.parent.mount; node = object }) no_directory))
       (λ slash. absurd (true≢false (sym slash ∙ at_name.slash_is ∙ parts.from_slash)))) in
