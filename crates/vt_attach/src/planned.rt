@@ -184,11 +184,7 @@ fn change_all(
 }
 
 // Mounts move, the last one of the list first.
-fn move_all(
-    alloc: Global,
-    mounts: &mut Mounts,
-    points: &[NewPoint],
-) -> Result<Moves, Deny>
+fn move_all(alloc: Global, mounts: &mut Mounts, points: &[NewPoint]) -> Result<Moves, Deny>
     ensures mounts { OnOk result (mounts.new ≡ with_points points.now mounts.old) }
     ensures moves { IfOk result (λ moves. AreMoves points.now mounts.old moves.taken.items moves.left.items) }
     ensures memory { IfErr result (λ deny. deny ≡ denial S5) }
