@@ -1,14 +1,11 @@
 -- The numbers that a permit is handed: they serve the world, so the permit is given with them.
-use Rattle.std.proofs.Common.{◌≡◌, refl, sym, subst, ◌∙◌, ℕ, true, false, nat_eq, ◌&&◌, List, [], ◌∷◌, Some, Ok, arith}
+use Rattle.std.proofs.Common.{◌≡◌, refl, subst, ◌∙◌, ℕ, true, false, nat_eq, List, [], ◌∷◌, Some, Ok, arith}
 use Rattle.std.specs.Prelude.{All, ⊤}
-use Rattle.std.specs.List.{list_all}
 use Rattle.std.proofs.lemmas.List.Elements.{All-cons}
 use Rattle.vt_spec.specs.Language.Calls.{Call, TaskName}
 use Rattle.vt_spec.specs.Language.Calls.Call.{MountOverlay}
 use Rattle.vt_spec.specs.Language.Script.{namespaces}
 use Rattle.vt_spec.specs.Machine.Judge.{judge_in}
-use Rattle.vt_spec.specs.Machine.Mounts.{Propagation}
-use Rattle.vt_spec.specs.Machine.Mounts.Propagation.{Private, Shared, Slave, Unbindable}
 use Rattle.vt_spec.specs.Machine.Permits.{Permit}
 use Rattle.vt_spec.specs.Machine.Permits.Permit.{Allowed, ToBind, ToChange, ToClose, ToEnterNamespace, ToExit, ToFork, ToList, ToListMounts, ToMake, ToMountOverlay, ToMountPlain, ToMove, ToOpen, ToOpenNew, ToPivot, ToRead, ToReadPart, ToRemoveDirectory, ToRename, ToSetCredentials, ToSetDirectory, ToSetFlags, ToSetRoot, ToSetType, ToSetUmask, ToStat, ToUnmount, ToUnmountLazily, ToUnshare, ToWritePart}
 use Rattle.vt_spec.specs.Machine.Run.{Serves}
@@ -17,11 +14,8 @@ use Rattle.vt_fs.specs.FilesystemsValue.{FilesystemEntry, filesystem_seen, files
 use Rattle.vt_laws.specs.Numbers.{Allotment}
 use Rattle.vt_laws.proofs.Texts.{room_serves}
 use Rattle.vt_location.specs.Numbers.{inode_number}
-use Rattle.vt_mount.specs.MountsValue.{MountEntry, mounts_in}
 use Rattle.vt_permit_laws.proofs.InUseServes.{worlds_keep_to_named_before}
 use Rattle.vt_permit_laws.proofs.TakenJudged.{judgements_do_not_see_supplies}
-use Rattle.vt_permit_laws.specs.Taken as law
-use Rattle.vt_permit_laws.specs.Taken.{IsUngrouped}
 use Rattle.vt_permits.specs.PermitValue.{permit_of}
 use Rattle.vt_permits.specs.declared.permit.Permit as code
 use Rattle.vt_run_laws.proofs.Counts.{counts_serve}
@@ -30,7 +24,7 @@ use Rattle.vt_run_laws.specs.Handed.{counts_from, handed_from, may_be_given}
 use Rattle.vt_run_laws.specs.Runs.{ServesInHand}
 use Rattle.vt_tree_laws.specs.Trees.Calls.{mounts_overlay}
 use Rattle.vt_detach.specs.Events.{Permits, next_inode, supply_of}
-use Rattle.vt_detach.specs.Held.{IsHeld, is_ungrouped}
+use Rattle.vt_detach.specs.Held.{IsHeld}
 use Rattle.vt_ns.specs.Vacancy.{IsVacant, NextInodeIsVacant, NextRootIsVacant}
 use Rattle.vt_detach.specs.WorldValue.{WorldValue, world_of}
 use Rattle.vt_world_laws.proofs.CallsKept.{name_found}
@@ -47,22 +41,6 @@ filesystems_plain (entry ∷ rest) =
 
 pub plain : (value : WorldValue) → IsPlain (world_of value)
 plain value = filesystems_plain value.filesystems
-
--- and no mount is in a peer group
-alone : (propagation : Propagation ℕ) → is_ungrouped propagation ≡ law.is_ungrouped propagation
-alone (Shared group) = refl
-alone (Slave master) = refl
-alone Private = refl
-alone Unbindable = refl
-
-mounts_alone : (entries : List MountEntry)
-    → list_all (λ (entry : MountEntry). is_ungrouped entry.mount.propagation) entries
-    ≡ list_all (λ mount. law.is_ungrouped mount.propagation) (mounts_in entries)
-mounts_alone [] = refl
-mounts_alone (entry ∷ rest) = λ i. alone entry.mount.propagation i && mounts_alone rest i
-
-pub ungrouped : (value : WorldValue) → IsHeld value → IsUngrouped (world_of value)
-ungrouped value held = sym (mounts_alone value.mounts) ∙ held.ungrouped
 
 -- what a permit is handed beside counts is not in use
 abbrev pub AreVacant : WorldValue → Permit ℕ → Type 0
@@ -131,7 +109,7 @@ module _ (value : WorldValue) (name : TaskName) (call : Call) (permit : code.Per
   pub judged_with : (fresh : ℕ → ℕ) → judge_in nat_eq fresh (world_of value) given.task call ≡ Ok granted
   judged_with fresh =
       judgements_do_not_see_supplies (world_of value) given.task call fresh (counts_from value.next)
-      (ungrouped value given.held) (no_overlay call given.has)
+      given.held.in_world (no_overlay call given.has)
       ∙ given.judged
 
   -- so it is permitted to the task
