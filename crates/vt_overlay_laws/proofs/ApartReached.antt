@@ -117,8 +117,7 @@ module _ (fresh : Fresh ℕ) (world : World ℕ) (location : Location ℕ) (chan
       (ApartLater.lies_first fresh world location change overlay upper conditions is has distinct none asked upper upper.filesystem upper.directory
       (ApartLater.upper_itself fresh world location change overlay upper conditions is has distinct none asked))
       (ApartLater.lies_first fresh world location change overlay upper conditions is has distinct none asked layer upper.filesystem upper.directory
-      (ApartLater.led_lies fresh world location change overlay upper conditions is has distinct none asked layer plain upper.filesystem upper.directory (sym same)
-      (
+      (ApartLater.led_lies fresh world location change overlay upper conditions is has distinct none asked layer plain upper.filesystem upper.directory (sym same) (
         upper_reached.0,
         subst (λ n. led (filesystem_numbered nat_eq world n).files.tree layer.directory upper_reached.0 ≡ Some upper.directory) (sym same)
             (subst (λ d. led before.upper.tree d upper_reached.0 ≡ Some upper.directory) root upper_reached.1),
