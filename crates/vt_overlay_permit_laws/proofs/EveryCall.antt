@@ -170,9 +170,6 @@ module _ (world : World ℕ) (fresh : Fresh ℕ) (task : Task ℕ) (call : Call)
   with_a_change : (location : Location ℕ) (change : Change ℕ) → change_asked fresh world permit ≡ Some (location, change) → Files after_permit
   with_a_change location change e = by (filesystem_at nat_eq world location).overlay refl
     where
-
-
-
       same : after_permit.filesystems ≡ (with_change nat_eq (numbers_left fresh permit) world location change).filesystems
       same = permits_make_their_change world fresh task permit location change e
 
@@ -191,8 +188,7 @@ module _ (world : World ℕ) (fresh : Fresh ℕ) (task : Task ℕ) (call : Call)
       by None p =
           let proper = permits_ask_properly world fresh task call permit location change is serves found granted e in
           let spares : SparesLocked world location change = subst (SparesLockedIf world) e spared in
-          files_in after_permit (with_change nat_eq (numbers_left fresh permit) world location change) same
-          (
+          files_in after_permit (with_change nat_eq (numbers_left fresh permit) world location change) same (
             plain_change_keeps_trees (numbers_left fresh permit) world location change is p proper.0 proper.1 spares,
             plain_change_keeps_overlays (numbers_left fresh permit) world location change is p proper.0 proper.1 spares,
           )

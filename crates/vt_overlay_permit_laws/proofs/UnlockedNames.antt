@@ -153,9 +153,9 @@ module _ (world : World ℕ) (whole : IsWorld nat_eq world) (task : Task ℕ) (c
       gives_unless Spares (unlink_rules looks task place (object_there place)) _ (λ passed.
       record {
         spares = λ inode locked. (
-            differs place.parent (second_fails (is_locked_at nat_eq world (object_there place)) (is_locked_at nat_eq world place.parent) passed.1.1.1.0) _ refl inode locked,
-            differs (object_there place) (first_fails (is_locked_at nat_eq world (object_there place)) (is_locked_at nat_eq world place.parent) passed.1.1.1.0) _
-                (in_it place named.0 is) inode locked,
+          differs place.parent (second_fails (is_locked_at nat_eq world (object_there place)) (is_locked_at nat_eq world place.parent) passed.1.1.1.0) _ refl inode locked,
+          differs (object_there place) (first_fails (is_locked_at nat_eq world (object_there place)) (is_locked_at nat_eq world place.parent) passed.1.1.1.0) _
+              (in_it place named.0 is) inode locked,
         );
         layer = tt;
       })))
@@ -168,9 +168,9 @@ module _ (world : World ℕ) (whole : IsWorld nat_eq world) (task : Task ℕ) (c
       gives_unless Spares (rmdir_rules nat_eq looks task place (object_there place)) _ (λ passed.
       record {
         spares = λ inode locked. (
-            differs place.parent (second_fails (is_locked_at nat_eq world (object_there place)) (is_locked_at nat_eq world place.parent) passed.1.1.1.1.0) _ refl inode locked,
-            differs (object_there place) (first_fails (is_locked_at nat_eq world (object_there place)) (is_locked_at nat_eq world place.parent) passed.1.1.1.1.0) _
-                (in_it place (no_special place.last word.0 word.1.0 word.1.1.0) is) inode locked,
+          differs place.parent (second_fails (is_locked_at nat_eq world (object_there place)) (is_locked_at nat_eq world place.parent) passed.1.1.1.1.0) _ refl inode locked,
+          differs (object_there place) (first_fails (is_locked_at nat_eq world (object_there place)) (is_locked_at nat_eq world place.parent) passed.1.1.1.1.0) _
+              (in_it place (no_special place.last word.0 word.1.0 word.1.1.0) is) inode locked,
         );
         layer = tt;
       })))
@@ -211,12 +211,12 @@ module _ (world : World ℕ) (whole : IsWorld nat_eq world) (task : Task ℕ) (c
       let after_to = second_fails locked_to (locked_old || others) after_from in
       record {
         spares = λ inode locked. (
-            differs from.parent (first_fails locked_from (locked_to || (locked_old || others)) locks) _ refl inode locked,
-            differs to.parent (first_fails locked_to (locked_old || others) after_from) _ at_to inode locked,
-            differs (object_there from) (first_fails locked_old others after_to) _ (in_it from from_named from_is) inode locked,
-            λ e. not_replaced to to_named to_is (second_fails locked_old others after_to) inode
-            (ap (λ n. is_locked nat_eq world n inode) at_to ∙ locked)
-            (ap (λ m. entry_at (files_at nat_eq world (record { mount = m; node = 0 })).tree to.parent.node (name_of to.last)) (sym one_mount) ∙ e),
+          differs from.parent (first_fails locked_from (locked_to || (locked_old || others)) locks) _ refl inode locked,
+          differs to.parent (first_fails locked_to (locked_old || others) after_from) _ at_to inode locked,
+          differs (object_there from) (first_fails locked_old others after_to) _ (in_it from from_named from_is) inode locked,
+          λ e. not_replaced to to_named to_is (second_fails locked_old others after_to) inode
+              (ap (λ n. is_locked nat_eq world n inode) at_to ∙ locked)
+              (ap (λ m. entry_at (files_at nat_eq world (record { mount = m; node = 0 })).tree to.parent.node (name_of to.last)) (sym one_mount) ∙ e),
         );
         layer = tt;
       })
