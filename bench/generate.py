@@ -12,6 +12,12 @@ users   files of eight users, made, linked, renamed, written and read by descrip
 links   files that are made, linked, renamed, read by descriptor and removed through chains of up to 40 links
 mounts  binds, moves and unmounts in a namespace of some 4,000 mounts, and files written and read through them
 spaces  200 namespaces of 20 mounts each: unshared, entered and left, with mounts of their own in between
+received60, received600, received2000
+        one mount and its unmount, which so many namespaces receive, and files read on a copy
+chain   a mount and its unmount along 200 peer groups, each the slave of the one before
+trees   a tree of 1,000 mounts, bound recursively onto a shared mount with one more peer, and unmounted lazily
+
+The last five need mount propagation, which the program does not have yet: bench/run leaves them out.
 
 The number of directories is 1,000, or fewer for a short script. The same words give the same script.
 """
@@ -194,17 +200,100 @@ def spaces_round(i, names):
     yield f'{other} umount /m{i % 19}'
 
 
+def received(lines, count):
+    """One mount and its unmount, which the namespaces of all tasks receive."""
+    yield 't mkdir /a'
+    yield 't mount plain /a'
+    yield 't mkdir /a/b'
+    yield 't type /a shared'
+    names = []
+    for i in range((count + 39) // 40):
+        yield 't fork'
+        for k in range(min(40, count - 40 * i)):
+            yield f't.{i + 1} fork'
+            names.append(f't.{i + 1}.{k + 1}')
+    for name in names:
+        yield f'{name} unshare'
+    yield from rounds(lines - 4 - (count + 39) // 40 - 2 * count, count, lambda i, count: received_round(i, names))
+
+
+def received_round(i, names):
+    yield 't mount plain /a/b'
+    yield f't write /a/b/f value-{i}'
+    yield f'{names[i * 7 % len(names)]} read /a/b/f'
+    yield 't umount /a/b'
+
+
+GROUPS = 200
+
+
+def chain(lines):
+    yield 't mkdir /g0'
+    yield 't mount plain /g0'
+    yield 't mkdir /g0/d'
+    yield 't type /g0 shared'
+    for i in range(1, GROUPS):
+        yield f't mkdir /g{i}'
+        yield f't bind /g{i - 1} /g{i}'
+        yield f't type /g{i} slave'
+        yield f't type /g{i} shared'
+    yield from rounds(lines - 4 * GROUPS, GROUPS, chain_round)
+
+
+def chain_round(i, count):
+    """A mount at one of the groups, which those below it receive, and a file that is read at the last."""
+    yield f't mount plain /g{i * 37 % count}/d'
+    yield f't write /g{i * 37 % count}/d/f value-{i}'
+    yield f't read /g{count - 1}/d/f'
+    yield f't umount /g{i * 37 % count}/d'
+
+
+TREE = 1000
+
+
+def trees(lines):
+    yield 't mkdir /tree'
+    yield 't mount plain /tree'
+    for i in range(TREE - 1):
+        # each mount has up to nine children
+        place = '/tree' + ''.join(f'/{digit}' for digit in str(i + 1))
+        yield f't mkdir {place}'
+        yield f't mount plain {place}'
+    yield 't mkdir /s'
+    yield 't mount plain /s'
+    yield 't mkdir /s/d'
+    yield 't type /s shared'
+    yield 't mkdir /r'
+    yield 't bind /s /r'
+    yield from rounds(lines - 2 * TREE - 6, TREE, trees_round)
+
+
+def trees_round(i, count):
+    place = ''.join(f'/{digit}' for digit in str(i * 37 % (count - 1) + 1))
+    yield f't write /tree{place}/f value-{i}'
+    yield 't rbind /tree /s/d'
+    yield f't read /r/d{place}/f'
+    yield 't lazy /s/d'
+
+
 KINDS = {
     'files': files, 'listed': listed, 'deep': deep, 'one': one, 'users': users, 'links': links, 'mounts': mounts,
     'spaces': spaces,
 }
 
+# of lines that the program refuses as yet
+WAITING = {
+    'received60': lambda lines: received(lines, 60), 'received600': lambda lines: received(lines, 600),
+    'received2000': lambda lines: received(lines, 2000), 'chain': chain, 'trees': trees,
+}
+
 
 def main():
-    if len(sys.argv) != 3 or sys.argv[1] not in KINDS or not sys.argv[2].isdigit():
+    kinds = KINDS | WAITING
+    if len(sys.argv) != 3 or sys.argv[1] not in kinds or not sys.argv[2].isdigit():
         sys.exit(__doc__.strip())
     out = sys.stdout
-    for line in KINDS[sys.argv[1]](int(sys.argv[2])):
+    for line in kinds[sys.argv[1]](int(sys.argv[2])):
         out.write(line + '\n')
 
 

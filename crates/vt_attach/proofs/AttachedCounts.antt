@@ -1,28 +1,23 @@
--- Mounts, filesystems and namespaces count what is in a world in which mounts were attached, and tasks stay where they are.
-use Rattle.std.proofs.Common.{◌≡◌, ◌⊎◌, refl, sym, ap, subst, ◌∙◌, inl, inr, ⊎_elim, ℕ, ◌+◌, ◌<◌, ◌%◌, ◌/◌, ◌==◌, nat_eq, eqb-true, nat_lt, Bool, true, false, true≢false, ◌&&◌, ◌||◌, List, [], ◌∷◌, ◌++◌, map, flat_map, if◌then◌else◌, arith}
+-- Mounts that come after all others: nothing is on them, and their numbers are greater.
+use Rattle.std.proofs.Common.{◌≡◌, refl, sym, ap, ◌∙◌, inl, inr, ℕ, ◌+◌, ◌<◌, ◌%◌, ◌/◌, ◌==◌, nat_eq, eqb-true, nat_lt, Bool, true, false, true≢false, ◌&&◌, ◌||◌, List, [], ◌∷◌, ◌++◌, map, flat_map, if◌then◌else◌, arith}
 use Rattle.std.specs.List.{list_all}
 use Rattle.std.proofs.lemmas.Bool.{ltb-true, ne_eqb}
 use Rattle.vt_spec.specs.Lists.{is_among}
 use Rattle.vt_spec.specs.Machine.Mounts as meant
 use Rattle.vt_spec.specs.Machine.World.{Descriptor, Task, all_locations, locations_of}
 use Rattle.vt_count_laws.proofs.MountRoots as Roots
-use Rattle.vt_fs.specs.FilesystemsValue.{FilesystemEntry, Filesystems, Shown}
-use Rattle.vt_letting_go.specs.Counts.{mounts_showing, times}
-use Rattle.vt_letting_go.proofs.Lists.{Among, all_from_among, all_pass, among-append, among-append_left, among-append_right, among-from_map, among-map, among_from_all, among_numbers, is_among_numbers, passes}
+use Rattle.vt_letting_go.specs.Counts.{times}
+use Rattle.vt_letting_go.proofs.Lists.{Among, among-append_left, among-append_right, among-from_map, among-map, among_numbers, is_among_numbers, passes}
 use Rattle.vt_location.specs.declared.mounts.Mount.{Mount}
 use Rattle.vt_location.specs.MountValue.{mount_of}
 use Rattle.vt_location.specs.Numbers.{counted}
-use Rattle.vt_mount.specs.MountsValue.{MountEntry, are_ascending, mounts_in}
+use Rattle.vt_mount.specs.MountsValue.{are_ascending, mounts_in}
 use Rattle.vt_run_laws.specs.Handed.{is_counted_before}
-use Rattle.vt_letting_go.proofs.UpperUses.{times_append}
-use Rattle.vt_detach.specs.Held.{CountsItsUses, CountsWhatIsInIt, IsHeld, is_ungrouped, writes_of, writes_on}
-use Rattle.vt_detach.specs.Uses.{kept, unused_entry, with_attached}
+use Rattle.vt_detach.specs.Held.{CountsItsUses, IsHeld, writes_of, writes_on}
+use Rattle.vt_detach.specs.Uses.{unused_entry}
 use Rattle.vt_detach.specs.WorldValue.{WorldValue, world_of}
-use Rattle.vt_attach.proofs.AddedUses.{showing}
-use Rattle.vt_attach.proofs.AttachedWorlds.{shown_was}
-use Rattle.vt_attach.proofs.EnteringLemmas.{apart, mounts_entered}
+use Rattle.vt_attach.proofs.EnteringLemmas.{apart}
 use Rattle.vt_detach.proofs.FilesSeen.{mount_named}
-use Rattle.vt_detach.proofs.Finishing.{CountsBeside}
 
 -- what nothing passes is none
 pub times_none : {A : Type 0} (test : A → Bool) (xs : List A) → ((x : A) → Among x xs → test x ≡ false) → times test xs ≡ 0
@@ -51,10 +46,6 @@ writes_none number (task ∷ tasks) none =
         by true = refl
         by false = refl
 
--- The code's world with mounts that were attached, and other filesystems
-abbrev pub attached_value : WorldValue → List MountEntry → Filesystems → ℕ → WorldValue
-attached_value value mounts filesystems next = record value { mounts = mounts; filesystems = filesystems; next = next }
-
 -- Mounts that come after all others: nothing is on them
 module _ (value : WorldValue) (whole : IsHeld value) (new : List Mount)
     (ascending : are_ascending (mounts_in value.mounts ++ map mount_of new) ≡ true) where
@@ -75,49 +66,6 @@ module _ (value : WorldValue) (whole : IsHeld value) (new : List Mount)
     uses = sym (times_none (λ (location : meant.Location ℕ). nat_eq (counted mount.number.count) location.mount) (all_locations (world_of value)) (not_on_new mount m));
     writers = sym (writes_none (counted mount.number.count) value.tasks (not_on_new mount m));
   }
-
-module _ (value : WorldValue) (whole : IsHeld value) (base filesystems : Filesystems) (new : List Mount) (mounts : List MountEntry) (next : ℕ)
-    (is_kept : kept mounts filesystems ≡ with_attached new (kept value.mounts base))
-    (ascending : are_ascending (mounts_in value.mounts ++ map mount_of new) ≡ true) where
-  pub mounts_are : mounts_in mounts ≡ mounts_in value.mounts ++ map mount_of new
-  mounts_are = ap (λ k. mounts_in k.mounts) is_kept ∙ mounts_entered value.mounts new
-
-  new_counts : (mount : Mount) → Among mount new → CountsItsUses (world_of (attached_value value mounts filesystems next)) (unused_entry mount)
-  new_counts mount m =
-      let counts = unused_counts value whole new ascending mount m in
-      record { uses = counts.uses; writers = counts.writers }
-
-  pub attached_counts : list_all (λ mount. is_ungrouped mount.propagation) (map mount_of new) ≡ true
-      → ((entry : FilesystemEntry) → Among entry base → entry.mounts ≡ mounts_showing (world_of value) (counted entry.count))
-      → CountsBeside (attached_value value mounts filesystems next)
-  attached_counts ungrouped shows = record {
-    ungrouped = all_pass (λ entry. is_ungrouped entry.mount.propagation) mounts (λ entry m.
-        ⊎_elim
-        (λ old. passes (λ one. is_ungrouped one.mount.propagation) value.mounts whole.ungrouped entry old)
-        (λ added. let from = among-from_map unused_entry new entry added in
-        ap (λ (one : MountEntry). is_ungrouped one.mount.propagation) from.2
-        ∙ passes (λ mount. is_ungrouped mount.propagation) (map mount_of new) ungrouped (mount_of from.0) (among-map mount_of new from.0 from.1))
-        (entry_from entry m));
-    uses = all_from_among (CountsItsUses (world_of (attached_value value mounts filesystems next))) mounts (λ entry m.
-        ⊎_elim
-        (λ old. let was = among_from_all (CountsItsUses (world_of value)) value.mounts whole.mounts entry old in
-        record { uses = was.uses; writers = was.writers })
-        (λ added. let from = among-from_map unused_entry new entry added in
-        subst (CountsItsUses (world_of (attached_value value mounts filesystems next))) (sym from.2) (new_counts from.0 from.1))
-        (entry_from entry m));
-    mounts = λ entry m. let from = shown_was value.mounts mounts base filesystems new is_kept entry m in
-        ap (λ (one : Shown). one.mounts) from.2
-        ∙ ap (λ n. n + showing from.0.count new) (shows from.0 from.1)
-        ∙ sym (times_append (λ (mount : meant.Mount ℕ). nat_eq (counted from.0.count) mount.filesystem) (mounts_in value.mounts) (map mount_of new))
-        ∙ (λ i. times (λ (mount : meant.Mount ℕ). nat_eq (counted (sym (ap (λ (one : Shown). one.count) from.2) i)) mount.filesystem) (sym mounts_are i));
-    namespaces = all_from_among (CountsWhatIsInIt (world_of (attached_value value mounts filesystems next))) value.namespaces (λ entry m.
-        let was = among_from_all (CountsWhatIsInIt (world_of value)) value.namespaces whole.namespaces entry m in
-        record { tasks = was.tasks });
-  }
-    where
-      entry_from : (entry : MountEntry) → Among entry mounts → Among entry value.mounts ⊎ Among entry (map unused_entry new)
-      entry_from entry m =
-          among-append value.mounts (map unused_entry new) entry (subst (λ all. Among entry all) (ap (λ k. k.mounts) is_kept) m)
 
 -- Mounts of a world have lower numbers than what is counted next.
 pub lower_numbers : (value : WorldValue) → IsHeld value → list_all (λ mount. mount.number % 4 == 1) (mounts_in value.mounts) ≡ true

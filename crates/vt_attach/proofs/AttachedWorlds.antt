@@ -9,13 +9,10 @@ use Rattle.vt_spec.specs.Machine.World.{Filesystem, World, filesystem_numbered, 
 use Rattle.vt_spec.specs.Machine.Invariants.{IsWorld, has_its_root}
 use Rattle.vt_spec.specs.Inodes.{Inode as Counted, node_in}
 use Rattle.vt_spec.specs.Tree.{is_directory_node}
-use Rattle.vt_count_laws.specs.Counted.{IsCounted, IsPlain}
-use Rattle.vt_count_laws.specs.Using.{AreThere, Exchanges}
-use Rattle.vt_count_laws.proofs.Exchanged.{uses_are_exchanged}
-use Rattle.vt_fs.specs.FilesystemsValue.{FilesystemEntry, Filesystems, Shown, filesystem_seen, filesystems_seen, inodes_seen, shown, shown_entry}
+use Rattle.vt_count_laws.specs.Using.{AreThere}
+use Rattle.vt_fs.specs.FilesystemsValue.{FilesystemEntry, Filesystems, filesystem_seen, filesystems_seen, inodes_seen}
 use Rattle.vt_letting_go.specs.OneByOne.{Inode}
-use Rattle.vt_letting_go.proofs.Lists.{Among, among-append_right, among-from_map, among-map, among_from_all, map_twice, passes}
-use Rattle.vt_letting_go.proofs.OfWorlds.{worlds_have_trees}
+use Rattle.vt_letting_go.proofs.Lists.{Among, among-append_right, among-map, passes}
 use Rattle.vt_letting_go.proofs.PlacesLeft.{found_itself}
 use Rattle.vt_location.specs.declared.locations.Location.{Location}
 use Rattle.vt_location.specs.declared.locations.NodeRef.{NodeRef}
@@ -24,14 +21,10 @@ use Rattle.vt_location.specs.Locations.{location_of, number_of}
 use Rattle.vt_location.specs.MountValue.{mount_of}
 use Rattle.vt_location.specs.Numbers.{counted}
 use Rattle.vt_location.proofs.NumberLemmas.{inode_same, slot_of}
-use Rattle.vt_mount.specs.MountsValue.{MountEntry}
-use Rattle.vt_world_laws.proofs.RaisedInUse.{worlds_are_in_use}
 use Rattle.vt_world_laws.proofs.Roots.{directory_there}
-use Rattle.vt_detach.specs.Held.{CountsItsMounts, HasOwnInodes, IsHeld}
+use Rattle.vt_detach.specs.Held.{HasOwnInodes}
 use Rattle.vt_attach.specs.Room.{has_small_slots, point_is_small}
-use Rattle.vt_detach.specs.Uses.{kept, with_attached}
-use Rattle.vt_detach.specs.WorldValue.{WorldValue, world_of}
-use Rattle.vt_attach.proofs.AddedUses.{IsFoundIn, gained_by, point_inodes, shown_by_all, with_mounts_on}
+use Rattle.vt_attach.proofs.AddedUses.{IsFoundIn, gained_by, point_inodes}
 use Rattle.vt_detach.proofs.FilesSeen.{seen_in}
 use Rattle.vt_detach.proofs.Showing.{found_filesystem}
 
@@ -117,43 +110,3 @@ module _ (after : World ℕ) (is_world : IsWorld nat_eq after) (front : List (me
           && both (λ (inode : Inode). not (nat_eq (counted entry.count) inode.0) || is_some ((inodes_seen entry).inode inode.1))
           (point_inodes mount.mount_point) (gained_by rest)
           (point_there mount (within mount (inl refl)) mount.mount_point refl) (each rest (λ other n. within other (inr n))) i
-
--- The filesystems after that
-module _ (old mounts : List MountEntry) (base filesystems : Filesystems) (new : List Mount)
-    (is_kept : kept mounts filesystems ≡ with_attached new (kept old base)) where
-  pub shown_are : shown filesystems ≡ map (with_mounts_on new) (shown base)
-  shown_are = ap (λ k. k.filesystems) is_kept ∙ shown_by_all new (shown base)
-
-  pub shown_was : (entry : FilesystemEntry) → Among entry filesystems
-      → (was : FilesystemEntry) × Among was base × (shown_entry entry ≡ with_mounts_on new (shown_entry was))
-  shown_was entry m =
-      let from = among-from_map (with_mounts_on new) (shown base) (shown_entry entry)
-      (subst (λ all. Among (shown_entry entry) all) shown_are (among-map shown_entry filesystems entry m)) in
-      let first = among-from_map shown_entry base from.0 from.1 in
-      (first.0, first.1, from.2 ∙ ap (with_mounts_on new) first.2)
-
-  pub same_numbers : map (λ (f : Filesystem ℕ). f.number) (filesystems_seen base) ≡ map (λ (entry : FilesystemEntry). counted entry.count) filesystems
-  same_numbers =
-      map_twice (λ (f : Filesystem ℕ). f.number) filesystem_seen base
-      ∙ sym (map_twice (λ (one : Shown). counted one.count) shown_entry base)
-      ∙ sym (map_twice (λ (one : Shown). counted one.count) (with_mounts_on new) (shown base))
-      ∙ sym (ap (map (λ (one : Shown). counted one.count)) shown_are)
-      ∙ map_twice (λ (one : Shown). counted one.count) shown_entry filesystems
-
--- An inode of a filesystem that was there counts the mounts that came.
-pub old_is_counted : (value : WorldValue) → IsHeld value → (after : World ℕ) (new : List Mount) (was entry : FilesystemEntry)
-    → IsPlain after → Among was value.filesystems
-    → Exchanges (gained_by new) [] (counted was.count) (world_of value) after
-    → AreThere (counted was.count) (inodes_seen was) (gained_by new)
-    → shown_entry entry ≡ with_mounts_on new (shown_entry was)
-    → IsCounted after (filesystem_numbered nat_eq after (counted entry.count)) (inodes_seen entry)
-old_is_counted value whole after new was entry plain m exchanges there is =
-    subst (λ count. IsCounted after (filesystem_numbered nat_eq after (counted count)) (inodes_seen entry)) (sym (ap (λ (one : Shown). one.count) is))
-    (subst (IsCounted after (filesystem_numbered nat_eq after (counted was.count))) (sym (ap (λ (one : Shown). one.inodes) is))
-    (uses_are_exchanged (world_of value) after (gained_by new) [] (counted was.count) (inodes_seen was)
-    (worlds_have_trees (world_of value) whole.in_world) (worlds_are_in_use (world_of value) whole.in_world).inodes plain exchanges
-    (subst (λ f. IsCounted (world_of value) f (inodes_seen was))
-    (sym (found_filesystem (world_of value).filesystems whole.in_world.files.one_filesystem (filesystem_seen was)
-    (among-map filesystem_seen value.filesystems was m)))
-    (among_from_all (CountsItsMounts (world_of value)) value.filesystems whole.filesystems was m).inodes)
-    there))

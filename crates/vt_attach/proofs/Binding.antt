@@ -1,124 +1,192 @@
 -- The events that attach copies of mounts: mount(2) with MS_BIND.
-use Rattle.std.proofs.Common.{◌≡◌, refl, sym, ap, subst, ◌∙◌, ℕ, ◌+◌, nat_eq, Bool, true, false, true≢false, cond, ◌||◌, List, [], ◌∷◌, ◌++◌, map, find, Option, Some, None, option_map, is_some}
-use Rattle.std.specs.Prelude.{unwrap_or}
+use Rattle.std.proofs.Common.{◌≡◌, ◌<◌, refl, sym, ap, subst, ◌∙◌, ⊎_elim, ℕ, ◌+◌, ◌*◌, ◌%◌, ◌==◌, nat_eq, eq-eqb, Bool, true, false, true≢false, cond, ◌||◌, ◌&&◌, List, [], ◌∷◌, ◌++◌, map, find, length, Some, is_some, arith}
 use Rattle.std.specs.List.{list_all}
-use Rattle.std.proofs.lemmas.Bool.{and_parts}
+use Rattle.std.proofs.lemmas.List.{length-map}
 use Rattle.vt_spec.specs.Language.Calls.{TaskName}
-use Rattle.vt_spec.specs.Lists.{is_among}
-use Rattle.vt_spec.specs.Machine.Attach.{attach, bind_tree}
+use Rattle.vt_spec.specs.Lists.{holds_of, is_among}
+use Rattle.vt_spec.specs.Machine.Attach.{attach, bind_tree, parts_of}
 use Rattle.vt_spec.specs.Machine.Mounts as meant
+use Rattle.vt_spec.specs.Machine.Mounts.{group_of}
 use Rattle.vt_spec.specs.Machine.Permits.{Permit}
 use Rattle.vt_spec.specs.Machine.Permits.Permit.{ToBind}
+use Rattle.vt_spec.specs.Machine.Receives.{has_members, is_member_of}
 use Rattle.vt_spec.specs.Machine.World.{World, mount_at}
-use Rattle.vt_spec.specs.Machine.Invariants.{IsWorld, is_located_well}
-use Rattle.vt_count_laws.specs.Using.{Exchanges}
+use Rattle.vt_spec.specs.Machine.Invariants.{is_located_well}
+use Rattle.vt_count_laws.specs.Counted.{IsCounted}
 use Rattle.vt_count_laws.proofs.MountRoots as Roots
-use Rattle.vt_count_laws.proofs.MountRoots.{places_stand}
-use Rattle.vt_fs.specs.FilesystemsValue.{Filesystems, Shown, inodes_seen}
+use Rattle.vt_fs.specs.FilesystemsValue.{Filesystems, filesystem_seen, inodes_seen}
+use Rattle.vt_group.specs.Grouping.{Grouping, HasGroup}
+use Rattle.vt_group.specs.Together.{new_group}
+use Rattle.vt_laws.specs.Numbers.{KeepsTo}
 use Rattle.vt_letting_go.proofs.AttachedSwept.{binds_keep_all}
-use Rattle.vt_letting_go.proofs.Lists.{among_from_all}
-use Rattle.vt_letting_go.proofs.OfWorlds.{mounts_of_worlds_stand}
+use Rattle.vt_letting_go.proofs.Lists.{Among, all_pass, among-map, among_from_all, any_passes, passes}
+use Rattle.vt_letting_go.proofs.OfWorlds.{mounts_of_worlds_stand, worlds_have_trees}
+use Rattle.vt_letting_go.proofs.PlacesLeft.{found_is_there}
 use Rattle.vt_location.specs.declared.locations.Location.{Location}
-use Rattle.vt_location.specs.declared.mounts.Mount.{Mount}
 use Rattle.vt_location.specs.Locations.{location_of}
 use Rattle.vt_location.specs.MountValue.{mount_of}
 use Rattle.vt_location.specs.Numbers.{counted}
 use Rattle.vt_mount.specs.MountsValue.{MountEntry, are_ascending, mounts_in}
-use Rattle.vt_permit_laws.specs.Taken.{counts_taken}
-use Rattle.vt_run_laws.specs.Handed.{counts_from}
+use Rattle.vt_mount_laws.proofs.BindsStand.{bind_there_or_source}
+use Rattle.vt_mount_laws.proofs.MountsNumbered.{parts_apart}
+use Rattle.vt_mount_laws.proofs.Standing.{binds_take_each_once}
+use Rattle.vt_propagate.specs.declared.copying.Counts.{Counts}
+use Rattle.vt_propagate.specs.declared.copying.Graft.{Graft}
+use Rattle.vt_propagate.specs.Copying as planned
+use Rattle.vt_propagate.specs.Planned.{planned_copies}
+use Rattle.vt_propagate.specs.Pushing.{EachOnce}
+use Rattle.vt_propagate.specs.Seen.{IsSeen}
+use Rattle.vt_run_laws.specs.Handed.{counts_from, is_counted_before}
+use Rattle.vt_spec.proofs.Lists.{among_from_contains}
 use Rattle.vt_world_laws.proofs.RaisedInUse.{worlds_are_in_use}
+use Rattle.vt_world_laws.specs.Worlds.Permits.{NamesWhatIsThere}
 use Rattle.vt_detach.specs.Events.{Permits, left_by}
-use Rattle.vt_detach.specs.Held.{CountsItsMounts, HasOwnInodes, IsHeld, is_ungrouped}
-use Rattle.vt_attach.specs.Room.{has_small_slots}
-use Rattle.vt_detach.specs.Uses.{kept, with_attached}
+use Rattle.vt_detach.specs.Held.{CountsItsMounts, IsHeld, is_ungrouped}
+use Rattle.vt_detach.specs.Uses.{kept}
 use Rattle.vt_detach.specs.WorldValue.{WorldValue, world_of}
-use Rattle.vt_attach.proofs.AddedUses.{gained_by, mounts_are_gained}
-use Rattle.vt_attach.proofs.AttachedCounts.{attached_counts, attached_value, mounts_are}
-use Rattle.vt_attach.proofs.AttachedWorlds.{new_found, new_uses_there, old_is_counted, same_numbers, shown_was}
 use Rattle.vt_detach.proofs.FileEvents.{permit_fits}
-use Rattle.vt_detach.proofs.Finishing.{own_exchanged}
-use Rattle.vt_attach.proofs.UngroupedAdded.{attached_has}
-use Rattle.vt_detach.proofs.OwnInodesKept.{IsOwn}
-use Rattle.vt_detach.proofs.Showing.{ShowsAs}
-use Rattle.vt_detach.proofs.Shown.{is_some_mapped}
-use Rattle.vt_detach.proofs.Staying.{IsDone, world_is_plain}
-use Rattle.vt_attach.proofs.TakingNumbers.{TakesNumbers, left_is_world, numbers_are_taken}
+use Rattle.vt_detach.proofs.Places.{located_is_named}
+use Rattle.vt_detach.proofs.Showing.{found_filesystem}
+use Rattle.vt_detach.proofs.Staying.{IsDone}
+use Rattle.vt_attach.specs.AttachedGroups.{HasGroupsOf}
+use Rattle.vt_attach.specs.AttachedNumbers.{numbers_of_parts}
+use Rattle.vt_attach.specs.Grafted.{IsGrafted, MayGraft}
+use Rattle.vt_attach.specs.PlannedUses.{point_seen}
+use Rattle.vt_attach.proofs.AttachedCounts.{lower_numbers}
+use Rattle.vt_attach.proofs.CopiesAscend.{planned_ascend}
+use Rattle.vt_attach.proofs.GraftedDone.{IsBase, graft_is_done, grafted_value, plan_attaches}
+use Rattle.vt_attach.proofs.Grafting.{all_ungrouped, copies_free, found_ungrouped}
+use Rattle.vt_attach.proofs.NumbersByParts.{bind_some, binds_keep_to_numbers}
+use Rattle.vt_attach.proofs.TakingNumbers.{TakesNumbers}
 
--- Whatever a bind attaches: where code attaches the copies that the policy attaches, the event is done.
-module _ (value : WorldValue) (whole : IsHeld value) (name : TaskName) (source place : Location) (recursive : Bool)
-    (permits : Permits value name (ToBind (location_of source) (location_of place) recursive))
-    (new : List Mount) (mounts : List MountEntry) (filesystems : Filesystems) (next : ℕ)
-    (is_kept : kept mounts filesystems ≡ with_attached new (kept value.mounts value.filesystems))
-    (slots : list_all has_small_slots new ≡ true)
-    (ascending : are_ascending (mounts_in value.mounts ++ map mount_of new) ≡ true)
-    (ungrouped : list_all (λ mount. is_ungrouped mount.propagation) (map mount_of new) ≡ true)
-    (attached_are : attach nat_eq (world_of value) (counts_from value.next) (location_of place) false (bind_tree nat_eq (world_of value) (location_of source) recursive)
-    ≡ record (world_of value) { mounts = mounts_in value.mounts ++ map mount_of new }) where
+-- the filesystems of the code's world
+pub same_base : (value : WorldValue) → IsHeld value → IsBase value value.filesystems
+same_base value whole = record {
+  own = whole.own_inodes;
+  trees = worlds_have_trees (world_of value) whole.in_world;
+  in_use = (worlds_are_in_use (world_of value) whole.in_world).inodes;
+  roots = whole.in_world.roots;
+  inodes = λ entry m.
+      subst (λ f. IsCounted (world_of value) f (inodes_seen entry))
+      (sym (found_filesystem (world_of value).filesystems whole.in_world.files.one_filesystem (filesystem_seen entry) (among-map filesystem_seen value.filesystems entry m)))
+      (among_from_all (CountsItsMounts (world_of value)) value.filesystems whole.filesystems entry m).inodes;
+  mounts = λ entry m. (among_from_all (CountsItsMounts (world_of value)) value.filesystems whole.filesystems entry m).mounts;
+}
+
+-- the code's world has its mounts and groups
+pub is_seen : (value : WorldValue) → IsHeld value → IsSeen (world_of value) value.mounts value.groups
+is_seen value whole = record { mounts = refl; groups = whole.groups; living = whole.in_world.mounts.groups }
+
+-- the group of a mount of the world is there
+pub group_there : (mounts : List (meant.Mount ℕ)) (mount : meant.Mount ℕ) → Among mount mounts → (group : ℕ)
+    → group_of mount.propagation ≡ Some group → has_members nat_eq mounts group ≡ true
+group_there mounts mount m group e =
+    any_passes (is_member_of nat_eq group) mounts mount m (ap (holds_of (nat_eq group)) e ∙ eq-eqb group group refl)
+
+module _ (value : WorldValue) (whole : IsHeld value) (name : TaskName) (source : Location) (recursive : Bool) (graft : Graft) (counts : Counts)
+    (permits : Permits value name (ToBind (location_of source) (location_of graft.place) recursive))
+    (tree_is : map mount_of graft.tree.now ≡ bind_tree nat_eq (world_of value) (location_of source) recursive) (binds : graft.moves ≡ false)
+    (parts_are : map mount_of graft.parts.now ≡ parts_of nat_eq (world_of value) (location_of graft.place))
+    (first : counts.first ≡ value.next) (step : counts.step ≡ 1) where
   abbrev permit : Permit ℕ
-  permit = ToBind (location_of source) (location_of place) recursive
+  permit = ToBind (location_of source) (location_of graft.place) recursive
 
   abbrev world : World ℕ
   world = world_of value
 
-  abbrev after : World ℕ
-  after = record world { mounts = mounts_in value.mounts ++ map mount_of new }
+  abbrev tree : List (meant.Mount ℕ)
+  tree = map mount_of graft.tree.now
 
   takes : TakesNumbers value name permit permits.task
   takes = record { called = permits.called; given = permits.given; inode = 0; even = refl; supply = refl }
 
-  left_is : left_by value permits.task permit ≡ after
-  left_is =
-      binds_keep_all (counts_from value.next) world permits.task (location_of source) (location_of place) recursive
-      (worlds_are_in_use world whole.in_world) (mounts_of_worlds_stand world whole.in_world) (Roots.locations_of_worlds_stand world whole.in_world)
-      (ap is_some (permit_fits value whole name permit permits).names.2.own)
-      ∙ attached_are
+  names : NamesWhatIsThere (world_of value) permits.task (ToBind (location_of source) (location_of graft.place) recursive)
+  names = (permit_fits value whole name permit permits).names
 
-  after_is_world : IsWorld nat_eq after
-  after_is_world = subst (IsWorld nat_eq) left_is (left_is_world value whole name permit permits.task takes).0
+  same_counts : (k : ℕ) → planned.counts_from counts k ≡ counts_from value.next k
+  same_counts k = (λ i. counted (first i + step i * k)) ∙ omega arith
 
-  gained : (filesystem : ℕ) → Exchanges (gained_by new) [] filesystem world after
-  gained =
-      mounts_are_gained after world new
-      (new_found after after_is_world (mounts_in value.mounts) new refl slots value.filesystems refl whole.own_inodes)
-      refl refl refl after_is_world.mounts.one_number
-      (places_stand world (mounts_of_worlds_stand world whole.in_world) (Roots.locations_of_worlds_stand world whole.in_world))
+  tree_once : EachOnce tree
+  tree_once =
+      subst EachOnce (sym tree_is)
+      (binds_take_each_once world (location_of source) recursive whole.in_world.mounts.one_number whole.in_world.mounts.standing)
 
-  shows : ShowsAs after (attached_value value mounts filesystems next)
-  shows = record {
-    plain = world_is_plain value;
-    mounts = sym (mounts_are value whole value.filesystems filesystems new mounts next is_kept ascending);
-    groups = attached_has world after value.groups (map mount_of new) whole.groups refl ascending ungrouped (λ group. refl);
-    numbers = same_numbers value.mounts mounts value.filesystems filesystems new is_kept;
-    inodes = λ entry m. let from = shown_was value.mounts mounts value.filesystems filesystems new is_kept entry m in
-        old_is_counted value whole after new from.0 entry (world_is_plain value) from.1 (gained (counted from.0.count))
-        (new_uses_there after after_is_world (mounts_in value.mounts) new refl slots value.filesystems refl whole.own_inodes from.0 from.1)
-        from.2;
-    namespaces = refl;
-    tasks = refl;
+  tree_some : 0 < length graft.tree.now
+  tree_some =
+      subst (λ n. 0 < n) (length-map graft.tree.now mount_of)
+      (subst (λ (list : List (meant.Mount ℕ)). 0 < length list) (sym tree_is) (bind_some world (location_of source) recursive))
+
+  rising_then : are_ascending (mounts_in value.mounts) ≡ true → list_all (λ mount. mount.number % 4 == 1) (mounts_in value.mounts) ≡ true
+      → are_ascending (mounts_in value.mounts ++ planned_copies world graft counts) ≡ true
+  rising_then ascending odd =
+      planned_ascend counts (subst (λ n. 0 < n) (sym step) (omega arith)) world graft binds whole.in_world.mounts.one_number tree_once tree_some
+      (mounts_in value.mounts) ascending
+      (λ mount m. subst (λ n. mount.number < counted n) (sym first) (lower_numbers value whole odd mount m))
+
+  pub may_bind : are_ascending (mounts_in value.mounts) ≡ true → list_all (λ mount. mount.number % 4 == 1) (mounts_in value.mounts) ≡ true
+      → MayGraft value.mounts value.groups graft counts
+  may_bind ascending odd = record {
+    world = world;
+    seen = is_seen value whole;
+    one_child = whole.in_world.mounts.one_child;
+    parts_are = parts_are;
+    apart = subst EachOnce (sym parts_are) (parts_apart world (location_of graft.place) whole.in_world.mounts.one_number);
+    ascending = rising_then ascending odd;
   }
 
-  pub bind_is_done : next ≡ value.next + counts_taken world permits.task permit
-      → IsDone value name permit (attached_value value mounts filesystems next)
-  bind_is_done grows =
-      numbers_are_taken value whole name permit permits.task takes (attached_value value mounts filesystems next)
-      (subst (λ left. ShowsAs left (attached_value value mounts filesystems next)) (sym left_is) shows)
-      (attached_counts value whole value.filesystems filesystems new mounts next is_kept ascending ungrouped
-      (λ entry m. (among_from_all (CountsItsMounts world) value.filesystems whole.filesystems entry m).mounts))
-      (λ entry m. let from = shown_was value.mounts mounts value.filesystems filesystems new is_kept entry m in
-      subst (λ count. IsOwn count (inodes_seen entry)) (sym (ap (λ (one : Shown). one.count) from.2))
-      (subst (IsOwn from.0.count) (sym (ap (λ (one : Shown). one.inodes) from.2))
-      (own_exchanged from.0.count (gained_by new) [] (inodes_seen from.0)
-      (among_from_all HasOwnInodes value.filesystems whole.own_inodes from.0 from.1))))
-      grows
+  -- each mount of the tree is there, or is that of the source from another directory on
+  tree_mount : (P : meant.Mount ℕ → Type 0) → ((mount : meant.Mount ℕ) → Among mount (mounts_in value.mounts) → P mount)
+      → ((mount : meant.Mount ℕ) (root : ℕ) → P mount → P (record mount { root = root })) → (mount : meant.Mount ℕ) → Among mount tree → P mount
+  tree_mount P each other mount m =
+      ⊎_elim
+      (λ same. subst P (sym same)
+      (other (mount_at nat_eq world (location_of source)) (location_of source).node
+      (each (mount_at nat_eq world (location_of source)) (found_is_there (mounts_in value.mounts) (counted source.mount.count) (ap is_some names.1)))))
+      (λ old. each mount old)
+      (bind_there_or_source world (location_of source) recursive mount (subst (Among mount) tree_is m))
 
--- One mount
+  there : HasGroupsOf world tree
+  there mount contained =
+      tree_mount (λ (x : meant.Mount ℕ). (group : ℕ) → group_of x.propagation ≡ Some group → HasGroup world group)
+      (group_there (mounts_in value.mounts)) (λ mount root has. has) mount (among_from_contains tree mount contained)
 
-pub only_index : (mount : meant.Mount ℕ) (number : ℕ) → meant.index_of nat_eq (mount ∷ []) number ≡ 0
-only_index mount number = by (nat_eq number mount.number)
-  where
-    by : (b : Bool) → ◌≡◌ {A = ℕ} (unwrap_or (cond b (Some 0) None) 0) 0
-    by true = refl
-    by false = refl
+  tree_free : list_all (λ (mount : meant.Mount ℕ). is_ungrouped mount.propagation) tree ≡ true
+  tree_free =
+      all_pass (λ (mount : meant.Mount ℕ). is_ungrouped mount.propagation) tree
+      (tree_mount (λ (mount : meant.Mount ℕ). is_ungrouped mount.propagation ≡ true)
+      (passes (λ (mount : meant.Mount ℕ). is_ungrouped mount.propagation) (mounts_in value.mounts) (all_ungrouped value whole))
+      (λ mount root free. free))
+
+  named : KeepsTo (is_counted_before (value.next + numbers_of_parts world (location_of graft.place) (bind_tree nat_eq world (location_of source) recursive)))
+      (left_by value permits.task permit)
+  named =
+      binds_keep_to_numbers value.next world permits.task (location_of source) (location_of graft.place) recursive permits.given.called whole.given
+      (λ i. located_is_named value whole (location_of source) names.0.reached.there i
+      && located_is_named value whole (location_of graft.place) names.2.directory.reached.there i)
+
+  pub bind_is_done : (mounts : List MountEntry) (groups : Grouping) (filesystems : Filesystems) (next : ℕ)
+      → IsGrafted graft counts (kept value.mounts value.filesystems) value.groups (kept mounts filesystems) groups
+      → are_ascending (mounts_in value.mounts) ≡ true → list_all (λ mount. mount.number % 4 == 1) (mounts_in value.mounts) ≡ true
+      → next ≡ value.next + 2 * (length graft.parts.now * length graft.tree.now)
+      → IsDone value name permit (grafted_value value mounts groups filesystems next)
+  bind_is_done mounts groups filesystems next is ascending odd grows =
+      let attaches = is.plan world (is_seen value whole) whole.in_world.mounts.one_child parts_are in
+      let attach_is = plan_attaches world graft counts (map mount_of is.copies) (map new_group is.groups) (map point_seen is.points) attaches binds
+      (counts_from value.next) same_counts in
+      let rising = ap (λ list. are_ascending (mounts_in value.mounts ++ list)) attaches.copies_are ∙ rising_then ascending odd in
+      let free = copies_free world (location_of graft.place) tree (counts_from value.next) (map mount_of is.copies) is.points attach_is
+      (found_ungrouped (mounts_in value.mounts) (all_ungrouped value whole) (counted graft.place.mount.count)) (all_ungrouped value whole) tree_free in
+      let left_is = binds_keep_all (counts_from value.next) world permits.task (location_of source) (location_of graft.place) recursive
+      (worlds_are_in_use world whole.in_world) (mounts_of_worlds_stand world whole.in_world) (Roots.locations_of_worlds_stand world whole.in_world)
+      (ap is_some names.2.own)
+      ∙ ap (λ list. attach nat_eq world (counts_from value.next) (location_of graft.place) false list) (sym tree_is) ∙ attach_is in
+      let sizes : numbers_of_parts world (location_of graft.place) (bind_tree nat_eq world (location_of source) recursive)
+      ≡ 2 * (length graft.parts.now * length graft.tree.now) =
+      (λ i. 2 * (length (sym parts_are i) * length (sym tree_is i)))
+      ∙ (λ i. 2 * (length-map graft.parts.now mount_of i * length-map graft.tree.now mount_of i)) in
+      graft_is_done value whole value.filesystems (same_base value whole) graft counts mounts groups filesystems next is attaches there rising free
+      name permit permits takes left_is
+      (subst (λ n. KeepsTo (is_counted_before n) (left_by value permits.task permit)) (ap (λ n. value.next + n) sizes ∙ sym grows) named)
 
 -- Mounts that are looked up
 
@@ -133,22 +201,6 @@ found_some number (first ∷ rest) there = by (nat_eq number first.number) there
         → is_some (cond b (Some first) (find (λ (mount : meant.Mount ℕ). nat_eq number mount.number) rest)) ≡ true
     by true there later = refl
     by false there later = later there
-
--- the mount of a location that is there is found
-pub mount_is_got : (value : WorldValue) (at : Location) (result : Option Mount)
-    → is_located_well nat_eq (world_of value) (location_of at) ≡ true
-    → option_map mount_of result ≡ find (λ (mount : meant.Mount ℕ). nat_eq (counted at.mount.count) mount.number) (mounts_in value.mounts)
-    → is_some result ≡ true
-mount_is_got value at result there is =
-    sym (is_some_mapped mount_of result) ∙ ap is_some is
-    ∙ found_some (counted at.mount.count) (mounts_in value.mounts)
-    (and_parts (is_among nat_eq (counted at.mount.count) (map (λ (mount : meant.Mount ℕ). mount.number) (mounts_in value.mounts))) _ there).0
-
-pub mount_got_is : (value : WorldValue) (at : Location) (result : Option Mount) (mount : Mount)
-    → option_map mount_of result ≡ find (λ (mount : meant.Mount ℕ). nat_eq (counted at.mount.count) mount.number) (mounts_in value.mounts)
-    → result ≡ Some mount → mount_at nat_eq (world_of value) (location_of at) ≡ mount_of mount
-mount_got_is value at result mount is some =
-    ap (λ o. unwrap_or o (meant.no_mount (counted at.mount.count))) (sym is ∙ ap (option_map mount_of) some)
 
 module _ (value : WorldValue) (whole : IsHeld value) (name : TaskName) (source place : Location) (recursive : Bool)
     (permits : Permits value name (ToBind (location_of source) (location_of place) recursive)) where

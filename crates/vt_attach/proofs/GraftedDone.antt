@@ -1,14 +1,13 @@
 -- Attachments with copies at all receivers are done: the code's world is what the policy leaves, and counts what is in it.
-use Rattle.std.proofs.Common.{◌≡◌, ◌⊎◌, refl, sym, ap, subst, ◌∙◌, ⊎_elim, inl, inr, ℕ, ◌+◌, nat_eq, Bool, true, false, ◌&&◌, List, [], ◌∷◌, ◌++◌, map, Option, Some, is_some, arith}
+use Rattle.std.proofs.Common.{◌≡◌, refl, sym, ap, subst, ◌∙◌, ⊎_elim, inl, inr, ℕ, ◌+◌, nat_eq, Bool, true, false, ◌&&◌, List, ◌++◌, map, Option, is_some}
 use Rattle.std.specs.Prelude.{All}
 use Rattle.std.specs.List.{list_all}
 use Rattle.std.proofs.lemmas.List.Folds.{list_all-append}
-use Rattle.vt_count_laws.specs.Counted.{IsCounted, IsPlain}
+use Rattle.vt_count_laws.specs.Counted.{IsCounted}
 use Rattle.vt_count_laws.specs.Using.{exchanged}
 use Rattle.vt_count_laws.proofs.Exchanged.{uses_are_exchanged}
 use Rattle.vt_fs.specs.FilesystemsValue.{FilesystemEntry, Filesystems, Shown, filesystem_seen, filesystems_seen, inodes_seen, shown, shown_entry}
-use Rattle.vt_group.specs.declared.groups.NewGroup.{NewGroup}
-use Rattle.vt_group.specs.Grouping.{Grouping, Has, HasGroup, master_in}
+use Rattle.vt_group.specs.Grouping.{Grouping, Has, master_in}
 use Rattle.vt_group.specs.Together.{Grows, new_group, typed}
 use Rattle.vt_laws.specs.Numbers.{KeepsTo}
 use Rattle.vt_letting_go.specs.Counts.{mounts_showing, times}
@@ -16,7 +15,6 @@ use Rattle.vt_letting_go.specs.InUse.{HasTrees, InodesInUse}
 use Rattle.vt_letting_go.specs.OneByOne.{Inode}
 use Rattle.vt_letting_go.proofs.Lists.{Among, all_from_among, all_pass, among-append, among-from_map, among-map, among_from_all, map_twice, passes}
 use Rattle.vt_letting_go.proofs.UpperUses.{times_append}
-use Rattle.vt_location.specs.declared.mounts.Mount.{Mount}
 use Rattle.vt_location.specs.Locations.{location_of}
 use Rattle.vt_location.specs.MountValue.{mount_of}
 use Rattle.vt_location.specs.Numbers.{counted}
@@ -48,20 +46,19 @@ use Rattle.vt_detach.proofs.Showing.{ShowsAs}
 use Rattle.vt_detach.proofs.Staying.{IsDone}
 use Rattle.vt_attach.specs.AttachedGroups.{HasGroupsOf, all_copies, groups_formed, type_of}
 use Rattle.vt_attach.specs.Grafted.{IsGrafted}
-use Rattle.vt_attach.specs.Planned.{Point, points_taken, with_points}
+use Rattle.vt_attach.specs.Planned.{points_taken, with_points}
 use Rattle.vt_attach.specs.PlannedUses.{point_seen}
 use Rattle.vt_attach.proofs.AddedUses.{gained_by, showing}
 use Rattle.vt_attach.proofs.AttachedCounts.{unused_counts}
 use Rattle.vt_attach.proofs.EnteringLemmas.{mounts_entered}
 use Rattle.vt_attach.proofs.FormedGroups.{formed_groups_begin, groups_of_copies_are_named}
-use Rattle.vt_attach.proofs.GraftedUses.{after, exchanged_then, gained, gained_there, lost, middle, nothing_goes}
-use Rattle.vt_attach.proofs.GrownGroups.{attached_worlds_grow}
+use Rattle.vt_attach.proofs.GraftedUses.{after, exchanged_then, gained_there, nothing_goes}
+use Rattle.vt_attach.proofs.GrownGroups.{ascending_rises, attached_worlds_grow}
 use Rattle.vt_attach.proofs.MovedPoints.{points_are_moved}
 use Rattle.vt_attach.proofs.PlannedCounts.{exchanged_on, inodes_of_points, planned_shown}
 use Rattle.vt_attach.proofs.PlannedPoints.{moved_at}
 use Rattle.vt_attach.proofs.PointsCounted.{points_count, points_show}
 use Rattle.vt_attach.proofs.TakingNumbers.{TakesNumbers, left_is_world, numbers_are_kept}
-use Rattle.vt_attach.proofs.UngroupedAdded.{ascending_rises}
 
 -- the world with these filesystems
 abbrev pub with_base : WorldValue → Filesystems → World ℕ

@@ -11,6 +11,7 @@ use Rattle.vt_group.specs.Grouping.{HasGroup, are_rising, numbers_of, peer_of, p
 use Rattle.vt_group.specs.Together.{with_type_of}
 use Rattle.vt_group.proofs.Peers.{cmp_greater}
 use Rattle.vt_letting_go.proofs.Lists.{all_from_among, among_from_all}
+use Rattle.vt_mount.specs.MountsValue.{are_ascending}
 use Rattle.vt_spec.specs.Lists.{folded, holds_of}
 use Rattle.vt_spec.specs.Machine.Mounts.{Mount, Propagation, group_of, source_of}
 use Rattle.vt_spec.specs.Machine.Mounts.Propagation.{Private, Shared, Slave, Unbindable}
@@ -123,3 +124,14 @@ attached_worlds_grow world after change copies new come = record {
         ap (λ mounts. has_members nat_eq mounts group) come.mounts
         ∙ list_any-append (is_member_of nat_eq group) (map change world.mounts) copies
         ∙ ap (λ b. b || has_members nat_eq copies group) (members_stay change come.number come.kind copies group world.mounts)
+
+-- Mounts in the order of their numbers
+
+later_rise : (number : ℕ) (mounts : List (Mount ℕ))
+    → list_all (λ (later : Mount ℕ). nat_lt number later.number) mounts ≡ list_all (nat_lt number) (numbers_of mounts)
+later_rise number [] = refl
+later_rise number (mount ∷ rest) = ap (λ b. nat_lt number mount.number && b) (later_rise number rest)
+
+pub ascending_rises : (mounts : List (Mount ℕ)) → are_ascending mounts ≡ are_rising (numbers_of mounts)
+ascending_rises [] = refl
+ascending_rises (mount ∷ rest) = λ i. later_rise mount.number rest i && ascending_rises rest i

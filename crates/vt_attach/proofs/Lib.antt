@@ -4,15 +4,14 @@ pub mod EnteringLemmas
 pub mod AddedUses
 pub mod AttachedWorlds
 pub mod AttachedCounts
-pub mod UngroupedAdded
 pub mod Grafting
 pub mod Binding
 pub mod TreeBinding
 pub mod NewFilesystems
+pub mod NewBase
 pub mod NewMounts
 pub mod TakingNumbers
 pub mod CopyLemmas
-pub mod FirstPlaces
 pub mod AddedBegins
 pub mod UnsharedTasks
 pub mod UnsharedWorlds

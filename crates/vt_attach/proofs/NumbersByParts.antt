@@ -1,5 +1,5 @@
 -- The numbers that an attachment takes, whatever groups there are: two for each mount of the tree at each part.
-use Rattle.std.proofs.Common.{◌≡◌, refl, sym, ap, subst, ◌∙◌, ℕ, zero, suc, ◌+◌, ◌*◌, ◌-◌, ◌%◌, ◌/◌, ◌==◌, ◌<◌, nat_eq, eq-eqb, lt-ltb, Bool, true, false, cond, ◌&&◌, ◌||◌, List, [], ◌∷◌, Some, length, unwrap_or, arith}
+use Rattle.std.proofs.Common.{◌≡◌, refl, sym, ap, subst, ◌∙◌, ℕ, zero, suc, ◌+◌, ◌*◌, ◌-◌, ◌%◌, ◌/◌, ◌==◌, ◌<◌, nat_eq, eq-eqb, lt-ltb, Bool, true, false, true≢false, cond, ◌&&◌, ◌||◌, List, [], ◌∷◌, filter, map, Some, length, unwrap_or, arith}
 use Rattle.std.specs.Prelude.{nat_lt}
 use Rattle.vt_laws.specs.Numbers.{KeepsTo}
 use Rattle.vt_permit_laws.proofs.NamedPermits.{permit_left}
@@ -11,14 +11,18 @@ use Rattle.vt_permit_laws.specs.Named.{permit_named}
 use Rattle.vt_run_laws.specs.Handed.{counts_from, handed_from, is_counted_before}
 use Rattle.vt_spec.specs.Lists.{Fresh, odds, place_from}
 use Rattle.vt_spec.specs.Machine.Attach.{Copies, attach, attached_by, bind_tree, copies_from, index_of_group, numbered, parts_of}
-use Rattle.vt_spec.specs.Machine.Mounts.{Location, Mount, index_of, mount_tree, tree_from}
+use Rattle.vt_spec.specs.Machine.Mounts.{Location, Mount, index_of, mount_tree, numbers_by, tree_from}
 use Rattle.vt_spec.specs.Machine.Outcome.Mounting.{mounted, new_mount, plain_filesystem, with_new_filesystem}
 use Rattle.vt_spec.specs.Machine.Permits.{Permit}
-use Rattle.vt_spec.specs.Machine.Permits.Permit.{ToBind, ToMountPlain, ToMove}
+use Rattle.vt_spec.specs.Machine.Permits.Permit.{ToBind, ToMountPlain, ToMove, ToUnshare}
 use Rattle.vt_spec.specs.Machine.Receives.{is_member_of}
 use Rattle.vt_spec.specs.Machine.Settled.{settled}
-use Rattle.vt_spec.specs.Machine.World.{Task, World, mount_numbered, new_plain, task_called}
-use Rattle.vt_attach.specs.AttachedNumbers.{BindsKeepToNumbers, MovesKeepToNumbers, NewMountsKeepToNumbers, numbers_of_new_mount, numbers_of_parts}
+use Rattle.vt_spec.specs.Machine.World.{Namespace, Task, World, mount_numbered, mounts_of, new_plain, task_called}
+use Rattle.vt_spec.specs.Machine.Invariants.{IsWorld, has_one_root, is_listed, is_root_mount}
+use Rattle.vt_spec.specs.Machine.Namespaces.{namespaces_ended, unshared_by}
+use Rattle.vt_spec.proofs.Lists.{among_from_list_all, among_numbers, among-from_map}
+use Rattle.vt_world_laws.proofs.ReachedWalks.{task_among}
+use Rattle.vt_attach.specs.AttachedNumbers.{BindsKeepToNumbers, MovesKeepToNumbers, NewMountsKeepToNumbers, UnsharesKeepToNumbers, numbers_of_new_mount, numbers_of_parts}
 
 -- places in a table
 
@@ -75,7 +79,7 @@ counted_here next taken k low =
     either true e = refl
     either false e = e
 
-bind_some : (world : World ℕ) (source : Location ℕ) (recursive : Bool) → 0 < length (bind_tree nat_eq world source recursive)
+pub bind_some : (world : World ℕ) (source : Location ℕ) (recursive : Bool) → 0 < length (bind_tree nat_eq world source recursive)
 bind_some world source false = omega arith
 bind_some world source true = omega arith
 
@@ -139,3 +143,39 @@ new_mounts_keep_to_numbers next inode even world task place flags called keeps n
         by : (b : Bool) → is_counted_before (next + taken) (cond b inode (counts_from next k)) ≡ true
         by true = λ i. eq-eqb (inode % 2) 0 even i || (inode % 4 == 1 && nat_lt (inode / 4) (next + taken))
         by false = counted_here next taken k low
+
+-- A new namespace
+
+numbers_same : (mounts : List (Mount ℕ)) → 0 < length mounts → (one other : Fresh ℕ) → ((k : ℕ) → k < length mounts → one k ≡ other k)
+    → numbers_by nat_eq one mounts ≡ numbers_by nat_eq other mounts
+numbers_same mounts some one other same = λ i number. same (index_of nat_eq mounts number) (index_bound mounts number some) i
+
+has_some : (list : List (Mount ℕ)) → (length (filter (is_root_mount nat_eq) list) == 1) ≡ true → 0 < length list
+has_some [] e = absurd (true≢false (sym e))
+has_some (mount ∷ rest) e = omega arith
+
+-- the namespace of a task has a root mount
+own_some : (world : World ℕ) (task : Task ℕ) → IsWorld nat_eq world → task_called world task.name ≡ Some task
+    → 0 < length (mounts_of nat_eq world task.namespace)
+own_some world task whole called =
+    let listed : is_listed nat_eq world task.namespace ≡ true =
+    among_from_list_all (λ (t : Task ℕ). is_listed nat_eq world t.namespace) world.tasks
+    whole.namespaces.tasks_listed task (task_among world whole task called) in
+    let found =
+    among-from_map (λ (namespace : Namespace ℕ). namespace.number) world.namespaces task.namespace
+    (among_numbers (map (λ (namespace : Namespace ℕ). namespace.number) world.namespaces) task.namespace listed) in
+    subst (λ number. 0 < length (mounts_of nat_eq world number)) (sym found.2)
+    (has_some (mounts_of nat_eq world found.0.number)
+    (among_from_list_all (has_one_root nat_eq world) world.namespaces whole.namespaces.root_mounts found.0 found.1))
+
+pub unshares_keep_to_numbers : UnsharesKeepToNumbers
+unshares_keep_to_numbers next world task whole called keeps =
+    let own = mounts_of nat_eq world task.namespace in
+    let some = own_some world task whole called in
+    keeps_to_first next (2 * length own) world task ToUnshare (counts_from next) called keeps refl
+    (counted_here next (2 * length own))
+    (λ again same. ap (settled nat_eq)
+    (λ i. namespaces_ended nat_eq
+    (unshared_by nat_eq world
+    (numbers_same own some (odds again) (odds (counts_from next)) (λ k low. same (2 * k + 1) (omega (arith, low))) i)
+    (same 0 (omega (arith, some)) i) task)))

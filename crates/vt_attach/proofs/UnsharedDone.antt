@@ -36,7 +36,7 @@ use Rattle.vt_detach.specs.Uses.{kept, with_attached}
 use Rattle.vt_detach.specs.WorldValue.{NamespaceEntry, WorldValue, namespace_of, world_of}
 use Rattle.vt_attach.proofs.AddedBegins as Begins
 use Rattle.vt_attach.proofs.AddedBegins.{IsAdded, KeepsAdded, with_added}
-use Rattle.vt_attach.proofs.UngroupedAdded.{ascending_rises}
+use Rattle.vt_attach.proofs.GrownGroups.{ascending_rises}
 use Rattle.vt_attach.proofs.CopyLemmas.{ascending_filter}
 use Rattle.vt_attach.proofs.UnsharingLemmas.{copies_ascend}
 use Rattle.vt_attach.proofs.AddedUses.{gained_by, shown_by_all}
@@ -191,7 +191,7 @@ module _ (value : WorldValue) (whole : IsHeld value) (name : TaskName) (permits 
             ungrouped = counts.ungrouped;
             given = subst (λ next. KeepsTo (is_counted_before next) (world_of new)) (sym next_is)
                 (same_worlds_keep_to_numbers (is_counted_before (value.next + 2 * length (attached_in task.namespace value.mounts))) (settled nat_eq ended) (world_of new) same world_left.1
-                (subst (KeepsTo (is_counted_before (value.next + 2 * length (attached_in task.namespace value.mounts)))) (sym ended_is) (left_keeps value whole name ToUnshare task takes)));
+                (subst (KeepsTo (is_counted_before (value.next + 2 * length (attached_in task.namespace value.mounts)))) (sym ended_is) (left_keeps value whole name task takes)));
             mounts = counts.uses;
             filesystems = all_from_among (CountsItsMounts (world_of new)) new.filesystems (λ entry m. record {
               mounts = counts.mounts entry m;

@@ -9,8 +9,9 @@ use Rattle.vt_spec.specs.Language.Calls.{MountFlags}
 use Rattle.vt_spec.specs.Machine.Attach.{bind_tree, parts_of}
 use Rattle.vt_spec.specs.Machine.Mounts.{Location, Mount, mount_tree}
 use Rattle.vt_spec.specs.Machine.Outcome.Mounting.{plain_filesystem, with_new_filesystem}
-use Rattle.vt_spec.specs.Machine.Permits.Permit.{ToBind, ToMountPlain, ToMove}
-use Rattle.vt_spec.specs.Machine.World.{Task, World, mount_numbered, task_called}
+use Rattle.vt_spec.specs.Machine.Permits.Permit.{ToBind, ToMountPlain, ToMove, ToUnshare}
+use Rattle.vt_spec.specs.Machine.World.{Task, World, mount_numbered, mounts_of, task_called}
+use Rattle.vt_spec.specs.Machine.Invariants.{IsWorld}
 
 abbrev pub numbers_of_parts : World ℕ → Location ℕ → List (Mount ℕ) → ℕ
 numbers_of_parts world place tree = 2 * (length (parts_of nat_eq world place) * length tree)
@@ -41,3 +42,10 @@ NewMountsKeepToNumbers =
     → KeepsTo (is_counted_before next) world → permit_named (is_counted_before next) (ToMountPlain place flags) ≡ true
     → KeepsTo (is_counted_before (next + numbers_of_new_mount (with_new_filesystem world (plain_filesystem nat_eq (handed_from next 2 inode))) place))
     (left_by (handed_from next 2 inode) world task (ToMountPlain place flags))
+
+-- So with a new namespace: one for it, and one for the copy of each mount, out of two for each mount.
+abbrev pub UnsharesKeepToNumbers : Type 0
+UnsharesKeepToNumbers =
+    (next : ℕ) (world : World ℕ) (task : Task ℕ) → IsWorld nat_eq world → task_called world task.name ≡ Some task
+    → KeepsTo (is_counted_before next) world
+    → KeepsTo (is_counted_before (next + 2 * length (mounts_of nat_eq world task.namespace))) (left_by (counts_from next) world task ToUnshare)

@@ -1,5 +1,5 @@
 pub mod Opening
-pub mod BoundCopies
+pub mod BoundMounts
 pub mod Copying
 pub mod Room
 pub mod Planned

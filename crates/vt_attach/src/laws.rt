@@ -1,6 +1,7 @@
 //! Laws of attachments. Each function is a theorem of the definitions, and does nothing.
 ghost use Rattle.vt_attach.specs.AttachedGroups.{AttachedWorldsGrow, FormedGroupsBegin, GroupsOfCopiesAreNamed};
 ghost use Rattle.vt_attach.specs.AttachedNumbers.{BindsKeepToNumbers, MovesKeepToNumbers, NewMountsKeepToNumbers};
+ghost use Rattle.vt_attach.specs.AttachedNumbers.{UnsharesKeepToNumbers};
 ghost use Rattle.vt_attach.specs.PlannedUses.{PointsAreMoved, PointsAreUses};
 
 /// Where mounts come after all others, and others move, the groups grow by those of the mounts that come.
@@ -8,11 +9,13 @@ pub fn attached_worlds_grow()
     ensures { AttachedWorldsGrow }
 {}
 
-/// An attachment takes two numbers for each mount of the tree at each part: the world that it leaves has no others beside its own.
+/// An attachment takes two numbers for each mount of the tree at each part, and a new namespace two for each of its mounts: the
+/// world that is left has no others beside its own.
 pub fn attachments_keep_to_their_numbers()
     ensures binds { BindsKeepToNumbers }
     ensures moves { MovesKeepToNumbers }
     ensures new_mounts { NewMountsKeepToNumbers }
+    ensures unshares { UnsharesKeepToNumbers }
 {}
 
 /// The groups that an attachment makes are just those that its copies begin.

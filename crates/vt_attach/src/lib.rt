@@ -3,7 +3,7 @@
 #![tactic(auto)]
 
 pub mod attaching;
-pub mod bind_copies;
+pub mod bound;
 pub mod copying;
 pub mod grafted;
 pub mod laws;

@@ -11,3 +11,9 @@ pub mod TasksFound
 pub mod TasksLaws
 pub mod TasksLeft
 pub mod TasksOwn
+pub mod WaysFiles
+pub mod WaysNamed
+pub mod WaysOne
+pub mod WaysSearched
+pub mod WaysEnds
+pub mod WaysWalked

@@ -6,3 +6,4 @@
 pub mod effects;
 pub mod inodes;
 pub mod tasks;
+pub mod ways;

@@ -36,10 +36,7 @@ pub(crate) fn change_mounts(
             recursive,
         } => done(world.bind(name, source, place, recursive)),
         Permit::ToMove { mount, place } => done(world.move_mount(name, mount, place)),
-        Permit::ToUnmount { mount } => {
-            world.unmount(name, mount);
-            Ok(Answer::Done)
-        }
+        Permit::ToUnmount { mount } => done(world.unmount(name, mount)),
         Permit::ToUnmountLazily { mount } => done(world.unmount_lazily(name, mount)),
         Permit::ToSetFlags { mount, flags } => {
             world.set_flags(name, mount, flags);
@@ -59,9 +56,6 @@ fn set_type(world: &mut World, name: &TaskName, mount: MountId, word: TypeWord)
     requires ungrouped { is_grouped_type (type_word_of word) ≡ false }
     ensures { Becomes world.old name.now (ToSetType (counted mount.count) (type_word_of word) false) world.new }
 {
-    match word {
-        TypeWord::Private => world.set_private(name, mount),
-        TypeWord::Unbindable => world.set_unbindable(name, mount),
-        TypeWord::Shared | TypeWord::Slave => unreachable!(),
-    }
+    // It cannot fail, since it is one mount alone.
+    let _ = world.set_type(name, mount, word, false);
 }

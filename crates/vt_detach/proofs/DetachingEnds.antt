@@ -11,7 +11,7 @@ use Rattle.vt_spec.specs.Machine.Mounts.Propagation.{Private}
 use Rattle.vt_spec.specs.Machine.Permits.{Permit}
 use Rattle.vt_spec.specs.Machine.Receives.{regrouped}
 use Rattle.vt_spec.specs.Machine.SameWorlds.{without_changes}
-use Rattle.vt_spec.specs.Machine.Settled.{settled}
+use Rattle.vt_spec.specs.Machine.Settled.{is_located}
 use Rattle.vt_spec.specs.Machine.World.{Filesystem, Task, World, filesystem_numbered, is_directory_at, mount_at, node_at, with_mounts}
 use Rattle.vt_spec.specs.Machine.Invariants.{has_its_root, is_located_well, is_nowhere_or_attached, is_there}
 use Rattle.vt_spec.specs.Tree.{is_directory_node}
@@ -20,7 +20,7 @@ use Rattle.vt_count_laws.specs.Sweeping.{living}
 use Rattle.vt_count_laws.specs.Using.{Exchanges}
 use Rattle.vt_count_laws.proofs.MountRoots as Roots
 use Rattle.vt_fs.specs.FilesystemsValue.{Filesystems, Shown, filesystem_seen, shown_entry}
-use Rattle.vt_group.specs.Grouping.{Grouping, Has, are_rising, numbers_of}
+use Rattle.vt_group.specs.Grouping.{Grouping, Has}
 use Rattle.vt_group.specs.Together.{TakesAway}
 use Rattle.vt_letting_go.specs.Counts.{mount_uses, mounts_showing, times}
 use Rattle.vt_letting_go.specs.Leaving.{stands_on_attached}
@@ -41,7 +41,8 @@ use Rattle.vt_detach.proofs.Bridging.{IsSwept}
 use Rattle.vt_detach.proofs.Detached.{IsDetaching}
 use Rattle.vt_detach.proofs.DetachingBegins.{HasChildrenOf, detached_world}
 use Rattle.vt_detach.proofs.Finishing.{CountsBeside, IsApplied, finished}
-use Rattle.vt_detach.proofs.Grouped.{left_has_none, rising_mapped, stays_private}
+use Rattle.vt_detach.proofs.GoneAlone.{alone_has, alone_regroups}
+use Rattle.vt_detach.proofs.Grouped.{not_attached, settled_has, stays_private}
 use Rattle.vt_detach.proofs.Keeping.{IsKeptBut, detached_in, no_more}
 use Rattle.vt_detach.proofs.LocationsSeen.{seen_where_located}
 use Rattle.vt_detach.proofs.Moving.{map_itself}
@@ -125,9 +126,6 @@ module _ (old : WorldValue) (after : World ℕ) (gained lost : List Inode) (new 
       passes (λ (mount : Mount ℕ). is_ungrouped mount.propagation) (living after).mounts is.ungrouped entry.mount
       (subst (λ all. Among entry.mount all) (sym mounts_are) (among-map (λ (one : MountEntry). one.mount) new.mounts entry m)))
 
-  pub detached_has_none : IsHeld old → are_rising (numbers_of after.mounts) ≡ true → Has (settled nat_eq after) old.groups
-  detached_has_none held rising = left_has_none old held after new.mounts rising mounts_are free
-
   pub detached_swept : IsPlain after
       → (without_changes after).namespaces ≡ (without_changes (world_of new)).namespaces
       → (without_changes after).tasks ≡ (without_changes (world_of new)).tasks → IsSwept old after gained lost new
@@ -205,33 +203,6 @@ pub taken_is_detached : (world : World ℕ) (gone : List ℕ) → list_all (λ (
 taken_is_detached world gone ungrouped closed =
     taken_regroups world gone closed ∙ nothing_regrouped (detached_world gone world) (still_ungrouped gone world.mounts ungrouped)
 
--- mounts that are detached keep their places in the list
-pub detached_rises : (gone : List ℕ) (mounts : List (Mount ℕ)) → are_rising (numbers_of mounts) ≡ true
-    → are_rising (numbers_of (map (detached_in gone) mounts)) ≡ true
-detached_rises gone mounts rising =
-    rising_mapped (detached_in gone) (λ mount. by mount (is_among nat_eq mount.number gone)) mounts rising
-  where
-    by : (mount : Mount ℕ) (b : Bool) → (cond b (detached mount) mount).number ≡ mount.number
-    by mount true = refl
-    by mount false = refl
-
--- An event in which mounts of a list are detached, and nothing else happens
-pub detached_done : (value : WorldValue) (name : TaskName) (permit : Permit ℕ) (task : Task ℕ) (gone : List ℕ) (mounts : List MountEntry) (filesystems : Filesystems)
-    → IsHeld value → IsApplied value name permit task (detached_world gone (world_of value))
-    → IsDetaching value [] (living (detached_world gone (world_of value))) [] (kept mounts filesystems)
-    → IsDone value name permit (remade value mounts filesystems value.tasks)
-detached_done value name permit task gone mounts filesystems whole is detaching =
-    let after = detached_world gone (world_of value) in
-    let new = remade value mounts filesystems value.tasks in
-    let kept_last = subst (λ one. IsKeptBut value [] [] [] detaching.lost one (kept mounts filesystems)) detaching.ends detaching.is in
-    finished value whole name permit task after is [] detaching.lost new
-    (detached_swept value after [] detaching.lost new kept_last refl (world_is_plain value) refl refl)
-    (detached_has_none value after [] detaching.lost new kept_last refl whole (detached_rises gone (mounts_in value.mounts) whole.groups.order))
-    (detached_counted value after [] detaching.lost new kept_last refl
-    (all_from_among (CountsWhatIsInIt (world_of new)) value.namespaces (λ entry m.
-    let was = among_from_all (CountsWhatIsInIt (world_of value)) value.namespaces whole.namespaces entry m in record { tasks = was.tasks })))
-    refl
-
 -- a mount that is in no namespace then is private
 pub detached_is_private : (world : World ℕ) (gone : List ℕ) → list_all is_nowhere_or_attached world.mounts ≡ true
     → (mount : Mount ℕ) → Among mount (detached_world gone world).mounts → is_some mount.namespace ≡ false → mount.propagation ≡ Private
@@ -240,6 +211,38 @@ detached_is_private world gone nowhere mount m none =
     ap (λ (x : Mount ℕ). x.propagation) from.2
     ∙ stays_private from.0 (passes is_nowhere_or_attached world.mounts nowhere from.0 from.1)
     (is_among nat_eq from.0.number gone) (ap (λ (x : Mount ℕ). is_some x.namespace) (sym from.2) ∙ none)
+
+-- An event in which mounts of a list are detached, and nothing else happens
+
+-- where these mounts are in no group
+pub detached_done : (value : WorldValue) (name : TaskName) (permit : Permit ℕ) (task : Task ℕ) (gone : List ℕ) (mounts : List MountEntry) (filesystems : Filesystems)
+    → IsHeld value → HasChildrenOf gone (mounts_in value.mounts)
+    → ((mount : Mount ℕ) → Among mount (mounts_in value.mounts) → is_among nat_eq mount.number gone ≡ true → is_ungrouped mount.propagation ≡ true)
+    → IsApplied value name permit task (taken_away nat_eq (world_of value) gone)
+    → IsDetaching value [] (living (detached_world gone (world_of value))) [] (kept mounts filesystems)
+    → IsDone value name permit (remade value mounts filesystems value.tasks)
+detached_done value name permit task gone mounts filesystems whole closed free is detaching =
+    let world = world_of value in
+    let after = detached_world gone world in
+    let new = remade value mounts filesystems value.tasks in
+    let kept_last = subst (λ one. IsKeptBut value [] [] [] detaching.lost one (kept mounts filesystems)) detaching.ends detaching.is in
+    let live = whole.in_world.mounts.groups in
+    finished value whole name permit task after
+    (record {
+      called = is.called;
+      given = is.given;
+      named = is.named;
+      applied = λ fresh. is.applied fresh ∙ taken_regroups world gone closed ∙ alone_regroups world value.groups whole.groups live gone free;
+    })
+    [] detaching.lost new
+    (detached_swept value after [] detaching.lost new kept_last refl (world_is_plain value) refl refl)
+    (settled_has after value.groups (alone_has world value.groups whole.groups live gone free) (λ mount m dead.
+    ap is_ungrouped (detached_is_private world gone whole.in_world.mounts.nowhere mount m
+    (not_attached (is_some mount.namespace) (is_located nat_eq after mount.number) dead))))
+    (detached_counted value after [] detaching.lost new kept_last refl
+    (all_from_among (CountsWhatIsInIt (world_of new)) value.namespaces (λ entry m.
+    let was = among_from_all (CountsWhatIsInIt (world_of value)) value.namespaces whole.namespaces entry m in record { tasks = was.tasks })))
+    refl
 
 -- Where they are in groups, they leave them at once, and all mounts get the types that the groups then tell.
 pub detached_typed : (value : WorldValue) (name : TaskName) (permit : Permit ℕ) (task : Task ℕ) (gone : List ℕ) (groups : Grouping)

@@ -20,7 +20,7 @@ use Rattle.vt_detach.specs.WorldValue.{WorldValue, world_of}
 
 -- The same mounts in groups
 
-members_alike : (one other : List (Mount ℕ)) → peers_of one ≡ peers_of other → (group : ℕ)
+pub members_alike : (one other : List (Mount ℕ)) → peers_of one ≡ peers_of other → (group : ℕ)
     → has_members nat_eq one group ≡ has_members nat_eq other group
 members_alike one other same group =
     sym (members-peers group one) ∙ ap (list_any (is_member group)) same ∙ members-peers group other
@@ -84,7 +84,7 @@ no_source Private e = refl
 no_source Unbindable e = refl
 
 -- an ungrouped mount is no peer
-no_peer : (mount : Mount ℕ) (rest : List (ℕ × Propagation ℕ)) → is_ungrouped mount.propagation ≡ true
+pub no_peer : (mount : Mount ℕ) (rest : List (ℕ × Propagation ℕ)) → is_ungrouped mount.propagation ≡ true
     → cons_option (option_map (λ source. (mount.number, mount.propagation)) (source_of mount.propagation)) rest ≡ rest
 no_peer mount rest free =
     ap (λ o. cons_option (option_map (λ (source : ℕ). (mount.number, mount.propagation)) o) rest) (no_source mount.propagation free)

@@ -23,6 +23,7 @@ pub mod MountsChanged
 pub mod Places
 pub mod Remaining
 pub mod TypesChanged
+pub mod TypesKept
 pub mod TypesSet
 pub mod Shown
 pub mod Splits
@@ -32,6 +33,7 @@ pub mod MountsGone
 pub mod MountsUnplaced
 pub mod Detached
 pub mod DetachingBegins
+pub mod GoneAlone
 pub mod DetachingEnds
 pub mod UnmountedAlone
 pub mod LazilyUnmounted

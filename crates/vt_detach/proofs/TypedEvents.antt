@@ -39,12 +39,10 @@ none_taken groups gone follows =
     has_one_grouping nothing groups no_groups
     (follows nothing has (all_from_among (HasLivingGroups nat_eq nothing) [] (λ mount m. absurd m))) has
 
-pub typed_free : (value : WorldValue) → IsHeld value → (groups : Grouping) (gone : List ℕ) → TakesAway value.groups groups gone
-    → (entries : List MountEntry)
+pub no_groups_free : (groups : Grouping) → groups ≡ no_groups → (entries : List MountEntry)
     → list_all (λ (entry : MountEntry). is_ungrouped entry.mount.propagation) (map (typed_entry groups) entries) ≡ true
-typed_free value whole groups gone follows entries =
-    ap (λ (now : Grouping). list_all (λ (entry : MountEntry). is_ungrouped entry.mount.propagation) (map (typed_entry now) entries))
-    (none_taken groups gone (subst (λ before. TakesAway before groups gone) (held_has_none value whole) follows))
+no_groups_free groups none entries =
+    ap (λ (now : Grouping). list_all (λ (entry : MountEntry). is_ungrouped entry.mount.propagation) (map (typed_entry now) entries)) none
     ∙ free entries
   where
     free_kind : (b : Bool) → is_ungrouped (cond b Unbindable Private) ≡ true
@@ -55,6 +53,12 @@ typed_free value whole groups gone follows entries =
         → list_all (λ (entry : MountEntry). is_ungrouped entry.mount.propagation) (map (typed_entry no_groups) entries) ≡ true
     free [] = refl
     free (entry ∷ rest) = λ i. free_kind (is_unbindable entry.mount.propagation) i && free rest i
+
+pub typed_free : (value : WorldValue) → IsHeld value → (groups : Grouping) (gone : List ℕ) → TakesAway value.groups groups gone
+    → (entries : List MountEntry)
+    → list_all (λ (entry : MountEntry). is_ungrouped entry.mount.propagation) (map (typed_entry groups) entries) ≡ true
+typed_free value whole groups gone follows entries =
+    no_groups_free groups (none_taken groups gone (subst (λ before. TakesAway before groups gone) (held_has_none value whole) follows)) entries
 
 -- the code's world with these groups, and each mount with the type that they tell
 abbrev pub typed_value : Grouping → WorldValue → WorldValue

@@ -1,17 +1,13 @@
--- The flags or the propagation type of a mount are set: mount(2) with MS_REMOUNT, MS_PRIVATE, MS_UNBINDABLE.
-use Rattle.std.proofs.Common.{◌≡◌, refl, sym, ap, subst, ◌∙◌, ℕ, nat_eq, Bool, true, false, true≢false, cond, List, [], ◌∷◌, map, Option, Some, None, is_some, arith}
+-- The flags of a mount are set: mount(2) with MS_REMOUNT.
+use Rattle.std.proofs.Common.{◌≡◌, refl, sym, ap, subst, ◌∙◌, ℕ, nat_eq, true, cond, List, [], ◌∷◌, map, Some, is_some, arith}
 use Rattle.std.specs.Prelude.{option_to_list}
-use Rattle.std.specs.List.{list_any}
-use Rattle.vt_spec.specs.Language.Calls.{MountFlags, TaskName, TypeWord}
+use Rattle.vt_spec.specs.Language.Calls.{MountFlags, TaskName}
 use Rattle.vt_spec.specs.Lists.{Fresh}
 use Rattle.vt_spec.specs.Machine.Apply.{apply}
-use Rattle.vt_spec.specs.Machine.Mounts.{Mount, Propagation, numbers_by}
-use Rattle.vt_spec.specs.Machine.Mounts.Propagation.{Private, Shared, Slave, Unbindable}
+use Rattle.vt_spec.specs.Machine.Mounts.{Mount}
 use Rattle.vt_spec.specs.Machine.Permits.{Permit}
-use Rattle.vt_spec.specs.Machine.Permits.Permit.{ToSetFlags, ToSetType}
-use Rattle.vt_spec.specs.Machine.Receives.{regrouped}
+use Rattle.vt_spec.specs.Machine.Permits.Permit.{ToSetFlags}
 use Rattle.vt_spec.specs.Machine.Settled.{settled}
-use Rattle.vt_spec.specs.Machine.Types.{master_after, retyped, retyped_mount, type_after}
 use Rattle.vt_spec.specs.Machine.World.{World, mount_numbered, with_mounts}
 use Rattle.vt_count_laws.specs.Using.{Exchanges, is_inode}
 use Rattle.vt_fs.specs.FilesystemsValue.{Shown, shown}
@@ -30,14 +26,11 @@ use Rattle.vt_detach.specs.Held.{IsHeld, is_ungrouped}
 use Rattle.vt_detach.specs.WorldValue.{WorldValue, world_of}
 use Rattle.vt_detach.proofs.FileEvents.{permit_fits}
 use Rattle.vt_detach.proofs.FilesSeen.{mount_named}
-use Rattle.vt_detach.proofs.Grouped.{no_master}
 use Rattle.vt_detach.proofs.LookLemmas.{turned}
 use Rattle.vt_detach.proofs.Moving.{exchanged_shown}
-use Rattle.vt_detach.proofs.MountsChanged.{KeepsWhatItShows, attached_entry, kind_kept, mount_is_changed, mounts_changed, next_of, next_ungrouped, none_in_group, one_changed, places_exchanged, with_mount_changed}
+use Rattle.vt_detach.proofs.MountsChanged.{KeepsWhatItShows, attached_entry, kind_kept, mount_is_changed, mounts_changed, next_of, one_changed, places_exchanged, with_mount_changed}
 use Rattle.vt_detach.proofs.Remaining.{remade}
 use Rattle.vt_detach.proofs.Staying.{IsDone}
-use Rattle.vt_detach.proofs.TreesLookedAt.{or_nothing}
-use Rattle.vt_detach.proofs.Ungrouped.{nothing_regrouped}
 
 -- A mount that keeps its mount point too
 
@@ -122,66 +115,3 @@ flags_are_set value whole name number flags permits =
     (map_alike (flags_if number flags) (one_changed number (with_flags flags)) (mounts_in value.mounts)
     (λ mount m. ap (λ b. cond b (with_flags flags mount) mount) (turned mount.number number))
     ∙ sym (mounts_changed number (with_flags flags) value.mounts)))
-
--- Types
-
-abbrev with_propagation : Propagation ℕ → Mount ℕ → Mount ℕ
-with_propagation kind mount = record mount { propagation = kind }
-
-kinds_keep : (kind : Propagation ℕ) → is_ungrouped kind ≡ true → KeepsWhatItShows (with_propagation kind)
-kinds_keep kind free = record {
-  number = λ mount. refl;
-  namespace = λ mount. refl;
-  filesystem = λ mount. refl;
-  root = λ mount. refl;
-  ungrouped = λ mount e. free;
-}
-
-no_master_above : (kind : Propagation ℕ) → is_ungrouped kind ≡ true → master_after kind ≡ None
-no_master_above (Shared group) e = refl
-no_master_above (Slave master) e = absurd (true≢false (sym e))
-no_master_above Private e = refl
-no_master_above Unbindable e = refl
-
-stays_masterless : (b : Bool) (master : Option ℕ) → master ≡ None → cond b None master ≡ master
-stays_masterless true master e = sym e
-stays_masterless false master e = refl
-
-module _ (value : WorldValue) (whole : IsHeld value) (name : TaskName) (number : ℕ) (word : TypeWord) (kind : Propagation ℕ)
-    (free : is_ungrouped kind ≡ true) (sets : (new : ℕ) (old : Propagation ℕ) → type_after new word old ≡ kind)
-    (permits : Permits value name (ToSetType number word false)) where
-  abbrev world : World ℕ
-  world = world_of value
-
-  abbrev named : Mount ℕ
-  named = mount_numbered nat_eq (world_of value) number
-
-  abbrev next : World ℕ
-  next = next_of value whole number (with_propagation kind) (kinds_keep kind free)
-
-  own : (mount_numbered nat_eq (world_of value) number).namespace ≡ Some permits.task.namespace
-  own = (permit_fits value whole name (ToSetType number word false) permits).names
-
-  retyped_one : (group : ℕ → ℕ) → retyped nat_eq (world_of value) group word (mount_numbered nat_eq (world_of value) number ∷ []) ≡ next
-  retyped_one group =
-      ap (regrouped nat_eq)
-      (λ i. record (world_of value) {
-        mounts = (map_alike (retyped_mount nat_eq group word (named ∷ [])) (one_changed number (with_propagation kind)) (mounts_in value.mounts) (λ mount m.
-            (λ j. cond (is_named mount j) (record mount { propagation = sets (group mount.number) mount.propagation j }) mount))
-            ∙ sym (mounts_changed number (with_propagation kind) value.mounts)) i;
-        master = λ other. (ap (λ above. cond (nat_eq other (group named.number)) above (world.master other)) (no_master_above named.propagation (attached_free value whole number permits.task.namespace own))
-            ∙ stays_masterless (nat_eq other (group named.number)) (world.master other) (no_master value whole other)) i;
-      })
-      ∙ nothing_regrouped next (next_ungrouped value whole number (with_propagation kind) (kinds_keep kind free))
-    where
-      is_named : (mount : Mount ℕ) → list_any (λ (other : Mount ℕ). nat_eq mount.number other.number) (named ∷ []) ≡ nat_eq number mount.number
-      is_named mount =
-          or_nothing (nat_eq mount.number named.number) ∙ ap (nat_eq mount.number) (number_found (mounts_in value.mounts) number) ∙ turned mount.number number
-
-  pub type_is_set : IsDone value name (ToSetType number word false)
-      (remade value (changed number (λ entry. record entry { mount = record entry.mount { propagation = kind } }) value.mounts) value.filesystems value.tasks)
-  type_is_set =
-      mount_is_retouched value whole name number (ToSetType number word false) (with_propagation kind) (kinds_keep kind free) (λ mount. refl) permits own
-      (none_in_group value whole number (with_propagation kind) (kinds_keep kind free))
-      (attached_named value whole number permits.task.namespace own)
-      (λ fresh. retyped_one (numbers_by nat_eq fresh (mount_numbered nat_eq (world_of value) number ∷ [])))

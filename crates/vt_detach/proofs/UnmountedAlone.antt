@@ -1,5 +1,5 @@
 -- A mount on which no other stands is unmounted: umount(2).
-use Rattle.std.proofs.Common.{◌≡◌, refl, sym, ap, subst, ◌∙◌, inl, ℕ, nat_eq, true, false, true≢false, ◌||◌, List, [], ◌∷◌, ◌++◌, map, find, flat_map, Option, Some, None, option_map, is_some, unwrap_or, arith}
+use Rattle.std.proofs.Common.{◌≡◌, refl, sym, ap, subst, ◌∙◌, inl, ℕ, nat_eq, eqb-true, Bool, true, false, true≢false, ◌||◌, List, [], ◌∷◌, ◌++◌, map, find, flat_map, Option, Some, None, option_map, is_some, unwrap_or, arith}
 use Rattle.std.specs.Prelude.{IfSome, ◌<◌}
 use Rattle.std.specs.List.{list_all}
 use Rattle.std.proofs.lemmas.Bool.{or_parts}
@@ -10,15 +10,15 @@ use Rattle.vt_spec.specs.Machine.Mounts.{Location as Place, Mount, Propagation, 
 use Rattle.vt_spec.specs.Machine.Mounts.Propagation.{Private, Shared, Slave, Unbindable}
 use Rattle.vt_spec.specs.Machine.Permits.Permit.{ToUnmount}
 use Rattle.vt_spec.specs.Machine.Run.{numbers_in_use, used_by_filesystem, used_by_mount}
-use Rattle.vt_spec.specs.Machine.World.{World, mount_numbered}
+use Rattle.vt_spec.specs.Machine.World.{World, mount_at, mount_numbered}
 use Rattle.vt_count_laws.specs.Sweeping.{living}
 use Rattle.vt_fs.specs.FilesystemsValue.{Filesystems}
 use Rattle.vt_laws.proofs.Supports.{used_numbers_are_named}
-use Rattle.vt_letting_go.proofs.Lists.{among-append_left, among-flat_map, fails, is_among_numbers, passes}
-use Rattle.vt_letting_go.proofs.PlacesLeft.{found_is_there, number_found}
+use Rattle.vt_letting_go.proofs.Lists.{Among, among-append_left, among-flat_map, fails, is_among_numbers, passes}
+use Rattle.vt_letting_go.proofs.PlacesLeft.{found_is_there, found_itself, number_found}
 use Rattle.vt_location.specs.declared.locations.Location.{Location}
 use Rattle.vt_location.specs.Locations.{location_of}
-use Rattle.vt_mount.specs.MountsValue.{MountEntry}
+use Rattle.vt_mount.specs.MountsValue.{MountEntry, mounts_in}
 use Rattle.vt_run_laws.specs.Handed.{is_counted_before}
 use Rattle.vt_detach.specs.Events.{Permits}
 use Rattle.vt_detach.specs.Held.{IsHeld, is_ungrouped}
@@ -26,7 +26,7 @@ use Rattle.vt_detach.specs.Uses.{kept, point_of, without_attachment}
 use Rattle.vt_detach.specs.WorldValue.{WorldValue, world_of}
 use Rattle.vt_detach.proofs.Detached.{detaching_on}
 use Rattle.vt_detach.proofs.DetachingBegins.{HasChildrenOf, detached_world, detaching_begins}
-use Rattle.vt_detach.proofs.DetachingEnds.{detached_done, held_is_kept, taken_is_detached}
+use Rattle.vt_detach.proofs.DetachingEnds.{detached_done, held_is_kept}
 use Rattle.vt_detach.proofs.FileEvents.{permit_fits}
 use Rattle.vt_detach.proofs.Leaving.{found_it}
 use Rattle.vt_detach.proofs.Moving.{swap_eq}
@@ -74,30 +74,57 @@ goes_alone world ungrouped number = by (mount_numbered nat_eq world number).moun
     by (Some place) =
         ap (going_from nat_eq world (mount_numbered nat_eq world number) place) (none_is_shared world.mounts ungrouped place.mount) ∙ its_number
 
+-- where its parent is not shared, an unmount is of a mount alone
+pub goes_apart : (world : World ℕ) (number : ℕ)
+    → holds_of (λ (place : Place ℕ). is_shared (mount_at nat_eq world place).propagation) (mount_numbered nat_eq world number).mount_point ≡ false
+    → going nat_eq world (mount_numbered nat_eq world number) ≡ number ∷ []
+goes_apart world number apart = by (mount_numbered nat_eq world number).mount_point apart
+  where
+    its_number : (mount_numbered nat_eq world number).number ∷ [] ≡ number ∷ []
+    its_number = ap (λ n. n ∷ []) (number_found world.mounts number)
+
+    by : (o : Option (Place ℕ)) → holds_of (λ (place : Place ℕ). is_shared (mount_at nat_eq world place).propagation) o ≡ false
+        → going_at nat_eq world (mount_numbered nat_eq world number) o ≡ number ∷ []
+    by None e = its_number
+    by (Some place) e = ap (going_from nat_eq world (mount_numbered nat_eq world number) place) e ∙ its_number
+
 -- a mount without children is a list with its children
 pub childless : (world : World ℕ) (number : ℕ) → has_child nat_eq world number ≡ false → HasChildrenOf (number ∷ []) world.mounts
 childless world number none mount m place p h =
     absurd (true≢false (sym h ∙ ap (λ b. b || false) (swap_eq place.mount number
     ∙ sym (ap (holds_of (λ (l : Place ℕ). nat_eq number l.mount)) p) ∙ fails (stands_on nat_eq number) world.mounts none mount m)))
 
+-- a mount in no group, on a mount that is not shared
 pub unmount_is_done : (value : WorldValue) (name : TaskName) (number : ℕ) (point : Option Location) (mounts : List MountEntry) (filesystems : Filesystems)
     → IsHeld value → Permits value name (ToUnmount number)
+    → is_ungrouped (mount_numbered nat_eq (world_of value) number).propagation ≡ true
+    → holds_of (λ (place : Place ℕ). is_shared (mount_at nat_eq (world_of value) place).propagation)
+    (mount_numbered nat_eq (world_of value) number).mount_point ≡ false
     → option_map location_of point ≡ point_of number value.mounts → IfSome point (λ point. point.node.slot < 18446744073709551616)
     → kept mounts filesystems ≡ without_attachment number point (kept value.mounts value.filesystems)
     → IsDone value name (ToUnmount number) (remade value mounts filesystems value.tasks)
-unmount_is_done value name number point mounts filesystems whole permits point_is few is_kept =
+unmount_is_done value name number point mounts filesystems whole permits free apart point_is few is_kept =
     let world = world_of value in
     let names = (permit_fits value whole name (ToUnmount number) permits).names in
-    let start = held_is_kept value whole in
     let none = (or_parts (has_child nat_eq world number) (is_used nat_eq world (going nat_eq world (mount_numbered nat_eq world number))) names.2).0 in
     let closed = childless world number none in
-    detached_done value name (ToUnmount number) permits.task (number ∷ []) mounts filesystems whole
+    detached_done value name (ToUnmount number) permits.task (number ∷ []) mounts filesystems whole closed
+    (λ mount m its. freed mount m (nat_eq mount.number number) refl its)
     (record {
       called = permits.called;
       given = permits.given;
       named = attached_is_named value whole number (ap is_some names.0);
-      applied = λ fresh. ap (taken_away nat_eq world) (goes_alone world start.ungrouped number) ∙ taken_is_detached world (number ∷ []) start.ungrouped closed;
+      applied = λ fresh. ap (taken_away nat_eq world) (goes_apart world number apart);
     })
     (subst (Rattle.vt_detach.proofs.Detached.IsDetaching value [] (living (detached_world (number ∷ []) world)) []) (sym is_kept)
     (detaching_on value [] (living (detached_world (number ∷ []) world)) number [] (kept value.mounts value.filesystems) point
-    (detaching_begins value [] [] world (kept value.mounts value.filesystems) start (number ∷ []) closed) point_is few))
+    (detaching_begins value [] [] world (kept value.mounts value.filesystems) (held_is_kept value whole) (number ∷ []) closed) point_is few))
+  where
+    freed : (mount : Mount ℕ) → Among mount (mounts_in value.mounts) → (b : Bool) → nat_eq mount.number number ≡ b → (b || false) ≡ true
+        → is_ungrouped mount.propagation ≡ true
+    freed mount m true e its =
+        ap (λ (x : Mount ℕ). is_ungrouped x.propagation)
+        (sym (found_itself (mounts_in value.mounts) whole.in_world.mounts.one_number mount m)
+        ∙ ap (mount_in nat_eq (mounts_in value.mounts)) (eqb-true mount.number number e))
+        ∙ free
+    freed mount m false e its = absurd (true≢false (sym its))

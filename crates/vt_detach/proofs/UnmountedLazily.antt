@@ -1,5 +1,5 @@
 -- A mount and its descendants are unmounted: umount(2) with MNT_DETACH.
-use Rattle.std.proofs.Common.{◌≡◌, sym, ap, subst, ℕ, nat_eq, List, [], ◌∷◌, map, is_some}
+use Rattle.std.proofs.Common.{◌≡◌, ◌∙◌, sym, ap, subst, ℕ, nat_eq, List, [], ◌∷◌, map, is_some}
 use Rattle.vt_spec.specs.Language.Calls.{TaskName}
 use Rattle.vt_spec.specs.Machine.Mounts.{Mount, mount_in, mount_tree}
 use Rattle.vt_spec.specs.Machine.Permits.Permit.{ToUnmountLazily}
@@ -7,15 +7,16 @@ use Rattle.vt_spec.specs.Machine.World.{World}
 use Rattle.vt_count_laws.specs.Sweeping.{living}
 use Rattle.vt_fs.specs.FilesystemsValue.{Filesystems}
 use Rattle.vt_letting_go.specs.OneByOne.{Inode}
+use Rattle.vt_letting_go.proofs.Lists.{passes}
 use Rattle.vt_mount.specs.MountsValue.{MountEntry, mounts_in}
 use Rattle.vt_detach.specs.Detached.{LeaveInTurn}
 use Rattle.vt_detach.specs.Events.{Permits}
-use Rattle.vt_detach.specs.Held.{IsHeld}
+use Rattle.vt_detach.specs.Held.{IsHeld, is_ungrouped}
 use Rattle.vt_detach.specs.Uses.{Kept, kept, without_attachment}
 use Rattle.vt_detach.specs.WorldValue.{WorldValue, world_of}
 use Rattle.vt_detach.proofs.Detached.{IsDetaching, detaching_on}
 use Rattle.vt_detach.proofs.DetachingBegins.{HasChildrenOf, detached_world, detaching_begins}
-use Rattle.vt_detach.proofs.DetachingEnds.{detached_done, held_is_kept}
+use Rattle.vt_detach.proofs.DetachingEnds.{detached_done, held_is_kept, taken_is_detached}
 use Rattle.vt_detach.proofs.FileEvents.{permit_fits}
 use Rattle.vt_detach.proofs.LazilyUnmounted.{lazily_is_detached, tree_has_children}
 use Rattle.vt_detach.proofs.Remaining.{remade}
@@ -42,12 +43,14 @@ lazy_unmount_is_done value name number numbers mounts filesystems whole permits 
     let there = ap is_some names.0 in
     let gone = map (λ (mount : Mount ℕ). mount.number) (mount_tree nat_eq world.mounts (mount_in nat_eq world.mounts number)) in
     let closed : HasChildrenOf gone world.mounts = tree_has_children world start.ungrouped whole.in_world.mounts number there in
-    detached_done value name (ToUnmountLazily number) permits.task gone mounts filesystems whole
+    detached_done value name (ToUnmountLazily number) permits.task gone mounts filesystems whole closed
+    (λ mount m its. passes (λ (x : Mount ℕ). is_ungrouped x.propagation) world.mounts start.ungrouped mount m)
     (record {
       called = permits.called;
       given = permits.given;
       named = attached_is_named value whole number there;
-      applied = λ fresh. lazily_is_detached world start.ungrouped whole.in_world.mounts number there;
+      applied = λ fresh. lazily_is_detached world start.ungrouped whole.in_world.mounts number there
+          ∙ sym (taken_is_detached world gone start.ungrouped closed);
     })
     (all_detached value [] (living (detached_world gone world)) gone (kept value.mounts value.filesystems) (kept mounts filesystems)
     (detaching_begins value [] [] world (kept value.mounts value.filesystems) start gone closed)

@@ -224,7 +224,7 @@ module _ (world : World ℕ) (fresh : Fresh ℕ) (name : TaskName) (call : Call)
         ∙ ap (λ (f : FileTree ℕ). f.tree.node number) (files_changed from world plain location change something)
 
     -- what holds in the changed filesystem, and in the others, holds
-    in_each : (P : ℕ → FileTree ℕ → Type 0) → P shown (changed nat_eq files change)
+    pub in_each : (P : ℕ → FileTree ℕ → Type 0) → P shown (changed nat_eq files change)
         → ((number : ℕ) → P number (filesystem_numbered nat_eq world number).files)
         → (number : ℕ) → P number (filesystem_numbered nat_eq spent number).files
     in_each P here elsewhere number = by (nat_eq shown number) refl

@@ -1,61 +1,49 @@
 -- The world that a granted rmdir leaves: the task's own mounts are seen as they were, the directory has lost its name, and walks that do
 -- not go up from it lead where they led.
-use Rattle.std.proofs.Common.{◌≡◌, ◌≢◌, refl, sym, ap, subst, ◌∙◌, inl, inr, ◌⊎◌, ⊎_elim, true≢false, ℕ, nat_eq, eqb-true, eq-eqb, Bool, true, false, not, ◌&&◌, ◌||◌, List, [], ◌∷◌, length, filter, Option, Some, None, Ok, is_some, find}
-use Rattle.std.specs.List.{list_all, list_any}
-use Rattle.std.specs.Prelude.{option_map, option_to_list, unwrap_or}
-use Rattle.std.proofs.lemmas.Bool.{and_parts, false_from_ne_true}
-use Rattle.std.proofs.lemmas.Bool.Decides.{eqb_tells}
-use Rattle.std.proofs.lemmas.Option.{same_Some}
+use Rattle.std.proofs.Common.{◌≡◌, ◌≢◌, refl, sym, ap, subst, ◌∙◌, inl, inr, ◌⊎◌, ⊎_elim, ℕ, nat_eq, eqb-true, Bool, true, false, ◌||◌, List, filter, Some, None, Ok, is_some, find}
+use Rattle.std.specs.Prelude.{unwrap_or}
+use Rattle.std.proofs.lemmas.Bool.{and_parts}
 use Rattle.vt_spec.specs.declared.errors.Deny.{Deny}
-use Rattle.vt_spec.specs.declared.errors.Rule.TheVariants.{W6, W8}
+use Rattle.vt_spec.specs.declared.errors.Rule.TheVariants.{W6}
 use Rattle.vt_spec.specs.Errors.{denial}
-use Rattle.vt_spec.specs.FileTree.{FileTree, is_directory_under, is_removed, symlink_text}
+use Rattle.vt_spec.specs.FileTree.{FileTree, symlink_text}
 use Rattle.vt_spec.specs.Language.Answers.{Answer}
 use Rattle.vt_spec.specs.Language.Calls.{Call, TaskName, same_name}
 use Rattle.vt_spec.specs.Language.Changes.{Change, changed}
 use Rattle.vt_spec.specs.Language.Changes.Change.{Remove}
-use Rattle.vt_spec.specs.Lists.{Fresh, holds_of}
+use Rattle.vt_spec.specs.Lists.{Fresh}
 use Rattle.vt_spec.specs.Machine.Apply.{apply}
-use Rattle.vt_spec.specs.Machine.Detach.{is_going, is_point, mounts_on, points_of, without_mounts_on}
+use Rattle.vt_spec.specs.Machine.Detach.{is_going, mounts_on, without_mounts_on}
 use Rattle.vt_spec.specs.Machine.Filesystems.{with_change}
 use Rattle.vt_spec.specs.Machine.Invariants.{IsWorld}
-use Rattle.vt_spec.specs.Machine.Judge.{judge_in}
 use Rattle.vt_spec.specs.Machine.Looks.{looks_of}
-use Rattle.vt_spec.specs.Machine.Mounts.{Location, Mount, child_at, root_of, same_location, topmost}
+use Rattle.vt_spec.specs.Machine.Mounts.{Location, Mount}
 use Rattle.vt_spec.specs.Machine.Permits.Permit.{ToRemoveDirectory}
 use Rattle.vt_spec.specs.Machine.Policy.{policy, raised_task}
 use Rattle.vt_spec.specs.Machine.Rightful.{node_allows}
 use Rattle.vt_spec.specs.Machine.Rules.Conditions.{is_point_in}
 use Rattle.vt_spec.specs.Machine.Run.{Serves}
 use Rattle.vt_spec.specs.Machine.Settled.{is_located, mount_lives}
-use Rattle.vt_spec.specs.Machine.Walk.{hop, is_lost, parent_location}
-use Rattle.vt_spec.specs.Machine.World.{Filesystem, Task, World, files_at, filesystem_at, filesystem_numbered, is_directory_at, mount_at, mount_numbered, no_filesystem, node_at, task_called}
+use Rattle.vt_spec.specs.Machine.World.{Filesystem, Task, World, files_at, filesystem_numbered, mount_at, mount_numbered, no_filesystem, node_at, task_called}
 use Rattle.vt_spec.specs.Rights.{Credentials}
-use Rattle.vt_spec.specs.Tree.{Node, Tree, entries_in, entry_named, is_directory_node, parent_in}
-use Rattle.vt_spec.specs.TreeLaws.{IsTree, entry_at}
-use Rattle.vt_spec.proofs.Lists.{any_from_among, among-filter}
-use Rattle.vt_spec.proofs.Nodes.{directory_used, none_is_not}
-use Rattle.vt_spec.proofs.Trees.{reached_named}
+use Rattle.vt_spec.specs.Tree.{Tree, entries_in, entry_named, is_directory_node, parent_in}
+use Rattle.vt_spec.specs.TreeLaws.{entry_at}
+use Rattle.vt_spec.proofs.Nodes.{directory_used}
 use Rattle.vt_letting_go.specs.Unmounting.{numbers_of_trees}
-use Rattle.vt_mount_laws.proofs.MountsFound.{found_in, number_found, placed_among}
-use Rattle.vt_mount_laws.proofs.MountsReplaced.{found_itself}
 use Rattle.vt_mount_laws.proofs.Standing.{standing_is_computed}
 use Rattle.vt_mount_laws.proofs.Unmounting.{kept_by_number}
 use Rattle.vt_mount_laws.proofs.UnmountingTrees.{AreClosed, trees_closed}
 use Rattle.vt_overlays_let_go.proofs.MountsOfOthers.{parent_reached, reached_stays}
 use Rattle.vt_permit_laws.specs.Sees.{SeesTo}
-use Rattle.vt_permit_laws.proofs.SeesNames.{tree_here}
 use Rattle.vt_permit_laws.proofs.SeesTasks.{given_permits_are_seen_to}
-use Rattle.vt_tree_laws.specs.Trees.{IsFileTree, MayRemove}
+use Rattle.vt_tree_laws.specs.Trees.{MayRemove}
 use Rattle.vt_tree_laws.specs.Trees.Calls.{mounts_overlay}
 use Rattle.vt_tree_laws.specs.Trees.Limits.{names_few_groups}
-use Rattle.vt_tree_laws.proofs.TreesEntered.{chain_ends}
 use Rattle.vt_tree_laws.proofs.TreesOfWorlds.{taken_filesystems}
-use Rattle.vt_tree_laws.proofs.TreesReached.{not_removed_reached}
 use Rattle.vt_world_laws.specs.Worlds.Kept.{IsPlain}
 use Rattle.vt_world_laws.specs.Worlds.Permits.{IsReached}
 use Rattle.vt_world_laws.proofs.PermitsSeen.{taken_plain, taken_tasks}
-use Rattle.vt_world_laws.proofs.Reached.{IsFound, IsFoundDirectory, IsOn, is_reached}
+use Rattle.vt_world_laws.proofs.Reached.{IsOn, is_reached}
 use Rattle.vt_world_laws.proofs.SeenTrees.{change_mounts, change_tasks}
 use Rattle.vt_later_laws.proofs.AfterChange.{as_spent, later_files, later_is}
 use Rattle.vt_later_laws.proofs.Changed.{files_changed, files_other}
@@ -64,11 +52,10 @@ use Rattle.vt_later_laws.proofs.OpenedNew.{given_of}
 use Rattle.vt_later_laws.proofs.SettledRoots.{root_settled}
 use Rattle.vt_later_laws.proofs.Stays.{called_own, spent_unsettled, still_called}
 use Rattle.vt_later_laws.proofs.WaysChanges.{RightsStay}
-use Rattle.vt_later_laws.proofs.WaysLeft.{BothAre, FitsWays, GoesUp, MountsSeen, ObjectsStay, top}
-use Rattle.vt_later_laws.proofs.WaysMounts.{hop_place, own_mount, top_same, topmost_same}
-use Rattle.vt_later_laws.proofs.WaysRemoved.{nothing_in_it, removed_alone, removed_entry, removed_kind, removed_link, removed_name, removed_parent, removed_rights}
+use Rattle.vt_later_laws.proofs.WaysLeft.{MountsSeen, ObjectsStay}
+use Rattle.vt_later_laws.proofs.WaysMounts.{own_mount, top_same, topmost_same}
+use Rattle.vt_later_laws.proofs.WaysRemoved.{removed_entry, removed_kind, removed_link, removed_name, removed_parent, removed_rights}
 use Rattle.vt_later_laws.proofs.WaysStay.{mount_root, node_in, tree_in}
-use Rattle.vt_later_laws.proofs.WaysTrees.{DirectoryNamesStay, KeepsAbove, present_later, under_later}
 
 module _ (world : World ℕ) (fresh : Fresh ℕ) (name : TaskName) (call : Call) (answer : Answer)
     (is : IsWorld nat_eq world) (plain : IsPlain world) (serves : Serves nat_eq world fresh)
@@ -237,7 +224,8 @@ module _ (world : World ℕ) (fresh : Fresh ℕ) (name : TaskName) (call : Call)
       → node_in left filesystem number ≡ node_in spent filesystem number
   node_left filesystem number there = as_spent world fresh name call answer is plain serves other few did filesystem number there
 
-  pub root_left : (filesystem number : ℕ) → is_some (node_in left filesystem number) ≡ true → (tree_in left filesystem).root ≡ (tree_in world filesystem).root
+  pub root_left : (filesystem number : ℕ) → is_some (node_in left filesystem number) ≡ true
+      → (tree_in left filesystem).root ≡ (tree_in world filesystem).root
   root_left filesystem number there =
       let files = later_files world fresh name call answer is plain serves other few did filesystem in
       ap (λ (f : FileTree ℕ). f.tree.root) files

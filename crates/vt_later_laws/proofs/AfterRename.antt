@@ -1,5 +1,5 @@
 -- The world that a granted rename leaves: the object has its new name and what it had, and no mount stands on it.
-use Rattle.std.proofs.Common.{◌≡◌, ◌≢◌, refl, sym, ap, subst, ◌∙◌, inl, inr, ⊎_elim, true≢false, ℕ, nat_eq, eq-eqb, ne_eqb, Bool, true, false, cond, ◌&&◌, ◌||◌, List, [], ◌∷◌, length, filter, find, Option, Some, None, is_some}
+use Rattle.std.proofs.Common.{◌≡◌, ◌≢◌, refl, sym, ap, subst, ◌∙◌, true≢false, ℕ, nat_eq, eq-eqb, ne_eqb, Bool, true, false, cond, ◌&&◌, ◌||◌, List, [], length, filter, find, Option, Some, None, is_some}
 use Rattle.std.specs.List.{list_any}
 use Rattle.std.specs.Prelude.{option_map, unwrap_or}
 use Rattle.std.proofs.lemmas.Bool.{and_from}
@@ -24,11 +24,11 @@ use Rattle.vt_spec.specs.Machine.Policy.{policy}
 use Rattle.vt_spec.specs.Machine.Rules.Conditions.{is_point_anywhere}
 use Rattle.vt_spec.specs.Machine.Run.{Serves}
 use Rattle.vt_spec.specs.Machine.Settled.{mount_lives}
-use Rattle.vt_spec.specs.Machine.World.{Filesystem, World, files_at, filesystem_at, filesystem_numbered, mount_at, mount_numbered, no_filesystem, node_at}
+use Rattle.vt_spec.specs.Machine.World.{Filesystem, World, files_at, filesystem_at, filesystem_numbered, mount_at, mount_numbered, no_filesystem}
 use Rattle.vt_spec.specs.Tree.{entries_in, entry_named, is_directory_node}
 use Rattle.vt_spec.specs.TreeLaws.{entry_at}
 use Rattle.vt_spec.proofs.Lists.{Among, among-filter, among-from_filter, among_from_list_all, any_from_among}
-use Rattle.vt_spec.proofs.Nodes.{directory_used, none_is_not}
+use Rattle.vt_spec.proofs.Nodes.{directory_used}
 use Rattle.vt_letting_go.proofs.PlacesLeft.{nowhere_parts}
 use Rattle.vt_layer_laws.specs.Layers.Untouched.{IsKept}
 use Rattle.vt_layer_laws.proofs.LowersKept.{kept_both, kept_same, others_stay}

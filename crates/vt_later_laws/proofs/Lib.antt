@@ -23,3 +23,5 @@ pub mod SettledRoots
 pub mod AfterRemoval
 pub mod RemovalFits
 pub mod AfterRename
+pub mod RenameFits
+pub mod RenameWays

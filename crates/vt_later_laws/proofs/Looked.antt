@@ -136,6 +136,14 @@ module _ (world : World ℕ) (fresh : Fresh ℕ) (name : TaskName) (task : Task 
       by true = refl
       by false = refl
 
+  pub list_refused : (stop : Stop ℕ) → directory_walk nat_eq world task path ≡ Err stop
+      → (policy nat_eq fresh world name (Ls path)).answer ≡ Err stop.deny
+  unfolding list_outcome
+  list_refused stop walk =
+      ap (λ o. (by_task (Ls path) o).answer) called
+      ∙ ap (λ r. (after world (walk_end r) (λ here. judged world (list_rules nat_eq world task here.location)
+      (granted (Names (names_in (node_at nat_eq world here.location))) world))).answer) walk
+
   -- a regular file is read, if it may be
   pub read_of : IsPlain world → (here : Here ℕ) → object_walk nat_eq world task path ≡ Ok here
       → (attr : Attr) (bytes : List ℕ) → node_at nat_eq world here.location ≡ Some (record { attr = attr; content = Regular bytes })

@@ -1,42 +1,30 @@
--- The descriptor that a granted open gives is on the file that the path led to.
-use Rattle.std.proofs.Common.{◌≡◌, ◌≤◌, ◌<◌, refl, sym, ap, subst, ◌∙◌, ℕ, ◌+◌, nat_eq, eqb-true, eq-eqb, Bool, true, false, cond, ◌&&◌, List, [], ◌∷◌, take, drop, Some, None, Ok, Err, Result, find, map, arith, nat_lt}
+-- What a granted open was permitted, and the descriptor that a task then has.
+use Rattle.std.proofs.Common.{◌≡◌, ◌≤◌, ◌<◌, refl, sym, ap, subst, ◌∙◌, ℕ, ◌+◌, nat_eq, eqb-true, eq-eqb, Bool, true, false, cond, ◌&&◌, List, [], ◌∷◌, Some, None, Ok, Err, Result, find, map, arith, nat_lt}
 use Rattle.std.proofs.lemmas.Bool.{and_parts}
-use Rattle.std.proofs.lemmas.Option.{same_Some}
 use Rattle.std.proofs.lemmas.Slice.Eq.{bytes_eq-Decides}
 use Rattle.std.specs.Prelude.{nat_le}
 use Rattle.vt_spec.specs.declared.errors.Deny.{Deny}
 use Rattle.vt_spec.specs.Machine.Apply.{apply}
-use Rattle.vt_spec.specs.Language.Calls.{Access, Call, TaskName, same_name}
-use Rattle.vt_spec.specs.Language.Calls.Call.{OpenFile}
+use Rattle.vt_spec.specs.Language.Calls.{Access, TaskName, same_name}
 use Rattle.vt_spec.specs.Language.Calls.Creation.{NoCreation}
 use Rattle.vt_spec.specs.Machine.Judge.{open_permit}
 use Rattle.vt_spec.specs.Lists.{Fresh}
 use Rattle.vt_spec.specs.Machine.Locked.{overlay_or}
-use Rattle.vt_spec.specs.Machine.Looks.{Looks, looks_of}
+use Rattle.vt_spec.specs.Machine.Looks.{Looks}
 use Rattle.vt_spec.specs.Machine.Mounts.{Location}
-use Rattle.vt_spec.specs.Machine.Outcome.Descriptors.{free_from, free_number, inserted, opened, with_copy, with_descriptor}
+use Rattle.vt_spec.specs.Machine.Outcome.Descriptors.{free_from, inserted, opened, with_copy}
 use Rattle.vt_spec.specs.Language.Answers.{Answer}
-use Rattle.vt_spec.specs.Machine.Outcomes.{Outcome}
-use Rattle.vt_spec.specs.Language.Answers.Answer.{Bytes, Opened}
+use Rattle.vt_spec.specs.Language.Answers.Answer.{Opened}
 use Rattle.vt_spec.specs.Machine.Permits.{Permit}
 use Rattle.vt_spec.specs.Machine.Permits.Permit.{ToOpen}
-use Rattle.vt_spec.specs.Machine.Policy.{policy, raised_task}
-use Rattle.vt_spec.specs.Machine.Rules.Descriptors.{descriptor_numbered, descriptor_rules, open_rules}
+use Rattle.vt_spec.specs.Machine.Rules.Descriptors.{descriptor_rules, open_rules}
 use Rattle.vt_spec.specs.Machine.Filesystems.{lies_below}
 use Rattle.vt_spec.specs.Machine.Walking.{Here, Stop, object_walk, walk_end}
-use Rattle.vt_spec.specs.Machine.World.{Descriptor, Task, World, mount_at, node_at, replaced_if_called, task_called, with_task}
+use Rattle.vt_spec.specs.Machine.World.{Descriptor, Task, World, mount_at, replaced_if_called, task_called, with_task}
 use Rattle.vt_spec.specs.Machine.Invariants.{are_ascending_from, is_within_limits}
-use Rattle.vt_spec.specs.Tree.{bytes_in}
-use Rattle.vt_letting_go.proofs.Lists.{passes}
 use Rattle.vt_world_laws.specs.Worlds.Kept.{IsPlain}
-use Rattle.vt_world_laws.proofs.CallsKept.{name_found}
-use Rattle.vt_world_laws.proofs.PermitsPlaced.{found_among}
 use Rattle.vt_world_laws.proofs.Plain.{plain_numbered}
-use Rattle.vt_later_laws.specs.Later.{OpenThenPread}
-use Rattle.vt_later_laws.proofs.Granted.{IsPermitted, permitted}
-use Rattle.vt_later_laws.proofs.Stays.{still_called, still_seen}
 use Rattle.vt_later_laws.proofs.Steps.{both_gave, passing, same_ok}
-use Rattle.vt_later_laws.proofs.Through.{descriptor_located, pread_of, raised_descriptors}
 use Rattle.vt_tree_laws.proofs.TreesTasks.{free_above}
 
 pub inserted_found : (number : ℕ) (descriptors : List (Descriptor ℕ)) (new : Descriptor ℕ)
@@ -131,7 +119,7 @@ walk_ended (Ok b) a e = ap Ok (same_ok b a e)
 walk_ended (Err stop) a e = cc
 
 -- what a granted open was permitted
-open_parts : (looks : Looks ℕ) (task : Task ℕ) (path : List ℕ) (access : Access) (permit : Permit ℕ)
+pub open_parts : (looks : Looks ℕ) (task : Task ℕ) (path : List ℕ) (access : Access) (permit : Permit ℕ)
     → open_permit nat_eq looks task path access NoCreation ≡ Ok permit
     → (here : Here ℕ) × (object_walk nat_eq looks task path ≡ Ok here) × (permit ≡ ToOpen here.location access)
 unfolding open_permit
@@ -166,75 +154,3 @@ opened_number a b e = sym (ap of_answer e)
 pub descriptors_in_order : (task : Task ℕ) → is_within_limits task ≡ true → are_ascending_from 0 task.descriptors ≡ true
 descriptors_in_order task h =
     (and_parts _ _ (and_parts _ _ (and_parts _ _ (and_parts _ _ (and_parts _ _ (and_parts _ _ h).0).0).0).0).0).1
-
-pub open_then_pread : OpenThenPread
-open_then_pread world fresh name task path access number is plain serves called reads granted = (
-  is_free,
-  here,
-  walked,
-  λ offset size later_fresh.
-      pread_of later later_fresh name (raised_task name new_task) new_descriptor number offset size
-      (still_called world fresh name call (Opened number) is plain serves refl refl did name new_task there)
-      (ap (find (λ (d : Descriptor ℕ). nat_eq number d.number)) (raised_descriptors name new_task) ∙ found) reads
-      ∙ ap (λ o. Ok (Bytes (take size (drop offset (bytes_in o)))))
-      (still_seen world fresh name call (Opened number) is plain serves refl refl did name new_task there here.location
-      (descriptor_located new_task number new_descriptor found)
-      ∙ ap (λ w. node_at nat_eq w here.location) spent),
-)
-  where
-    call : Call
-    call = OpenFile path access NoCreation
-
-    later : World ℕ
-    later = (policy nat_eq fresh world name (OpenFile path access NoCreation)).world
-
-    did : IsPermitted world fresh name (OpenFile path access NoCreation) (Opened number)
-    did = permitted world fresh name (OpenFile path access NoCreation) (Opened number) refl granted
-
-    task_is : did.task ≡ task
-    task_is = same_Some did.task task (sym did.called ∙ called)
-
-    parts : (here : Here ℕ) × (object_walk nat_eq (looks_of nat_eq world) did.task path ≡ Ok here)
-        × (did.permit ≡ ToOpen here.location access)
-    parts = open_parts (looks_of nat_eq world) did.task path access did.permit did.judged
-
-    here : Here ℕ
-    here = parts.0
-
-    walked : object_walk nat_eq (looks_of nat_eq world) task path ≡ Ok here
-    walked = ap (λ t. object_walk nat_eq (looks_of nat_eq world) t path) (sym task_is) ∙ parts.1
-
-    outcome : apply nat_eq fresh world did.task did.permit ≡ opened world task here.location access
-    outcome =
-        ap (apply nat_eq fresh world did.task) parts.2
-        ∙ open_spent fresh world plain did.task here.location access
-        ∙ ap (λ t. opened world t here.location access) task_is
-
-    is_free : number ≡ free_number task
-    is_free =
-        opened_number (free_number task) number (sym (ap (λ (o : Outcome ℕ). o.answer) outcome) ∙ did.answered)
-
-    new_task : Task ℕ
-    new_task = with_descriptor task here.location access
-
-    new_descriptor : Descriptor ℕ
-    new_descriptor =
-        record { number = free_number task; location = here.location; reads = access.reads; writes = access.writes }
-
-    spent : (apply nat_eq fresh world did.task did.permit).world ≡ with_task world new_task
-    spent = ap (λ (o : Outcome ℕ). o.world) outcome
-
-    there : task_called (apply nat_eq fresh world did.task did.permit).world name ≡ Some new_task
-    there =
-        ap (λ w. task_called w name) spent
-        ∙ called_replaced world name task new_task called (sym (name_found world name task called))
-
-    in_order : are_ascending_from 0 task.descriptors ≡ true
-    in_order =
-        descriptors_in_order task (passes is_within_limits world.tasks is.tasks.small_tasks task
-        (found_among (λ (t : Task ℕ). same_name name t.name) world.tasks task called))
-
-    found : descriptor_numbered new_task number ≡ Some new_descriptor
-    found =
-        ap (λ n. find (λ (d : Descriptor ℕ). nat_eq n d.number) new_task.descriptors) is_free
-        ∙ inserted_found 0 task.descriptors new_descriptor in_order refl

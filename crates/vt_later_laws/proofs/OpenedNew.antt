@@ -1,4 +1,4 @@
--- The descriptor of an open with creat is on the file that is there, or on a new one, which is empty.
+-- The descriptor of an open is on the file that is there, or with creat on a new one, which is empty.
 use Rattle.std.proofs.Common.{◌≡◌, refl, sym, ap, subst, ◌∙◌, true≢false, ℕ, nat_eq, eq-eqb, true, false, cond, List, [], take, drop, Some, None, Ok, find}
 use Rattle.std.proofs.lemmas.Option.{same_Some}
 use Rattle.vt_spec.specs.FileTree.{FileTree}
@@ -6,7 +6,7 @@ use Rattle.vt_spec.specs.Language.Answers.{Answer}
 use Rattle.vt_spec.specs.Language.Answers.Answer.{Bytes, Opened}
 use Rattle.vt_spec.specs.Language.Calls.{Access, Call, Creation, TaskName, same_name}
 use Rattle.vt_spec.specs.Language.Calls.Call.{OpenFile}
-use Rattle.vt_spec.specs.Language.Calls.Creation.{Exclusive, OrCreate}
+use Rattle.vt_spec.specs.Language.Calls.Creation.{Exclusive, NoCreation, OrCreate}
 use Rattle.vt_spec.specs.Language.Changes.{changed, with_inode}
 use Rattle.vt_spec.specs.Language.Changes.Change.{Make}
 use Rattle.vt_spec.specs.Lists.{Fresh, evens, odds}
@@ -23,7 +23,7 @@ use Rattle.vt_spec.specs.Machine.Policy.{policy, raised_task}
 use Rattle.vt_spec.specs.Machine.Rules.Descriptors.{descriptor_numbered, descriptor_rules, exclusive_word_rules, open_rules}
 use Rattle.vt_spec.specs.Machine.Rules.Making.{file_word_rules, make_rules}
 use Rattle.vt_spec.specs.Machine.Run.{Serves}
-use Rattle.vt_spec.specs.Machine.Walking.{Place, file_walk, name_of, new_walk, walk_end}
+use Rattle.vt_spec.specs.Machine.Walking.{Here, Place, file_walk, name_of, new_walk, object_walk, walk_end}
 use Rattle.vt_spec.specs.Machine.World.{Descriptor, Task, World, files_at, filesystem_numbered, mount_at, node_at, task_called, with_task}
 use Rattle.vt_spec.specs.Machine.Invariants.{IsWorld, is_within_limits}
 use Rattle.vt_spec.specs.Tree.{Node, bytes_in, is_directory_node, node_with_entry}
@@ -39,10 +39,10 @@ use Rattle.vt_world_laws.proofs.SeenTrees.{change_mounts, change_tasks, unused_i
 use Rattle.vt_permit_laws.specs.Left.{IsGiven}
 use Rattle.vt_permit_laws.specs.Sees.{MayBeMade, SeesTo}
 use Rattle.vt_permit_laws.proofs.SeesTasks.{given_permits_are_seen_to}
-use Rattle.vt_later_laws.specs.Later.{CreateThenPread, ExclusiveThenPread, OpenOrCreateThenPread, OpensFile, OpensNewFile, ReadsBy}
+use Rattle.vt_later_laws.specs.Later.{CreateThenPread, ExclusiveThenPread, OpenOrCreateThenPread, OpenThenPread, OpensFile, OpensNewFile, ReadsBy}
 use Rattle.vt_later_laws.proofs.Changed.{files_changed}
 use Rattle.vt_later_laws.proofs.Granted.{IsPermitted, permitted}
-use Rattle.vt_later_laws.proofs.Opened.{called_replaced, descriptors_in_order, inserted_found, open_spent, opened_number, walk_ended}
+use Rattle.vt_later_laws.proofs.Opened.{called_replaced, descriptors_in_order, inserted_found, open_parts, open_spent, opened_number, walk_ended}
 use Rattle.vt_later_laws.proofs.Stays.{still_called, still_seen}
 use Rattle.vt_later_laws.proofs.Steps.{both_gave, passing, same_ok}
 use Rattle.vt_later_laws.proofs.Through.{descriptor_located, pread_of, raised_descriptors}
@@ -244,6 +244,33 @@ module _ (world : World ℕ) (fresh : Fresh ℕ) (name : TaskName) (task : Task 
     subst (ReadsBy world fresh name (OpenFile path access creation) access number) (ap bytes_in seen)
         (reads_by world fresh name task path access creation number is plain serves called did base new_place outcome tasks),
   )
+
+pub open_then_pread : OpenThenPread
+open_then_pread world fresh name task path access number is plain serves called granted = (
+  here,
+  ap (λ t. object_walk nat_eq (looks_of nat_eq world) t path) (sym task_is) ∙ parts.1,
+  opens_file world fresh name task path access NoCreation number is plain serves called did world here.location outcome refl,
+  reads_by world fresh name task path access NoCreation number is plain serves called did world here.location outcome refl,
+)
+  where
+    did : IsPermitted world fresh name (OpenFile path access NoCreation) (Opened number)
+    did = permitted world fresh name (OpenFile path access NoCreation) (Opened number) refl granted
+
+    task_is : did.task ≡ task
+    task_is = same_Some did.task task (sym did.called ∙ called)
+
+    parts : (here : Here ℕ) × (object_walk nat_eq (looks_of nat_eq world) did.task path ≡ Ok here)
+        × (did.permit ≡ ToOpen here.location access)
+    parts = open_parts (looks_of nat_eq world) did.task path access did.permit did.judged
+
+    here : Here ℕ
+    here = parts.0
+
+    outcome : apply nat_eq fresh world did.task did.permit ≡ opened world task here.location access
+    outcome =
+        ap (apply nat_eq fresh world did.task) parts.2
+        ∙ open_spent fresh world plain did.task here.location access
+        ∙ ap (λ t. opened world t here.location access) task_is
 
 pub open_or_create_then_pread : OpenOrCreateThenPread
 open_or_create_then_pread world fresh name task path access mode number place file is plain serves called walk object granted = (

@@ -1,7 +1,7 @@
 -- After a granted rmdir ways up stay, but from the directory that was removed: there is W8, or no walk comes there.
-use Rattle.std.proofs.Common.{◌≡◌, ◌≢◌, refl, sym, ap, subst, ◌∙◌, inl, inr, ◌⊎◌, ⊎_elim, true≢false, ℕ, nat_eq, eqb-true, eq-eqb, Bool, true, false, not, ◌&&◌, ◌||◌, List, [], ◌∷◌, length, Option, Some, None, is_some}
+use Rattle.std.proofs.Common.{◌≡◌, ◌≢◌, refl, sym, ap, subst, ◌∙◌, inl, inr, ◌⊎◌, ⊎_elim, true≢false, ℕ, nat_eq, eqb-true, eq-eqb, Bool, true, false, not, ◌&&◌, ◌||◌, List, [], length, Option, Some, None, is_some}
 use Rattle.std.specs.List.{list_all, list_any}
-use Rattle.std.specs.Prelude.{option_map, option_to_list, ⊤}
+use Rattle.std.specs.Prelude.{option_map, option_to_list}
 use Rattle.std.proofs.lemmas.Bool.{and_from, and_parts}
 use Rattle.std.proofs.lemmas.Option.{same_Some}
 use Rattle.vt_spec.specs.declared.errors.Deny.{Deny}
@@ -10,7 +10,7 @@ use Rattle.vt_spec.specs.Errors.{denial}
 use Rattle.vt_spec.specs.FileTree.{FileTree, is_directory_under, is_removed}
 use Rattle.vt_spec.specs.Language.Answers.{Answer}
 use Rattle.vt_spec.specs.Language.Calls.{Call, TaskName}
-use Rattle.vt_spec.specs.Lists.{Fresh, holds_of, last_or}
+use Rattle.vt_spec.specs.Lists.{Fresh, holds_of}
 use Rattle.vt_spec.specs.Machine.Detach.{is_point, mounts_on, points_of, upper_points}
 use Rattle.vt_spec.specs.Machine.Invariants.{IsWorld, is_nowhere_or_attached}
 use Rattle.vt_spec.specs.Machine.Locked.{of_overlay}
@@ -18,9 +18,9 @@ use Rattle.vt_spec.specs.Machine.Mounts.{Location, Mount, child_at, root_of, sam
 use Rattle.vt_spec.specs.Machine.Permits.Permit.{ToRemoveDirectory}
 use Rattle.vt_spec.specs.Machine.Run.{Serves}
 use Rattle.vt_spec.specs.Machine.Walk.{hop, is_lost, parent_location}
-use Rattle.vt_spec.specs.Machine.World.{Filesystem, Task, World, files_at, filesystem_at, filesystem_numbered, mount_at, mount_numbered, node_at}
+use Rattle.vt_spec.specs.Machine.World.{Task, World, files_at, filesystem_at, filesystem_numbered, mount_at, mount_numbered, node_at}
 use Rattle.vt_spec.specs.Tree.{Tree, entries_in, entry_named, is_directory_node, parent_in}
-use Rattle.vt_spec.specs.TreeLaws.{IsTree, entry_at}
+use Rattle.vt_spec.specs.TreeLaws.{entry_at}
 use Rattle.vt_spec.proofs.Lists.{Among, among-filter, among_from_list_all, any_from_among}
 use Rattle.vt_spec.proofs.Nodes.{directory_used, none_is_not}
 use Rattle.vt_spec.proofs.Trees.{reached_named}
@@ -36,8 +36,8 @@ use Rattle.vt_tree_laws.proofs.TreesOfWorlds.{number_numbered}
 use Rattle.vt_tree_laws.proofs.TreesRearranged.{node_with_entries}
 use Rattle.vt_tree_laws.proofs.TreesReached.{not_removed_reached}
 use Rattle.vt_world_laws.specs.Worlds.Kept.{IsPlain}
-use Rattle.vt_world_laws.proofs.Reached.{IsFoundDirectory, IsOn}
-use Rattle.vt_later_laws.proofs.AfterRemoval.{each, is_left, left, may, mounts_seen, node_left, own_task, reaches, root_left, seen_to, shown, spent, spent_shown}
+use Rattle.vt_world_laws.proofs.Reached.{IsFoundDirectory}
+use Rattle.vt_later_laws.proofs.AfterRemoval.{each, is_left, left, may, mounts_seen, node_left, reaches, root_left, seen_to, shown, spent, spent_shown}
 use Rattle.vt_later_laws.proofs.Granted.{IsPermitted}
 use Rattle.vt_later_laws.proofs.WaysLeft.{BothAre, FitsWays, GoesUp, top}
 use Rattle.vt_later_laws.proofs.WaysMounts.{SeenAlike, hop_known, hop_place}
@@ -58,6 +58,9 @@ module _ (world : World ℕ) (fresh : Fresh ℕ) (name : TaskName) (call : Call)
 
   abbrev pub is_later : IsWorld nat_eq later × IsPlain later
   is_later = is_left world fresh name call answer is plain serves other few did parent word object permit_is
+
+  abbrev spent_world : World ℕ
+  spent_world = spent world fresh name call answer is plain serves other few did parent word object permit_is
 
   abbrev tree : Tree ℕ
   tree = (files_at nat_eq world parent).tree
@@ -110,7 +113,7 @@ module _ (world : World ℕ) (fresh : Fresh ℕ) (name : TaskName) (call : Call)
         ap (λ (f : FileTree ℕ). is_some (f.tree.node here.node)) (sym files_here)
         ∙ directory_used (files_at nat_eq later here).tree here.node known.1.1
 
-    as_spent : node_in later number here.node ≡ node_in (spent world fresh name call answer is plain serves other few did parent word object permit_is) number here.node
+    as_spent : node_in later number here.node ≡ node_in spent_world number here.node
     as_spent = node_left world fresh name call answer is plain serves other few did parent word object permit_is number here.node there
 
     tree_later : IsFileTree (filesystem_numbered nat_eq later number).files
@@ -132,7 +135,7 @@ module _ (world : World ℕ) (fresh : Fresh ℕ) (name : TaskName) (call : Call)
         ∙ removed_alone (files_at nat_eq world parent) parent.node word object.node
         (may world fresh name call answer is plain serves other few did parent word object permit_is) (tree_in later number)
         (ap (λ n. node_in later number n) (sym removed.1) ∙ as_spent
-        ∙ (λ i. node_in (spent world fresh name call answer is plain serves other few did parent word object permit_is) (removed.0 i) (removed.1 i))
+        ∙ (λ i. node_in spent_world (removed.0 i) (removed.1 i))
         ∙ ap (λ (f : FileTree ℕ). f.tree.node object.node)
         (spent_shown world fresh name call answer is plain serves other few did parent word object permit_is))
         (λ same. not_root (same ∙ root_same ∙ ap (λ n. (tree_in world n).root) removed.0)))
@@ -149,11 +152,11 @@ module _ (world : World ℕ) (fresh : Fresh ℕ) (name : TaskName) (call : Call)
     names directory any next e is_one keeps now =
         by ((each world fresh name call answer is plain serves other few did parent word object permit_is number).entry directory any next e)
       where
-        node : node_in later number directory ≡ node_in (spent world fresh name call answer is plain serves other few did parent word object permit_is) number directory
+        node : node_in later number directory ≡ node_in spent_world number directory
         node = node_left world fresh name call answer is plain serves other few did parent word object permit_is number directory now
 
-        by : (entry_at (tree_in (spent world fresh name call answer is plain serves other few did parent word object permit_is) number) directory any ≡ Some next)
-            ⊎ ((entry_at (tree_in (spent world fresh name call answer is plain serves other few did parent word object permit_is) number) directory any ≡ None)
+        by : (entry_at (tree_in spent_world number) directory any ≡ Some next)
+            ⊎ ((entry_at (tree_in spent_world number) directory any ≡ None)
             × (number ≡ fs) × (next ≡ object.node))
             → entry_at (tree_in later number) directory any ≡ Some next
         by (inl same) = ap (λ o. entry_named any (entries_in o)) node ∙ same
@@ -227,7 +230,7 @@ module _ (world : World ℕ) (fresh : Fresh ℕ) (name : TaskName) (call : Call)
         none_is_not (entry_named any (entries_in (node_at nat_eq later here))) object.node
         (ap (λ (t : FileTree ℕ). entry_named any (entries_in (t.tree.node here.node))) files_here
         ∙ ap (λ o. entry_named any (entries_in o)) as_spent
-        ∙ (λ i. entry_at (tree_in (spent world fresh name call answer is plain serves other few did parent word object permit_is) (same i)) (at i) (word_is i))
+        ∙ (λ i. entry_at (tree_in spent_world (same i)) (at i) (word_is i))
         ∙ ap (λ (t : FileTree ℕ). entry_at t.tree parent.node word)
         (spent_shown world fresh name call answer is plain serves other few did parent word object permit_is)
         ∙ removed_name (files_at nat_eq world parent) parent.node word object.node

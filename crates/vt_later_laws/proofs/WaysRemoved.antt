@@ -1,16 +1,16 @@
 -- What the removal of an empty directory leaves of the ways through its tree.
-use Rattle.std.proofs.Common.{◌≡◌, ◌≢◌, refl, sym, ap, ◌∙◌, inl, inr, ◌⊎◌, ⊎_elim, true≢false, ℕ, nat_eq, Bool, true, false, cond, not, ne_eqb, map, List, [], ◌∷◌, ◌||◌, Option, Some, None, is_some}
+use Rattle.std.proofs.Common.{◌≡◌, ◌≢◌, refl, sym, ap, ◌∙◌, inl, inr, ◌⊎◌, ⊎_elim, true≢false, ℕ, nat_eq, Bool, true, false, cond, not, ne_eqb, map, List, [], ◌||◌, Option, Some, None, is_some}
 use Rattle.std.proofs.lemmas.Bool.Decides.{eqb_tells}
 use Rattle.std.proofs.lemmas.Option.{same_Some}
 use Rattle.std.specs.Cmp.Lexicographic.{bytes_decides}
 use Rattle.std.specs.Str.{bytes_eq}
 use Rattle.vt_spec.specs.FileTree.{FileTree, is_removed, symlink_text, targets_in}
-use Rattle.vt_spec.specs.Language.Changes.{changed, content_with_parent, node_with_parent, node_without_entry, without_entry, without_name}
+use Rattle.vt_spec.specs.Language.Changes.{changed, content_with_parent, node_with_parent, node_without_entry, without_name}
 use Rattle.vt_spec.specs.Language.Changes.Change.{Remove}
 use Rattle.vt_spec.specs.Lists.{is_among, when}
 use Rattle.vt_spec.specs.Machine.Rightful.{node_allows}
 use Rattle.vt_spec.specs.Rights.{Credentials, allows}
-use Rattle.vt_spec.specs.Tree.{Content, Node, Tree, entries_in, entries_of, entry_named, is_directory_node, kind_of, parent_in, with_entries}
+use Rattle.vt_spec.specs.Tree.{Content, Node, Tree, entries_in, entries_of, entry_named, is_directory_node, kind_of, parent_in}
 use Rattle.vt_spec.specs.Tree.Content.{Directory, Regular, Symlink, Whiteout}
 use Rattle.vt_spec.specs.TreeLaws.{entry_at}
 use Rattle.vt_spec.proofs.Nodes.{entry_named-without_entry}

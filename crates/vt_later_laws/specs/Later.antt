@@ -39,19 +39,6 @@ PwriteThenPread =
     → IsAnswered (policy nat_eq fresh world name (Pwrite written.number offset bytes)).world reader
     (Pread read.number offset (length bytes)) (Bytes bytes)
 
--- The descriptor that open gives has the least number that is free, and reads the file that the path led to, as it was.
-abbrev pub OpenThenPread : Type 0
-OpenThenPread =
-    (world : World ℕ) (fresh : Fresh ℕ) (name : TaskName) (task : Task ℕ) (path : List ℕ) (access : Access) (number : ℕ)
-    → IsWorld nat_eq world → IsPlain world → Serves nat_eq world fresh
-    → task_called world name ≡ Some task → access.reads ≡ true
-    → (policy nat_eq fresh world name (OpenFile path access NoCreation)).answer ≡ Ok (Opened number)
-    → (number ≡ free_number task)
-    × (here : Here ℕ) × (object_walk nat_eq world task path ≡ Ok here)
-    × ((offset size : ℕ)
-    → IsAnswered (policy nat_eq fresh world name (OpenFile path access NoCreation)).world name
-    (Pread number offset size) (Bytes (take size (drop offset (bytes_in (node_at nat_eq world here.location))))))
-
 -- the task has a descriptor with its number
 abbrev pub HasDescriptor : World ℕ → TaskName → Descriptor ℕ → Type 0
 HasDescriptor world name descriptor =
@@ -70,6 +57,17 @@ abbrev pub ReadsBy : World ℕ → Fresh ℕ → TaskName → Call → Access �
 ReadsBy world fresh name call access number bytes =
     access.reads ≡ true → (offset size : ℕ)
     → IsAnswered (policy nat_eq fresh world name call).world name (Pread number offset size) (Bytes (take size (drop offset bytes)))
+
+-- The descriptor that open gives has the least number that is free, and is on the file that the path led to; where it reads, it
+-- reads that as it was.
+abbrev pub OpenThenPread : Type 0
+OpenThenPread =
+    (world : World ℕ) (fresh : Fresh ℕ) (name : TaskName) (task : Task ℕ) (path : List ℕ) (access : Access) (number : ℕ)
+    → IsWorld nat_eq world → IsPlain world → Serves nat_eq world fresh → task_called world name ≡ Some task
+    → (policy nat_eq fresh world name (OpenFile path access NoCreation)).answer ≡ Ok (Opened number)
+    → (here : Here ℕ) × (object_walk nat_eq world task path ≡ Ok here)
+    × OpensFile world fresh name task (OpenFile path access NoCreation) here.location access number
+    × ReadsBy world fresh name (OpenFile path access NoCreation) access number (bytes_in (node_at nat_eq world here.location))
 
 -- So it is with creat, where the walk of the path led to a file that is there.
 abbrev pub OpenOrCreateThenPread : Type 0

@@ -1,5 +1,5 @@
 //! What later calls of the machine see of earlier ones.
-ghost use Rattle.vt_later_laws.specs.LaterNames.{RenameThenFound, RenameThenListed};
+ghost use Rattle.vt_later_laws.specs.LaterNames.{RenameDirectoryThenList, RenameDirectoryThenLstat, RenameThenFound, RenameThenListed};
 ghost use Rattle.vt_later_laws.specs.LaterPaths.{ChmodThenStat, ChownThenStat, ExclusiveTwice, LinkThenLstat, MkdirThenList, RenameThenLstat, RmdirThenLstat, SymlinkThenReadlink, UnlinkThenLstat, WriteThenRead};
 ghost use Rattle.vt_later_laws.specs.Later.{CreateThenPread, ExclusiveThenPread, OpenOrCreateThenPread, OpenThenPread, PwriteThenPread};
 
@@ -29,6 +29,8 @@ pub fn later_calls_see_it_at_the_path()
     ensures unlinked { UnlinkThenLstat }
     ensures removed { RmdirThenLstat }
     ensures renamed { RenameThenLstat }
+    ensures moved { RenameDirectoryThenLstat }
+    ensures moved_listed { RenameDirectoryThenList }
     ensures found { RenameThenFound }
     ensures listed { RenameThenListed }
     ensures created_once { ExclusiveTwice }

@@ -10,3 +10,4 @@ pub mod TreeLemmas
 pub mod MoveLemmas
 mod CopiedLemmas
 mod RetypeLemmas
+pub mod SourceLemmas

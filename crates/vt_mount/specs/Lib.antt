@@ -3,3 +3,4 @@ pub mod Listed
 pub mod Indexes
 pub mod Indexed
 pub mod Waiting
+pub mod Sources

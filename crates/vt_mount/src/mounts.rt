@@ -14,6 +14,7 @@ ghost use Rattle.vt_location.specs.MountValue.{mount_of, propagation_of};
 ghost use Rattle.vt_location.specs.Numbers.{counted};
 ghost use Rattle.vt_mount.specs.Listed.{same_id};
 ghost use Rattle.vt_mount.specs.MountsValue.{are_ascending, changed, held, mounts_in, released, retyped, uses_of, writers_of};
+ghost use Rattle.vt_mount.specs.Sources.{has_counted_source};
 
 use crate::indexes::Indexes;
 use crate::mounted::Mounted;
@@ -91,6 +92,13 @@ impl Mounts {
     /// A theorem, which does nothing: each mount has the number of a count.
     pub fn are_counted(&self)
         ensures { list_all (λ mount. mount.number % 4 == 1) (mounts_in self.now) ≡ true }
+    {
+        let _ = &self.by_number;
+    }
+
+    /// A theorem, which does nothing: each group that a type names has the number of a count.
+    pub fn groups_are_counted(&self)
+        ensures { list_all has_counted_source (mounts_in self.now) ≡ true }
     {
         let _ = &self.by_number;
     }

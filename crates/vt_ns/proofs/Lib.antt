@@ -8,11 +8,13 @@ pub mod FilesRead
 pub mod LookingAlone
 pub mod FileRemoving
 pub mod BoundTrees
+pub mod BoundEvents
 pub mod Climbing
 pub mod FilesOpened
 pub mod OpeningNew
 pub mod Overfilling
-pub mod OverfillingMoves
+pub mod LyingUnder
+pub mod WorldSeen
 pub mod RemainingTasks
 pub mod CountingLemmas
 pub mod ForkedTasks
@@ -24,3 +26,9 @@ pub mod DirectoryRemoved
 pub mod RenamedOver
 pub mod VacantNumbers
 pub mod MountLines
+pub mod PointsMoved
+pub mod UnmountedWorlds
+pub mod UnmountedEverywhere
+pub mod ListedPeers
+pub mod RetypedMounts
+pub mod TypesDone

@@ -4,22 +4,17 @@ use Rattle.std.specs.List.{list_any}
 use Rattle.std.proofs.lemmas.Bool.{and_parts}
 use Rattle.std.proofs.lemmas.Bool.Decides.{nat_tests}
 use Rattle.vt_spec.specs.Lists.{is_among}
-use Rattle.vt_spec.specs.Machine.Detach.{going, going_at, going_from, is_busy, is_used, is_written_through}
+use Rattle.vt_spec.specs.Machine.Detach.{is_written_through}
 use Rattle.vt_spec.specs.Machine.Mounts as meant
-use Rattle.vt_spec.specs.Machine.Mounts.{Propagation, is_shared, stands_on}
-use Rattle.vt_spec.specs.Machine.Mounts.Propagation.{Private, Shared, Slave, Unbindable}
 use Rattle.vt_spec.specs.Machine.Settled.{is_located}
-use Rattle.vt_spec.specs.Machine.World.{Descriptor, Task, all_locations, locations_of, mount_at, mount_numbered}
+use Rattle.vt_spec.specs.Machine.World.{Descriptor, Task, all_locations, locations_of, mount_at}
 use Rattle.vt_spec.specs.Machine.Invariants.{is_located_well, is_there}
 use Rattle.vt_spec.proofs.Lists.{Among, among-flat_map, among-from_map, among-map, among_from_all, among_from_list_all, none_among, none_from_among}
 use Rattle.vt_letting_go.specs.Counts.{mount_uses, times}
 use Rattle.vt_letting_go.proofs.UsesCounted.{located_while_counted}
-use Rattle.vt_mount_laws.proofs.MountsFound.{found_or_none, number_found}
 use Rattle.vt_mount.specs.MountsValue.{MountEntry, entry_numbered, mounts_in, uses_of, writers_of}
-use Rattle.vt_detach.specs.Held.{CountsItsUses, IsHeld, is_ungrouped, writes_of, writes_on}
+use Rattle.vt_detach.specs.Held.{CountsItsUses, IsHeld, writes_of, writes_on}
 use Rattle.vt_detach.specs.WorldValue.{WorldValue, world_of}
-use Rattle.vt_detach.proofs.LookLemmas.{turned}
-use Rattle.vt_detach.proofs.TreesLookedAt.{or_nothing}
 use Rattle.vt_detach.proofs.LostUses.{entry_found_at}
 
 either_counted : (a b : ℕ) → (nat_lt 0 a || nat_lt 0 b) ≡ nat_lt 0 (a + b)
@@ -51,12 +46,6 @@ entry_missing (x ∷ entries) number e = by (nat_eq number x.mount.number) e (en
         → (b || is_among nat_eq number (map (λ mount. mount.number) (mounts_in entries))) ≡ false
     by true e rest = absurd cc
     by false e rest = rest e
-
-unshared : (kind : Propagation ℕ) → is_ungrouped kind ≡ true → is_shared kind ≡ false
-unshared (Shared group) e = sym e
-unshared (Slave master) e = refl
-unshared Private e = refl
-unshared Unbindable e = refl
 
 module _ (value : WorldValue) (held : IsHeld value) (number : ℕ) where
   -- no location is on a mount that is not there
@@ -114,33 +103,3 @@ module _ (value : WorldValue) (held : IsHeld value) (number : ℕ) where
           ap (λ o. nat_lt 0 (unwrap_or (option_map (λ (entry : MountEntry). entry.writers) o) 0)) e
           ∙ ap (nat_lt 0) (counts.writers ∙ ap (λ n. writes_of n value.tasks) (sym found.1))
           ∙ sym (any_written number value.tasks)
-
-  -- no mount is shared, so an unmount takes one mount alone
-  never_shared : (other : ℕ) → is_shared (mount_numbered nat_eq (world_of value) other).propagation ≡ false
-  never_shared other =
-      ⊎_elim
-      (λ m.
-      let entry = among-from_map (λ (entry : MountEntry). entry.mount) value.mounts (mount_numbered nat_eq (world_of value) other) m in
-      ap (λ (mount : meant.Mount ℕ). is_shared mount.propagation) entry.2
-      ∙ unshared entry.0.mount.propagation
-      (among_from_list_all (λ (entry : MountEntry). is_ungrouped entry.mount.propagation) value.mounts held.ungrouped entry.0 entry.1))
-      (λ none. ap (λ (mount : meant.Mount ℕ). is_shared mount.propagation) none)
-      (found_or_none (mounts_in value.mounts) other)
-
-  pub goes_alone : going nat_eq (world_of value) (mount_numbered nat_eq (world_of value) number) ≡ number ∷ []
-  goes_alone =
-      by (mount_numbered nat_eq (world_of value) number).mount_point ∙ ap (λ n. n ∷ []) (number_found (mounts_in value.mounts) number)
-    where
-      by : (o : Option (meant.Location ℕ))
-          → going_at nat_eq (world_of value) (mount_numbered nat_eq (world_of value) number) o ≡ (mount_numbered nat_eq (world_of value) number).number ∷ []
-      by None = refl
-      by (Some place) =
-          ap (going_from nat_eq (world_of value) (mount_numbered nat_eq (world_of value) number) place) (never_shared place.mount)
-
-  pub busy_is : (list_any (stands_on nat_eq number) (mounts_in value.mounts) || nat_lt 0 (uses_of value.mounts number))
-      ≡ is_busy nat_eq (world_of value) number
-  busy_is =
-      ap (λ b. list_any (stands_on nat_eq number) (mounts_in value.mounts) || b)
-      (uses_tested
-      ∙ (λ i. list_any (λ (location : meant.Location ℕ). (turned number location.mount ∙ sym (or_nothing (nat_eq location.mount number))) i) (all_locations (world_of value)))
-      ∙ ap (is_used nat_eq (world_of value)) (sym goes_alone))

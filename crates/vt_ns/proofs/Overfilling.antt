@@ -1,171 +1,223 @@
--- Whether a namespace has too many mounts once mounts are attached: ENOSPC of mount(2).
-use Rattle.std.proofs.Common.{◌≡◌, ◌≤◌, refl, sym, ap, ◌∙◌, ⊎_elim, inl, inr, ◌+◌, ℕ, suc, nat_eq, nat_lt, eq-eqb, Bool, true, false, true≢false, cond, List, [], ◌∷◌, ◌++◌, map, filter, length, Option, Some, None, is_some, arith}
-use Rattle.std.specs.Prelude.{option_to_list}
-use Rattle.std.specs.List.{list_all}
-use Rattle.std.proofs.lemmas.Bool.{and_parts}
-use Rattle.std.proofs.lemmas.List.{append-nil, length-append, length-map}
-use Rattle.std.proofs.lemmas.List.Elements.{filter-append}
+-- Whether a namespace has too many mounts once a tree is attached: ENOSPC of mount(2).
+use Rattle.std.proofs.Common.{◌≡◌, refl, sym, ap, subst, ◌∙◌, ⊎_elim, ◌+◌, ◌-◌, ◌*◌, ℕ, nat_eq, Bool, true, false, true≢false, cond, ◌||◌, List, [], ◌∷◌, map, filter, find, length, take, Option, Some, None, is_some, option_map, unwrap_or, arith}
+use Rattle.std.proofs.lemmas.List.{length-map}
+use Rattle.std.specs.Prelude.{Contains, drop}
 use Rattle.vt_spec.specs.Language.Calls.{MountFlags}
-use Rattle.vt_spec.specs.Language.Limits.{most_mounts}
-use Rattle.vt_spec.specs.Lists.{Fresh, holds_of, odds}
-use Rattle.vt_spec.specs.Machine.Attach.{attach, bind_tree, copies_from, has_too_many}
-use Rattle.vt_spec.specs.Machine.Mounts.{Location, Mount, group_of, mount_in}
+use Rattle.vt_spec.specs.Lists.{is_among, odds, rest_of}
+use Rattle.vt_spec.specs.Machine.Attach.{Copies, attached_by, bind_tree, copies_from, has_too_many, parts_of, receivers_of, takes_part}
+use Rattle.vt_spec.specs.Machine.Invariants.{NamespaceInvariants}
+use Rattle.vt_spec.specs.Machine.Mounts.{Location, Mount, mount_tree, no_mount}
 use Rattle.vt_spec.specs.Machine.Outcome.Mounting.{new_mount, plain_filesystem, with_new_filesystem}
-use Rattle.vt_spec.specs.Machine.Permits.Permit.{ToBind, ToMountPlain}
-use Rattle.vt_spec.specs.Machine.World.{World, mount_at, mount_numbered, mounts_of}
-use Rattle.vt_spec.specs.Machine.Invariants.{is_listed}
-use Rattle.vt_spec.proofs.Lists.{Among, among-from_map, among_from_list_all}
-use Rattle.vt_letting_go.proofs.NamespacesEnd.{too_many_is_of_one}
-use Rattle.vt_mount.specs.MountsValue.{MountEntry, mounts_in}
-use Rattle.vt_mount_laws.proofs.MountsFound.{found_or_none}
-use Rattle.vt_permit_laws.proofs.TakenAttached.{at_destination, copy_by, twigs}
+use Rattle.vt_spec.specs.Machine.Permits.Permit.{ToBind, ToMountPlain, ToMove}
+use Rattle.vt_spec.specs.Machine.World.{World, mount_at, mount_numbered}
+use Rattle.vt_spec.proofs.Lists.{Among, all_from_among, contains_from_among}
+use Rattle.vt_location.specs.declared.mounts.Mount.{Mount as Kept}
+use Rattle.vt_location.specs.declared.numbers.MountId.{MountId}
+use Rattle.vt_location.specs.declared.numbers.NamespaceId.{NamespaceId}
+use Rattle.vt_location.specs.MountValue.{mount_of}
+use Rattle.vt_location.specs.Numbers.{counted}
+use Rattle.vt_mount.specs.MountsValue.{mounts_in}
+use Rattle.vt_mount_laws.proofs.MountsFound.{found_in}
+use Rattle.vt_mount_laws.proofs.MountsReplaced.{found_itself}
+use Rattle.vt_mount_laws.proofs.Standing.{trees_have_each_once}
+use Rattle.vt_permit_laws.proofs.PartsKept.{receivers_there, same_parts}
+use Rattle.vt_propagate.specs.Filling.{GrowsBy, MovesFrom, mount_count}
+use Rattle.vt_propagate.proofs.Counting.{absent_counted, added_counted, moved_all}
+use Rattle.vt_letting_go.proofs.Lists.{among-from_filter}
 use Rattle.vt_run_laws.specs.Handed.{counts_from}
-use Rattle.vt_world_laws.proofs.FewMounts.{count, is_in, none_counted, shrinks_few}
-use Rattle.vt_detach.specs.Held.{IsHeld, is_ungrouped}
-use Rattle.vt_detach.specs.Looking.{has_too_many_with, overfills_of}
+use Rattle.vt_world_laws.proofs.FewMounts.{shrinks_few}
+use Rattle.vt_attach.proofs.CopyLemmas.{all_taken}
+use Rattle.vt_detach.specs.Held.{IsHeld}
+use Rattle.vt_detach.specs.Looking.{overfills_of}
 use Rattle.vt_detach.specs.WorldValue.{WorldValue, world_of}
-use Rattle.vt_detach.proofs.Ungrouped.{no_group}
+use Rattle.vt_detach.proofs.UnbindableBelow.{alone_in_tree, in_tree}
 
-pub map_itself : (list : List (Mount ℕ)) → map (λ (mount : Mount ℕ). mount) list ≡ list
-map_itself [] = refl
-map_itself (mount ∷ list) = ap (λ others. mount ∷ others) (map_itself list)
+-- A place on a mount that is not there is in no namespace, and nothing is received there.
+module _ (mounts : List (Mount ℕ)) (place : Location ℕ) (none : find (λ (mount : Mount ℕ). nat_eq place.mount mount.number) mounts ≡ None) where
+  missing_at : (world : World ℕ) → mounts ≡ world.mounts → mount_at nat_eq world place ≡ no_mount place.mount
+  missing_at world same =
+      ap (λ list. unwrap_or (find (λ (mount : Mount ℕ). nat_eq place.mount mount.number) list) (no_mount place.mount)) (sym same)
+      ∙ ap (λ o. unwrap_or o (no_mount place.mount)) none
 
-pub count_append : (one other : List (Mount ℕ)) (namespace : ℕ) → count (one ++ other) namespace ≡ count one namespace + count other namespace
-count_append one other namespace =
-    ap length (filter-append (is_in namespace) one other) ∙ length-append (filter (is_in namespace) one) (filter (is_in namespace) other)
+  no_parts : (world : World ℕ) → mounts ≡ world.mounts → (size namespace : ℕ) → mount_count (parts_of nat_eq world place) namespace * size ≡ 0
+  no_parts world same size namespace =
+      ap (λ mount. mount_count (mount ∷ filter (takes_part nat_eq world place) (receivers_of nat_eq world mount)) namespace * size)
+      (missing_at world same)
+      ∙ (let zero : 0 * size ≡ 0 = omega arith in zero)
 
-pub all_counted : (mounts : List (Mount ℕ)) (namespace : ℕ) → ((mount : Mount ℕ) → Among mount mounts → is_in namespace mount ≡ true)
-    → count mounts namespace ≡ length mounts
-all_counted [] namespace all = refl
-all_counted (mount ∷ rest) namespace all =
-    ap (λ b. length (cond b (mount ∷ filter (is_in namespace) rest) (filter (is_in namespace) rest))) (all mount (inl refl))
-    ∙ ap suc (all_counted rest namespace (λ other m. all other (inr m)))
+  pub nothing_added : (world : World ℕ) (new : Copies ℕ) (tree : List (Mount ℕ)) → mounts ≡ world.mounts → NamespaceInvariants nat_eq world
+      → false ≡ has_too_many nat_eq (attached_by nat_eq world new place false tree)
+  nothing_added world new tree same invariants =
+      sym (shrinks_few world (attached_by nat_eq world new place false tree)
+      (λ namespace. let all = added_counted world place new tree namespace in let zero = no_parts world same (length tree) namespace in omega (arith, all, zero), refl)
+      invariants.few_mounts)
 
--- mounts that are all in one namespace, or all in none
-pub alike_counts : (mounts : List (Mount ℕ)) (namespace : ℕ) (o : Option ℕ) → ((mount : Mount ℕ) → Among mount mounts → mount.namespace ≡ o)
-    → count mounts namespace ≡ cond (holds_of (nat_eq namespace) o) (length mounts) 0
-alike_counts mounts namespace o inside = by (holds_of (nat_eq namespace) o) refl
+-- what no mount has is no number of one
+none_has : (number : ℕ) (mounts : List (Mount ℕ)) → find (λ (mount : Mount ℕ). nat_eq number mount.number) mounts ≡ None
+    → is_among nat_eq number (map (λ (mount : Mount ℕ). mount.number) mounts) ≡ false
+none_has number [] none = refl
+none_has number (mount ∷ rest) none = by (nat_eq number mount.number) none (none_has number rest)
   where
-    by : (b : Bool) → holds_of (nat_eq namespace) o ≡ b → count mounts namespace ≡ cond b (length mounts) 0
-    by true is = all_counted mounts namespace (λ mount m. ap (holds_of (nat_eq namespace)) (inside mount m) ∙ is)
-    by false is = none_counted mounts namespace (λ mount m. ap (holds_of (nat_eq namespace)) (inside mount m) ∙ is)
+    by : (b : Bool) → cond b (Some mount) (find (λ (one : Mount ℕ). nat_eq number one.number) rest) ≡ None
+        → (find (λ (one : Mount ℕ). nat_eq number one.number) rest ≡ None
+        → is_among nat_eq number (map (λ (one : Mount ℕ). one.number) rest) ≡ false)
+        → (b || is_among nat_eq number (map (λ (one : Mount ℕ). one.number) rest)) ≡ false
+    by true e later = absurd cc
+    by false e later = later e
 
-module _ (value : WorldValue) (held : IsHeld value) where
+module _ (value : WorldValue) (held : IsHeld value) (number : ℕ) (place : Location ℕ) where
   abbrev world : World ℕ
   world = world_of value
 
-  abbrev mounts : List (Mount ℕ)
-  mounts = mounts_in value.mounts
+  abbrev top : Mount ℕ
+  top = mount_numbered nat_eq (world_of value) number
 
-  pub free_found : (number : ℕ) → group_of (mount_numbered nat_eq (world_of value) number).propagation ≡ None
-  free_found number =
-      ⊎_elim
-      (λ m.
-      let from = among-from_map (λ (entry : MountEntry). entry.mount) value.mounts (mount_numbered nat_eq world number) m in
-      no_group (mount_numbered nat_eq world number).propagation
-      (ap (λ (mount : Mount ℕ). is_ungrouped mount.propagation) from.2
-      ∙ among_from_list_all (λ (entry : MountEntry). is_ungrouped entry.mount.propagation) value.mounts held.ungrouped from.0 from.1))
-      (λ none. ap (λ (mount : Mount ℕ). group_of mount.propagation) none)
-      (found_or_none mounts number)
+  abbrev pub tree : List (Mount ℕ)
+  tree = mount_tree nat_eq (mounts_in value.mounts) (mount_numbered nat_eq (world_of value) number)
 
-  -- the namespace of a mount is there
-  listed : (number namespace : ℕ) → (mount_numbered nat_eq (world_of value) number).namespace ≡ Some namespace
-      → is_listed nat_eq (world_of value) namespace ≡ true
-  listed number namespace is =
-      let m : Among (mount_numbered nat_eq world number) mounts =
-      ⊎_elim (λ l. l) (λ none. absurd (true≢false (sym (ap is_some is) ∙ ap (λ (x : Mount ℕ). is_some x.namespace) none))) (found_or_none mounts number) in
-      (and_parts (is_listed nat_eq world namespace) true
-      (ap (λ o. list_all (is_listed nat_eq (world_of value)) (option_to_list o)) (sym is)
-      ∙ among_from_list_all (λ (x : Mount ℕ). list_all (is_listed nat_eq world) (option_to_list x.namespace)) mounts held.in_world.namespaces.mounts_listed
-      (mount_numbered nat_eq world number) m)).0
+  abbrev pub new : Copies ℕ
+  new = copies_from nat_eq (counts_from value.next) (parts_of nat_eq (world_of value) place) (mount_tree nat_eq (mounts_in value.mounts) (mount_numbered nat_eq (world_of value) number))
 
-  -- Where the counts of namespaces rise in one no_group, and by so many
+  abbrev moved : World ℕ
+  moved = attached_by nat_eq (world_of value) new place true tree
 
-  pub rises : (after : World ℕ) → after.namespaces ≡ (world_of value).namespaces → (number more : ℕ)
-      → ((namespace : ℕ) → count after.mounts namespace
-      ≤ count (mounts_in value.mounts) namespace + cond (holds_of (nat_eq namespace) (mount_numbered nat_eq (world_of value) number).namespace) more 0)
-      → ((namespace : ℕ) → (mount_numbered nat_eq (world_of value) number).namespace ≡ Some namespace
-      → count after.mounts namespace ≡ count (mounts_in value.mounts) namespace + more)
-      → has_too_many nat_eq after ≡ has_too_many_with value number more
-  rises after same number more most exact = by (mount_numbered nat_eq world number).namespace refl
+  -- A mount that is there moves with its descendants, which are in its namespace.
+  module _ (mount : Mount ℕ) (found : find (λ (one : Mount ℕ). nat_eq number one.number) (mounts_in value.mounts) ≡ Some mount) where
+    top_is : top ≡ mount
+    top_is = ap (λ o. unwrap_or o (no_mount number)) found
+
+    top_there : Among top (mounts_in value.mounts)
+    top_there = subst (λ one. Among one (mounts_in value.mounts)) (sym top_is) (found_in (λ (one : Mount ℕ). nat_eq number one.number) (mounts_in value.mounts) mount found).0
+
+    in_it : (o : Option ℕ) → top.namespace ≡ o → (x : Mount ℕ) → Among x tree
+        → Among x (mounts_in value.mounts) × (x.namespace ≡ top.namespace)
+    in_it (Some namespace) is x m = let own = in_tree value held number namespace is x m in (own.0, own.2 ∙ sym is)
+    in_it None is x m =
+        ⊎_elim
+        (λ same. (subst (λ y. Among y (mounts_in value.mounts)) (sym same) top_there, ap (λ (y : Mount ℕ). y.namespace) same))
+        (λ none. absurd none)
+        (subst (Among x) (alone_in_tree value held number is (length (mounts_in value.mounts))) m)
+
+    pub moves_from : (namespace : Option NamespaceId) → mount.namespace ≡ option_map (λ one. counted one.count) namespace
+        → MovesFrom (world_of value) namespace tree
+    moves_from namespace is = record {
+      there = all_from_among (Contains (mounts_in value.mounts)) tree (λ x m. contains_from_among (mounts_in value.mounts) x (in_it top.namespace refl x m).0);
+      inside = all_from_among (λ (x : Mount ℕ). x.namespace ≡ option_map (λ (one : NamespaceId). counted one.count) namespace) tree (λ x m.
+          (in_it top.namespace refl x m).1 ∙ ap (λ (y : Mount ℕ). y.namespace) top_is ∙ is);
+      one_number = held.in_world.mounts.one_number;
+      each_once = trees_have_each_once world number held.in_world.mounts.one_number held.in_world.mounts.standing;
+    }
+
+    -- onto a mount that is not there
+    leaves_alone : find (λ (one : Mount ℕ). nat_eq place.mount one.number) (mounts_in value.mounts) ≡ None
+        → false ≡ overfills_of value (ToMove number place)
+    leaves_alone none =
+        sym (shrinks_few world moved (
+          λ namespace.
+              let all = moved_all world place new tree held.in_world.mounts.one_number
+              (trees_have_each_once world number held.in_world.mounts.one_number held.in_world.mounts.standing)
+              (λ x m. (in_it top.namespace refl x m).0) namespace in
+              let zero = no_parts (mounts_in value.mounts) place none world refl (length tree) namespace in
+              omega (arith, all, zero),
+          refl,
+        )
+        held.in_world.namespaces.few_mounts)
+
+  -- A mount that is not there comes to the receivers alone.
+  module _ (missing : find (λ (one : Mount ℕ). nat_eq number one.number) (mounts_in value.mounts) ≡ None) where
+    alone : tree ≡ no_mount number ∷ []
+    alone =
+        alone_in_tree value held number (ap (λ o. (unwrap_or o (no_mount number)).namespace) missing) (length (mounts_in value.mounts))
+        ∙ ap (λ o. unwrap_or o (no_mount number) ∷ []) missing
+
+    abbrev others : List (Mount ℕ)
+    others = rest_of (parts_of nat_eq (world_of value) place)
+
+    counted_so : (namespace : ℕ) → mount_count moved.mounts namespace ≡ mount_count (mounts_in value.mounts) namespace + mount_count others namespace * 1
+    counted_so namespace =
+        absent_counted world place new tree (no_mount number) alone (none_has number (mounts_in value.mounts) missing) namespace
+        ∙ ap (λ list. mount_count (mounts_in value.mounts) namespace + mount_count others namespace * length list) alone
+
+    pub absent_grows : GrowsBy (world_of value) (attached_by nat_eq (world_of value) new place true tree) (rest_of (parts_of nat_eq (world_of value) place)) 1
+    absent_grows = record {
+      there = all_from_among (Contains (mounts_in value.mounts)) others (λ x m.
+          contains_from_among (mounts_in value.mounts) x (receivers_there world (mount_at nat_eq world place) x
+          (among-from_filter (takes_part nat_eq world place) (receivers_of nat_eq world (mount_at nat_eq world place)) x m).0));
+      namespaces = refl;
+      counts = counted_so;
+    }
+
+    adds_nothing : find (λ (one : Mount ℕ). nat_eq place.mount one.number) (mounts_in value.mounts) ≡ None
+        → false ≡ overfills_of value (ToMove number place)
+    adds_nothing none =
+        sym (shrinks_few world moved (
+          λ namespace.
+              let all = counted_so namespace in
+              let zero : mount_count others namespace * 1 ≡ 0 =
+              ap (λ one. mount_count (filter (takes_part nat_eq world place) (receivers_of nat_eq world one)) namespace * 1)
+              (missing_at (mounts_in value.mounts) place none world refl) in
+              omega (arith, all, zero),
+          refl,
+        )
+        held.in_world.namespaces.few_mounts)
+
+  pub nowhere_moved : find (λ (one : Mount ℕ). nat_eq place.mount one.number) (mounts_in value.mounts) ≡ None
+      → false ≡ overfills_of value (ToMove number place)
+  nowhere_moved none = by (find (λ (one : Mount ℕ). nat_eq number one.number) (mounts_in value.mounts)) refl
     where
-      by : (o : Option ℕ) → (mount_numbered nat_eq (world_of value) number).namespace ≡ o
-          → has_too_many nat_eq after ≡ holds_of (λ namespace. nat_lt most_mounts (length (mounts_of nat_eq (world_of value) namespace) + more)) o
-      by None is =
-          shrinks_few world after (
-            λ namespace. let low = most namespace in
-                let none : cond (holds_of (nat_eq namespace) (mount_numbered nat_eq (world_of value) number).namespace) more 0 ≡ 0 =
-                ap (λ o. cond (holds_of (nat_eq namespace) o) more 0) is in omega (arith, low, none),
-            same,
-          )
-          held.in_world.namespaces.few_mounts
-      by (Some namespace) is =
-          too_many_is_of_one world after namespace held.in_world.namespaces.few_mounts same (listed number namespace is)
-          (λ other differs. let low = most other in
-          let none : cond (holds_of (nat_eq other) (mount_numbered nat_eq (world_of value) number).namespace) more 0 ≡ 0 =
-          ap (λ o. cond (holds_of (nat_eq other) o) more 0) is ∙ ap (λ b. cond b more 0) differs in
-          below other low none)
-          ∙ ap (nat_lt most_mounts) (exact namespace is)
-        where
-          below : (other : ℕ)
-              → count after.mounts other ≤ count (mounts_in value.mounts) other + cond (holds_of (nat_eq other) (mount_numbered nat_eq (world_of value) number).namespace) more 0
-              → cond (holds_of (nat_eq other) (mount_numbered nat_eq (world_of value) number).namespace) more 0 ≡ 0
-              → count after.mounts other ≤ count (mounts_in value.mounts) other
-          below other low none = omega (arith, low, none)
+      by : (o : Option (Mount ℕ)) → find (λ (one : Mount ℕ). nat_eq number one.number) (mounts_in value.mounts) ≡ o
+          → false ≡ overfills_of value (ToMove number place)
+      by None e = adds_nothing e none
+      by (Some mount) e = leaves_alone mount e none
 
-  -- Copies
+-- what is said of each world with these mounts and the parts of the code's world
+abbrev pub TellsAdded : WorldValue → Location ℕ → ℕ → Bool → Type 0
+TellsAdded value place size too_many =
+    (one : World ℕ) (copies : Copies ℕ) (added : List (Mount ℕ)) → mounts_in value.mounts ≡ one.mounts → NamespaceInvariants nat_eq one
+    → parts_of nat_eq one place ≡ parts_of nat_eq (world_of value) place → length added ≡ size
+    → too_many ≡ has_too_many nat_eq (attached_by nat_eq one copies place false added)
 
-  -- mounts that are added to the namespace of a mount
-  pub added_overfill : (after : World ℕ) (added : List (Mount ℕ)) (number : ℕ) → after.namespaces ≡ (world_of value).namespaces
-      → after.mounts ≡ mounts_in value.mounts ++ added
-      → ((mount : Mount ℕ) → Among mount added → mount.namespace ≡ (mount_numbered nat_eq (world_of value) number).namespace)
-      → has_too_many nat_eq after ≡ has_too_many_with value number (length added)
-  added_overfill after added number same are inside =
-      rises after same number (length added)
-      (λ namespace. let all = total namespace in at_most namespace (holds_of (nat_eq namespace) (mount_numbered nat_eq world number).namespace) refl all)
-      (λ namespace is. total namespace
-      ∙ ap (λ n. count mounts namespace + n) (all_counted added namespace (λ mount m.
-      ap (holds_of (nat_eq namespace)) (inside mount m ∙ is) ∙ eq-eqb namespace namespace refl)))
-    where
-      total : (namespace : ℕ) → count after.mounts namespace ≡ count (mounts_in value.mounts) namespace + count added namespace
-      total namespace = ap (λ list. count list namespace) are ∙ count_append mounts added namespace
-
-      at_most : (namespace : ℕ) (b : Bool) → holds_of (nat_eq namespace) (mount_numbered nat_eq (world_of value) number).namespace ≡ b
-          → count after.mounts namespace ≡ count (mounts_in value.mounts) namespace + count added namespace
-          → count after.mounts namespace ≤ count (mounts_in value.mounts) namespace + cond b (length added) 0
-      at_most namespace true is all =
-          let some : count added namespace ≡ length added = all_counted added namespace (λ mount m. ap (holds_of (nat_eq namespace)) (inside mount m) ∙ is) in
-          omega (arith, all, some)
-      at_most namespace false is all =
-          let none : count added namespace ≡ 0 = none_counted added namespace (λ mount m. ap (holds_of (nat_eq namespace)) (inside mount m) ∙ is) in
-          omega (arith, all, none)
-
-  -- a tree that is copied to a mount
-  module _ (base : World ℕ) (same_mounts : base.mounts ≡ (world_of value).mounts) (same_namespaces : base.namespaces ≡ (world_of value).namespaces)
-      (place : Location ℕ) (tree : List (Mount ℕ)) where
-    pub copied_overfill : (fresh : Fresh ℕ) → has_too_many nat_eq (attach nat_eq base fresh place false tree) ≡ has_too_many_with value place.mount (length tree)
-    copied_overfill fresh =
-        let new = copies_from nat_eq fresh (mount_at nat_eq base place ∷ []) tree in
-        let copies = map (copy_by base place tree true false new) (twigs base place tree) in
-        let free = ap (λ list. group_of (mount_in nat_eq list place.mount).propagation) same_mounts ∙ free_found place.mount in
-        let is = at_destination base place tree free false fresh in
-        added_overfill (attach nat_eq base fresh place false tree) copies place.mount
-        (ap (λ (w : World ℕ). w.namespaces) is ∙ same_namespaces)
-        (ap (λ (w : World ℕ). w.mounts) is ∙ append-nil _ ∙ ap (λ list. list ++ copies) (map_itself base.mounts ∙ same_mounts))
-        (λ mount m. let from = among-from_map (copy_by base place tree true false new) (twigs base place tree) mount m in
-        ap (λ (x : Mount ℕ). x.namespace) from.2 ∙ ap (λ list. (mount_in nat_eq list place.mount).namespace) same_mounts)
-        ∙ ap (has_too_many_with value place.mount)
-        (length-map (twigs base place tree) (copy_by base place tree true false new)
-        ∙ length-map tree (λ (mount : Mount ℕ). record { origin = mount; propagation = mount.propagation }))
-
-  pub plain_overfills : (place : Location ℕ) (flags : MountFlags) → has_too_many_with value place.mount 1 ≡ overfills_of value (ToMountPlain place flags)
-  plain_overfills place flags =
+module _ (value : WorldValue) (held : IsHeld value) (place : Location ℕ) (too_many : Bool) where
+  pub plain_overfills : (flags : MountFlags) → TellsAdded value place 1 too_many → too_many ≡ overfills_of value (ToMountPlain place flags)
+  plain_overfills flags tells =
       let fresh = counts_from value.next in
       let filesystem = plain_filesystem nat_eq fresh in
-      sym (copied_overfill (with_new_filesystem world filesystem) refl refl place
-      (new_mount filesystem.number filesystem.files.tree.root flags ∷ []) (odds fresh))
+      let larger = with_new_filesystem (world_of value) filesystem in
+      let added = new_mount filesystem.number filesystem.files.tree.root flags ∷ [] in
+      let is = held.in_world.namespaces in
+      tells larger (copies_from nat_eq (odds fresh) (parts_of nat_eq larger place) added) added refl
+      (record {
+        one_namespace = is.one_namespace;
+        mounts_listed = is.mounts_listed;
+        tasks_listed = is.tasks_listed;
+        root_mounts = is.root_mounts;
+        namespaces_live = is.namespaces_live;
+        few_mounts = is.few_mounts;
+      })
+      (same_parts (world_of value) held.in_world filesystem place) refl
 
-  pub bind_overfills : (source place : Location ℕ) (recursive : Bool)
-      → has_too_many_with value place.mount (length (bind_tree nat_eq (world_of value) source recursive)) ≡ overfills_of value (ToBind source place recursive)
-  bind_overfills source place recursive =
-      sym (copied_overfill world refl refl place (bind_tree nat_eq world source recursive) (counts_from value.next))
+  pub bind_overfills : (source : Location ℕ) (recursive : Bool)
+      → TellsAdded value place (length (bind_tree nat_eq (world_of value) source recursive)) too_many
+      → too_many ≡ overfills_of value (ToBind source place recursive)
+  bind_overfills source recursive tells =
+      let added = bind_tree nat_eq (world_of value) source recursive in
+      tells (world_of value) (copies_from nat_eq (counts_from value.next) (parts_of nat_eq (world_of value) place) added) added refl
+      held.in_world.namespaces refl refl
+
+-- what is found as it is kept
+pub none_found : (got : Option Kept) (found : Option (Mount ℕ)) → option_map mount_of got ≡ found → is_some got ≡ false → found ≡ None
+none_found None found is none = sym is
+none_found (Some kept) found is none = absurd (true≢false none)
+
+pub rest_kept : (kept : List Kept) (mounts : List (Mount ℕ)) → map mount_of kept ≡ mounts
+    → rest_of mounts ≡ map mount_of (take (length kept - 1) (drop 1 kept))
+rest_kept kept mounts is = ap rest_of (sym is) ∙ by kept
+  where
+    by : (kept : List Kept) → rest_of (map mount_of kept) ≡ map mount_of (take (length kept - 1) (drop 1 kept))
+    by [] = refl
+    by (first ∷ rest) = ap (map mount_of) (sym (all_taken (length (first ∷ rest) - 1) rest (omega arith)))
+
+pub tree_sized : (ids : List MountId) (mounts : List (Mount ℕ)) → map (λ (id : MountId). counted id.count) ids ≡ map (λ (mount : Mount ℕ). mount.number) mounts
+    → length mounts ≡ length ids
+tree_sized ids mounts same =
+    sym (length-map mounts (λ (mount : Mount ℕ). mount.number)) ∙ ap length (sym same) ∙ length-map ids (λ (id : MountId). counted id.count)

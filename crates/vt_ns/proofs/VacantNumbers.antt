@@ -14,9 +14,10 @@ use Rattle.vt_fs.specs.FilesystemsValue.{FilesystemEntry, Filesystems, entry_at,
 use Rattle.vt_letting_go.proofs.Lists.{Among, among_from_all}
 use Rattle.vt_location.specs.Numbers.{counted, inode_number, is_inode_of}
 use Rattle.vt_mount.specs.MountsValue.{MountEntry, mounts_in}
+use Rattle.vt_mount.specs.Sources.{has_counted_source}
 use Rattle.vt_permit_laws.specs.InUse.{is_in_use}
 use Rattle.vt_detach.specs.Events.{filesystem_count, next_inode}
-use Rattle.vt_detach.specs.Held.{HasOwnInodes, IsHeld, is_ungrouped}
+use Rattle.vt_detach.specs.Held.{HasOwnInodes, IsHeld}
 use Rattle.vt_ns.specs.Vacancy.{IsVacant}
 use Rattle.vt_detach.specs.WorldValue.{NamespaceEntry, WorldValue, namespace_of, world_of}
 use Rattle.vt_detach.proofs.FilesSeen.{one_entry}
@@ -38,19 +39,22 @@ module _ (count slot : ℕ) (small : slot < 18446744073709551616) where
   not_odd other odd = ne_eqb number other (λ e. omega (arith, e, odd))
 
   in_no_mount : (all : List MountEntry) → list_all (λ mount. mount.number % 4 == 1) (mounts_in all) ≡ true
-      → list_all (λ entry. is_ungrouped entry.mount.propagation) all ≡ true
+      → list_all has_counted_source (mounts_in all) ≡ true
       → is_among nat_eq number (flat_map used_by_mount (mounts_in all)) ≡ false
-  in_no_mount [] odd alone = refl
-  in_no_mount (entry ∷ rest) odd alone =
+  in_no_mount [] odd sources = refl
+  in_no_mount (entry ∷ rest) odd sources =
       let odds = and_parts _ _ odd in
-      let alones = and_parts _ _ alone in
-      by entry.mount.propagation alones.0 (eqb-true (entry.mount.number % 4) 1 odds.0) (in_no_mount rest odds.1 alones.1)
+      let own = and_parts (has_counted_source entry.mount) _ sources in
+      by entry.mount.propagation own.0 (eqb-true (entry.mount.number % 4) 1 odds.0) (in_no_mount rest odds.1 own.1)
     where
-      by : (propagation : Propagation ℕ) → is_ungrouped propagation ≡ true → entry.mount.number % 4 ≡ 1
+      by : (propagation : Propagation ℕ) → list_all (λ group. group % 4 == 1) (option_to_list (source_of propagation)) ≡ true
+          → entry.mount.number % 4 ≡ 1
           → is_among nat_eq number (flat_map used_by_mount (mounts_in rest)) ≡ false
           → is_among nat_eq number ((entry.mount.number ∷ option_to_list (source_of propagation)) ++ flat_map used_by_mount (mounts_in rest)) ≡ false
-      by (Shared group) e one none = absurd (true≢false (sym e))
-      by (Slave master) e one none = absurd (true≢false (sym e))
+      by (Shared group) e one none =
+          λ i. not_odd entry.mount.number one i || (not_odd group (eqb-true (group % 4) 1 (and_parts (group % 4 == 1) true e).0) i || none i)
+      by (Slave master) e one none =
+          λ i. not_odd entry.mount.number one i || (not_odd master (eqb-true (master % 4) 1 (and_parts (master % 4 == 1) true e).0) i || none i)
       by Private e one none = λ i. not_odd entry.mount.number one i || none i
       by Unbindable e one none = λ i. not_odd entry.mount.number one i || none i
 
@@ -69,6 +73,7 @@ module _ (count slot : ℕ) (small : slot < 18446744073709551616) where
 
   module _ (value : WorldValue) (whole : IsHeld value)
       (odd : list_all (λ mount. mount.number % 4 == 1) (mounts_in value.mounts) ≡ true)
+      (sources : list_all has_counted_source (mounts_in value.mounts) ≡ true)
       (missing : (entry : FilesystemEntry) → entry_of value.filesystems count ≡ Some entry → (inodes_seen entry).inode number ≡ None) where
     in_no_entry : (entry : FilesystemEntry) → Among entry value.filesystems → (inodes_seen entry).inode number ≡ None
     in_no_entry entry m = by (nat_eq entry.count count) refl
@@ -91,17 +96,18 @@ module _ (count slot : ℕ) (small : slot < 18446744073709551616) where
         (map (λ (namespace : Namespace ℕ). namespace.number) (world_of value).namespaces)
         ∙ (λ i.
         (list_any-append (nat_eq number) (flat_map used_by_mount (world_of value).mounts) (flat_map used_by_filesystem (world_of value).filesystems)
-        ∙ (λ j. in_no_mount value.mounts odd whole.ungrouped j
+        ∙ (λ j. in_no_mount value.mounts odd sources j
         || in_no_filesystem value.filesystems (λ entry m.
         numbers_listed entry number ∙ ap (λ inode. is_some (node_in inode)) (in_no_entry entry m)) j)) i
         || in_no_namespace value.namespaces i)
 
-module _ (value : WorldValue) (whole : IsHeld value) (odd : list_all (λ mount. mount.number % 4 == 1) (mounts_in value.mounts) ≡ true) where
+module _ (value : WorldValue) (whole : IsHeld value) (odd : list_all (λ mount. mount.number % 4 == 1) (mounts_in value.mounts) ≡ true)
+    (sources : list_all has_counted_source (mounts_in value.mounts) ≡ true) where
   is_vacant : (count slot : ℕ) → slot < 18446744073709551616
       → ((entry : FilesystemEntry) → entry_of value.filesystems count ≡ Some entry → (inodes_seen entry).inode (inode_number count slot) ≡ None)
       → IsVacant value (inode_number count slot)
   is_vacant count slot small missing =
-      record { even = is_even count slot small; unused = is_unused count slot small value whole odd missing }
+      record { even = is_even count slot small; unused = is_unused count slot small value whole odd sources missing }
 
   -- the root of the next filesystem
   pub root_is_vacant : IsVacant value (inode_number value.next 0)

@@ -6,16 +6,18 @@ ghost use Rattle.vt_spec.specs.Errors.{denial};
 ghost use Rattle.vt_spec.specs.Machine.Permits.Permit.{ToBind};
 ghost use Rattle.vt_detach.specs.Events.{Becomes, Permits};
 
+use crate::grafting::numbers_taken;
 use crate::world::World;
-use vt_attach::attaching::attach_all;
-use vt_attach::bind_copies::copies;
+use vt_attach::grafted::attach_graft;
 use vt_location::Location;
+use vt_propagate::{Counts, Graft, parts};
 use vt_request::TaskName;
 use vt_spec::errors::{Deny, Rule};
 
 impl World {
     /// Attaches a copy of the mount of a source, from that directory on: mount(2) with `MS_BIND`. If it is recursive, copies of
-    /// the mounts at or under the source are attached on it, each with its descendants, but for unbindable mounts.
+    /// the mounts at or under the source are attached on it, each with its descendants, but for unbindable mounts. Each receiver of
+    /// the destination's mount gets a copy of the whole tree.
     ///
     /// S5 (ENOMEM): memory was refused, no number is left, or an inode or a filesystem would have more than 2^64 - 1 uses.
     pub fn bind(
@@ -32,16 +34,30 @@ impl World {
     {
         self.mounts.are_ascending();
         self.mounts.are_counted();
-        let origins = self.bind_tree(source, recursive)?;
-        let count = origins.len() as u64;
-        if count > (u64::MAX - self.next) / 2 {
-            return Err(Rule::S5.denial());
-        }
-        let Ok(copies) = copies(self.alloc, &self.mounts, &origins, self.next, source, place) else {
+        let tree = self.mounts_bound(source, recursive)?;
+        let parts = parts(self.alloc, &self.mounts, &self.groups, &*self, place)?;
+        let Some(taken) = numbers_taken(parts.len(), tree.len(), u64::MAX - self.next) else {
             return Err(Rule::S5.denial());
         };
-        attach_all(&mut self.mounts, &mut self.filesystems, &copies)?;
-        self.next += 2 * count;
+        let graft = Graft {
+            parts: &parts,
+            tree: &tree,
+            place,
+            moves: false,
+        };
+        let counts = Counts {
+            first: self.next,
+            step: 1,
+        };
+        attach_graft(
+            self.alloc,
+            &mut self.mounts,
+            &mut self.groups,
+            &mut self.filesystems,
+            &graft,
+            counts,
+        )?;
+        self.next += taken;
         Ok(())
     }
 }

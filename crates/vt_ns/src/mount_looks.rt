@@ -1,27 +1,25 @@
 //! What the rules of mount calls look at: mount(2), umount(2).
-ghost use Rattle.std.specs.Prelude.{◌≡◌, IfErr, IfOk, nat_eq, option_map};
+ghost use Rattle.std.specs.Prelude.{◌≡◌, IfErr, IfOk, List, false, length, nat_eq, option_map, ℕ};
 ghost use Rattle.vt_location.specs.Locations.{location_of};
 ghost use Rattle.vt_location.specs.Numbers.{counted};
+ghost use Rattle.vt_mount.specs.MountsValue.{mounts_in};
 ghost use Rattle.vt_spec.specs.declared.errors.Rule.TheVariants.{S5};
 ghost use Rattle.vt_spec.specs.Errors.{denial};
+ghost use Rattle.vt_spec.specs.Machine.Attach.{Copies, attached_by, has_too_many, parts_of};
+ghost use Rattle.vt_spec.specs.Machine.Invariants.{NamespaceInvariants};
+ghost use Rattle.vt_spec.specs.Machine.Mounts as meant;
 ghost use Rattle.vt_spec.specs.Machine.Permits.Permit.{ToMove};
-ghost use Rattle.vt_spec.specs.Machine.World.{mount_numbered};
-ghost use Rattle.vt_detach.specs.Looking.{has_too_many_with, looks_of_value, overfills_of};
+ghost use Rattle.vt_spec.specs.Machine.World.{World as Meant, mount_numbered};
+ghost use Rattle.vt_detach.specs.Looking.{looks_of_value, overfills_of};
 ghost use Rattle.vt_detach.specs.WorldValue.{world_of};
 
-use crate::world::{MOST_MOUNTS, World};
+use crate::world::World;
 use vt_location::{Location, MountId, NamespaceId};
 use vt_looks::{Attachment, LookAtMounts};
+use vt_propagate::{Load, is_busy, overfills};
 use vt_spec::errors::Deny;
 
 impl World {
-    /// Whether an unmount is refused: the mount has a child, or is in use: EBUSY of umount(2).
-    pub(crate) fn has_child_or_user(&self, mount: MountId) -> bool
-        ensures { result ≡ (looks_of_value self.now).is_busy (counted mount.count) }
-    {
-        self.mounts.has_child(mount) || self.mounts.uses(mount) > 0
-    }
-
     /// Whether a file is open for writing through a mount: EBUSY of mount(2) with `MS_REMOUNT`.
     pub(crate) fn has_writer(&self, mount: MountId) -> bool
         ensures { result ≡ (looks_of_value self.now).is_written_through (counted mount.count) }
@@ -57,7 +55,7 @@ impl LookAtMounts for World {
     }
 
     fn is_busy(&self, mount: MountId) -> Result<bool, Deny> {
-        Ok(self.has_child_or_user(mount))
+        is_busy(self.alloc, &self.mounts, &self.groups, mount)
     }
 
     fn is_written_through(&self, mount: MountId) -> bool {
@@ -67,14 +65,14 @@ impl LookAtMounts for World {
     fn overfills(&self, attachment: Attachment) -> Result<bool, Deny> {
         self.is_held();
         match attachment {
-            Attachment::Plain { place, .. } => Ok(self.has_too_many_with(place.mount, 1)),
+            Attachment::Plain { place, .. } => self.has_too_many_with(place, 1),
             Attachment::Bind {
                 source,
                 place,
                 recursive,
             } => {
                 let tree = self.bind_tree(source, recursive)?;
-                Ok(self.has_too_many_with(place.mount, tree.len()))
+                self.has_too_many_with(place, tree.len())
             }
             Attachment::Move { mount, place } => self.has_too_many_moved(mount, place),
         }
@@ -90,32 +88,51 @@ impl World {
         self.mounts.get(mount)?.namespace
     }
 
-    // Whether the namespace of a mount has too many mounts once it gets so many.
-    fn has_too_many_with(&self, mount: MountId, more: usize) -> bool
-        ensures { result ≡ has_too_many_with self.now (counted mount.count) more }
+    // Whether a namespace has too many mounts once so many are attached at a place, and at the receivers there.
+    // S5 (ENOMEM): memory was refused.
+    fn has_too_many_with(&self, place: Location, count: usize) -> Result<bool, Deny>
+        ensures ok { IfOk result (λ too_many. (world : Meant ℕ) (new : Copies ℕ) (tree : List (meant.Mount ℕ))
+            → mounts_in self.now.mounts ≡ world.mounts → NamespaceInvariants nat_eq world
+            → parts_of nat_eq world (location_of place) ≡ parts_of nat_eq (world_of self.now) (location_of place) → length tree ≡ count
+            → too_many ≡ has_too_many nat_eq (attached_by nat_eq world new (location_of place) false tree)) }
+        ensures memory { IfErr result (λ deny. deny ≡ denial S5) }
     {
-        match self.namespace_of(mount) {
-            Some(namespace) => {
-                let count = self.mounts.attached_in(namespace).len();
-                count.saturating_add(more) as u64 > MOST_MOUNTS
-            }
-            None => false,
+        if self.mounts.get(place.mount).is_none() {
+            return Ok(false);
         }
+        let parts = self.parts_at(place)?;
+        let load = Load {
+            count,
+            leaves: None,
+        };
+        overfills(self.alloc, &self.mounts, &parts, load)
     }
 
-    // Whether a namespace has too many mounts once a mount is moved with all that is below it. Within one namespace a move adds none.
+    // Whether a namespace has too many mounts once a mount is moved with all that is below it.
+    // S5 (ENOMEM): memory was refused.
     fn has_too_many_moved(&self, mount: MountId, place: Location) -> Result<bool, Deny>
         ensures ok { IfOk result (λ too_many. too_many
             ≡ overfills_of self.now (ToMove (counted mount.count) (location_of place))) }
         ensures memory { IfErr result (λ deny. deny ≡ denial S5) }
     {
-        let Some(moved) = self.mounts.get(mount) else {
-            return Ok(false);
-        };
-        if moved.namespace == self.namespace_of(place.mount) {
+        self.is_held();
+        if self.mounts.get(place.mount).is_none() {
             return Ok(false);
         }
+        let parts = self.parts_at(place)?;
+        let Some(moved) = self.mounts.get(mount) else {
+            // No mount leaves then.
+            let load = Load {
+                count: 1,
+                leaves: None,
+            };
+            return overfills(self.alloc, &self.mounts, &parts[1..], load);
+        };
         let tree = self.mounts.tree(mount)?;
-        Ok(self.has_too_many_with(place.mount, tree.len()))
+        let load = Load {
+            count: tree.len(),
+            leaves: moved.namespace,
+        };
+        overfills(self.alloc, &self.mounts, &parts, load)
     }
 }

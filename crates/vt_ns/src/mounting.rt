@@ -1,26 +1,31 @@
 //! The event that mounts a new filesystem: mount(2).
-ghost use Rattle.std.specs.Prelude.{◌≡◌, ◌++◌, ◌∷◌, [], IfErr, None, OnErr, OnOk, true};
-ghost use Rattle.std.specs.List.{list_all};
+ghost use Rattle.std.specs.Prelude.{◌≡◌, ◌++◌, ◌∷◌, [], IfErr, None, OnErr, OnOk};
 ghost use Rattle.vt_fs.specs.FilesystemsValue.{FilesystemEntry, IsNew, entry_of};
 ghost use Rattle.vt_cred.specs.MountFlags.{flags_of};
 ghost use Rattle.vt_location.specs.Locations.{location_of};
 ghost use Rattle.vt_location.specs.MountValue.{mount_of};
-ghost use Rattle.vt_mount.specs.MountsValue.{are_ascending, mounts_in};
+ghost use Rattle.vt_location.specs.Numbers.{counted, inode_number};
+ghost use Rattle.vt_propagate.specs.Copying.{HasRoomFor};
 ghost use Rattle.vt_spec.specs.declared.errors.Rule.TheVariants.{S5};
 ghost use Rattle.vt_spec.specs.Errors.{denial};
 ghost use Rattle.vt_spec.specs.Machine.Permits.Permit.{ToMountPlain};
+ghost use Rattle.vt_spec.specs.Machine.Outcome.Mounting.{new_mount};
 ghost use Rattle.vt_spec.specs.Machine.World as meant;
 ghost use Rattle.vt_detach.specs.Events.{Becomes, Permits};
-ghost use Rattle.vt_attach.specs.Room.{has_small_slots};
-ghost use Rattle.vt_detach.specs.Uses.{kept, with_attached};
+ghost use Rattle.vt_detach.specs.Uses.{kept};
+ghost use Rattle.vt_attach.specs.Grafted.{IsGrafted, MayGraft};
 
+use crate::grafting::numbers_taken;
 use crate::world::World;
-use vt_attach::attaching::attach_all;
+use std::alloc::Global;
+use vt_attach::grafted::attach_graft;
 use vt_cred::MountFlags;
 use vt_fs::Filesystems;
+use vt_group::Groups;
 use vt_location::{FilesystemId, Location, Mount, MountId, NodeRef, Propagation};
 use vt_mount::Mounts;
 use vt_node::{Attr, Mode};
+use vt_propagate::{Counts, Graft, parts};
 use vt_request::TaskName;
 use vt_spec::errors::{Deny, Rule};
 
@@ -28,7 +33,8 @@ use vt_spec::errors::{Deny, Rule};
 const ROOT_MODE: u16 = 0o755;
 
 impl World {
-    /// Mounts a new filesystem, which is one empty directory: mount(2) of a tmpfs.
+    /// Mounts a new filesystem, which is one empty directory: mount(2) of a tmpfs. Each receiver of the destination's mount gets a
+    /// mount of it too.
     ///
     /// S5 (ENOMEM): memory was refused, no number is left, or an inode would have more than 2^64 - 1 uses.
     pub fn mount_plain(
@@ -44,44 +50,82 @@ impl World {
     {
         self.mounts.are_ascending();
         self.mounts.are_counted();
-        if self.next > u64::MAX - 2 {
+        if self.next == u64::MAX {
             return Err(Rule::S5.denial());
         }
-        let parent = self.mounts.get(place.mount).unwrap();
-        let mount = Mount {
-            number: MountId {
-                count: self.next + 1,
-            },
-            namespace: parent.namespace,
-            mount_point: Some(place),
-            root: NodeRef {
-                filesystem: FilesystemId { count: self.next },
-                slot: 0,
-            },
-            flags,
-            propagation: Propagation::Private,
+        let parts = parts(self.alloc, &self.mounts, &self.groups, &*self, place)?;
+        // Two numbers for the filesystem and its root come between those of the copies.
+        let Some(taken) = numbers_taken(parts.len(), 2, u64::MAX - 1 - self.next) else {
+            return Err(Rule::S5.denial());
         };
-        mount_new(&mut self.mounts, &mut self.filesystems, mount)?;
-        self.next += 2;
+        let filesystem = FilesystemId { count: self.next };
+        let tree = [mount_of_new(filesystem, flags)];
+        let graft = Graft {
+            parts: &parts,
+            tree: &tree,
+            place,
+            moves: false,
+        };
+        let counts = Counts {
+            first: self.next + 1,
+            step: 2,
+        };
+        mount_new(
+            self.alloc,
+            &mut self.mounts,
+            &mut self.groups,
+            &mut self.filesystems,
+            filesystem,
+            &graft,
+            counts,
+        )?;
+        self.next += taken;
         Ok(())
     }
 }
 
-// Makes a filesystem, which is one empty directory, with a mount of it; or nothing.
-fn mount_new(mounts: &mut Mounts, filesystems: &mut Filesystems, mount: Mount) -> Result<(), Deny>
-    requires ascending { are_ascending (mounts_in mounts.old ++ mount_of mount ∷ []) ≡ true }
-    requires new { entry_of filesystems.old mount.root.filesystem.count ≡ None }
-    ensures ok { OnOk result ((entry : FilesystemEntry)
-        × (kept mounts.new filesystems.new ≡ with_attached (mount ∷ []) (kept mounts.old (filesystems.old ++ entry ∷ [])))
-        × IsNew mount.root.filesystem.count meant.root_attr entry) }
-    ensures slots { OnOk result (list_all has_small_slots (mount ∷ []) ≡ true) }
+// The mount of a new filesystem that is copied to its destination. It has the number of the filesystem.
+fn mount_of_new(filesystem: FilesystemId, flags: MountFlags) -> Mount
+    ensures { mount_of result ≡ new_mount (counted filesystem.count) (inode_number filesystem.count 0) (flags_of flags) }
+{
+    Mount {
+        number: MountId {
+            count: filesystem.count,
+        },
+        namespace: None,
+        mount_point: None,
+        root: NodeRef {
+            filesystem,
+            slot: 0,
+        },
+        flags,
+        propagation: Propagation::Private,
+    }
+}
+
+// Makes a filesystem, which is one empty directory, with copies of a mount of it; or nothing.
+fn mount_new(
+    alloc: Global,
+    mounts: &mut Mounts,
+    groups: &mut Groups,
+    filesystems: &mut Filesystems,
+    filesystem: FilesystemId,
+    graft: &Graft,
+    counts: Counts,
+) -> Result<(), Deny>
+    requires new { entry_of filesystems.old filesystem.count ≡ None }
+    requires room { HasRoomFor graft.now counts }
+    requires may { MayGraft mounts.old groups.old graft.now counts }
+    ensures ok { OnOk result ((entry : FilesystemEntry) × IsNew filesystem.count meant.root_attr entry
+        × IsGrafted graft.now counts (kept mounts.old (filesystems.old ++ entry ∷ [])) groups.old
+        (kept mounts.new filesystems.new) groups.new) }
     ensures memory { IfErr result (λ deny. deny ≡ denial S5) }
     ensures err_mounts { OnErr result (mounts.new ≡ mounts.old) }
+    ensures err_groups { OnErr result (groups.new ≡ groups.old) }
     ensures err_filesystems { OnErr result (filesystems.new ≡ filesystems.old) }
 {
-    let filesystem = mount.root.filesystem;
     filesystems.add(filesystem, root_attr())?;
-    if let Err(deny) = attach_all(mounts, filesystems, &[mount]) {
+    if let Err(deny) = attach_graft(alloc, mounts, groups, filesystems, graft, counts) {
         filesystems.remove(filesystem);
         return Err(deny);
     }

@@ -1,6 +1,7 @@
 //! Trees of mounts: mount(2) with `MS_BIND` and `MS_REC`.
-ghost use Rattle.std.specs.Prelude.{◌≡◌, ◌++◌, ◌∷◌, [], IfErr, IfOk, OnOk, filter, flat_map, length, map, nat_eq};
+ghost use Rattle.std.specs.Prelude.{◌≡◌, ◌++◌, ◌∷◌, [], IfErr, IfOk, OnOk, filter, flat_map, length, map, nat_eq, true};
 ghost use Rattle.vt_location.specs.Locations.{location_of};
+ghost use Rattle.vt_location.specs.MountValue.{mount_of};
 ghost use Rattle.vt_location.specs.Numbers.{counted};
 ghost use Rattle.vt_mount.specs.MountsValue.{mounts_in};
 ghost use Rattle.vt_spec.specs.declared.errors.Rule.TheVariants.{S5};
@@ -9,12 +10,14 @@ ghost use Rattle.vt_spec.specs.Machine.Attach as meant;
 ghost use Rattle.vt_spec.specs.Machine.Attach.{bindable_children, bindable_tree};
 ghost use Rattle.vt_spec.specs.Machine.Mounts as meant_mounts;
 ghost use Rattle.vt_spec.specs.Machine.World.{mount_numbered};
+ghost use Rattle.vt_spec.specs.Machine.Invariants.{is_located_well};
 ghost use Rattle.vt_ns.specs.Trees.{bindable_to_come};
 ghost use Rattle.vt_detach.specs.WorldValue.{world_of};
 
 use crate::world::World;
 use std::alloc::AllocError;
-use vt_location::{Location, MountId, Propagation};
+use vt_attach::bound::bound_mounts;
+use vt_location::{Location, Mount, MountId, Propagation};
 use vt_looks::Look;
 use vt_spec::errors::{Deny, Rule};
 
@@ -36,6 +39,23 @@ impl World {
         ensures memory { IfErr result (λ deny. deny ≡ denial S5) }
     {
         let Ok(tree) = self.bound_tree(source, recursive) else {
+            return Err(Rule::S5.denial());
+        };
+        Ok(tree)
+    }
+
+    /// The mounts that a bind copies, as it copies them: with the source as the root of that on which it lies.
+    ///
+    /// S5 (ENOMEM): memory was refused.
+    pub(crate) fn mounts_bound(&self, source: Location, recursive: bool) -> Result<Vec<Mount>, Deny>
+        requires { is_located_well nat_eq (world_of self.now) (location_of source) ≡ true }
+        ensures ok { IfOk result (λ tree. map mount_of tree.items
+            ≡ meant.bind_tree nat_eq (world_of self.now) (location_of source) recursive) }
+        ensures memory { IfErr result (λ deny. deny ≡ denial S5) }
+    {
+        self.mounts.are_ascending();
+        let origins = self.bind_tree(source, recursive)?;
+        let Ok(tree) = bound_mounts(self.alloc, &self.mounts, &origins, source) else {
             return Err(Rule::S5.denial());
         };
         Ok(tree)

@@ -1,24 +1,80 @@
 //! Events in which mounts leave their namespaces: umount(2).
-ghost use Rattle.std.specs.Prelude.{◌≡◌, IfErr, OnErr, OnOk};
+ghost use Rattle.std.specs.Prelude.{◌≡◌, IfErr, OnErr, OnOk, nat_eq, true};
+ghost use Rattle.vt_location.specs.MountValue.{propagation_of};
 ghost use Rattle.vt_location.specs.Numbers.{counted};
+ghost use Rattle.vt_mount.specs.MountsValue.{mounts_in};
+ghost use Rattle.vt_spec.specs.Lists.{holds_of};
+ghost use Rattle.vt_spec.specs.Machine.Mounts.{is_shared, mount_in};
+ghost use Rattle.vt_detach.specs.Held.{is_ungrouped};
+ghost use Rattle.vt_ns.specs.Unmounting.{unmounts_alone};
 ghost use Rattle.vt_spec.specs.declared.errors.Rule.TheVariants.{S5};
 ghost use Rattle.vt_spec.specs.Errors.{denial};
 ghost use Rattle.vt_spec.specs.Machine.Permits.Permit.{ToUnmount, ToUnmountLazily};
 ghost use Rattle.vt_detach.specs.Events.{Becomes, Permits};
 
 use crate::world::World;
-use vt_detach::detaching::{detach, detach_each};
-use vt_location::MountId;
+use vt_attach::planned::{Planned, attach_planned};
+use vt_detach::detaching::{detach, detach_each, detach_together};
+use vt_location::{MountId, Propagation};
+use vt_mount::Mounts;
 use vt_request::TaskName;
 use vt_spec::errors::Deny;
 
 impl World {
-    /// Detaches a mount on which no other stands: umount(2). It goes, as nothing is on it. It takes no memory.
-    pub fn unmount(&mut self, name: &TaskName, mount: MountId)
+    /// Detaches a mount on which no other stands, and at each receiver of its parent the mount at the same place, unless others
+    /// stand on that one; a single one that covers its root takes its place: umount(2). What is detached goes, as nothing is on it.
+    /// Where the mount is in no peer group and its parent is not shared, it takes no memory.
+    ///
+    /// S5 (ENOMEM): memory was refused, or an inode would have more than 2^64 - 1 uses.
+    pub fn unmount(&mut self, name: &TaskName, mount: MountId) -> Result<(), Deny>
         requires { Permits self.old name.now (ToUnmount (counted mount.count)) }
+        ensures ok { OnOk result (Becomes self.old name.now (ToUnmount (counted mount.count)) self.new) }
+        ensures memory { IfErr result (λ deny. deny ≡ denial S5) }
+        ensures err { OnErr result (self.new ≡ self.old) }
+    {
+        if self.is_alone(mount) {
+            self.unmount_alone(name, mount);
+            return Ok(());
+        }
+        self.unmount_everywhere(name, mount)
+    }
+
+    // Whether a mount is in no peer group, and its parent is not shared.
+    fn is_alone(&self, mount: MountId) -> bool
+        ensures { result ≡ unmounts_alone (mounts_in self.now.mounts) (counted mount.count) }
+    {
+        is_in_no_group(type_of(&self.mounts, mount)) && !stands_on_shared(&self.mounts, mount)
+    }
+
+    // Detaches such a mount.
+    fn unmount_alone(&mut self, name: &TaskName, mount: MountId)
+        requires permitted { Permits self.old name.now (ToUnmount (counted mount.count)) }
+        requires alone { unmounts_alone (mounts_in self.old.mounts) (counted mount.count) ≡ true }
         ensures { Becomes self.old name.now (ToUnmount (counted mount.count)) self.new }
     {
         detach(&mut self.mounts, &mut self.filesystems, mount);
+    }
+
+    // Detaches a mount, and those at the receivers of its parent.
+    fn unmount_everywhere(&mut self, name: &TaskName, mount: MountId) -> Result<(), Deny>
+        requires { Permits self.old name.now (ToUnmount (counted mount.count)) }
+        ensures ok { OnOk result (Becomes self.old name.now (ToUnmount (counted mount.count)) self.new) }
+        ensures memory { IfErr result (λ deny. deny ≡ denial S5) }
+        ensures err { OnErr result (self.new ≡ self.old) }
+    {
+        let plan = vt_propagate::unmount(self.alloc, &self.mounts, &self.groups, mount)?;
+        let moved = Planned {
+            copies: &[],
+            groups: &[],
+            points: &plan.points,
+        };
+        self.mounts.are_ascending();
+        let mounts = &mut self.mounts;
+        let groups = &mut self.groups;
+        let filesystems = &mut self.filesystems;
+        attach_planned(self.alloc, mounts, groups, filesystems, &moved)?;
+        detach_together(mounts, groups, filesystems, &plan.gone);
+        Ok(())
     }
 
     /// Detaches a mount and all its descendants, in use or not: umount(2) with `MNT_DETACH`. Each goes with its last use.
@@ -33,5 +89,49 @@ impl World {
         let tree = self.mounts.tree(mount)?;
         detach_each(&mut self.mounts, &mut self.filesystems, &tree);
         Ok(())
+    }
+}
+
+// The type of a mount.
+fn type_of(mounts: &Mounts, id: MountId) -> Propagation
+    ensures { propagation_of result ≡ (mount_in nat_eq (mounts_in mounts.now) (counted id.count)).propagation }
+{
+    match mounts.get(id) {
+        Some(mount) => mount.propagation,
+        None => Propagation::Private,
+    }
+}
+
+// Whether a mount of this type is in no peer group, and no slave of one.
+fn is_in_no_group(kind: Propagation) -> bool
+    ensures { result ≡ is_ungrouped (propagation_of kind) }
+{
+    match kind {
+        Propagation::Shared(_) | Propagation::Slave(_) => false,
+        Propagation::Private | Propagation::Unbindable => true,
+    }
+}
+
+// Whether a mount of this type is a member of a peer group.
+fn is_member(kind: Propagation) -> bool
+    ensures { result ≡ is_shared (propagation_of kind) }
+{
+    match kind {
+        Propagation::Shared(_) => true,
+        Propagation::Slave(_) | Propagation::Private | Propagation::Unbindable => false,
+    }
+}
+
+// Whether a mount stands on one that is shared.
+fn stands_on_shared(mounts: &Mounts, id: MountId) -> bool
+    ensures { result ≡ holds_of (λ place. is_shared (mount_in nat_eq (mounts_in mounts.now) place.mount).propagation)
+        (mount_in nat_eq (mounts_in mounts.now) (counted id.count)).mount_point }
+{
+    let Some(mount) = mounts.get(id) else {
+        return false;
+    };
+    match mount.mount_point {
+        Some(point) => is_member(type_of(mounts, point.mount)),
+        None => false,
     }
 }

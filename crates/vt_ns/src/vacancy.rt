@@ -20,6 +20,7 @@ impl World {
         ensures { NextInodeIsVacant self.now (location_of directory) }
     {
         self.mounts.are_counted();
+        self.mounts.groups_are_counted();
         let filesystem = self.shown(directory.mount);
         if let Some(next) = self.filesystems.next_number(filesystem) {
             let _slot = next.slot;
@@ -31,5 +32,6 @@ impl World {
         ensures { NextRootIsVacant self.now }
     {
         self.mounts.are_counted();
+        self.mounts.groups_are_counted();
     }
 }

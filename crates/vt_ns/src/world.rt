@@ -10,9 +10,6 @@ use vt_location::NamespaceId;
 use vt_mount::Mounts;
 use vt_tasks::Tasks;
 
-/// The most mounts of a namespace: mount-max of proc(5).
-pub const MOST_MOUNTS: u64 = 4096;
-
 /// Filesystems, mounts and their peer groups, namespaces and tasks.
 #[derive(Debug, Drop)]
 pub struct World {

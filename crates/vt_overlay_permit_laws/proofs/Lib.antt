@@ -18,3 +18,8 @@ pub mod EveryScript
 pub mod LowersGoOn
 pub mod LowersAfterCalls
 pub mod LowersOverScripts
+pub mod MountedScripts
+pub mod CallsThrough
+pub mod LayersThrough
+pub mod LayersLater
+pub mod LayersOverScripts

@@ -63,7 +63,7 @@ makes_files (SymlinkAt text path) e = refl
 makes_files (MakeWhiteout path) e = refl
 makes_files call e = cc
 
-on_files : (fresh : Fresh ℕ) (world : World ℕ) (task : Task ℕ) (call : Call) (permit : Permit ℕ) (made : Location ℕ × Change ℕ)
+pub on_files : (fresh : Fresh ℕ) (world : World ℕ) (task : Task ℕ) (call : Call) (permit : Permit ℕ) (made : Location ℕ × Change ℕ)
     → IsFor (looks_of nat_eq world) task call permit → change_asked fresh world permit ≡ Some made → changes_no_mount call ≡ true
 on_files fresh world task call (ToChange location (Make directory name number node)) made for e = absurd for
 on_files fresh world task call (ToChange location (AddName directory name object)) made for e = ap changes_no_mount for.2
@@ -93,7 +93,7 @@ module _ (world later : World ℕ) (new : Filesystem ℕ) (grows : later.filesys
       ap (λ list. unwrap_or (find (λ (f : Filesystem ℕ). nat_eq number f.number) list) (no_filesystem number)) grows
       ∙ ap (λ o. unwrap_or o (no_filesystem number)) (found_first number new world.filesystems f e ∙ sym e)
 
-  shown_still : (number inode : ℕ) → is_some (inode_in world number inode) ≡ true
+  pub shown_still : (number inode : ℕ) → is_some (inode_in world number inode) ≡ true
       → filesystem_numbered nat_eq later number ≡ filesystem_numbered nat_eq world number
   shown_still number inode there = by (looked_up number) refl
     where

@@ -37,12 +37,12 @@ pub record OverlayStays (world later : World ℕ) (number : ℕ) (overlay : Over
   pub lowers : after.lowers ≡ overlay.lowers
   pub leads : (lower : Layer ℕ) → Among lower overlay.lowers → LeadsAsBefore world later lower
 
-leads_both : (a b c : World ℕ) (layer : Layer ℕ) → LeadsAsBefore a b layer → LeadsAsBefore b c layer → LeadsAsBefore a c layer
+pub leads_both : (a b c : World ℕ) (layer : Layer ℕ) → LeadsAsBefore a b layer → LeadsAsBefore b c layer → LeadsAsBefore a c layer
 leads_both a b c layer first second path =
     ((second path).0 ∙ (first path).0, kept_both _ _ _ (first path).1 (second path).1)
 
 -- paths are seen on trees alone
-leads_by_files : (world later : World ℕ) (layer : Layer ℕ)
+pub leads_by_files : (world later : World ℕ) (layer : Layer ℕ)
     → (filesystem_numbered nat_eq later layer.filesystem).files ≡ (filesystem_numbered nat_eq world layer.filesystem).files
     → LeadsAsBefore world later layer
 leads_by_files world later layer same path = (

@@ -19,10 +19,7 @@ use Rattle.vt_laws.proofs.OwnRules.{denial_changes_nothing}
 use Rattle.vt_laws.proofs.Unchanged.{look_changes_nothing}
 use Rattle.vt_world_laws.proofs.CallsKept.{name_found}
 
-module _ (Holds : World ℕ → Type 0) (world : World ℕ) (fresh : Fresh ℕ) (name : TaskName) (call : Call) (is : Holds world)
-    (granted : (task : Task ℕ) (permit : Permit ℕ) (changed : List ℕ) → task_called world task.name ≡ Some task
-    → judge_in nat_eq fresh world task call ≡ Ok permit
-    → Holds (finished_by nat_eq false world name changed (call_outcome nat_eq fresh world task call)).world) where
+module _ (Holds : World ℕ → Type 0) (world : World ℕ) (fresh : Fresh ℕ) (name : TaskName) (call : Call) (is : Holds world) where
   abbrev Left : Type 0
   Left = Holds (policy nat_eq fresh world name call).world
 
@@ -34,8 +31,11 @@ module _ (Holds : World ℕ → Type 0) (world : World ℕ) (fresh : Fresh ℕ) 
   refused (Err deny) e denied = stays (denial_changes_nothing fresh world name call deny e)
 
   -- the call of a task that is there
-  called : (task : Task ℕ) → task_called world name ≡ Some task → Left
-  called task found = by (only_looks call || not (is_ok outcome.answer)) refl
+  called_leads : (task : Task ℕ) → task_called world name ≡ Some task
+      → ((permit : Permit ℕ) (changed : List ℕ) → judge_in nat_eq fresh world task call ≡ Ok permit
+      → Holds (finished_by nat_eq false world name changed (call_outcome nat_eq fresh world task call)).world)
+      → Left
+  called_leads task found granted = by (only_looks call || not (is_ok outcome.answer)) refl
     where
       changed : List ℕ
       changed = filesystems_changed_by nat_eq world (judge_in nat_eq fresh world task call)
@@ -77,10 +77,13 @@ module _ (Holds : World ℕ → Type 0) (world : World ℕ) (fresh : Fresh ℕ) 
               ∙ (or_parts (only_looks call) (not (is_ok outcome.answer)) e).1))
           judged (Ok permit) f =
               subst Holds (sym (ap (λ (o : Outcome ℕ). o.world) same))
-              (granted task permit changed (ap (task_called world) (sym (name_found world name task found)) ∙ found) f)
+              (granted permit changed f)
 
-  pub policy_leads : Left
-  policy_leads = by (task_called world name) refl
+  pub named_leads : ((task : Task ℕ) → task_called world name ≡ Some task → (permit : Permit ℕ) (changed : List ℕ)
+      → judge_in nat_eq fresh world task call ≡ Ok permit
+      → Holds (finished_by nat_eq false world name changed (call_outcome nat_eq fresh world task call)).world)
+      → Left
+  named_leads granted = by (task_called world name) refl
     where
       by : (o : Option (Task ℕ)) → task_called world name ≡ o → Left
       by None e =
@@ -88,4 +91,12 @@ module _ (Holds : World ℕ → Type 0) (world : World ℕ) (fresh : Fresh ℕ) 
           (λ t. finished nat_eq world name call
           (filesystems_changed_by nat_eq world (judge_in nat_eq fresh world t call))
           (call_outcome nat_eq fresh world t call))).world) e)
-      by (Some task) e = called task e
+      by (Some task) e = called_leads task e (granted task e)
+
+  pub policy_leads : ((task : Task ℕ) (permit : Permit ℕ) (changed : List ℕ) → task_called world task.name ≡ Some task
+      → judge_in nat_eq fresh world task call ≡ Ok permit
+      → Holds (finished_by nat_eq false world name changed (call_outcome nat_eq fresh world task call)).world)
+      → Left
+  policy_leads granted =
+      named_leads (λ task found permit changed.
+      granted task permit changed (ap (task_called world) (sym (name_found world name task found)) ∙ found))

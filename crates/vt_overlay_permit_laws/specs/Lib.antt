@@ -4,3 +4,5 @@ pub mod Kept
 pub mod Unlocked
 pub mod EveryWorld
 pub mod LockedOverScripts
+pub mod MountedOverScripts
+pub mod Through

@@ -7,4 +7,5 @@
 pub mod asked;
 pub mod changed;
 pub mod kept;
+pub mod through;
 pub mod worlds;

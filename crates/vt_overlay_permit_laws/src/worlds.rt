@@ -1,5 +1,6 @@
 //! Every world that a script leads to has the invariants of a world, with overlays too.
 ghost use Rattle.vt_overlay_permit_laws.specs.LockedOverScripts.{EveryCallLeavesLowers, LowersStayOverScripts};
+ghost use Rattle.vt_overlay_permit_laws.specs.MountedOverScripts.{MountedAnewOverScripts, SameLayersOverScripts};
 ghost use Rattle.vt_overlay_permit_laws.specs.EveryWorld.{EveryCallKeepsWorlds, EveryScriptLeadsToWorlds, SettlingLeavesEveryWorld};
 
 /// Every call, granted or refused, leaves a world that has all invariants, if the world before had them and the numbers handed in
@@ -26,4 +27,14 @@ pub fn the_sweep_leaves_a_world()
 pub fn lower_layers_are_locked_over_scripts()
     ensures calls { EveryCallLeavesLowers }
     ensures scripts { LowersStayOverScripts }
+{}
+
+/// An overlay that is mounted anew, in a world that a script leads to, over layers that lead everywhere to what the layers of an
+/// overlay led to in another such world, or over the same layers, where their trees were not changed, shows the same tree in the
+/// world that the call leaves, whoever mounts it.
+///
+/// The second world may be one that the same script leads to later. Nothing is asked of the worlds but that.
+pub fn an_overlay_mounted_anew_shows_the_same_over_scripts()
+    ensures layers { MountedAnewOverScripts }
+    ensures same { SameLayersOverScripts }
 {}

@@ -2,18 +2,18 @@
 use Rattle.std.proofs.Common.{◌≡◌, ℕ, Bool, true, false, cond, List, [], ◌∷◌, ◌++◌, map, nat_eq, Option, None, Some, option_map, is_some, refl, sym, ap, subst, ◌∙◌, inl, inr, ⊎_elim, ◌⊎◌, eq-eqb, true≢false, length}
 use Rattle.std.proofs.lemmas.Bool.{eqb-true}
 use Rattle.std.proofs.lemmas.Option.{same_Some}
-use Rattle.std.specs.Prelude.{filter_map, flat_map, if◌then◌else◌}
+use Rattle.std.specs.Prelude.{All, filter_map, flat_map, if◌then◌else◌, unwrap_or}
 use Rattle.std.specs.List.{cons_option}
 use Rattle.std.specs.Map.{lookup}
 use Rattle.vt_spec.specs.Lists.{holds_of, or_else, then_some}
 use Rattle.vt_spec.specs.Machine.Detach.{after_going, is_going, mount_point_left, mount_point_of_parent}
-use Rattle.vt_spec.specs.Machine.Mounts.{Location, Mount, children, detached, mount_in, stands_on}
+use Rattle.vt_spec.specs.Machine.Mounts.{Location, Mount, children, detached, mount_in, no_mount, stands_on}
 use Rattle.vt_spec.specs.Machine.Receives.{regrouped}
 use Rattle.vt_spec.specs.Machine.World.{World, with_mounts}
-use Rattle.vt_spec.proofs.Lists.{Among, among-filter, among-map, among_numbers}
+use Rattle.vt_spec.proofs.Lists.{Among, all_from_among, among-filter, among-map, among_numbers}
 use Rattle.vt_mount.proofs.PointLemmas.{end-here}
 use Rattle.vt_mount.specs.MountsValue.{are_ascending}
-use Rattle.vt_propagate.specs.Falling.{LeavesBy, all_points_left, left_by, moved_by, of_mounts, point_left, point_left_of, points_left_on}
+use Rattle.vt_propagate.specs.Falling.{FallsTo, LeavesBy, all_points_left, left_by, moved_by, of_mounts, point_left, point_left_of, points_left_on}
 use Rattle.vt_propagate.proofs.Found.{numbered, numbered_among, numbers}
 use Rattle.vt_propagate.proofs.Leaving.{found_one, numbered-number}
 
@@ -211,3 +211,33 @@ module _ (world : World ℕ) (up : are_ascending world.mounts ≡ true) (gone : 
 
   pub leaves : LeavesBy world gone points
   leaves = ap (λ mounts. regrouped nat_eq (with_mounts world mounts)) (same_mounts world.mounts (λ mount m. m))
+
+  -- each entry is of a mount that stays
+  pub each_falls : All (FallsTo world gone) points
+  each_falls = all_from_among (FallsTo world gone) points (λ entry among.
+      let on = among_flat (points_left_on world.mounts gone) gone entry among in
+      let from = among_kept (point_left_of world.mounts gone) (numbers (children nat_eq world.mounts on.0)) entry on.2 in
+      by entry from.0 (numbered world.mounts from.0) refl from.2)
+    where
+      told : (entry : ℕ × Location ℕ) (other : Mount ℕ) → Among other world.mounts → (b : Bool) → is_going nat_eq gone other.number ≡ b
+          → (if b then None else option_map {U = ℕ × Location ℕ} (λ at. (other.number, left at)) other.mount_point) ≡ Some entry
+          → FallsTo world gone entry
+      told entry other l true stays e = absurd (true≢false (sym (ap is_some e)))
+      told entry other l false stays e = point other.mount_point refl e
+        where
+          point : (o : Option (Location ℕ)) → other.mount_point ≡ o
+              → option_map {U = ℕ × Location ℕ} (λ at. (other.number, left at)) o ≡ Some entry → FallsTo world gone entry
+          point None f h = absurd (true≢false (sym (ap is_some h)))
+          point (Some at) f h =
+              subst (FallsTo world gone) (same_Some (other.number, left at) entry h) (
+                stays,
+                ap (λ o. option_map left (unwrap_or o (no_mount other.number)).mount_point) (numbered_among world.mounts up other l)
+                    ∙ ap (option_map left) f,
+              )
+
+      by : (entry : ℕ × Location ℕ) (number : ℕ) (o : Option (Mount ℕ)) → numbered world.mounts number ≡ o
+          → then_some o (point_left world.mounts gone) ≡ Some entry → FallsTo world gone entry
+      by entry number None f e = absurd (true≢false (sym (ap is_some e)))
+      by entry number (Some other) f e =
+          told entry other (found_one (λ (x : Mount ℕ). nat_eq number x.number) world.mounts other f).0
+          (is_going nat_eq gone other.number) refl e

@@ -47,7 +47,7 @@ module _ (world : World ℕ) (kept : List MountEntry) (before : Grouping) (seen 
       }
 
   -- changed mounts are typed but for those of these numbers
-  are_typed : (numbers : List ℕ) (left : List MountEntry) (change : Mount ℕ → Mount ℕ) → mounts_in left ≡ map change world.mounts
+  pub are_typed : (numbers : List ℕ) (left : List MountEntry) (change : Mount ℕ → Mount ℕ) → mounts_in left ≡ map change world.mounts
       → ((mount : Mount ℕ) → is_among nat_eq (change mount).number numbers ≡ false
       → ((change mount).number ≡ mount.number) × ((change mount).propagation ≡ mount.propagation))
       → AreTyped before numbers left

@@ -1,11 +1,11 @@
 -- Where mounts stand once others are detached, and how a list of new mount points is applied.
-use Rattle.std.specs.Prelude.{List, None, Option, [], filter_map, find, flat_map, if◌then◌else◌, map, nat_eq, option_map, ℕ, ◌≡◌}
+use Rattle.std.specs.Prelude.{List, None, Option, Some, [], false, filter_map, find, flat_map, if◌then◌else◌, map, nat_eq, option_map, ℕ, ◌≡◌}
 use Rattle.std.specs.Map.{lookup}
 use Rattle.vt_spec.specs.Lists.{or_else, then_some}
 use Rattle.vt_spec.specs.Machine.Detach.{is_going, mount_point_left, taken_away}
 use Rattle.vt_spec.specs.Machine.Mounts.{Location, Mount, children, detached}
 use Rattle.vt_spec.specs.Machine.Receives.{regrouped}
-use Rattle.vt_spec.specs.Machine.World.{World, with_mounts}
+use Rattle.vt_spec.specs.Machine.World.{World, mount_numbered, with_mounts}
 use Rattle.vt_location.specs.Locations.{location_of}
 use Rattle.vt_location.specs.Numbers.{counted}
 use Rattle.vt_propagate.specs.declared.falling.NewPoint.{NewPoint}
@@ -23,6 +23,12 @@ left_by gone points mount = if is_going nat_eq gone mount.number then detached m
 
 abbrev pub LeavesBy : World ℕ → List ℕ → List (ℕ × Location ℕ) → Type 0
 LeavesBy world gone points = taken_away nat_eq world gone ≡ regrouped nat_eq (with_mounts world (map (left_by gone points) world.mounts))
+
+-- a mount that stays, and its mount point then
+abbrev pub FallsTo : World ℕ → List ℕ → ℕ × Location ℕ → Type 0
+FallsTo world gone point =
+    (is_going nat_eq gone point.0 ≡ false)
+    × (option_map (mount_point_left nat_eq world gone) (mount_numbered nat_eq world point.0).mount_point ≡ Some point.1)
 
 -- By the list of mounts alone
 

@@ -1,5 +1,5 @@
 //! All that one unmount does, planned at once: umount(2), and the kernel's document sharedsubtree, "Unmount semantics".
-ghost use Rattle.std.specs.Prelude.{◌≡◌, IfErr, IfOk, map, nat_eq, ℕ};
+ghost use Rattle.std.specs.Prelude.{◌≡◌, All, IfErr, IfOk, map, nat_eq, ℕ};
 ghost use Rattle.vt_spec.specs.declared.errors.Rule.TheVariants.{S5};
 ghost use Rattle.vt_spec.specs.Errors.{denial};
 ghost use Rattle.vt_spec.specs.Machine.Detach.{going, unmounted};
@@ -7,7 +7,7 @@ ghost use Rattle.vt_spec.specs.Machine.Receives.{regrouped};
 ghost use Rattle.vt_spec.specs.Machine.World.{World, mount_numbered, with_mounts};
 ghost use Rattle.vt_location.specs.Numbers.{counted};
 ghost use Rattle.vt_mount.specs.MountsValue.{mounts_in};
-ghost use Rattle.vt_propagate.specs.Falling.{LeavesBy, left_by, point_of};
+ghost use Rattle.vt_propagate.specs.Falling.{FallsTo, LeavesBy, left_by, point_of};
 ghost use Rattle.vt_propagate.specs.Seen.{IsSeen};
 
 use crate::falling::{NewPoint, points_left};
@@ -41,6 +41,8 @@ pub fn unmount(
         → map (λ id. counted id.count) plan.gone.items ≡ going nat_eq world (mount_numbered nat_eq world (counted id.count))) }
     ensures left { IfOk result (λ plan. (world : World ℕ) → mounts_in mounts.now ≡ world.mounts
         → LeavesBy world (map (λ id. counted id.count) plan.gone.items) (map point_of plan.points.items)) }
+    ensures each { IfOk result (λ plan. (world : World ℕ) → mounts_in mounts.now ≡ world.mounts
+        → All (FallsTo world (map (λ id. counted id.count) plan.gone.items)) (map point_of plan.points.items)) }
     ensures ok { IfOk result (λ plan. (world : World ℕ) → IsSeen world mounts.now groups.now
         → unmounted nat_eq world (counted id.count)
         ≡ regrouped nat_eq (with_mounts world

@@ -1,5 +1,5 @@
 //! Where mounts stand once others are detached: umount(2), and the kernel's document sharedsubtree, "Unmount semantics".
-ghost use Rattle.std.specs.Prelude.{◌≡◌, ◌++◌, IfErr, IfOk, OnOk, filter_map, map, nat_eq, option_map, ℕ};
+ghost use Rattle.std.specs.Prelude.{◌≡◌, ◌++◌, All, IfErr, IfOk, OnOk, filter_map, map, nat_eq, option_map, ℕ};
 ghost use Rattle.vt_spec.specs.declared.errors.Rule.TheVariants.{S5};
 ghost use Rattle.vt_spec.specs.Errors.{denial};
 ghost use Rattle.vt_spec.specs.Machine.Detach.{is_going, mount_point_left, mount_point_of_parent};
@@ -7,7 +7,7 @@ ghost use Rattle.vt_spec.specs.Machine.World.{World};
 ghost use Rattle.vt_location.specs.Locations.{location_of};
 ghost use Rattle.vt_location.specs.Numbers.{counted};
 ghost use Rattle.vt_mount.specs.MountsValue.{mounts_in};
-ghost use Rattle.vt_propagate.specs.Falling.{LeavesBy, all_points_left, of_mounts, point_left_of, point_of};
+ghost use Rattle.vt_propagate.specs.Falling.{FallsTo, LeavesBy, all_points_left, of_mounts, point_left_of, point_of};
 
 use std::alloc::{AllocError, Global};
 use vt_location::{Location, MountId};
@@ -28,6 +28,8 @@ pub struct NewPoint {
 pub fn points_left(alloc: Global, mounts: &Mounts, gone: &[MountId]) -> Result<Vec<NewPoint>, Deny>
     ensures ok { IfOk result (λ points. (world : World ℕ) → mounts_in mounts.now ≡ world.mounts
         → LeavesBy world (map (λ id. counted id.count) gone.now) (map point_of points.items)) }
+    ensures each { IfOk result (λ points. (world : World ℕ) → mounts_in mounts.now ≡ world.mounts
+        → All (FallsTo world (map (λ id. counted id.count) gone.now)) (map point_of points.items)) }
     ensures memory { IfErr result (λ deny. deny ≡ denial S5) }
 {
     mounts.are_ascending();

@@ -52,8 +52,9 @@ returns-in-ToMove c =
 
 pub returns-in-ToUnmount : goal.returns-in-ToUnmount
 returns-in-ToUnmount c =
-    made c.args.world.now c.args.name.now c.args.permit _ (ToUnmount (counted c.in-ToUnmount.mount.count)) c.in-ToUnmount.is
-    (λ task called. refl) _ _ tt (λ task called. refl) c.unmount.ensures
+    changed c.args.world.now c.args.name.now c.args.permit _ (ToUnmount (counted c.in-ToUnmount.mount.count)) c.in-ToUnmount.is
+    (λ task called. refl) _ c.unmount.result c.done-in-ToUnmount.result c.done-in-ToUnmount.ensures tt
+    (λ task called. refl) refl c.unmount.ensures.ok c.unmount.ensures.memory c.unmount.ensures.err
 
 pub returns-in-ToUnmountLazily : goal.returns-in-ToUnmountLazily
 returns-in-ToUnmountLazily c =

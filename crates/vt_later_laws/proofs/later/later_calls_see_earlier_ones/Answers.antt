@@ -1,5 +1,4 @@
-use Rattle.vt_later_laws.proofs.Opened.{open_then_pread}
-use Rattle.vt_later_laws.proofs.OpenedNew.{create_then_pread, exclusive_then_pread, open_or_create_then_pread}
+use Rattle.vt_later_laws.proofs.OpenedNew.{create_then_pread, exclusive_then_pread, open_or_create_then_pread, open_then_pread}
 use Rattle.vt_later_laws.proofs.Through.{pwrite_then_pread}
 use Rattle.vt_later_laws.proofs.later.later_calls_see_earlier_ones.Goals as goal
 

@@ -2,11 +2,13 @@ mod Unlinked
 mod RenamedSeen
 mod RemovedSeen
 mod FoundByName
+mod DirectorySeen
 mod WaysFiles
 mod WrittenSeen
 mod LinkedSeen
 use Rattle.vt_later_laws.proofs.AttrSeen.{chmod_then_stat, chown_then_stat}
 use Rattle.vt_later_laws.proofs.CreatedSeen.{exclusive_twice}
+use Rattle.vt_later_laws.proofs.later.later_calls_see_it_at_the_path.Answers.DirectorySeen.{rename_directory_then_list, rename_directory_then_lstat}
 use Rattle.vt_later_laws.proofs.later.later_calls_see_it_at_the_path.Answers.FoundByName.{rename_then_found, rename_then_listed}
 use Rattle.vt_later_laws.proofs.later.later_calls_see_it_at_the_path.Answers.LinkedSeen.{link_then_lstat}
 use Rattle.vt_later_laws.proofs.MadeSeen.{mkdir_then_list, symlink_then_readlink}
@@ -42,6 +44,12 @@ returns-clause-removed c = rmdir_then_lstat
 
 pub returns-clause-renamed : goal.returns-clause-renamed
 returns-clause-renamed c = rename_then_lstat
+
+pub returns-clause-moved : goal.returns-clause-moved
+returns-clause-moved c = rename_directory_then_lstat
+
+pub returns-clause-moved_listed : goal.returns-clause-moved_listed
+returns-clause-moved_listed c = rename_directory_then_list
 
 pub returns-clause-found : goal.returns-clause-found
 returns-clause-found c = rename_then_found

@@ -1,8 +1,9 @@
 use Rattle.std.proofs.Common.{ap, map, nat_eq, subst, sym, ◌∙◌}
+use Rattle.std.specs.Prelude.{All}
 use Rattle.vt_spec.specs.Machine.Detach.{taken_away}
 use Rattle.vt_spec.specs.Machine.Receives.{regrouped}
 use Rattle.vt_spec.specs.Machine.World.{with_mounts}
-use Rattle.vt_propagate.specs.Falling.{LeavesBy, left_by, point_of}
+use Rattle.vt_propagate.specs.Falling.{FallsTo, LeavesBy, left_by, point_of}
 use Rattle.vt_propagate.proofs.Found.{counts}
 use Rattle.vt_propagate.proofs.detaching.unmount.Goals as goal
 
@@ -20,3 +21,8 @@ pub returns-clause-left : goal.returns-clause-left
 returns-clause-left c world is =
     subst (λ ids. LeavesBy world (counts ids) (map point_of c.in_ok-points.points.items)) c.deref.ensures.value
     (c.in_ok-points.ensures.ok world is)
+
+pub returns-clause-each : goal.returns-clause-each
+returns-clause-each c world is =
+    subst (λ ids. All (FallsTo world (counts ids)) (map point_of c.in_ok-points.points.items)) c.deref.ensures.value
+    (c.in_ok-points.ensures.each world is)

@@ -1,7 +1,8 @@
 use Rattle.std.proofs.Common.{ap, subst, sym, ◌∙◌}
+use Rattle.std.specs.Prelude.{All}
 use Rattle.vt_mount.specs.MountsValue.{are_ascending}
-use Rattle.vt_propagate.specs.Falling.{LeavesBy, all_points_left}
-use Rattle.vt_propagate.proofs.Fallen.{leaves}
+use Rattle.vt_propagate.specs.Falling.{FallsTo, LeavesBy, all_points_left}
+use Rattle.vt_propagate.proofs.Fallen.{each_falls, leaves}
 use Rattle.vt_propagate.proofs.Found.{counts}
 use Rattle.vt_propagate.proofs.falling.points_left.Goals as goal
 
@@ -10,3 +11,9 @@ returns-clause-ok c world same =
     subst (LeavesBy world (counts c.args.gone.now)) (sym (c.in-Ok.ensures
     ∙ ap (λ mounts. all_points_left mounts (counts c.args.gone.now)) same))
     (leaves world (ap are_ascending (sym same) ∙ c.are_ascending.ensures) (counts c.args.gone.now))
+
+pub returns-clause-each : goal.returns-clause-each
+returns-clause-each c world same =
+    subst (All (FallsTo world (counts c.args.gone.now))) (sym (c.in-Ok.ensures
+    ∙ ap (λ mounts. all_points_left mounts (counts c.args.gone.now)) same))
+    (each_falls world (ap are_ascending (sym same) ∙ c.are_ascending.ensures) (counts c.args.gone.now))

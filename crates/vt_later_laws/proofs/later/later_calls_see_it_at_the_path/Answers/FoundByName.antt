@@ -3,11 +3,8 @@ use Rattle.std.proofs.Common.{◌≡◌, refl, sym, ap, subst, ◌∙◌, inl, i
 use Rattle.std.specs.Prelude.{length, map, unwrap_or}
 use Rattle.std.proofs.lemmas.Bool.{or_parts}
 use Rattle.std.proofs.lemmas.Option.{same_Some}
-use Rattle.vt_spec.specs.declared.errors.Deny.{Deny}
 use Rattle.vt_spec.specs.declared.errors.Rule.TheVariants.{C1, W3, W6}
 use Rattle.vt_spec.specs.Errors.{denial}
-use Rattle.vt_spec.specs.FileTree.{FileTree, kind_in, symlink_text}
-use Rattle.vt_spec.specs.Language.Answers.{StatLine}
 use Rattle.vt_spec.specs.Language.Answers.Answer.{Done, Names, Told}
 use Rattle.vt_spec.specs.Language.Calls.{TaskName}
 use Rattle.vt_spec.specs.Language.Calls.Call.{Ls, Lstat, Rename}
@@ -24,7 +21,7 @@ use Rattle.vt_spec.specs.Machine.Rightful.{node_allows}
 use Rattle.vt_spec.specs.Machine.Rules.Conditions.{is_point_anywhere}
 use Rattle.vt_spec.specs.Machine.Rules.Removing.{is_one_object, object_there, old_word_rules, rename_new_walk, rename_rules}
 use Rattle.vt_spec.specs.Machine.Run.{Serves}
-use Rattle.vt_spec.specs.Machine.Walking.{Here, LastWord, Place, directory_walk, is_directory_there, is_special, name_of, new_walk, old_leaf_walk, old_walk, place_walk, stepped, symlink_walk, walk_end}
+use Rattle.vt_spec.specs.Machine.Walking.{LastWord, Place, is_directory_there, is_special, name_of, new_walk, old_leaf_walk, old_walk, place_walk, stepped, walk_end}
 use Rattle.vt_spec.specs.Machine.World.{Task, World, files_at, is_directory_at, mount_at, node_at, task_called}
 use Rattle.vt_spec.specs.PathText.{ends_in_slash}
 use Rattle.vt_spec.specs.Rights.{is_directory, read_right}
@@ -37,7 +34,7 @@ use Rattle.vt_tree_laws.proofs.TreesRearranged.{node_with_entries}
 use Rattle.vt_world_laws.specs.Worlds.Kept.{IsPlain}
 use Rattle.vt_world_laws.proofs.Reached.{IsFound, directory_no_link}
 use Rattle.vt_later_laws.specs.LaterNames.{LeadsToName, RenameThenFound, RenameThenListed}
-use Rattle.vt_later_laws.proofs.AfterRename.{free_left, free_over, is_left, may, new_left, object_left, object_shown, old_left, shown, to_shown}
+use Rattle.vt_later_laws.proofs.AfterRename.{free_left, free_over, is_left, may, new_left, object_left, object_shown, old_left, to_shown}
 use Rattle.vt_later_laws.proofs.Granted.{IsPermitted, permitted}
 use Rattle.vt_later_laws.proofs.Looked.{list_of, lstat_of, lstat_refused}
 use Rattle.vt_later_laws.proofs.MadeSeen.{Never, surely}
@@ -47,25 +44,25 @@ use Rattle.vt_later_laws.proofs.Stays.{called_own}
 use Rattle.vt_later_laws.proofs.Steps.{both_gave, passing, same_ok}
 use Rattle.vt_later_laws.proofs.later.later_calls_see_it_at_the_path.Answers.RenamedSeen.{itself_leads}
 use Rattle.vt_later_laws.proofs.later.later_calls_see_it_at_the_path.Answers.Unlinked.{Missing, old_parts}
-use Rattle.vt_later_laws.proofs.Ways.{EndsAt, both_walked, same_end, walk_passing}
+use Rattle.vt_later_laws.proofs.Ways.{both_walked, same_end, walk_passing}
 use Rattle.vt_later_laws.proofs.WaysPlaces.{NamedPlace, directory_named_too, front_too, named_place, parent_known, symlink_missing, symlink_named_too}
 use Rattle.vt_later_laws.proofs.WaysStay.{node_in, tree_in}
 
 -- what a granted rename of two names of two objects was permitted
-record NamesParts (looks : Looks ℕ) (task : Task ℕ) (old new : List ℕ) (from to : Place ℕ) (permit : Permit ℕ) : Type 0 where
-  from_walked : place_walk nat_eq looks task old ≡ Ok from
-  from_named : is_special from.last ≡ false
-  from_slash : from.slash ≡ true → is_directory_there nat_eq looks from ≡ true
-  to_named : is_special to.last ≡ false
-  uncovered : is_point_anywhere looks (object_there from) ≡ false
-  permit_is : permit ≡ ToRename from.parent (name_of from.last) to.parent (name_of to.last) (object_there from) to.object
+pub record NamesParts (looks : Looks ℕ) (task : Task ℕ) (old new : List ℕ) (from to : Place ℕ) (permit : Permit ℕ) : Type 0 where
+  pub from_walked : place_walk nat_eq looks task old ≡ Ok from
+  pub from_named : is_special from.last ≡ false
+  pub from_slash : from.slash ≡ true → is_directory_there nat_eq looks from ≡ true
+  pub to_named : is_special to.last ≡ false
+  pub uncovered : is_point_anywhere looks (object_there from) ≡ false
+  pub permit_is : permit ≡ ToRename from.parent (name_of from.last) to.parent (name_of to.last) (object_there from) to.object
 
 asked : (slash some : Bool) → (slash && not some) ≡ false → slash ≡ true → some ≡ true
 asked true true e f = refl
 asked true false e f = absurd (true≢false e)
 asked false some e f = absurd (true≢false (sym f))
 
-names_parts : (looks : Looks ℕ) (task : Task ℕ) (old new : List ℕ) (from to : Place ℕ) (permit : Permit ℕ)
+pub names_parts : (looks : Looks ℕ) (task : Task ℕ) (old new : List ℕ) (from to : Place ℕ) (permit : Permit ℕ)
     → old_leaf_walk nat_eq looks task old ≡ Ok from → new_walk nat_eq looks task new ≡ Ok to
     → is_one_object nat_eq looks (object_there from) to.object ≡ false
     → rename_permit nat_eq looks task old new ≡ Ok permit → NamesParts looks task old new from to permit
@@ -105,11 +102,11 @@ names_parts looks task old new from to permit from_is to_is two e =
     }
 
 -- what is kept is told alike
-told_alike : (was now : Option (Node ℕ)) → IsKept was now → stat_line now ≡ stat_line was
+pub told_alike : (was now : Option (Node ℕ)) → IsKept was now → stat_line now ≡ stat_line was
 told_alike was now kept = λ i.
     record { kind = kept.kind i; attr = kept.attr i; size = length (kept.bytes i); opaque = kept.mark i }
 
-directory_kept : (was now : Option (Node ℕ)) → IsKept was now → is_directory_node now ≡ is_directory_node was
+pub directory_kept : (was now : Option (Node ℕ)) → IsKept was now → is_directory_node now ≡ is_directory_node was
 directory_kept None None kept = refl
 directory_kept None (Some now) kept = absurd (true≢false kept.there)
 directory_kept (Some was) None kept = absurd (true≢false (sym kept.there))
@@ -144,10 +141,10 @@ module _ (world : World ℕ) (fresh : Fresh ℕ) (name : TaskName) (old new : Li
       object_shown world fresh name (Rename old new) Done is plain serves refl refl did from.parent (name_of from.last) to.parent (name_of to.last)
       (object_there from) to.object parts.permit_is parts.uncovered
 
-  abbrev before : Option (Node ℕ)
+  abbrev pub before : Option (Node ℕ)
   before = (files_at nat_eq world from.parent).tree.node object
 
-  is_directory_before : is_directory_there nat_eq (looks_of nat_eq world) from ≡ true → is_directory_node before ≡ true
+  pub is_directory_before : is_directory_there nat_eq (looks_of nat_eq world) from ≡ true → is_directory_node before ≡ true
   is_directory_before e =
       ap (λ n. is_directory_node (node_in world n object)) (sym object_fs)
       ∙ there_is (is_directory_at nat_eq world) from.object from.parent e
@@ -164,7 +161,7 @@ module _ (world : World ℕ) (fresh : Fresh ℕ) (name : TaskName) (old new : Li
       stepped_by world did.task from.parent from.last parts.from_named (Some object) seen.moves.named
       ∙ ap Ok (free_over world is (object_there from) parts.uncovered place_before (sym object_fs) refl)
 
-  old_told : (other_fresh : Fresh ℕ) → (policy nat_eq other_fresh world name (Lstat old)).answer ≡ Ok (Told (stat_line before))
+  pub old_told : (other_fresh : Fresh ℕ) → (policy nat_eq other_fresh world name (Lstat old)).answer ≡ Ok (Told (stat_line before))
   old_told other_fresh =
       let walk = surely _ _ _ (symlink_named_too (looks_of nat_eq world) (looks_of nat_eq world) did.task did.task Never
       (IsFound world is did.task) (itself_leads Never world is plain did.task own) old from parts.from_named at_old place_before
@@ -174,7 +171,7 @@ module _ (world : World ℕ) (fresh : Fresh ℕ) (name : TaskName) (old new : Li
       (directory_no_link before directory, directory))) in
       lstat_of world other_fresh name did.task did.called old _ walk.1
 
-  old_listed : is_directory_there nat_eq (looks_of nat_eq world) from ≡ true → (other_fresh : Fresh ℕ)
+  pub old_listed : is_directory_there nat_eq (looks_of nat_eq world) from ≡ true → (other_fresh : Fresh ℕ)
       → ((policy nat_eq other_fresh world name (Ls old)).answer ≡ Ok (Names (names_in before)))
       ⊎ ((policy nat_eq other_fresh world name (Ls old)).answer ≡ Err (denial C1))
   old_listed directory_there other_fresh =

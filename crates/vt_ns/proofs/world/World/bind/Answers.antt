@@ -1,73 +1,87 @@
-use Rattle.std.proofs.Common.{ap, arith, length, map, nat_eq, subst, sym, ◌≡◌, ◌+◌, ◌*◌, ◌∙◌}
-use Rattle.std.specs.Prelude.{IfOk}
+use Rattle.std.proofs.Common.{ap, arith, length, map, false, nat_eq, refl, subst, sym, true, ◌≡◌, ◌+◌, ◌*◌, ◌∙◌}
 use Rattle.vt_location.specs.Locations.{location_of}
 use Rattle.vt_location.specs.MountValue.{mount_of}
-use Rattle.vt_location.specs.Numbers.{counted}
-use Rattle.vt_mount.specs.MountsValue.{mounts_in}
-use Rattle.vt_spec.specs.Machine.Attach.{bind_tree}
+use Rattle.vt_propagate.specs.declared.copying.Counts.{Counts}
+use Rattle.vt_propagate.specs.declared.copying.Graft.{Graft}
+use Rattle.vt_spec.specs.Machine.Attach.{bind_tree, parts_of}
+use Rattle.vt_spec.specs.Machine.Invariants.{is_located_well}
 use Rattle.vt_spec.specs.Machine.Permits.Permit.{ToBind}
-use Rattle.vt_attach.specs.BoundCopies.{bound_copies}
 use Rattle.vt_ns.specs.contracts.world.World.{the_view}
-use Rattle.vt_attach.specs.Copying.{AreOf}
 use Rattle.vt_detach.specs.Events.{Becomes, Permits}
-use Rattle.vt_detach.specs.WorldValue.{world_of}
-use Rattle.vt_attach.proofs.AttachedCounts.{attached_value}
-use Rattle.vt_attach.proofs.TreeBinding.{copies_ascend, tree_is_bound}
+use Rattle.vt_detach.specs.WorldValue.{WorldValue, world_of}
+use Rattle.vt_attach.proofs.Binding.{bind_is_done, may_bind, source_there}
+use Rattle.vt_attach.proofs.GraftedDone.{grafted_value}
+use Rattle.vt_ns.proofs.BoundEvents.{bind_place_there, parts_found, place_mounted}
 use Rattle.vt_ns.proofs.world.World.bind.Goals as goal
 
-pub attach_all-requires : goal.attach_all-requires
-attach_all-requires c =
-    let value = the_view c.self.inside in
-    let tree = bind_tree nat_eq (world_of value) (location_of c.args.source) c.args.recursive in
-    let permits : Permits value c.args.name.now (ToBind (location_of c.args.source) (location_of c.args.place) c.args.recursive) =
+pub mounts_bound-requires : goal.mounts_bound-requires
+mounts_bound-requires c =
+    let permits : Permits (the_view c.self.inside) c.args.name.now (ToBind (location_of c.args.source) (location_of c.args.place) c.args.recursive) =
     subst (λ value. Permits value c.args.name.now (ToBind (location_of c.args.source) (location_of c.args.place) c.args.recursive)) (sym c.self.view_is) c.requires in
-    let are : AreOf c.deref.result.now tree = ap (map (λ id. counted id.count)) c.deref.ensures.value ∙ c.in_ok-origins.ensures.ok
-    ∙ ap (λ value. map (λ mount. mount.number) (bind_tree nat_eq (world_of value) (location_of c.args.source) c.args.recursive)) (sym c.self.view_is) in
-    let made : map mount_of c.deref-2.result.now ≡ bound_copies value.next tree c.args.source (location_of c.args.place) (mounts_in value.mounts) c.deref.result.now =
-    ap (map mount_of) c.deref-2.ensures.value
-    ∙ subst (λ r. IfOk r (λ copies. map mount_of copies.items
-    ≡ bound_copies value.next tree c.args.source (location_of c.args.place) (mounts_in value.mounts) c.deref.result.now)) c.in-Ok.is (c.copies.ensures tree are) in
-    copies_ascend value c.self.invariant c.args.name.now c.args.source c.args.place c.args.recursive (omega arith) permits
-    c.deref.result.now are c.deref-2.result.now made c.are_ascending.ensures c.are_counted.ensures
+    subst (λ (v : WorldValue). is_located_well nat_eq (world_of v) (location_of c.args.source) ≡ true) c.self.view_is
+    (source_there (the_view c.self.inside) c.self.invariant c.args.name.now c.args.source c.args.place c.args.recursive permits)
+
+pub parts-requires : goal.parts-requires
+parts-requires c =
+    let permits : Permits (the_view c.self.inside) c.args.name.now (ToBind (location_of c.args.source) (location_of c.args.place) c.args.recursive) =
+    subst (λ value. Permits value c.args.name.now (ToBind (location_of c.args.source) (location_of c.args.place) c.args.recursive)) (sym c.self.view_is) c.requires in
+    place_mounted (the_view c.self.inside) c.args.place
+    (bind_place_there (the_view c.self.inside) c.self.invariant c.args.name.now c.args.source c.args.place c.args.recursive permits)
+
+pub attach_graft-requires-clause-may : goal.attach_graft-requires-clause-may
+attach_graft-requires-clause-may c =
+    let permits : Permits (the_view c.self.inside) c.args.name.now (ToBind (location_of c.args.source) (location_of c.args.place) c.args.recursive) =
+    subst (λ value. Permits value c.args.name.now (ToBind (location_of c.args.source) (location_of c.args.place) c.args.recursive)) (sym c.self.view_is) c.requires in
+    let value = the_view c.self.inside in
+    let graft : Graft = record { parts = c.deref.result; tree = c.deref-2.result; place = c.args.place; moves = false } in
+    let counts : Counts = record { first = c.self.inside.next; step = 1 } in
+    let tree_is : map mount_of c.deref-2.result.now ≡ bind_tree nat_eq (world_of value) (location_of c.args.source) c.args.recursive =
+    ap (map mount_of) c.deref-2.ensures.value ∙ c.in_ok-tree.ensures.ok
+    ∙ ap (λ (v : WorldValue). bind_tree nat_eq (world_of v) (location_of c.args.source) c.args.recursive) (sym c.self.view_is) in
+    let parts_are : map mount_of c.deref.result.now ≡ parts_of nat_eq (world_of value) (location_of c.args.place) =
+    parts_found value c.args.self.now c.self.view_is c.self.invariant c.args.place c.in_ok-parts.parts.items c.deref.result.now c.deref.ensures.value c.in_ok-parts.ensures.ok in
+    may_bind value c.self.invariant c.args.name.now c.args.source c.args.recursive graft counts permits tree_is refl parts_are refl refl
+    c.are_ascending.ensures c.are_counted.ensures
 
 pub invariant_of-self-2 : goal.invariant_of-self-2
 invariant_of-self-2 c =
-    let value = the_view c.self.inside in
-    let tree = bind_tree nat_eq (world_of value) (location_of c.args.source) c.args.recursive in
-    let permits : Permits value c.args.name.now (ToBind (location_of c.args.source) (location_of c.args.place) c.args.recursive) =
+    let permits : Permits (the_view c.self.inside) c.args.name.now (ToBind (location_of c.args.source) (location_of c.args.place) c.args.recursive) =
     subst (λ value. Permits value c.args.name.now (ToBind (location_of c.args.source) (location_of c.args.place) c.args.recursive)) (sym c.self.view_is) c.requires in
-    let are : AreOf c.deref.result.now tree = ap (map (λ id. counted id.count)) c.deref.ensures.value ∙ c.in_ok-origins.ensures.ok
-    ∙ ap (λ value. map (λ mount. mount.number) (bind_tree nat_eq (world_of value) (location_of c.args.source) c.args.recursive)) (sym c.self.view_is) in
-    let made : map mount_of c.deref-2.result.now ≡ bound_copies value.next tree c.args.source (location_of c.args.place) (mounts_in value.mounts) c.deref.result.now =
-    ap (map mount_of) c.deref-2.ensures.value
-    ∙ subst (λ r. IfOk r (λ copies. map mount_of copies.items
-    ≡ bound_copies value.next tree c.args.source (location_of c.args.place) (mounts_in value.mounts) c.deref.result.now)) c.in-Ok.is (c.copies.ensures tree are) in
-    let many = c.len-count.ensures in
-    let alike = c.deref.ensures.len in
-    let grows : c.self.inside.next + 2 * c.len-count.result ≡ value.next + 2 * length c.deref.result.now = omega (arith, many, alike) in
-    (tree_is_bound value c.self.invariant c.args.name.now c.args.source c.args.place c.args.recursive (omega arith) permits
-    c.deref.result.now are c.deref-2.result.now made c.are_ascending.ensures c.are_counted.ensures
-    c.attach_all.new.mounts c.attach_all.new.filesystems (c.self.inside.next + 2 * c.len-count.result) c.in_ok-attach_all.ensures.ok
-    c.in_ok-attach_all.ensures.slots grows).held
+    let value = the_view c.self.inside in
+    let graft : Graft = record { parts = c.deref.result; tree = c.deref-2.result; place = c.args.place; moves = false } in
+    let counts : Counts = record { first = c.self.inside.next; step = 1 } in
+    let tree_is : map mount_of c.deref-2.result.now ≡ bind_tree nat_eq (world_of value) (location_of c.args.source) c.args.recursive =
+    ap (map mount_of) c.deref-2.ensures.value ∙ c.in_ok-tree.ensures.ok
+    ∙ ap (λ (v : WorldValue). bind_tree nat_eq (world_of v) (location_of c.args.source) c.args.recursive) (sym c.self.view_is) in
+    let parts_are : map mount_of c.deref.result.now ≡ parts_of nat_eq (world_of value) (location_of c.args.place) =
+    parts_found value c.args.self.now c.self.view_is c.self.invariant c.args.place c.in_ok-parts.parts.items c.deref.result.now c.deref.ensures.value c.in_ok-parts.ensures.ok in
+    let one : c.len.result ≡ length c.deref.result.now = let many = c.len.ensures in let alike = c.deref.ensures.len in omega (arith, many, alike) in
+    let two : c.len-2.result ≡ length c.deref-2.result.now = let many = c.len-2.ensures in let alike = c.deref-2.ensures.len in omega (arith, many, alike) in
+    let grows : c.self.inside.next + c.in-Some.taken ≡ value.next + 2 * (length c.deref.result.now * length c.deref-2.result.now) =
+    ap (λ n. c.self.inside.next + n) (c.in-Some.ensures.count ∙ (λ i. 2 * (one i * two i))) in
+    (bind_is_done value c.self.invariant c.args.name.now c.args.source c.args.recursive graft counts permits tree_is refl parts_are refl refl
+    c.attach_graft.new.mounts c.attach_graft.new.groups c.attach_graft.new.filesystems (c.self.inside.next + c.in-Some.taken) c.in_ok-attach_graft.ensures.ok
+    c.are_ascending.ensures c.are_counted.ensures grows).held
 
 pub returns-clause-ok : goal.returns-clause-ok
 returns-clause-ok c =
-    let value = the_view c.self.inside in
-    let tree = bind_tree nat_eq (world_of value) (location_of c.args.source) c.args.recursive in
-    let permits : Permits value c.args.name.now (ToBind (location_of c.args.source) (location_of c.args.place) c.args.recursive) =
+    let permits : Permits (the_view c.self.inside) c.args.name.now (ToBind (location_of c.args.source) (location_of c.args.place) c.args.recursive) =
     subst (λ value. Permits value c.args.name.now (ToBind (location_of c.args.source) (location_of c.args.place) c.args.recursive)) (sym c.self.view_is) c.requires in
-    let are : AreOf c.deref.result.now tree = ap (map (λ id. counted id.count)) c.deref.ensures.value ∙ c.in_ok-origins.ensures.ok
-    ∙ ap (λ value. map (λ mount. mount.number) (bind_tree nat_eq (world_of value) (location_of c.args.source) c.args.recursive)) (sym c.self.view_is) in
-    let made : map mount_of c.deref-2.result.now ≡ bound_copies value.next tree c.args.source (location_of c.args.place) (mounts_in value.mounts) c.deref.result.now =
-    ap (map mount_of) c.deref-2.ensures.value
-    ∙ subst (λ r. IfOk r (λ copies. map mount_of copies.items
-    ≡ bound_copies value.next tree c.args.source (location_of c.args.place) (mounts_in value.mounts) c.deref.result.now)) c.in-Ok.is (c.copies.ensures tree are) in
-    let many = c.len-count.ensures in
-    let alike = c.deref.ensures.len in
-    let grows : c.self.inside.next + 2 * c.len-count.result ≡ value.next + 2 * length c.deref.result.now = omega (arith, many, alike) in
-    subst (λ value. Becomes value c.args.name.now (ToBind (location_of c.args.source) (location_of c.args.place) c.args.recursive)
-    (attached_value (the_view c.self.inside) c.attach_all.new.mounts c.attach_all.new.filesystems (c.self.inside.next + 2 * c.len-count.result))) c.self.view_is
-    (tree_is_bound value c.self.invariant c.args.name.now c.args.source c.args.place c.args.recursive (omega arith) permits
-    c.deref.result.now are c.deref-2.result.now made c.are_ascending.ensures c.are_counted.ensures
-    c.attach_all.new.mounts c.attach_all.new.filesystems (c.self.inside.next + 2 * c.len-count.result) c.in_ok-attach_all.ensures.ok
-    c.in_ok-attach_all.ensures.slots grows).becomes
+    let value = the_view c.self.inside in
+    let graft : Graft = record { parts = c.deref.result; tree = c.deref-2.result; place = c.args.place; moves = false } in
+    let counts : Counts = record { first = c.self.inside.next; step = 1 } in
+    let tree_is : map mount_of c.deref-2.result.now ≡ bind_tree nat_eq (world_of value) (location_of c.args.source) c.args.recursive =
+    ap (map mount_of) c.deref-2.ensures.value ∙ c.in_ok-tree.ensures.ok
+    ∙ ap (λ (v : WorldValue). bind_tree nat_eq (world_of v) (location_of c.args.source) c.args.recursive) (sym c.self.view_is) in
+    let parts_are : map mount_of c.deref.result.now ≡ parts_of nat_eq (world_of value) (location_of c.args.place) =
+    parts_found value c.args.self.now c.self.view_is c.self.invariant c.args.place c.in_ok-parts.parts.items c.deref.result.now c.deref.ensures.value c.in_ok-parts.ensures.ok in
+    let one : c.len.result ≡ length c.deref.result.now = let many = c.len.ensures in let alike = c.deref.ensures.len in omega (arith, many, alike) in
+    let two : c.len-2.result ≡ length c.deref-2.result.now = let many = c.len-2.ensures in let alike = c.deref-2.ensures.len in omega (arith, many, alike) in
+    let grows : c.self.inside.next + c.in-Some.taken ≡ value.next + 2 * (length c.deref.result.now * length c.deref-2.result.now) =
+    ap (λ n. c.self.inside.next + n) (c.in-Some.ensures.count ∙ (λ i. 2 * (one i * two i))) in
+    subst (λ (v : WorldValue). Becomes v c.args.name.now (ToBind (location_of c.args.source) (location_of c.args.place) c.args.recursive)
+    (grafted_value (the_view c.self.inside) c.attach_graft.new.mounts c.attach_graft.new.groups c.attach_graft.new.filesystems (c.self.inside.next + c.in-Some.taken)))
+    c.self.view_is
+    (bind_is_done value c.self.invariant c.args.name.now c.args.source c.args.recursive graft counts permits tree_is refl parts_are refl refl
+    c.attach_graft.new.mounts c.attach_graft.new.groups c.attach_graft.new.filesystems (c.self.inside.next + c.in-Some.taken) c.in_ok-attach_graft.ensures.ok
+    c.are_ascending.ensures c.are_counted.ensures grows).becomes

@@ -1,54 +1,85 @@
-use Rattle.std.proofs.Common.{arith, refl, subst, sym, ◌+◌}
+use Rattle.std.proofs.Common.{[], ap, arith, false, length, map, refl, subst, sym, ℕ, ◌≡◌, ◌+◌, ◌*◌, ◌∙◌, ◌∷◌, nat_eq}
 use Rattle.vt_cred.specs.MountFlags.{flags_of}
 use Rattle.vt_location.specs.Locations.{location_of}
+use Rattle.vt_location.specs.MountValue.{mount_of}
+use Rattle.vt_location.specs.Numbers.{counted, inode_number}
+use Rattle.vt_propagate.specs.declared.copying.Counts.{Counts}
+use Rattle.vt_propagate.specs.declared.copying.Graft.{Graft}
+use Rattle.vt_spec.specs.Machine.Attach.{parts_of}
+use Rattle.vt_spec.specs.Machine.Mounts as meant
+use Rattle.vt_spec.specs.Machine.Outcome.Mounting.{new_mount}
 use Rattle.vt_spec.specs.Machine.Permits.Permit.{ToMountPlain}
 use Rattle.vt_ns.specs.contracts.world.World.{the_view}
 use Rattle.vt_detach.specs.Events.{Becomes, Permits}
-use Rattle.vt_attach.proofs.AttachedCounts.{attached_value}
-use Rattle.vt_attach.proofs.Binding.{mount_got_is, mount_is_got}
-use Rattle.vt_attach.proofs.NewMounts.{destination_there, mount_is_done, new_ascends}
+use Rattle.vt_detach.specs.WorldValue.{WorldValue, world_of}
+use Rattle.vt_attach.proofs.GraftedDone.{grafted_value}
+use Rattle.vt_attach.proofs.NewBase.{destination_there}
 use Rattle.vt_attach.proofs.NewFilesystems.{next_is_free}
+use Rattle.vt_attach.proofs.NewMounts.{may_mount, new_mount_is_done}
+use Rattle.vt_ns.proofs.BoundEvents.{parts_found, place_mounted}
 use Rattle.vt_ns.proofs.world.World.mount_plain.Goals as goal
 
-pub unwrap-parent-requires : goal.unwrap-parent-requires
-unwrap-parent-requires c =
-    mount_is_got (the_view c.self.inside) c.args.place c.get.result
-    (destination_there (the_view c.self.inside) c.self.invariant c.args.name.now c.args.place c.args.flags
-    (subst (λ value. Permits value c.args.name.now (ToMountPlain (location_of c.args.place) (flags_of c.args.flags))) (sym c.self.view_is) c.requires))
-    c.get.ensures
-
-pub mount_new-requires-clause-ascending : goal.mount_new-requires-clause-ascending
-mount_new-requires-clause-ascending c =
-    new_ascends (the_view c.self.inside) c.self.invariant c.args.name.now c.args.place (omega arith) c.args.flags
-    (subst (λ value. Permits value c.args.name.now (ToMountPlain (location_of c.args.place) (flags_of c.args.flags))) (sym c.self.view_is) c.requires)
-    c.unwrap-parent.result (mount_got_is (the_view c.self.inside) c.args.place c.get.result c.unwrap-parent.result c.get.ensures c.unwrap-parent.ensures)
-    c.are_ascending.ensures c.are_counted.ensures
+pub parts-requires : goal.parts-requires
+parts-requires c =
+    let permits : Permits (the_view c.self.inside) c.args.name.now (ToMountPlain (location_of c.args.place) (flags_of c.args.flags)) =
+    subst (λ value. Permits value c.args.name.now (ToMountPlain (location_of c.args.place) (flags_of c.args.flags))) (sym c.self.view_is) c.requires in
+    place_mounted (the_view c.self.inside) c.args.place
+    (destination_there (the_view c.self.inside) c.self.invariant c.args.name.now (location_of c.args.place) (flags_of c.args.flags) permits)
 
 pub mount_new-requires-clause-new : goal.mount_new-requires-clause-new
 mount_new-requires-clause-new c = next_is_free (the_view c.self.inside) c.self.invariant
 
+pub mount_new-requires-clause-may : goal.mount_new-requires-clause-may
+mount_new-requires-clause-may c =
+    let permits : Permits (the_view c.self.inside) c.args.name.now (ToMountPlain (location_of c.args.place) (flags_of c.args.flags)) =
+    subst (λ value. Permits value c.args.name.now (ToMountPlain (location_of c.args.place) (flags_of c.args.flags))) (sym c.self.view_is) c.requires in
+    let value = the_view c.self.inside in
+    let graft : Graft = record { parts = c.deref.result; tree = record { ref_ptr = (c.tree-1.given, 0); now = c.mount_of_new.result ∷ [] }; place = c.args.place; moves = false } in
+    let counts : Counts = record { first = c.self.inside.next + 1; step = 2 } in
+    let tree_is : map mount_of (c.mount_of_new.result ∷ []) ≡ new_mount (counted c.self.inside.next) (inode_number c.self.inside.next 0) (flags_of c.args.flags) ∷ [] =
+    ap (λ (mount : meant.Mount ℕ). mount ∷ []) c.mount_of_new.ensures in
+    let parts_are : map mount_of c.deref.result.now ≡ parts_of nat_eq (world_of value) (location_of c.args.place) =
+    parts_found value c.args.self.now c.self.view_is c.self.invariant c.args.place c.in_ok-parts.parts.items c.deref.result.now c.deref.ensures.value c.in_ok-parts.ensures.ok in
+    may_mount value c.self.invariant c.args.name.now graft counts (flags_of c.args.flags) permits refl tree_is parts_are refl refl
+    c.are_ascending.ensures c.are_counted.ensures
+
 pub invariant_of-self-2 : goal.invariant_of-self-2
 invariant_of-self-2 c =
-    let permits = subst (λ value. Permits value c.args.name.now (ToMountPlain (location_of c.args.place) (flags_of c.args.flags))) (sym c.self.view_is) c.requires in
-    let parent_is = mount_got_is (the_view c.self.inside) c.args.place c.get.result c.unwrap-parent.result c.get.ensures c.unwrap-parent.ensures in
+    let permits : Permits (the_view c.self.inside) c.args.name.now (ToMountPlain (location_of c.args.place) (flags_of c.args.flags)) =
+    subst (λ value. Permits value c.args.name.now (ToMountPlain (location_of c.args.place) (flags_of c.args.flags))) (sym c.self.view_is) c.requires in
+    let value = the_view c.self.inside in
+    let graft : Graft = record { parts = c.deref.result; tree = record { ref_ptr = (c.tree-1.given, 0); now = c.mount_of_new.result ∷ [] }; place = c.args.place; moves = false } in
+    let counts : Counts = record { first = c.self.inside.next + 1; step = 2 } in
+    let tree_is : map mount_of (c.mount_of_new.result ∷ []) ≡ new_mount (counted c.self.inside.next) (inode_number c.self.inside.next 0) (flags_of c.args.flags) ∷ [] =
+    ap (λ (mount : meant.Mount ℕ). mount ∷ []) c.mount_of_new.ensures in
+    let parts_are : map mount_of c.deref.result.now ≡ parts_of nat_eq (world_of value) (location_of c.args.place) =
+    parts_found value c.args.self.now c.self.view_is c.self.invariant c.args.place c.in_ok-parts.parts.items c.deref.result.now c.deref.ensures.value c.in_ok-parts.ensures.ok in
+    let one : c.len.result ≡ length c.deref.result.now = let many = c.len.ensures in let alike = c.deref.ensures.len in omega (arith, many, alike) in
+    let grows : c.self.inside.next + c.in-Some.taken ≡ value.next + 2 * (length c.deref.result.now * 2) =
+    ap (λ n. c.self.inside.next + n) (c.in-Some.ensures.count ∙ (λ i. 2 * (one i * 2))) in
     let made = c.in_ok-mount_new.ensures.ok in
-    (mount_is_done (the_view c.self.inside) c.self.invariant c.args.name.now c.args.place (omega arith) c.args.flags permits
-    c.unwrap-parent.result parent_is made.0 made.2
-    c.mount_new.new.mounts c.mount_new.new.filesystems (c.self.inside.next + 2) made.1 c.in_ok-mount_new.ensures.slots
-    (new_ascends (the_view c.self.inside) c.self.invariant c.args.name.now c.args.place (omega arith) c.args.flags permits
-    c.unwrap-parent.result parent_is c.are_ascending.ensures c.are_counted.ensures)
-    refl).held
+    (new_mount_is_done value c.self.invariant c.args.name.now graft counts (flags_of c.args.flags) permits refl tree_is parts_are refl refl
+    c.are_ascending.ensures c.are_counted.ensures made.0 made.1
+    c.mount_new.new.mounts c.mount_new.new.groups c.mount_new.new.filesystems (c.self.inside.next + c.in-Some.taken) made.2 grows).held
 
 pub returns-clause-ok : goal.returns-clause-ok
 returns-clause-ok c =
-    let permits = subst (λ value. Permits value c.args.name.now (ToMountPlain (location_of c.args.place) (flags_of c.args.flags))) (sym c.self.view_is) c.requires in
-    let parent_is = mount_got_is (the_view c.self.inside) c.args.place c.get.result c.unwrap-parent.result c.get.ensures c.unwrap-parent.ensures in
+    let permits : Permits (the_view c.self.inside) c.args.name.now (ToMountPlain (location_of c.args.place) (flags_of c.args.flags)) =
+    subst (λ value. Permits value c.args.name.now (ToMountPlain (location_of c.args.place) (flags_of c.args.flags))) (sym c.self.view_is) c.requires in
+    let value = the_view c.self.inside in
+    let graft : Graft = record { parts = c.deref.result; tree = record { ref_ptr = (c.tree-1.given, 0); now = c.mount_of_new.result ∷ [] }; place = c.args.place; moves = false } in
+    let counts : Counts = record { first = c.self.inside.next + 1; step = 2 } in
+    let tree_is : map mount_of (c.mount_of_new.result ∷ []) ≡ new_mount (counted c.self.inside.next) (inode_number c.self.inside.next 0) (flags_of c.args.flags) ∷ [] =
+    ap (λ (mount : meant.Mount ℕ). mount ∷ []) c.mount_of_new.ensures in
+    let parts_are : map mount_of c.deref.result.now ≡ parts_of nat_eq (world_of value) (location_of c.args.place) =
+    parts_found value c.args.self.now c.self.view_is c.self.invariant c.args.place c.in_ok-parts.parts.items c.deref.result.now c.deref.ensures.value c.in_ok-parts.ensures.ok in
+    let one : c.len.result ≡ length c.deref.result.now = let many = c.len.ensures in let alike = c.deref.ensures.len in omega (arith, many, alike) in
+    let grows : c.self.inside.next + c.in-Some.taken ≡ value.next + 2 * (length c.deref.result.now * 2) =
+    ap (λ n. c.self.inside.next + n) (c.in-Some.ensures.count ∙ (λ i. 2 * (one i * 2))) in
     let made = c.in_ok-mount_new.ensures.ok in
-    subst (λ value. Becomes value c.args.name.now (ToMountPlain (location_of c.args.place) (flags_of c.args.flags))
-    (attached_value (the_view c.self.inside) c.mount_new.new.mounts c.mount_new.new.filesystems (c.self.inside.next + 2))) c.self.view_is
-    (mount_is_done (the_view c.self.inside) c.self.invariant c.args.name.now c.args.place (omega arith) c.args.flags permits
-    c.unwrap-parent.result parent_is made.0 made.2
-    c.mount_new.new.mounts c.mount_new.new.filesystems (c.self.inside.next + 2) made.1 c.in_ok-mount_new.ensures.slots
-    (new_ascends (the_view c.self.inside) c.self.invariant c.args.name.now c.args.place (omega arith) c.args.flags permits
-    c.unwrap-parent.result parent_is c.are_ascending.ensures c.are_counted.ensures)
-    refl).becomes
+    subst (λ (v : WorldValue). Becomes v c.args.name.now (ToMountPlain (location_of c.args.place) (flags_of c.args.flags))
+    (grafted_value (the_view c.self.inside) c.mount_new.new.mounts c.mount_new.new.groups c.mount_new.new.filesystems (c.self.inside.next + c.in-Some.taken)))
+    c.self.view_is
+    (new_mount_is_done value c.self.invariant c.args.name.now graft counts (flags_of c.args.flags) permits refl tree_is parts_are refl refl
+    c.are_ascending.ensures c.are_counted.ensures made.0 made.1
+    c.mount_new.new.mounts c.mount_new.new.groups c.mount_new.new.filesystems (c.self.inside.next + c.in-Some.taken) made.2 grows).becomes

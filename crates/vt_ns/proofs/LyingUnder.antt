@@ -1,0 +1,35 @@
+-- Which directories lie under which, as filesystems are kept.
+use Rattle.std.proofs.Common.{◌≡◌, ap, ◌∙◌, ◌<◌, ◌&&◌, nat_eq, ℕ, false}
+use Rattle.vt_spec.specs.FileTree.{is_directory_under}
+use Rattle.vt_spec.specs.Machine.World.{Filesystem, filesystem_numbered}
+use Rattle.vt_fs.specs.FilesystemsValue.{files_at}
+use Rattle.vt_fs.proofs.Numbers.{found_by_number}
+use Rattle.vt_location.specs.declared.locations.NodeRef.{NodeRef}
+use Rattle.vt_location.specs.Locations.{number_of}
+use Rattle.vt_location.specs.Numbers.{counted}
+use Rattle.vt_location.proofs.NumberLemmas.{counted_test, nodes_test}
+use Rattle.vt_detach.specs.Held.{IsHeld}
+use Rattle.vt_detach.specs.WorldValue.{WorldValue, world_of}
+use Rattle.vt_detach.proofs.FilesystemsFound.{in_no_other}
+use Rattle.vt_detach.proofs.LookLemmas.{turned}
+use Rattle.vt_detach.proofs.TreesLookedAt.{nowhere_under}
+use Rattle.vt_ns.specs.LyingUnder.{lies_under}
+
+module _ (value : WorldValue) (top directory : NodeRef) where
+  pub lies_so : lies_under value (counted top.filesystem.count) (number_of top) (number_of directory)
+      ≡ is_directory_under nat_eq (files_at value.filesystems top.filesystem.count) (number_of top) (number_of directory)
+  lies_so =
+      ap (λ (filesystem : Filesystem ℕ). is_directory_under nat_eq filesystem.files (number_of top) (number_of directory))
+      (found_by_number value.filesystems top.filesystem.count)
+
+  -- what is in another filesystem does not
+  pub lies_apart : IsHeld value → top.slot < 18446744073709551616 → directory.slot < 18446744073709551616
+      → nat_eq directory.filesystem.count top.filesystem.count ≡ false
+      → lies_under value (counted top.filesystem.count) (number_of top) (number_of directory) ≡ false
+  lies_apart held small directory_small other =
+      let apart = turned top.filesystem.count directory.filesystem.count ∙ other in
+      nowhere_under (filesystem_numbered nat_eq (world_of value) (counted top.filesystem.count)).files (number_of top) (number_of directory)
+      (in_no_other value.filesystems held.own_inodes (counted top.filesystem.count) directory.filesystem.count directory.slot directory_small
+      (counted_test top.filesystem.count directory.filesystem.count ∙ apart))
+      ∙ nodes_test top directory small directory_small
+      ∙ ap (λ b. b && nat_eq top.slot directory.slot) apart

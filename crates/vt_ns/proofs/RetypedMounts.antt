@@ -1,0 +1,131 @@
+-- Mounts that get types, and leave their groups.
+use Rattle.std.proofs.Common.{◌≡◌, ◌<◌, refl, sym, ap, subst, ◌∙◌, ℕ, ◌+◌, Bool, true, false, cond, ◌||◌, nat_eq, List, [], ◌∷◌, ◌++◌, map, get_or, length, take}
+use Rattle.std.specs.Prelude.{All, Contains, if◌then◌else◌}
+use Rattle.std.specs.List.{list_all, list_any}
+use Rattle.std.proofs.lemmas.List.{map-append, take_more}
+use Rattle.vt_spec.specs.Language.Calls.{TypeWord}
+use Rattle.vt_spec.specs.Language.Calls.TypeWord.{ToPrivate, ToSlave, ToUnbindable}
+use Rattle.vt_spec.specs.Lists.{is_among}
+use Rattle.vt_spec.specs.Machine.Mounts.{Mount, Propagation, is_unbindable}
+use Rattle.vt_spec.specs.Machine.Mounts.Propagation.{Private, Shared, Slave, Unbindable}
+use Rattle.vt_spec.specs.Machine.Types.{retyped_mount, type_after}
+use Rattle.vt_spec.specs.Machine.World.{World}
+use Rattle.vt_group.specs.Grouping.{Grouping, GroupsLive, numbers_of, propagation_in}
+use Rattle.vt_group.specs.Together.{Retypes}
+use Rattle.vt_group.proofs.Together.{eqb-swapped, is_among-snoc, named_numbers}
+use Rattle.vt_letting_go.proofs.Lists.{map_twice}
+use Rattle.vt_location.specs.declared.numbers.MountId.{MountId}
+use Rattle.vt_location.specs.Numbers.{counted}
+use Rattle.vt_mount.specs.MountsValue.{MountEntry, changed, mounts_in, retyped}
+use Rattle.vt_propagate.specs.Retyping.{FollowsTypes, typed_entry, with_kind}
+use Rattle.vt_propagate.specs.Seen.{IsSeen}
+use Rattle.vt_propagate.proofs.Seeing.{are_typed, retyping_is_seen, slaves_are_seen}
+use Rattle.vt_ns.specs.Retyped.{IsRetyped, set_if}
+
+-- One after the other
+
+module _ (numbers : List ℕ) (kind : Propagation ℕ) (number : ℕ) where
+  one_more : (entry : MountEntry)
+      → (if nat_eq number entry.mount.number then with_kind kind (retyped (set_if numbers kind) entry) else retyped (set_if numbers kind) entry)
+      ≡ retyped (set_if (numbers ++ number ∷ []) kind) entry
+  one_more entry =
+      by (is_among nat_eq entry.mount.number numbers) (nat_eq number entry.mount.number) refl
+      ∙ sym (ap (λ b. with_kind (if b then kind else entry.mount.propagation) entry) (is_among-snoc entry.mount.number number numbers))
+    where
+      by : (a b : Bool) → nat_eq number entry.mount.number ≡ b
+          → (if b then with_kind kind (with_kind (if a then kind else entry.mount.propagation) entry)
+          else with_kind (if a then kind else entry.mount.propagation) entry)
+          ≡ with_kind (if a || nat_eq entry.mount.number number then kind else entry.mount.propagation) entry
+      by true true is = refl
+      by true false is = refl
+      by false true is = sym (ap (λ b. with_kind (if b then kind else entry.mount.propagation) entry) (eqb-swapped number entry.mount.number true is))
+      by false false is = sym (ap (λ b. with_kind (if b then kind else entry.mount.propagation) entry) (eqb-swapped number entry.mount.number false is))
+
+  all_more : (entries : List MountEntry)
+      → changed number (with_kind kind) (map (retyped (set_if numbers kind)) entries) ≡ map (retyped (set_if (numbers ++ number ∷ []) kind)) entries
+  all_more [] = refl
+  all_more (entry ∷ entries) = λ i. one_more entry i ∷ all_more entries i
+
+pub set_next : (old now new : List MountEntry) (kind : Propagation ℕ) (ids : List MountId) (i : ℕ) (d : MountId) → i < length ids
+    → new ≡ changed (counted (get_or ids i d).count) (with_kind kind) now
+    → now ≡ map (retyped (set_if (map (λ (id : MountId). counted id.count) (take i ids)) kind)) old
+    → new ≡ map (retyped (set_if (map (λ (id : MountId). counted id.count) (take (i + 1) ids)) kind)) old
+set_next old now new kind ids i d less next so_far =
+    next
+    ∙ ap (changed (counted (get_or ids i d).count) (with_kind kind)) so_far
+    ∙ all_more (map (λ (id : MountId). counted id.count) (take i ids)) kind (counted (get_or ids i d).count) old
+    ∙ ap (λ numbers. map (retyped (set_if numbers kind)) old)
+    (sym (map-append (λ (id : MountId). counted id.count) (take i ids) (get_or ids i d ∷ []))
+    ∙ ap (map (λ (id : MountId). counted id.count)) (sym (take_more ids i d less)))
+
+pub none_set : (kind : Propagation ℕ) (entries : List MountEntry) → entries ≡ map (retyped (set_if [] kind)) entries
+none_set kind [] = refl
+none_set kind (entry ∷ entries) = ap (λ rest. entry ∷ rest) (none_set kind entries)
+
+-- With their groups
+
+abbrev told : Grouping → ℕ → Propagation ℕ → Propagation ℕ
+told now number kind = if is_unbindable kind then Unbindable else propagation_in now number
+
+pub slaves_retyped : (numbers : List ℕ) (before now : Grouping) (old new : List MountEntry) → Retypes before now ToSlave numbers
+    → FollowsTypes before now numbers old new → IsRetyped ToSlave numbers before now old new
+slaves_retyped numbers before now old new retypes follows = record {
+  seen = λ world group named seen there same lacks.
+      slaves_are_seen world group named old new before now seen there lacks
+      (subst (Retypes before now ToSlave) (sym same) retypes)
+      (subst (λ some. FollowsTypes before now some old new) (sym same) follows);
+  kinds = λ world seen. (
+    told now,
+    follows (are_typed world old before seen numbers old (λ mount. mount) (seen.mounts ∙ unchanged world.mounts) (λ mount apart. (refl, refl))),
+  );
+}
+  where
+    unchanged : (mounts : List (Mount ℕ)) → mounts ≡ map (λ (mount : Mount ℕ). mount) mounts
+    unchanged [] = refl
+    unchanged (mount ∷ mounts) = ap (λ rest. mount ∷ rest) (unchanged mounts)
+
+-- the type is set before the mounts leave
+pub set_retyped : (word : TypeWord) (kind : Propagation ℕ) → ((new : ℕ) (old : Propagation ℕ) → type_after new word old ≡ kind)
+    → (numbers : List ℕ) (before now : Grouping) (old left new : List MountEntry)
+    → left ≡ map (retyped (set_if numbers kind)) old → Retypes before now word numbers → FollowsTypes before now numbers left new
+    → IsRetyped word numbers before now old new
+set_retyped word kind sets numbers before now old left new is retypes follows = record {
+  seen = λ world group named seen there same lacks.
+      retyping_is_seen world group word named old left new before now seen there lacks
+      (all_set world seen ∙ ap (λ some. map (set_mount some) world.mounts) (sym same) ∙ named_set world seen.living group named world.mounts)
+      (subst (Retypes before now word) (sym same) retypes)
+      (subst (λ some. FollowsTypes before now some left new) (sym same) follows);
+  kinds = λ world seen. (
+    (λ number own. told now number (set_if numbers kind number own)),
+    follows (are_typed world old before seen numbers left (set_mount numbers) (all_set world seen) kept)
+        ∙ ap (map (typed_entry now)) is
+        ∙ map_twice (typed_entry now) (retyped (set_if numbers kind)) old,
+  );
+}
+  where
+    set_mount : List ℕ → Mount ℕ → Mount ℕ
+    set_mount some mount = record mount { propagation = set_if some kind mount.number mount.propagation }
+
+    all_set : (world : World ℕ) → IsSeen world old before → mounts_in left ≡ map (set_mount numbers) world.mounts
+    all_set world seen =
+        ap mounts_in is
+        ∙ map_twice (λ (entry : MountEntry). entry.mount) (retyped (set_if numbers kind)) old
+        ∙ sym (map_twice (set_mount numbers) (λ (entry : MountEntry). entry.mount) old)
+        ∙ ap (map (set_mount numbers)) seen.mounts
+
+    named_set : (world : World ℕ) → GroupsLive world → (group : ℕ → ℕ) (named mounts : List (Mount ℕ))
+        → map (set_mount (numbers_of named)) mounts ≡ map (retyped_mount nat_eq group word named) mounts
+    named_set world live group named [] = refl
+    named_set world live group named (mount ∷ rest) =
+        λ i. (ap (λ b. record mount { propagation = if b then kind else mount.propagation }) (sym (named_numbers world live mount.number named))
+        ∙ by (list_any (λ (other : Mount ℕ). nat_eq mount.number other.number) named)) i
+        ∷ named_set world live group named rest i
+      where
+        by : (b : Bool) → record mount { propagation = if b then kind else mount.propagation }
+            ≡ (if b then record mount { propagation = type_after (group mount.number) word mount.propagation } else mount)
+        by true = λ i. record mount { propagation = sym (sets (group mount.number) mount.propagation) i }
+        by false = refl
+
+    kept : (mount : Mount ℕ) → is_among nat_eq (set_mount numbers mount).number numbers ≡ false
+        → ((set_mount numbers mount).number ≡ mount.number) × ((set_mount numbers mount).propagation ≡ mount.propagation)
+    kept mount apart = (refl, ap (λ b. if b then kind else mount.propagation) apart)

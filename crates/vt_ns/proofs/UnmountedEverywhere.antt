@@ -1,0 +1,131 @@
+-- A mount is unmounted, with the mounts at the receivers of its parent: umount(2).
+use Rattle.std.proofs.Common.{◌≡◌, refl, sym, ap, subst, ◌∙◌, ℕ, nat_eq, eqb-true, Bool, true, false, true≢false, cond, List, [], map, find, Option, Some, None, option_map, is_some, unwrap_or}
+use Rattle.std.specs.Prelude.{All}
+use Rattle.std.specs.List.{list_all, list_any}
+use Rattle.vt_spec.specs.Language.Calls.{TaskName}
+use Rattle.vt_spec.specs.Machine.Detach.{after_going, going, is_going, mount_point_left, taken_away, unmounted}
+use Rattle.vt_spec.specs.Machine.Mounts.{Location, Mount, detached, no_mount}
+use Rattle.vt_spec.specs.Machine.Permits.Permit.{ToUnmount}
+use Rattle.vt_spec.specs.Machine.Receives.{inheriting, lost_a_group, regrouped, regrouped_by}
+use Rattle.vt_spec.specs.Machine.Settled.{without_dead_groups}
+use Rattle.vt_spec.specs.Machine.World.{World, mount_numbered, with_mounts}
+use Rattle.vt_fs.specs.FilesystemsValue.{Filesystems}
+use Rattle.vt_group.specs.Grouping.{Grouping, Has, HasGroup}
+use Rattle.vt_group.specs.Together.{GrowsTo, TakesAway}
+use Rattle.vt_group.proofs.Showing.{has_one_grouping}
+use Rattle.vt_group.proofs.Typed.{regrouped_is_typed}
+use Rattle.vt_letting_go.proofs.Lists.{all_from_among, among-map, among_from_all}
+use Rattle.vt_location.specs.declared.locations.Location.{Location as At}
+use Rattle.vt_location.specs.Locations.{location_of}
+use Rattle.vt_location.specs.Numbers.{counted}
+use Rattle.vt_mount.specs.MountsValue.{MountEntry}
+use Rattle.vt_propagate.specs.Falling.{FallsTo, left_by}
+use Rattle.vt_attach.specs.Planned.{Point, is_small, points_left, points_taken, with_planned}
+use Rattle.vt_attach.specs.PlannedUses.{point_seen}
+use Rattle.vt_detach.specs.Detached.{LeaveTogether}
+use Rattle.vt_detach.specs.Events.{Permits}
+use Rattle.vt_detach.specs.Held.{IsHeld}
+use Rattle.vt_detach.specs.Uses.{kept}
+use Rattle.vt_detach.specs.WorldValue.{WorldValue, world_of}
+use Rattle.vt_detach.proofs.FileEvents.{permit_fits}
+use Rattle.vt_detach.proofs.Grouped.{held_has_none}
+use Rattle.vt_detach.proofs.Leaving.{found_it}
+use Rattle.vt_detach.proofs.MountsGone.{found_mapped}
+use Rattle.vt_detach.proofs.Remaining.{remade}
+use Rattle.vt_detach.proofs.Staying.{IsDone}
+use Rattle.vt_detach.proofs.TypedEvents.{none_taken}
+use Rattle.vt_detach.proofs.UnmountedAlone.{attached_is_named}
+use Rattle.vt_ns.proofs.UnmountedWorlds.{moved_then_detached}
+
+-- groups that end leave mounts where they are
+pub regrouped_places : (world : World ℕ) (number : ℕ)
+    → (mount_numbered nat_eq (regrouped nat_eq world) number).mount_point ≡ (mount_numbered nat_eq world number).mount_point
+regrouped_places world number = by (list_any (lost_a_group nat_eq world) world.mounts)
+  where
+    found : (o : Option (Mount ℕ)) → (unwrap_or (option_map (inheriting nat_eq world) o) (no_mount number)).mount_point
+        ≡ (unwrap_or o (no_mount number)).mount_point
+    found None = refl
+    found (Some mount) = refl
+
+    by : (b : Bool) → (mount_numbered nat_eq (regrouped_by nat_eq b world) number).mount_point ≡ (mount_numbered nat_eq world number).mount_point
+    by false = refl
+    by true =
+        ap (λ o. (unwrap_or o (no_mount number)).mount_point) (found_mapped (inheriting nat_eq world) (λ mount. refl) world.mounts number)
+        ∙ found (find (λ (mount : Mount ℕ). nat_eq number mount.number) world.mounts)
+
+-- a mount that falls is where it falls to
+pub fallen_to : (world : World ℕ) (gone : List ℕ) (number : ℕ) (place : Location ℕ) → FallsTo world gone (number, place)
+    → (mount_numbered nat_eq (taken_away nat_eq world gone) number).mount_point ≡ Some place
+fallen_to world gone number place falls =
+    regrouped_places (with_mounts world (map (after_going nat_eq world gone) world.mounts)) number
+    ∙ ap (λ o. (unwrap_or o (no_mount number)).mount_point) (found_mapped (after_going nat_eq world gone) same_number world.mounts number)
+    ∙ by (find (λ (mount : Mount ℕ). nat_eq number mount.number) world.mounts) refl falls.1
+  where
+    same_number : (mount : Mount ℕ) → (after_going nat_eq world gone mount).number ≡ mount.number
+    same_number mount = either (is_going nat_eq gone mount.number)
+      where
+        either : (b : Bool) → (cond b (detached mount) (record mount { mount_point = option_map (mount_point_left nat_eq world gone) mount.mount_point })).number ≡ mount.number
+        either true = refl
+        either false = refl
+
+    none_some : None ≡ Some place → ⊥
+    none_some e = cc
+
+    by : (o : Option (Mount ℕ)) → find (λ (mount : Mount ℕ). nat_eq number mount.number) world.mounts ≡ o
+        → option_map (mount_point_left nat_eq world gone) (unwrap_or o (no_mount number)).mount_point ≡ Some place
+        → (unwrap_or (option_map (after_going nat_eq world gone) o) (no_mount number)).mount_point ≡ Some place
+    by None e is = absurd (none_some is)
+    by (Some mount) e is =
+        let its = eqb-true number mount.number (found_it (λ (x : Mount ℕ). nat_eq number x.number) world.mounts mount e).1 in
+        ap (λ b. (cond b (detached mount) (record mount { mount_point = option_map (mount_point_left nat_eq world gone) mount.mount_point })).mount_point) (ap (is_going nat_eq gone) (sym its) ∙ falls.0) ∙ is
+
+-- groups that grow by nothing stay
+pub nothing_grows : (world : World ℕ) (old new : Grouping) → Has world old → GrowsTo old new [] [] → new ≡ old
+nothing_grows world old new has grows =
+    has_one_grouping world new old
+    (grows world world has (record {
+      order = has.order;
+      peers = refl;
+      master = λ group. refl;
+      stay = λ group there. there;
+      begin = all_from_among (λ (entry : ℕ × Option ℕ). is_some entry.1 ≡ true → HasGroup world entry.0) [] (λ entry m. absurd m);
+      named = λ group lacks there. absurd (true≢false (sym there ∙ lacks));
+    }))
+    has
+
+pub unmounted_everywhere : (value : WorldValue) → IsHeld value → (name : TaskName) (number : ℕ) → Permits value name (ToUnmount number)
+    → (gone : List ℕ) (points : List Point) → gone ≡ going nat_eq (world_of value) (mount_numbered nat_eq (world_of value) number)
+    → unmounted nat_eq (world_of value) number
+    ≡ regrouped nat_eq (with_mounts (world_of value) (map (left_by gone (map point_seen points)) (world_of value).mounts))
+    → All (FallsTo (world_of value) gone) (map point_seen points)
+    → (left : List At) → map location_of left ≡ points_left points value.mounts → list_all is_small left ≡ true
+    → list_all is_small (points_taken points value.mounts) ≡ true
+    → (between : List MountEntry) (between_files : Filesystems)
+    → kept between between_files ≡ with_planned [] points left (kept value.mounts value.filesystems)
+    → (mounts : List MountEntry) (groups : Grouping) (filesystems : Filesystems)
+    → LeaveTogether gone (kept between between_files) value.groups (kept mounts filesystems) groups
+    → IsDone value name (ToUnmount number) (record (remade value mounts filesystems value.tasks) { groups = groups })
+unmounted_everywhere value whole name number permits gone points gone_is regroups falls left left_are left_small taken_small between between_files
+    is_kept mounts groups filesystems together =
+    let world = world_of value in
+    let start = with_mounts world (map (left_by gone (map point_seen points)) world.mounts) in
+    let names = (permit_fits value whole name (ToUnmount number) permits).names in
+    let has : Has (unmounted nat_eq world number) groups =
+    subst (λ all. Has (taken_away nat_eq world all) groups) gone_is (together.groups world whole.groups whole.in_world.mounts.groups) in
+    subst (λ all. IsDone value name (ToUnmount number) (record (remade value all filesystems value.tasks) { groups = groups })) (sym together.types)
+    (moved_then_detached value whole name (ToUnmount number) permits.task (unmounted nat_eq world number)
+    (record {
+      called = permits.called;
+      given = permits.given;
+      named = attached_is_named value whole number (ap is_some names.0);
+      applied = λ fresh. refl;
+    })
+    gone points groups has
+    (ap (without_dead_groups nat_eq) regroups ∙ regrouped_is_typed start groups (subst (λ one. Has one groups) regroups has))
+    (λ point m.
+    ap (λ all. (mount_numbered nat_eq (taken_away nat_eq world all) (counted point.mount.count)).mount_point) (sym gone_is)
+    ∙ fallen_to world gone (counted point.mount.count) (location_of point.place)
+    (among_from_all (FallsTo world gone) (map point_seen points) falls (point_seen point) (among-map point_seen points point m)))
+    left left_are left_small taken_small between between_files is_kept
+    (none_taken groups gone (subst (λ before. TakesAway before groups gone) (held_has_none value whole) together.groups))
+    together.entries filesystems together.turn)

@@ -1,0 +1,332 @@
+-- Mounts get other mount points, and then others are detached and leave their groups: an unmount at all receivers.
+use Rattle.std.proofs.Common.{◌≡◌, refl, sym, ap, subst, ◌∙◌, inl, ℕ, nat_eq, eqb-true, Bool, true, false, true≢false, cond, not, ◌&&◌, ◌||◌, List, [], map, find, Option, Some, None, option_map, is_some, unwrap_or}
+use Rattle.std.specs.Map.{lookup}
+use Rattle.std.specs.Prelude.{option_to_list}
+use Rattle.std.specs.List.{list_all}
+use Rattle.std.proofs.lemmas.Bool.{and_parts}
+use Rattle.vt_spec.specs.Language.Calls.{TaskName}
+use Rattle.vt_spec.specs.Lists.{is_among, or_else}
+use Rattle.vt_spec.specs.Machine.Detach.{is_going}
+use Rattle.vt_spec.specs.Machine.Mounts.{Location, Mount, detached, mount_in, no_mount}
+use Rattle.vt_spec.specs.Machine.Permits.{Permit}
+use Rattle.vt_spec.specs.Machine.Receives.{has_members}
+use Rattle.vt_spec.specs.Machine.Settled.{is_located, settled, without_dead_groups}
+use Rattle.vt_spec.specs.Machine.World.{Task, World, filesystem_numbered, is_directory_at, mount_at, mount_numbered, node_at, with_mounts}
+use Rattle.vt_spec.specs.Machine.Invariants.{Stands, has_its_root, is_located_well, is_nowhere_or_attached, is_private, is_there}
+use Rattle.vt_spec.specs.Tree.{is_directory_node}
+use Rattle.vt_count_laws.specs.Sweeping.{living}
+use Rattle.vt_fs.specs.FilesystemsValue.{Filesystems}
+use Rattle.vt_group.specs.Grouping.{Grouping, Has, no_groups}
+use Rattle.vt_group.specs.Laws.{typed_by}
+use Rattle.vt_letting_go.specs.Leaving.{stands_on_attached}
+use Rattle.vt_letting_go.proofs.Lists.{Among, all_from_among, among-from_map, among-map, among_from_all, is_among_numbers, map_alike, map_twice, passes}
+use Rattle.vt_letting_go.proofs.OfWorlds.{mounts_of_worlds_stand}
+use Rattle.vt_letting_go.proofs.PlacesLeft.{found_is_there, found_itself, number_found}
+use Rattle.vt_location.specs.declared.locations.Location.{Location as At}
+use Rattle.vt_location.specs.Locations.{location_of}
+use Rattle.vt_location.specs.Numbers.{counted}
+use Rattle.vt_mount.specs.MountsValue.{MountEntry}
+use Rattle.vt_permit_laws.proofs.PermitsLeave.{given_permits_are_under_way}
+use Rattle.vt_propagate.specs.Falling.{left_by, moved_by}
+use Rattle.vt_world_laws.specs.Worlds.Kept.{IsWorldButForUse}
+use Rattle.vt_world_laws.proofs.Roots.{directory_there}
+use Rattle.vt_attach.specs.Planned.{Point, is_small, points_left, points_taken, with_planned}
+use Rattle.vt_attach.specs.PlannedUses.{point_seen}
+use Rattle.vt_detach.specs.Detached.{LeaveInTurn}
+use Rattle.vt_detach.specs.Events.{supply_of}
+use Rattle.vt_detach.specs.Held.{CountsWhatIsInIt, IsHeld, is_ungrouped}
+use Rattle.vt_detach.specs.Uses.{kept}
+use Rattle.vt_detach.specs.WorldValue.{WorldValue, world_of}
+use Rattle.vt_detach.proofs.DetachingBegins.{HasChildrenOf, detached_world, detaching_begins, filesystem_kept}
+use Rattle.vt_detach.proofs.DetachingEnds.{detached_counted, detached_swept}
+use Rattle.vt_detach.proofs.Finishing.{IsApplied, finished_as}
+use Rattle.vt_detach.proofs.Grouped.{not_attached, settled_has, stays_private}
+use Rattle.vt_detach.proofs.Keeping.{IsKeptBut, detached_in}
+use Rattle.vt_detach.proofs.Leaving.{found_it}
+use Rattle.vt_detach.proofs.MidwayBegins.{parent_inside}
+use Rattle.vt_detach.proofs.MountsGone.{found_mapped}
+use Rattle.vt_detach.proofs.Remaining.{remade}
+use Rattle.vt_detach.proofs.Staying.{IsDone, world_is_plain}
+use Rattle.vt_detach.proofs.TypedEvents.{counts_typed, no_groups_free, swept_typed, typed_value}
+use Rattle.vt_detach.proofs.TypedWorlds.{settled_without_groups, typed_world}
+use Rattle.vt_detach.proofs.UnmountedLazily.{all_detached}
+use Rattle.vt_ns.proofs.PointsMoved.{MayMove, gained, looked_up, lost, moved_is_kept, moved_world}
+
+none_some : {A : Type 0} (a : A) → None ≡ Some a → ⊥
+none_some a e = cc
+
+-- a mount with a mount point is in a namespace
+placed_is_attached : (mount : Mount ℕ) → is_nowhere_or_attached mount ≡ true → is_some mount.mount_point ≡ true → is_some mount.namespace ≡ true
+placed_is_attached mount is placed = by (is_some mount.namespace) (is_some mount.mount_point) is placed
+  where
+    by : (b c : Bool) → (b || (not c && is_private mount.propagation)) ≡ true → c ≡ true → b ≡ true
+    by true c e f = refl
+    by false true e f = e
+    by false false e f = absurd (true≢false (sym f))
+
+-- one that is in none has no mount point
+outside_is_placeless : (mount : Mount ℕ) → is_nowhere_or_attached mount ≡ true → is_some mount.namespace ≡ false → mount.mount_point ≡ None
+outside_is_placeless mount is none = by mount.mount_point refl
+  where
+    by : (o : Option (Location ℕ)) → mount.mount_point ≡ o → mount.mount_point ≡ None
+    by None e = e
+    by (Some place) e = absurd (true≢false (sym (placed_is_attached mount is (ap is_some e)) ∙ none))
+
+-- a mount with a mount point that is found is there
+placed_is_there : (mounts : List (Mount ℕ)) (number : ℕ) (place : Location ℕ) → (mount_in nat_eq mounts number).mount_point ≡ Some place
+    → Among (mount_in nat_eq mounts number) mounts
+placed_is_there mounts number place is = by (find (λ (x : Mount ℕ). nat_eq number x.number) mounts) refl is
+  where
+    by : (o : Option (Mount ℕ)) → find (λ (x : Mount ℕ). nat_eq number x.number) mounts ≡ o
+        → (unwrap_or o (no_mount number)).mount_point ≡ Some place → Among (unwrap_or o (no_mount number)) mounts
+    by None e f = absurd (none_some place f)
+    by (Some mount) e f = (found_it (λ (x : Mount ℕ). nat_eq number x.number) mounts mount e).0
+
+-- The policy's world, before what nothing uses goes: `gone` are detached, the others stand at these mount points, and each mount has
+-- the type that the groups tell.
+module _ (value : WorldValue) (whole : IsHeld value) (name : TaskName) (permit : Permit ℕ) (task : Task ℕ) (policy : World ℕ)
+    (is : IsApplied value name permit task policy) (gone : List ℕ) (points : List Point) (groups : Grouping) (has : Has policy groups)
+    (same : without_dead_groups nat_eq policy
+    ≡ typed_world groups (with_mounts (world_of value) (map (left_by gone (map point_seen points)) (world_of value).mounts)))
+    (tells : (point : Point) → Among point points
+    → (mount_numbered nat_eq policy (counted point.mount.count)).mount_point ≡ Some (location_of point.place)) where
+  abbrev world : World ℕ
+  world = world_of value
+
+  abbrev moved : Mount ℕ → Mount ℕ
+  moved = moved_by (map point_seen points)
+
+  -- what becomes of a mount
+  abbrev final : Mount ℕ → Mount ℕ
+  final mount = typed_by groups (left_by gone (map point_seen points) mount)
+
+  under_way : IsWorldButForUse policy
+  under_way =
+      subst IsWorldButForUse (is.applied (supply_of value permit))
+      (given_permits_are_under_way world (supply_of value permit) task permit whole.in_world (world_is_plain value) is.given)
+
+  same_mounts : policy.mounts ≡ map final world.mounts
+  same_mounts = ap (λ (w : World ℕ). w.mounts) same ∙ map_twice (typed_by groups) (left_by gone (map point_seen points)) world.mounts
+
+  same_filesystems : policy.filesystems ≡ world.filesystems
+  same_filesystems = ap (λ (w : World ℕ). w.filesystems) same
+
+  final_number : (mount : Mount ℕ) → (final mount).number ≡ mount.number
+  final_number mount = by (is_going nat_eq gone mount.number)
+    where
+      by : (b : Bool) → (cond b (detached mount) (moved mount)).number ≡ mount.number
+      by true = refl
+      by false = refl
+
+  final_filesystem : (mount : Mount ℕ) → (final mount).filesystem ≡ mount.filesystem
+  final_filesystem mount = by (is_going nat_eq gone mount.number)
+    where
+      by : (b : Bool) → (cond b (detached mount) (moved mount)).filesystem ≡ mount.filesystem
+      by true = refl
+      by false = refl
+
+  final_gone : (mount : Mount ℕ) → is_going nat_eq gone mount.number ≡ true
+      → ((final mount).namespace ≡ None) × ((final mount).mount_point ≡ None)
+  final_gone mount e =
+      (ap (λ b. (cond b (detached mount) (moved mount)).namespace) e, ap (λ b. (cond b (detached mount) (moved mount)).mount_point) e)
+
+  final_stays : (mount : Mount ℕ) → is_going nat_eq gone mount.number ≡ false
+      → ((final mount).namespace ≡ mount.namespace) × ((final mount).mount_point ≡ (moved mount).mount_point)
+  final_stays mount e =
+      (ap (λ b. (cond b (detached mount) (moved mount)).namespace) e, ap (λ b. (cond b (detached mount) (moved mount)).mount_point) e)
+
+  final_among : (mount : Mount ℕ) → Among mount world.mounts → Among (final mount) policy.mounts
+  final_among mount m = subst (Among (final mount)) (sym same_mounts) (among-map final world.mounts mount m)
+
+  final_found : (mount : Mount ℕ) → Among mount world.mounts → mount_numbered nat_eq policy mount.number ≡ final mount
+  final_found mount m =
+      ap (mount_numbered nat_eq policy) (sym (final_number mount))
+      ∙ found_itself policy.mounts under_way.mounts.one_number (final mount) (final_among mount m)
+
+  -- a mount that is attached then was so before, and does not go
+  attached_before : (number : ℕ) → is_some (mount_numbered nat_eq policy number).namespace ≡ true
+      → (is_going nat_eq gone number ≡ false) × (is_some (mount_numbered nat_eq world number).namespace ≡ true)
+  attached_before number attached =
+      by (find (λ (x : Mount ℕ). nat_eq number x.number) world.mounts) refl
+      (sym (ap (λ (x : Mount ℕ). is_some x.namespace) (ap (λ all. mount_in nat_eq all number) same_mounts
+      ∙ ap (λ o. unwrap_or o (no_mount number)) (found_mapped final final_number world.mounts number))) ∙ attached)
+    where
+      by : (o : Option (Mount ℕ)) → find (λ (x : Mount ℕ). nat_eq number x.number) world.mounts ≡ o
+          → is_some (unwrap_or (option_map final o) (no_mount number)).namespace ≡ true
+          → (is_going nat_eq gone number ≡ false) × (is_some (unwrap_or o (no_mount number)).namespace ≡ true)
+      by None e f = absurd (true≢false (sym f))
+      by (Some mount) e f = going (is_going nat_eq gone mount.number) refl
+        where
+          its : mount.number ≡ number
+          its = sym (eqb-true number mount.number (found_it (λ (x : Mount ℕ). nat_eq number x.number) world.mounts mount e).1)
+
+          going : (b : Bool) → is_going nat_eq gone mount.number ≡ b
+              → (is_going nat_eq gone number ≡ false) × (is_some mount.namespace ≡ true)
+          going true g = absurd (true≢false (sym f ∙ ap is_some (final_gone mount g).0))
+          going false g = (ap (is_going nat_eq gone) (sym its) ∙ g, ap is_some (sym (final_stays mount g).0) ∙ f)
+
+  -- the mount that it stands on is attached
+  parent_attached : (mount : Mount ℕ) → Among mount policy.mounts → (place : Location ℕ) → mount.mount_point ≡ Some place
+      → is_some (mount_at nat_eq policy place).namespace ≡ true
+  parent_attached mount m place at =
+      ap is_some (sym (parent_inside policy under_way.mounts.one_number
+      (λ x n. among_from_all (λ (y : Mount ℕ). Stands nat_eq policy y.number) policy.mounts under_way.mounts.standing x n) mount m place at))
+      ∙ placed_is_attached mount (passes is_nowhere_or_attached policy.mounts under_way.mounts.nowhere mount m) (ap is_some at)
+
+  -- a mount point is there
+  place_is_there : (mount : Mount ℕ) → Among mount policy.mounts → (place : Location ℕ) → mount.mount_point ≡ Some place
+      → is_located_well nat_eq world place ≡ true
+  place_is_there mount m place at = λ i. among i && (there_before ∙ there_after) i
+    where
+      attached : is_some (mount_numbered nat_eq world place.mount).namespace ≡ true
+      attached = (attached_before place.mount (parent_attached mount m place at)).1
+
+      among : is_among nat_eq place.mount (map (λ (x : Mount ℕ). x.number) world.mounts) ≡ true
+      among =
+          is_among_numbers place.mount (map (λ (x : Mount ℕ). x.number) world.mounts)
+          (subst (λ n. Among n (map (λ (x : Mount ℕ). x.number) world.mounts)) (number_found world.mounts place.mount)
+          (among-map (λ (x : Mount ℕ). x.number) world.mounts (mount_in nat_eq world.mounts place.mount)
+          (found_is_there world.mounts place.mount attached)))
+
+      there_after : is_there nat_eq policy (mount_at nat_eq policy place).filesystem place.node ≡ true
+      there_after =
+          directory_there (node_at nat_eq policy place)
+          (passes (is_directory_at nat_eq policy) (option_to_list mount.mount_point)
+          (and_parts (is_directory_node ((filesystem_numbered nat_eq policy mount.filesystem).files.tree.node mount.root))
+          (list_all (is_directory_at nat_eq policy) (option_to_list mount.mount_point))
+          (passes (has_its_root nat_eq policy) policy.mounts under_way.roots mount m)).1 place
+          (subst (λ o. Among place (option_to_list o)) (sym at) (inl refl)))
+
+      shows : (mount_at nat_eq world place).filesystem ≡ (mount_at nat_eq policy place).filesystem
+      shows =
+          sym (ap (λ all. (mount_in nat_eq all place.mount).filesystem) same_mounts
+          ∙ filesystem_kept final final_number final_filesystem world.mounts place.mount)
+
+      there_before : is_there nat_eq world (mount_at nat_eq world place).filesystem place.node
+          ≡ is_there nat_eq policy (mount_at nat_eq policy place).filesystem place.node
+      there_before = λ i. is_there nat_eq (record world { filesystems = sym same_filesystems i }) (shows i) place.node
+
+  -- a mount that goes is in no list of new mount points
+  gone_stays : (mount : Mount ℕ) → Among mount world.mounts → is_going nat_eq gone mount.number ≡ true → (moved mount).mount_point ≡ mount.mount_point
+  gone_stays mount m goes = by (lookup (nat_eq mount.number) (map point_seen points)) refl
+    where
+      by : (o : Option (Location ℕ)) → lookup (nat_eq mount.number) (map point_seen points) ≡ o → or_else o mount.mount_point ≡ mount.mount_point
+      by None e = refl
+      by (Some place) e =
+          let from = among-from_map point_seen points (mount.number, place) (looked_up mount.number (map point_seen points) place e) in
+          absurd (none_some (location_of from.0.place)
+          (sym (final_gone mount goes).1 ∙ ap (λ (x : Mount ℕ). x.mount_point) (sym (final_found mount m))
+          ∙ ap (λ n. (mount_numbered nat_eq policy n).mount_point) (ap (λ (pair : ℕ × Location ℕ). pair.0) from.2)
+          ∙ tells from.0 from.1))
+
+  may : MayMove value points
+  may = record {
+    each = λ point m.
+        place_is_there (mount_numbered nat_eq policy (counted point.mount.count))
+        (placed_is_there policy.mounts (counted point.mount.count) (location_of point.place) (tells point m)) (location_of point.place) (tells point m);
+    attached = λ mount m place at. attached mount m place at (is_going nat_eq gone mount.number) refl;
+    outside = λ mount m none. outside mount m none (is_going nat_eq gone mount.number) refl;
+  }
+    where
+      attached : (mount : Mount ℕ) → Among mount world.mounts → (place : Location ℕ) → (moved mount).mount_point ≡ Some place
+          → (b : Bool) → is_going nat_eq gone mount.number ≡ b → is_some (mount_at nat_eq world place).namespace ≡ true
+      attached mount m place at true goes =
+          passes (λ (one : Location ℕ). is_some (mount_at nat_eq world one).namespace) (option_to_list mount.mount_point)
+          (passes (stands_on_attached world) world.mounts (mounts_of_worlds_stand world whole.in_world).on_attached mount m) place
+          (subst (λ o. Among place (option_to_list o)) (sym at ∙ gone_stays mount m goes) (inl refl))
+      attached mount m place at false goes =
+          (attached_before place.mount (parent_attached (final mount) (final_among mount m) place ((final_stays mount goes).1 ∙ at))).1
+
+      outside : (mount : Mount ℕ) → Among mount world.mounts → is_some mount.namespace ≡ false → (b : Bool)
+          → is_going nat_eq gone mount.number ≡ b → (moved mount).mount_point ≡ None
+      outside mount m none true goes =
+          gone_stays mount m goes
+          ∙ outside_is_placeless mount (passes is_nowhere_or_attached world.mounts whole.in_world.mounts.nowhere mount m) none
+      outside mount m none false goes =
+          sym (final_stays mount goes).1
+          ∙ outside_is_placeless (final mount)
+          (passes is_nowhere_or_attached policy.mounts under_way.mounts.nowhere (final mount) (final_among mount m))
+          (ap is_some (final_stays mount goes).0 ∙ none)
+
+  -- no mount that stays is on one that goes
+  closed : HasChildrenOf gone (moved_world value points).mounts
+  closed mount m place at on =
+      let from = among-from_map moved world.mounts mount m in
+      ap (λ (x : Mount ℕ). is_among nat_eq x.number gone) from.2
+      ∙ by from.0 from.1 (ap (λ (x : Mount ℕ). x.mount_point) (sym from.2) ∙ at) (is_going nat_eq gone from.0.number) refl
+    where
+      by : (was : Mount ℕ) → Among was world.mounts → (moved was).mount_point ≡ Some place → (b : Bool)
+          → is_going nat_eq gone was.number ≡ b → is_going nat_eq gone was.number ≡ true
+      by was n at true e = e
+      by was n at false e =
+          absurd (true≢false (sym on
+          ∙ (attached_before place.mount (parent_attached (final was) (final_among was n) place ((final_stays was e).1 ∙ at))).0))
+
+  -- the mounts move first, and are detached then
+  abbrev start : World ℕ
+  start = detached_world gone (moved_world value points)
+
+  start_is : with_mounts world (map (left_by gone (map point_seen points)) world.mounts) ≡ start
+  start_is =
+      ap (with_mounts world)
+      (map_alike (left_by gone (map point_seen points)) (λ mount. detached_in gone (moved mount)) world.mounts
+      (λ mount m. by mount (is_going nat_eq gone mount.number))
+      ∙ sym (map_twice (detached_in gone) moved world.mounts))
+    where
+      by : (mount : Mount ℕ) (b : Bool) → cond b (detached mount) (moved mount) ≡ cond b (detached (moved mount)) (moved mount)
+      by mount true = refl
+      by mount false = refl
+
+  abbrev typed : World ℕ
+  typed = typed_world groups start
+
+  same_typed : without_dead_groups nat_eq policy ≡ typed
+  same_typed = same ∙ ap (typed_world groups) start_is
+
+  typed_has : Has typed groups
+  typed_has = subst (λ one. Has one groups) same_typed (record {
+    order = has.order;
+    peers = has.peers;
+    masters_order = has.masters_order;
+    masters = λ group. has.masters group ∙ twice (has_members nat_eq policy.mounts group) (policy.master group);
+  })
+    where
+      twice : (b : Bool) (o : Option ℕ) → cond b o None ≡ cond b (cond b o None) None
+      twice true o = refl
+      twice false o = refl
+
+  settled_typed_has : Has (settled nat_eq typed) groups
+  settled_typed_has =
+      settled_has typed groups typed_has (λ mount m dead.
+      ap is_ungrouped (stays_private mount
+      (passes is_nowhere_or_attached policy.mounts under_way.mounts.nowhere mount
+      (subst (Among mount) (sym (ap (λ (w : World ℕ). w.mounts) same_typed)) m)) false
+      (not_attached (is_some mount.namespace) (is_located nat_eq typed mount.number) dead)))
+
+  alike : settled nat_eq policy ≡ settled nat_eq typed
+  alike = sym (settled_without_groups policy) ∙ ap (settled nat_eq) same_typed
+
+  module _ (left : List At) (left_are : map location_of left ≡ points_left points value.mounts) (left_small : list_all is_small left ≡ true)
+      (taken_small : list_all is_small (points_taken points value.mounts) ≡ true) (between : List MountEntry) (between_files : Filesystems)
+      (is_kept : kept between between_files ≡ with_planned [] points left (kept value.mounts value.filesystems)) where
+    pub moved_then_detached : groups ≡ no_groups → (mounts : List MountEntry) (filesystems : Filesystems)
+        → LeaveInTurn gone (kept between between_files) (kept mounts filesystems)
+        → IsDone value name permit (typed_value groups (remade value mounts filesystems value.tasks))
+    moved_then_detached none mounts filesystems turn =
+        let come = gained value whole points may in
+        let go = lost value whole points may in
+        let untyped = remade value mounts filesystems value.tasks in
+        let detaching = all_detached value come (living start) gone (kept between between_files) (kept mounts filesystems)
+        (detaching_begins value come go (moved_world value points) (kept between between_files)
+        (moved_is_kept value whole points may left left_are left_small taken_small between between_files is_kept) gone closed) turn in
+        let kept_last = subst (λ one. IsKeptBut value [] [] come detaching.lost one (kept mounts filesystems)) detaching.ends detaching.is in
+        finished_as value whole name permit task policy is typed alike come detaching.lost (typed_value groups untyped)
+        (swept_typed groups untyped value start come detaching.lost
+        (detached_swept value start come detaching.lost untyped kept_last refl (world_is_plain value) refl refl))
+        settled_typed_has
+        (counts_typed groups untyped
+        (detached_counted value start come detaching.lost untyped kept_last refl
+        (all_from_among (CountsWhatIsInIt (world_of untyped)) value.namespaces (λ entry m.
+        let was = among_from_all (CountsWhatIsInIt world) value.namespaces whole.namespaces entry m in record { tasks = was.tasks })))
+        (no_groups_free groups none mounts))
+        refl

@@ -1,0 +1,31 @@
+use Rattle.std.proofs.Common.{not, sym, subst, true, true≢false, false, Bool, ◌≡◌, refl}
+use Rattle.std.proofs.lemmas.Bool.{and_parts}
+use Rattle.vt_location.specs.Numbers.{counted}
+use Rattle.vt_mount.specs.MountsValue.{mounts_in}
+use Rattle.vt_spec.specs.Machine.Permits.Permit.{ToUnmount}
+use Rattle.vt_ns.specs.contracts.world.World.{the_view}
+use Rattle.vt_ns.specs.Unmounting.{unmounts_alone}
+use Rattle.vt_detach.specs.Events.{Becomes, Permits}
+use Rattle.vt_detach.proofs.Remaining.{remade}
+use Rattle.vt_detach.proofs.UnmountedAlone.{unmount_is_done}
+use Rattle.vt_ns.proofs.world.World.unmount_alone.Goals as goal
+
+turned : (b : Bool) → not b ≡ true → b ≡ false
+turned true e = absurd (true≢false (sym e))
+turned false e = refl
+
+pub invariant_of-self : goal.invariant_of-self
+invariant_of-self c =
+    let alone = and_parts _ _ (subst (λ value. unmounts_alone (mounts_in value.mounts) (counted c.args.mount.count) ≡ true) (sym c.self.view_is) c.requires.alone) in
+    (unmount_is_done (the_view c.self.inside) c.args.name.now (counted c.args.mount.count) c.detach.result c.detach.new.mounts c.detach.new.filesystems c.self.invariant
+    (subst (λ value. Permits value c.args.name.now (ToUnmount (counted c.args.mount.count))) (sym c.self.view_is) c.requires.permitted)
+    alone.0 (turned _ alone.1) c.detach.ensures.point c.detach.ensures.slot c.detach.ensures.left).held
+
+pub returns : goal.returns
+returns c =
+    let alone = and_parts _ _ (subst (λ value. unmounts_alone (mounts_in value.mounts) (counted c.args.mount.count) ≡ true) (sym c.self.view_is) c.requires.alone) in
+    subst (λ value. Becomes value c.args.name.now (ToUnmount (counted c.args.mount.count))
+    (remade (the_view c.self.inside) c.detach.new.mounts c.detach.new.filesystems (the_view c.self.inside).tasks)) c.self.view_is
+    (unmount_is_done (the_view c.self.inside) c.args.name.now (counted c.args.mount.count) c.detach.result c.detach.new.mounts c.detach.new.filesystems c.self.invariant
+    (subst (λ value. Permits value c.args.name.now (ToUnmount (counted c.args.mount.count))) (sym c.self.view_is) c.requires.permitted)
+    alone.0 (turned _ alone.1) c.detach.ensures.point c.detach.ensures.slot c.detach.ensures.left).becomes
