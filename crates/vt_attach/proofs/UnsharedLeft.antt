@@ -7,14 +7,16 @@ use Rattle.vt_spec.specs.Machine.World.{World}
 use Rattle.vt_group.specs.Grouping.{Grouping, no_groups}
 use Rattle.vt_group.specs.Together.{TakesAway}
 use Rattle.vt_letting_go.specs.OneByOne.{Inode}
-use Rattle.vt_letting_go.proofs.Lists.{Among, fails}
+use Rattle.vt_group.specs.Laws.{typed_by}
+use Rattle.vt_group.proofs.Others.{has_ordered}
+use Rattle.vt_letting_go.proofs.Lists.{Among, all_from_among, fails}
 use Rattle.vt_mount.specs.MountsValue.{MountEntry}
 use Rattle.vt_tasks.specs.TasksValue.{Tasks}
 use Rattle.vt_detach.specs.Held.{IsHeld, is_ungrouped}
 use Rattle.vt_detach.specs.NamespacesLeft.{EndsIf, MountsAreLeft, has_one_task, is_attached_in, numbers_inside}
-use Rattle.vt_detach.specs.Typed.{typed_entry}
+use Rattle.vt_detach.specs.Typed.{AreTyped, typed_entry}
 use Rattle.vt_detach.specs.Uses.{Kept}
-use Rattle.vt_detach.specs.WorldValue.{NamespaceEntry, WorldValue}
+use Rattle.vt_detach.specs.WorldValue.{NamespaceEntry, WorldValue, world_of}
 use Rattle.vt_detach.proofs.Grouped.{held_has_none}
 use Rattle.vt_detach.proofs.Midway.{Reached}
 use Rattle.vt_detach.proofs.MidwayDone.{detaches_all}
@@ -50,18 +52,20 @@ groups_stay value whole namespace old new groups (Some entry) left = by (has_one
         none_taken groups _ (subst (λ before. TakesAway before groups (numbers_inside namespace old.mounts)) (held_has_none value whole) gone.groups)
         ∙ sym (held_has_none value whole)
 
-types_stay : (entries : List MountEntry) → ((entry : MountEntry) → Among entry entries → is_ungrouped entry.mount.propagation ≡ true)
-    → map (typed_entry no_groups) entries ≡ entries
-types_stay [] free = refl
-types_stay (entry ∷ rest) free =
-    λ i. record entry { mount = record entry.mount { propagation = same entry.mount.propagation (free entry (inl refl)) i } }
-    ∷ types_stay rest (λ other m. free other (inr m)) i
+type_stays : (mount : Mount ℕ) → is_ungrouped mount.propagation ≡ true → typed_by no_groups mount ≡ mount
+type_stays mount free = λ i. record mount { propagation = same mount.propagation free i }
   where
     same : (kind : Propagation ℕ) → is_ungrouped kind ≡ true → cond (is_unbindable kind) Unbindable Private ≡ kind
     same (Shared group) e = absurd (true≢false (sym e))
     same (Slave master) e = absurd (true≢false (sym e))
     same Private e = refl
     same Unbindable e = refl
+
+types_stay : (entries : List MountEntry) → ((entry : MountEntry) → Among entry entries → is_ungrouped entry.mount.propagation ≡ true)
+    → map (typed_entry no_groups) entries ≡ entries
+types_stay [] free = refl
+types_stay (entry ∷ rest) free =
+    λ i. record entry { mount = type_stays entry.mount (free entry (inl refl)) i } ∷ types_stay rest (λ other m. free other (inr m)) i
 
 module _ (value : WorldValue) (whole : IsHeld value) (start : World ℕ) (gained : List Inode) (namespace : ℕ) (old new : Kept) (groups : Grouping)
     (count : ℕ) (tasks : Tasks) (entries : List NamespaceEntry) (counts : (entry : NamespaceEntry) → Among entry entries → CountsOneMore count tasks entry) where
@@ -87,7 +91,10 @@ module _ (value : WorldValue) (whole : IsHeld value) (start : World ℕ) (gained
           gone.ends.gone Rattle.std.proofs.Common.[] old (record new { mounts = gone.entries }) gone.ends.detached reached in
           let none : groups ≡ no_groups = groups_stay value whole namespace old new groups (Some entry) left ∙ held_has_none value whole in
           let same : new.mounts ≡ gone.entries =
-          gone.types ∙ ap (λ now. map (typed_entry now) gone.entries) none ∙ types_stay gone.entries at.midway.ungrouped in
+          gone.types (has_ordered (world_of value) value.groups whole.groups)
+          (subst (λ before. AreTyped before old.mounts) (sym (held_has_none value whole))
+          (all_from_among (λ (one : MountEntry). typed_by no_groups one.mount ≡ one.mount) old.mounts (λ one m. type_stays one.mount (reached.midway.ungrouped one m))))
+          ∙ ap (λ now. map (typed_entry now) gone.entries) none ∙ types_stay gone.entries at.midway.ungrouped in
           record {
             reached = subst (λ mounts. Reached value start gained (goes_with true namespace) Rattle.std.proofs.Common.[] (record new { mounts = mounts })) (sym same) at;
             all_gone = λ one m. fails (is_attached_in namespace) gone.entries gone.ends.none_left one (subst (λ mounts. Among one mounts) same m);

@@ -14,6 +14,7 @@ use Rattle.vt_spec.specs.Machine.Invariants.{is_listed}
 use Rattle.vt_fs.specs.FilesystemsValue.{Filesystems}
 use Rattle.vt_group.specs.Grouping.{Grouping}
 use Rattle.vt_group.specs.Together.{TakesAway}
+use Rattle.vt_group.proofs.Others.{has_ordered}
 use Rattle.vt_group.proofs.Together.{regrouped_living}
 use Rattle.vt_letting_go.proofs.Lists.{Among, fails, filter_alike, map_same, passes}
 use Rattle.vt_location.specs.Numbers.{counted}
@@ -21,10 +22,12 @@ use Rattle.vt_mount.specs.MountsValue.{MountEntry}
 use Rattle.vt_tasks.specs.TasksValue.{Tasks}
 use Rattle.vt_detach.specs.Held.{CountsWhatIsInIt, IsHeld}
 use Rattle.vt_detach.specs.NamespacesLeft.{EndsIf, MountsAreLeft, NamespaceEnds, has_one_task, is_attached_in, namespace_entry, numbers_inside, with_one_task_less}
+use Rattle.vt_detach.specs.Typed.{AreTyped}
 use Rattle.vt_detach.specs.Uses.{Kept, kept}
 use Rattle.vt_detach.specs.WorldValue.{NamespaceEntry, WorldValue, namespace_of, world_of}
 use Rattle.vt_detach.proofs.Bridging.{IsSwept}
 use Rattle.vt_detach.proofs.Finishing.{CountsBeside, IsApplied, finished}
+use Rattle.vt_detach.proofs.FollowedTypes.{gained_typed, own_types, uses_left_typed}
 use Rattle.vt_detach.proofs.Grouped.{left_has}
 use Rattle.vt_detach.proofs.Midway.{Reached, gone_if}
 use Rattle.vt_detach.proofs.MidwayBegins.{begins, ended, goes_attached, k_begins, parent_stays}
@@ -96,6 +99,11 @@ module _ (value : WorldValue) (whole : IsHeld value) (tasks : Tasks) (more less 
 
   abbrev k_left : Kept
   k_left = folded (leave_use world) (folded (Rattle.vt_detach.proofs.Moving.gain world) (kept value.mounts value.filesystems) more) less
+
+  typed_left : AreTyped value.groups k_left.mounts
+  typed_left =
+      uses_left_typed value.groups world less (folded (Rattle.vt_detach.proofs.Moving.gain world) (kept value.mounts value.filesystems) more)
+      (gained_typed value.groups world more (kept value.mounts value.filesystems) (own_types value whole))
 
   abbrev gained : List Rattle.vt_letting_go.specs.OneByOne.Inode
   gained = inodes_of_uses world more
@@ -199,5 +207,5 @@ module _ (value : WorldValue) (whole : IsHeld value) (tasks : Tasks) (more less 
                 → IsDone value name permit (record (untyped mounts) { groups = groups })
             chosen false f h = stay (ap (ends_by count tasks entries counts) e ∙ f) h
             chosen true f h =
-                subst (λ now. IsDone value name permit (record (untyped now) { groups = groups })) (sym h.types)
+                subst (λ now. IsDone value name permit (record (untyped now) { groups = groups })) (sym (h.types (has_ordered world value.groups whole.groups) typed_left))
                 (one_ends (ap (ends_by count tasks entries counts) e ∙ f) h.entries h.ends groups h.groups)

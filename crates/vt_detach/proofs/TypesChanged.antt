@@ -1,6 +1,6 @@
 -- Mounts that get other types with their groups, and stay where they are: mount(2) with MS_SHARED, MS_SLAVE, MS_PRIVATE and
 -- MS_UNBINDABLE, and MS_REC. Whatever groups there are, the code's world is the one that the policy leaves.
-use Rattle.std.proofs.Common.{◌≡◌, refl, sym, ap, subst, ◌∙◌, ℕ, ◌+◌, nat_eq, Bool, true, false, cond, List, [], ◌∷◌, ◌++◌, map, filter, flat_map, Option, None}
+use Rattle.std.proofs.Common.{◌≡◌, refl, sym, ap, subst, ◌∙◌, ℕ, nat_eq, Bool, true, false, cond, List, [], ◌∷◌, ◌++◌, map, filter, flat_map, Option, None}
 use Rattle.std.specs.Prelude.{filter_map}
 use Rattle.std.specs.List.{cons_option, list_all, list_any}
 use Rattle.vt_spec.specs.Language.Calls.{TaskName, TypeWord}
@@ -12,14 +12,14 @@ use Rattle.vt_spec.specs.Machine.SameWorlds.{SameWorlds}
 use Rattle.vt_spec.specs.Machine.Settled.{layers_in, located_in, named_in, objects_of_overlay, settled, without_dead_groups}
 use Rattle.vt_spec.specs.Machine.Types.{named_mounts, retyped, retyped_mount, with_new_groups}
 use Rattle.vt_spec.specs.Machine.World.{Filesystem, World, all_locations}
-use Rattle.vt_fs.specs.FilesystemsValue.{FilesystemEntry, filesystem_seen}
+use Rattle.vt_fs.specs.FilesystemsValue.{filesystem_seen}
 use Rattle.vt_group.specs.Grouping.{Grouping, Has, are_rising, master_in, numbers_of, peers_of}
 use Rattle.vt_laws.specs.Numbers.{KeepsTo}
 use Rattle.vt_letting_go.specs.Counts.{inode_uses, mounts_showing, times}
 use Rattle.vt_letting_go.specs.Detaching.{with_changed}
 use Rattle.vt_letting_go.specs.InUse.{GroupsInUse}
 use Rattle.vt_letting_go.specs.Keeping.{KeepsUses}
-use Rattle.vt_letting_go.proofs.Lists.{Among, all_from_among, among-from_map, among_from_all, map_twice}
+use Rattle.vt_letting_go.proofs.Lists.{all_from_among, among-from_map, among_from_all, map_twice}
 use Rattle.vt_letting_go.proofs.UsesKept.{types_keep_all}
 use Rattle.vt_location.specs.Numbers.{counted}
 use Rattle.vt_mount.specs.MountsValue.{MountEntry, mounts_in, retyped as retyped_entry}
@@ -28,7 +28,7 @@ use Rattle.vt_run_laws.specs.Handed.{counts_from, is_counted_before}
 use Rattle.vt_world_laws.proofs.RaisedInUse.{worlds_are_in_use}
 use Rattle.vt_detach.specs.Events.{Permits, left_by, supply_of}
 use Rattle.vt_detach.specs.Held.{CountsItsMounts, CountsItsUses, CountsWhatIsInIt, IsHeld, is_ungrouped}
-use Rattle.vt_detach.specs.WorldValue.{NamespaceEntry, WorldValue, world_of}
+use Rattle.vt_detach.specs.WorldValue.{WorldValue, world_of}
 use Rattle.vt_detach.proofs.DetachingBegins.{filesystem_kept}
 use Rattle.vt_detach.proofs.MountsChanged.{times_map}
 use Rattle.vt_detach.proofs.Staying.{IsDone, becomes_so, world_is_plain}

@@ -8,7 +8,7 @@ use Rattle.vt_spec.specs.Machine.Mounts.{Mount}
 use Rattle.vt_spec.specs.Machine.Permits.{Permit}
 use Rattle.vt_spec.specs.Machine.Permits.Permit.{ToSetFlags}
 use Rattle.vt_spec.specs.Machine.Settled.{settled}
-use Rattle.vt_spec.specs.Machine.World.{World, mount_numbered, with_mounts}
+use Rattle.vt_spec.specs.Machine.World.{mount_numbered, with_mounts}
 use Rattle.vt_count_laws.specs.Using.{Exchanges, is_inode}
 use Rattle.vt_fs.specs.FilesystemsValue.{Shown, shown}
 use Rattle.vt_group.specs.Grouping.{Has}

@@ -6,7 +6,7 @@ use Rattle.vt_group.specs.Together.{TakesAway}
 use Rattle.vt_location.specs.declared.locations.Location.{Location}
 use Rattle.vt_location.specs.Locations.{location_of, number_of}
 use Rattle.vt_mount.specs.MountsValue.{MountEntry, stands_over}
-use Rattle.vt_detach.specs.Typed.{typed_entry}
+use Rattle.vt_detach.specs.Typed.{FollowTypes}
 use Rattle.vt_detach.specs.Uses.{Kept, point_of, without_attachment}
 
 -- Each in its turn is detached from its mount point, and goes if nothing is on it.
@@ -22,7 +22,7 @@ pub record LeaveTogether (numbers : List ℕ) (old : Kept) (before : Grouping) (
   pub entries : List MountEntry
   pub turn : LeaveInTurn numbers old (record new { mounts = entries })
   pub groups : TakesAway before now numbers
-  pub types : new.mounts ≡ map (typed_entry now) entries
+  pub types : FollowTypes before old.mounts now entries new.mounts
 
 -- the numbers of a mount and of all its descendants
 abbrev pub tree_numbers : List (Mount ℕ) → ℕ → List ℕ

@@ -9,7 +9,7 @@ use Rattle.vt_mount.specs.MountsValue.{MountEntry, entry_numbered, mounts_in}
 use Rattle.vt_spec.specs.Lists.{holds_of}
 use Rattle.vt_request.specs.Requests.{access_of}
 use Rattle.vt_tasks.specs.declared.descriptors.OpenFile.{OpenFile}
-use Rattle.vt_detach.specs.Typed.{typed_entry}
+use Rattle.vt_detach.specs.Typed.{FollowTypes}
 use Rattle.vt_detach.specs.Uses.{Kept, without_attachment, without_location}
 use Rattle.vt_detach.specs.WorldValue.{NamespaceEntry}
 
@@ -77,7 +77,7 @@ pub record NamespaceIsLeft (namespace : ℕ) (old : Kept) (before : Grouping) (n
   pub entries : List MountEntry
   pub ends : NamespaceEnds namespace old (record new { mounts = entries })
   pub groups : TakesAway before now (numbers_inside namespace old.mounts)
-  pub types : new.mounts ≡ map (typed_entry now) entries
+  pub types : FollowTypes before old.mounts now entries new.mounts
 
 abbrev pub EndsIf : Bool → ℕ → Kept → Grouping → Kept → Grouping → Type 0
 EndsIf true namespace old before new now = NamespaceIsLeft namespace old before new now

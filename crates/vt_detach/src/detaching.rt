@@ -47,7 +47,9 @@ pub fn detach_together(
     ensures { LeaveTogether (map (λ id. counted id.count) ids.now) (kept mounts.old filesystems.old) groups.old
         (kept mounts.new filesystems.new) groups.new }
 {
-    groups.leave_all(ids);
+    let ended = groups.leave_all(ids);
     detach_each(mounts, filesystems, ids);
-    follow(mounts, groups);
+    if ended {
+        follow(mounts, groups);
+    }
 }

@@ -1,7 +1,7 @@
 //! Namespaces that tasks leave, and that end with their last: mount_namespaces(7).
 ghost use Rattle.std.specs.Prelude.{◌≡◌};
 ghost use Rattle.vt_location.specs.Numbers.{counted};
-ghost use Rattle.vt_detach.specs.NamespacesLeft.{MountsAreLeft, NamespaceEnds, namespace_entry, with_one_task_less};
+ghost use Rattle.vt_detach.specs.NamespacesLeft.{MountsAreLeft, NamespaceEnds, NamespaceIsLeft, namespace_entry, with_one_task_less};
 ghost use Rattle.vt_detach.specs.Uses.{kept};
 ghost use Rattle.vt_detach.specs.WorldValue.{entries_of};
 
@@ -35,9 +35,24 @@ pub fn leave_namespace(
         return;
     }
     namespaces.shift_remove(&id);
-    groups.leave_all(mounts.attached_in(id));
+    end_namespace(mounts, groups, filesystems, id);
+}
+
+// The mounts of a namespace leave their groups at once, and are detached.
+fn end_namespace(
+    mounts: &mut Mounts,
+    groups: &mut Groups,
+    filesystems: &mut Filesystems,
+    id: NamespaceId,
+)
+    ensures { NamespaceIsLeft (counted id.count) (kept mounts.old filesystems.old) groups.old (kept mounts.new filesystems.new) groups.new }
+{
+    mounts.are_ascending();
+    let ended = groups.leave_all(mounts.attached_in(id));
     detach_all(mounts, filesystems, id);
-    follow(mounts, groups);
+    if ended {
+        follow(mounts, groups);
+    }
 }
 
 // Detaches the mounts of a namespace, the last one first.

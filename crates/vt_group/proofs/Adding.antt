@@ -19,7 +19,7 @@ use Rattle.vt_location.specs.declared.mounts.Mount.{Mount as CodeMount}
 use Rattle.vt_group.specs.declared.groups.NewGroup.{NewGroup}
 use Rattle.vt_group.specs.Together.{Grows, all_added, if_sourced, new_group, typed, with_entry_of, with_master_of, with_type_of}
 use Rattle.vt_group.proofs.Changes.{lookup-inserted, rising-inserted}
-use Rattle.vt_group.proofs.Regrouping.{lookup-low}
+use Rattle.vt_group.proofs.Regrouping.{keys, lookup-low}
 
 pub folded-snoc : {A B : Type 0} (add : B → A → B) (b : B) (list : List A) (a : A) → folded add b (list ++ a ∷ [])
     ≡ add (folded add b list) a
@@ -87,10 +87,7 @@ put_nothing (Some group) source peers more e is = absurd (true≢false is)
 
 -- Entries of masters
 
-abbrev keys : List (ℕ × ℕ) → List ℕ
-keys masters = map (λ entry. entry.0) masters
-
-low-removed : (low group : ℕ) (masters : List (ℕ × ℕ)) → list_all (nat_lt low) (keys masters) ≡ true
+low-removed : {V : Type 0} (low group : ℕ) (masters : List (ℕ × V)) → list_all (nat_lt low) (keys masters) ≡ true
     → list_all (nat_lt low) (keys (remove_entry (nat_eq group) masters)) ≡ true
 low-removed low group [] all = refl
 low-removed low group (e ∷ masters) all = by (nat_eq group e.0) (low-removed low group masters (and_parts _ _ all).1)
@@ -100,7 +97,7 @@ low-removed low group (e ∷ masters) all = by (nat_eq group e.0) (low-removed l
     by true later = (and_parts _ _ all).1
     by false later = and_from _ _ (and_parts _ _ all).0 later
 
-rising-removed : (group : ℕ) (masters : List (ℕ × ℕ)) → are_rising (keys masters) ≡ true
+pub rising-removed : {V : Type 0} (group : ℕ) (masters : List (ℕ × V)) → are_rising (keys masters) ≡ true
     → are_rising (keys (remove_entry (nat_eq group) masters)) ≡ true
 rising-removed group [] rising = refl
 rising-removed group (e ∷ masters) rising =
@@ -113,12 +110,12 @@ rising-removed group (e ∷ masters) rising =
     by true later low = (and_parts _ _ rising).1
     by false later low = and_from _ _ low later
 
-lookup-removed : (other group : ℕ) (masters : List (ℕ × ℕ)) → are_rising (keys masters) ≡ true
+pub lookup-removed : {V : Type 0} (other group : ℕ) (masters : List (ℕ × V)) → are_rising (keys masters) ≡ true
     → lookup (nat_eq other) (remove_entry (nat_eq group) masters)
     ≡ cond (nat_eq other group) None (lookup (nat_eq other) masters)
 lookup-removed other group [] rising = by (nat_eq other group) None refl
   where
-    by : (b : Bool) (empty : Option ℕ) → empty ≡ None → empty ≡ cond b None empty
+    by : {W : Type 0} (b : Bool) (empty : Option W) → empty ≡ None → empty ≡ cond b None empty
     by true empty e = e
     by false empty e = refl
 lookup-removed other group (e ∷ masters) rising = by (nat_eq group e.0) refl

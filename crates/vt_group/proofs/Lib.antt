@@ -1,5 +1,6 @@
 pub mod CountLemmas
 pub mod GroupLemmas
+pub mod Others
 pub mod Peers
 pub mod Regrouping
 pub mod Changes

@@ -33,8 +33,8 @@ shared_member group mount e = ap (λ k. holds_of (nat_eq group) (group_of k)) e 
 
 -- Entries of groups and masters
 
-abbrev keys : List (ℕ × ℕ) → List ℕ
-keys masters = map (λ entry. entry.0) masters
+abbrev pub keys : {V : Type 0} → List (ℕ × V) → List ℕ
+keys entries = map (λ entry. entry.0) entries
 
 below_keys : (low : ℕ) (lost : ℕ) (left : Option ℕ) (masters : List (ℕ × ℕ)) → list_all (nat_lt low) (keys masters) ≡ true
     → list_all (nat_lt low) (keys (filter_map (handed_entry lost left) masters)) ≡ true
@@ -67,7 +67,7 @@ rising-handed lost left (e ∷ masters) rising =
     by false None rest low = rest
     by false (Some m) rest low = and_from _ _ low rest
 
-pub lookup-low : (group : ℕ) (masters : List (ℕ × ℕ)) → list_all (nat_lt group) (keys masters) ≡ true → lookup (nat_eq group) masters ≡ None
+pub lookup-low : {V : Type 0} (group : ℕ) (masters : List (ℕ × V)) → list_all (nat_lt group) (keys masters) ≡ true → lookup (nat_eq group) masters ≡ None
 lookup-low group [] all = refl
 lookup-low group (e ∷ masters) all =
     ap (λ b. cond b (Some e.1) (lookup (nat_eq group) masters)) (less_differ group e.0 (and_parts _ _ all).0) ∙ lookup-low group masters (and_parts _ _ all).1

@@ -1,5 +1,5 @@
 -- Several mounts change at once, and the groups without members end once: umount(2), mount(2) with MS_REC.
-use Rattle.std.specs.Prelude.{All, Contains, List, None, Option, Some, if◌then◌else◌, is_some, map, nat_eq, option_map, true, ℕ, ◌≡◌}
+use Rattle.std.specs.Prelude.{All, Bool, Contains, List, None, Option, Some, if◌then◌else◌, is_some, map, nat_eq, option_map, true, ℕ, ◌≡◌}
 use Rattle.std.specs.BTreeMap.{insert_entry}
 use Rattle.std.specs.Map.{remove_entry}
 use Rattle.std.specs.Ordering.{nat_cmp}
@@ -27,6 +27,16 @@ abbrev pub Retypes : Grouping → Grouping → TypeWord → List ℕ → Type 0
 Retypes old new word numbers =
     (world : World ℕ) (group : ℕ → ℕ) (named : List (Mount ℕ)) → Has world old → GroupsLive world → numbers_of named ≡ numbers
     → ((number : ℕ) → LacksGroup world (group number)) → Has (retyped nat_eq world group word named) new
+
+-- each mount has one type
+abbrev pub is_ordered : Grouping → Bool
+is_ordered groups = are_rising (map (λ peer. peer.0) groups.peers)
+
+-- These mounts are private, and each other has the type that it had: no group ended.
+pub record LeaveAlone (old new : Grouping) (numbers : List ℕ) : Type 0 where
+  pub order : is_ordered new ≡ true
+  pub types : (mount : ℕ) → propagation_in new mount
+      ≡ (if is_among nat_eq mount numbers then Private else propagation_in old mount)
 
 -- and where all these mounts are detached
 abbrev pub TakesAway : Grouping → Grouping → List ℕ → Type 0

@@ -1,5 +1,5 @@
 //! Peer groups.
-ghost use Rattle.std.specs.Prelude.{◌≡◌, ⊤, ℕ, None, Some, if◌then◌else◌, length, nat_eq, map, IfOk, IfErr, IfSome, OnOk, OnErr, option_map};
+ghost use Rattle.std.specs.Prelude.{◌≡◌, ◌∷◌, [], ⊤, ℕ, None, Some, false, true, if◌then◌else◌, length, nat_eq, map, IfOk, IfErr, IfSome, OnOk, OnErr, option_map};
 ghost use Rattle.vt_spec.specs.Errors.{denial};
 ghost use Rattle.vt_spec.specs.Lists.{chain, holds_of, is_among};
 ghost use Rattle.vt_spec.specs.Machine.Mounts.Propagation.{Private, Shared as SharedIn, Slave as SlaveOf};
@@ -11,7 +11,7 @@ ghost use Rattle.vt_location.specs.MountValue.{propagation_of};
 ghost use Rattle.vt_location.specs.Numbers.{counted};
 ghost use Rattle.vt_group.specs.Grouping.{Follows, GroupsLive, Has, HasGroup, HasMount, LacksGroup, below, master_in, no_groups, numbers_of, propagation_in, with_propagation};
 ghost use Rattle.vt_spec.specs.Language.Calls.TypeWord.{ToPrivate, ToSlave, ToUnbindable};
-ghost use Rattle.vt_group.specs.Together.{GrowsTo, Retypes, Shares, TakesAway, all_added, new_group, pair_of};
+ghost use Rattle.vt_group.specs.Together.{GrowsTo, LeaveAlone, Retypes, Shares, TakesAway, all_added, is_ordered, new_group, pair_of};
 ghost use Rattle.vt_group.specs.Together.{shared_group, shared_type, typed, with_master_of, with_type_of};
 ghost use Rattle.vt_group.specs.Steps.{ended, ended_if_lost, group_number, handed, handed_type, has_peers, retyped, type_or_private};
 
@@ -156,24 +156,30 @@ impl Groups {
         self.set(mount, Propagation::Slave(master))
     }
 
-    /// A mount becomes private: it is in no group, and no group's slave. It takes no memory.
-    pub fn leave(&mut self, mount: MountId)
-        ensures { Follows self.old self.new (λ world. ⊤) (λ world. with_propagation world (counted mount.count) Private) }
+    /// A mount becomes private: it is in no group, and no group's slave. Tells whether it was the last of its group, which then
+    /// has ended. It takes no memory.
+    pub fn leave(&mut self, mount: MountId) -> bool
+        ensures left { Follows self.old self.new (λ world. ⊤) (λ world. with_propagation world (counted mount.count) Private) }
+        ensures alone { result ≡ false → is_ordered self.old ≡ true → LeaveAlone self.old self.new (counted mount.count ∷ []) }
     {
         let old = self.mounts.remove(&mount.count);
-        self.end_if_lost(old);
+        self.end_if_lost(old)
     }
 
-    /// All these mounts become private at once, or unbindable, or are detached; then the groups without members end. It does not
-    /// allocate.
-    pub fn leave_all(&mut self, mounts: &[MountId])
+    /// All these mounts become private at once, or unbindable, or are detached; then the groups without members end.
+    /// Tells whether there were any. It does not allocate.
+    pub fn leave_all(&mut self, mounts: &[MountId]) -> bool
         ensures private { Retypes self.old self.new ToPrivate (map (λ mount. counted mount.count) mounts.now) }
         ensures unbindable { Retypes self.old self.new ToUnbindable (map (λ mount. counted mount.count) mounts.now) }
         ensures detached { TakesAway self.old self.new (map (λ mount. counted mount.count) mounts.now) }
+        ensures alone { result ≡ false → is_ordered self.old ≡ true
+            → LeaveAlone self.old self.new (map (λ mount. counted mount.count) mounts.now) }
     {
+        let mut ended = false;
         for mount in mounts {
-            self.leave(*mount);
+            ended |= self.leave(*mount);
         }
+        ended
     }
 
     /// Those of these mounts that are members of a group become slaves of it at once; then the groups without members end. It does
@@ -372,19 +378,22 @@ impl Groups {
         Ok(())
     }
 
-    // A mount had this type: its group ends if that was the last member.
-    fn end_if_lost(&mut self, old: Option<Propagation>)
-        ensures { self.new ≡ ended_if_lost (group_of (type_or_private old)) self.old }
+    // A mount had this type: its group ends if that was the last member. Tells whether it does.
+    fn end_if_lost(&mut self, old: Option<Propagation>) -> bool
+        ensures ended { self.new ≡ ended_if_lost (group_of (type_or_private old)) self.old }
+        ensures kept { result ≡ false → self.new ≡ self.old }
     {
         let Some(kind) = old else {
-            return;
+            return false;
         };
         let Some(group) = own_group(kind) else {
-            return;
+            return false;
         };
-        if !self.has_members(group) {
-            self.end(group);
+        if self.has_members(group) {
+            return false;
         }
+        self.end(group);
+        true
     }
 
     fn has_members(&self, group: GroupId) -> bool

@@ -58,7 +58,9 @@ use Rattle.vt_detach.proofs.ChangedFiles.{ChangesFiles, change_is_held, change_i
 use Rattle.vt_detach.proofs.Bridging.{swept_has, swept_is_counted, swept_is_same}
 use Rattle.vt_detach.proofs.DetachingBegins.{HasChildrenOf, detached_world, detaching_begins, filesystem_kept}
 use Rattle.vt_detach.proofs.DetachingEnds.{detached_counted, detached_is_private, detached_swept, held_is_kept, taken_regroups}
+use Rattle.vt_group.proofs.Others.{has_ordered}
 use Rattle.vt_detach.proofs.Finishing.{own_exchanged}
+use Rattle.vt_detach.proofs.FollowedTypes.{own_types}
 use Rattle.vt_detach.proofs.FilesSeen.{files_are_plain}
 use Rattle.vt_detach.proofs.Keeping.{IsKeptBut, detached_in}
 use Rattle.vt_detach.proofs.MountsGone.{pending_filesystem, pending_number}
@@ -397,5 +399,5 @@ module _ (value : WorldValue) (held : IsHeld value) (location : Location ℕ) (c
           → LeaveTogether gone (kept value.mounts filesystems) value.groups (kept mounts others) groups
           → IsDone value name permit (record (remade value mounts others value.tasks) { groups = groups })
       changed_then_detached mounts groups others together =
-          subst (λ all. IsDone value name permit (record (remade value all others value.tasks) { groups = groups })) (sym together.types)
+          subst (λ all. IsDone value name permit (record (remade value all others value.tasks) { groups = groups })) (sym (together.types (has_ordered (world_of value) value.groups held.groups) (own_types value held)))
           (typed_then_detached groups together.groups together.entries others together.turn)

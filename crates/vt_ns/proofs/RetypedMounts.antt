@@ -1,23 +1,24 @@
 -- Mounts that get types, and leave their groups.
-use Rattle.std.proofs.Common.{◌≡◌, ◌<◌, refl, sym, ap, subst, ◌∙◌, ℕ, ◌+◌, Bool, true, false, cond, ◌||◌, nat_eq, List, [], ◌∷◌, ◌++◌, map, get_or, length, take}
+use Rattle.std.proofs.Common.{None, ◌≡◌, ◌<◌, refl, sym, ap, subst, ◌∙◌, ℕ, ◌+◌, Bool, true, false, cond, ◌||◌, nat_eq, List, [], ◌∷◌, ◌++◌, map, get_or, length, take}
 use Rattle.std.specs.Prelude.{All, Contains, if◌then◌else◌}
 use Rattle.std.specs.List.{list_all, list_any}
 use Rattle.std.proofs.lemmas.List.{map-append, take_more}
 use Rattle.vt_spec.specs.Language.Calls.{TypeWord}
 use Rattle.vt_spec.specs.Language.Calls.TypeWord.{ToPrivate, ToSlave, ToUnbindable}
 use Rattle.vt_spec.specs.Lists.{is_among}
-use Rattle.vt_spec.specs.Machine.Mounts.{Mount, Propagation, is_unbindable}
+use Rattle.vt_spec.specs.Machine.Mounts.{Mount, Propagation, is_unbindable, source_of}
 use Rattle.vt_spec.specs.Machine.Mounts.Propagation.{Private, Shared, Slave, Unbindable}
 use Rattle.vt_spec.specs.Machine.Types.{retyped_mount, type_after}
 use Rattle.vt_spec.specs.Machine.World.{World}
 use Rattle.vt_group.specs.Grouping.{Grouping, GroupsLive, numbers_of, propagation_in}
 use Rattle.vt_group.specs.Together.{Retypes}
 use Rattle.vt_group.proofs.Together.{eqb-swapped, is_among-snoc, named_numbers}
-use Rattle.vt_letting_go.proofs.Lists.{map_twice}
+use Rattle.vt_group.proofs.Others.{has_ordered}
+use Rattle.vt_letting_go.proofs.Lists.{all_from_among, among-from_map, map_twice}
 use Rattle.vt_location.specs.declared.numbers.MountId.{MountId}
 use Rattle.vt_location.specs.Numbers.{counted}
 use Rattle.vt_mount.specs.MountsValue.{MountEntry, changed, mounts_in, retyped}
-use Rattle.vt_propagate.specs.Retyping.{FollowsTypes, typed_entry, with_kind}
+use Rattle.vt_propagate.specs.Retyping.{FollowsTypes, FollowsTypesLeft, HaveNoSource, typed_entry, with_kind}
 use Rattle.vt_propagate.specs.Seen.{IsSeen}
 use Rattle.vt_propagate.proofs.Seeing.{are_typed, retyping_is_seen, slaves_are_seen}
 use Rattle.vt_ns.specs.Retyped.{IsRetyped, set_if}
@@ -87,22 +88,32 @@ slaves_retyped numbers before now old new retypes follows = record {
 -- the type is set before the mounts leave
 pub set_retyped : (word : TypeWord) (kind : Propagation ℕ) → ((new : ℕ) (old : Propagation ℕ) → type_after new word old ≡ kind)
     → (numbers : List ℕ) (before now : Grouping) (old left new : List MountEntry)
-    → left ≡ map (retyped (set_if numbers kind)) old → Retypes before now word numbers → FollowsTypes before now numbers left new
-    → IsRetyped word numbers before now old new
-set_retyped word kind sets numbers before now old left new is retypes follows = record {
+    → source_of kind ≡ None → left ≡ map (retyped (set_if numbers kind)) old → Retypes before now word numbers
+    → FollowsTypesLeft before now numbers left new → IsRetyped word numbers before now old new
+set_retyped word kind sets numbers before now old left new alone is retypes follows_left = record {
   seen = λ world group named seen there same lacks.
       retyping_is_seen world group word named old left new before now seen there lacks
       (all_set world seen ∙ ap (λ some. map (set_mount some) world.mounts) (sym same) ∙ named_set world seen.living group named world.mounts)
       (subst (Retypes before now word) (sym same) retypes)
-      (subst (λ some. FollowsTypes before now some left new) (sym same) follows);
+      (subst (λ some. FollowsTypes before now some left new) (sym same) (follows world seen));
   kinds = λ world seen. (
     (λ number own. told now number (set_if numbers kind number own)),
-    follows (are_typed world old before seen numbers left (set_mount numbers) (all_set world seen) kept)
+    follows world seen (are_typed world old before seen numbers left (set_mount numbers) (all_set world seen) kept)
         ∙ ap (map (typed_entry now)) is
         ∙ map_twice (typed_entry now) (retyped (set_if numbers kind)) old,
   );
 }
   where
+    follows : (world : World ℕ) → IsSeen world old before → FollowsTypes before now numbers left new
+    follows world seen =
+        follows_left (has_ordered world before seen.groups)
+        (subst (HaveNoSource numbers) (sym is)
+        (all_from_among (λ (entry : MountEntry). is_among nat_eq entry.mount.number numbers ≡ true → source_of entry.mount.propagation ≡ None)
+        (map (retyped (set_if numbers kind)) old) (λ entry m.
+        let from = among-from_map (retyped (set_if numbers kind)) old entry m in
+        subst (λ (one : MountEntry). is_among nat_eq one.mount.number numbers ≡ true → source_of one.mount.propagation ≡ None) (sym from.2)
+        (λ there. ap (λ b. source_of (if b then kind else from.0.mount.propagation)) there ∙ alone))))
+
     set_mount : List ℕ → Mount ℕ → Mount ℕ
     set_mount some mount = record mount { propagation = set_if some kind mount.number mount.propagation }
 

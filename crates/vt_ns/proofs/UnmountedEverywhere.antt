@@ -1,5 +1,6 @@
 -- A mount is unmounted, with the mounts at the receivers of its parent: umount(2).
 use Rattle.std.proofs.Common.{◌≡◌, refl, sym, ap, subst, ◌∙◌, ℕ, nat_eq, eqb-true, Bool, true, false, true≢false, cond, List, [], map, find, Option, Some, None, option_map, is_some, unwrap_or}
+use Rattle.std.proofs.lemmas.List.{append-nil}
 use Rattle.std.specs.Prelude.{All}
 use Rattle.std.specs.List.{list_all, list_any}
 use Rattle.vt_spec.specs.Language.Calls.{TaskName}
@@ -20,12 +21,15 @@ use Rattle.vt_location.specs.Locations.{location_of}
 use Rattle.vt_location.specs.Numbers.{counted}
 use Rattle.vt_mount.specs.MountsValue.{MountEntry}
 use Rattle.vt_propagate.specs.Falling.{FallsTo, left_by}
-use Rattle.vt_attach.specs.Planned.{Point, is_small, points_left, points_taken, with_planned}
+use Rattle.vt_attach.specs.Planned.{Point, is_small, placed_entry, points_left, points_taken, with_planned, with_points}
 use Rattle.vt_attach.specs.PlannedUses.{point_seen}
 use Rattle.vt_detach.specs.Detached.{LeaveTogether}
 use Rattle.vt_detach.specs.Events.{Permits}
 use Rattle.vt_detach.specs.Held.{IsHeld}
-use Rattle.vt_detach.specs.Uses.{kept}
+use Rattle.vt_detach.specs.Typed.{AreTyped}
+use Rattle.vt_detach.specs.Uses.{Kept, kept}
+use Rattle.vt_detach.proofs.FollowedTypes.{changed_typed, own_types}
+use Rattle.vt_group.proofs.Others.{has_ordered}
 use Rattle.vt_detach.specs.WorldValue.{WorldValue, world_of}
 use Rattle.vt_detach.proofs.FileEvents.{permit_fits}
 use Rattle.vt_detach.proofs.Grouped.{held_has_none}
@@ -93,6 +97,15 @@ nothing_grows world old new has grows =
     }))
     has
 
+-- mounts that get other mount points keep their types
+points_typed : (groups : Grouping) (entries : List MountEntry) → AreTyped groups entries → (points : List Point)
+    → AreTyped groups (with_points points entries)
+points_typed groups entries typed [] = typed
+points_typed groups entries typed (point ∷ rest) =
+    changed_typed groups (counted point.mount.count) (placed_entry point.place)
+    (λ entry is. λ i. record (placed_entry point.place entry).mount { propagation = (is i).propagation })
+    (with_points rest entries) (points_typed groups entries typed rest)
+
 pub unmounted_everywhere : (value : WorldValue) → IsHeld value → (name : TaskName) (number : ℕ) → Permits value name (ToUnmount number)
     → (gone : List ℕ) (points : List Point) → gone ≡ going nat_eq (world_of value) (mount_numbered nat_eq (world_of value) number)
     → unmounted nat_eq (world_of value) number
@@ -110,9 +123,12 @@ unmounted_everywhere value whole name number permits gone points gone_is regroup
     let world = world_of value in
     let start = with_mounts world (map (left_by gone (map point_seen points)) world.mounts) in
     let names = (permit_fits value whole name (ToUnmount number) permits).names in
+    let moved_typed : AreTyped value.groups between =
+    subst (AreTyped value.groups) (sym (ap (λ (k : Kept). k.mounts) is_kept ∙ append-nil (with_points points value.mounts)))
+    (points_typed value.groups value.mounts (own_types value whole) points) in
     let has : Has (unmounted nat_eq world number) groups =
     subst (λ all. Has (taken_away nat_eq world all) groups) gone_is (together.groups world whole.groups whole.in_world.mounts.groups) in
-    subst (λ all. IsDone value name (ToUnmount number) (record (remade value all filesystems value.tasks) { groups = groups })) (sym together.types)
+    subst (λ all. IsDone value name (ToUnmount number) (record (remade value all filesystems value.tasks) { groups = groups })) (sym (together.types (has_ordered world value.groups whole.groups) moved_typed))
     (moved_then_detached value whole name (ToUnmount number) permits.task (unmounted nat_eq world number)
     (record {
       called = permits.called;

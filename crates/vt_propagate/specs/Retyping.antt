@@ -1,9 +1,10 @@
 -- Mounts that change with their groups.
-use Rattle.std.specs.Prelude.{All, List, false, if◌then◌else◌, map, nat_eq, ℕ, ◌≡◌}
+use Rattle.std.specs.Prelude.{All, List, None, false, if◌then◌else◌, map, nat_eq, true, ℕ, ◌≡◌}
 use Rattle.vt_spec.specs.Lists.{is_among}
-use Rattle.vt_spec.specs.Machine.Mounts.{Propagation}
+use Rattle.vt_spec.specs.Machine.Mounts.{Propagation, source_of}
 use Rattle.vt_group.specs.Grouping.{Grouping, propagation_in}
 use Rattle.vt_group.specs.Laws.{typed_by}
+use Rattle.vt_group.specs.Together.{is_ordered}
 use Rattle.vt_mount.specs.MountsValue.{MountEntry, changed}
 
 -- a mount that is kept, with the type that the groups tell; an unbindable one stays so
@@ -18,6 +19,16 @@ AreTyped groups numbers entries =
 -- If each mount but these had the type that the groups told, each has the type that they tell now.
 abbrev pub FollowsTypes : Grouping → Grouping → List ℕ → List MountEntry → List MountEntry → Type 0
 FollowsTypes before now numbers old new = AreTyped before numbers old → new ≡ map (typed_entry now) old
+
+-- these mounts are private or unbindable
+abbrev pub HaveNoSource : List ℕ → List MountEntry → Type 0
+HaveNoSource numbers entries =
+    All (λ entry. is_among nat_eq entry.mount.number numbers ≡ true → source_of entry.mount.propagation ≡ None) entries
+
+-- So it is where these mounts were detached, or have become private or unbindable.
+abbrev pub FollowsTypesLeft : Grouping → Grouping → List ℕ → List MountEntry → List MountEntry → Type 0
+FollowsTypesLeft before now numbers old new =
+    is_ordered before ≡ true → HaveNoSource numbers old → FollowsTypes before now numbers old new
 
 -- one mount with another type
 abbrev pub with_kind : Propagation ℕ → MountEntry → MountEntry

@@ -13,7 +13,7 @@ ghost use Rattle.vt_group.specs.Grouping.{propagation_in};
 ghost use Rattle.vt_group.specs.Together.{GrowsTo, Retypes, Shares, TakesAway, new_group, pair_of, typed};
 ghost use Rattle.vt_location.specs.MountValue.{propagation_of};
 ghost use Rattle.vt_location.specs.Numbers.{counted};
-ghost use Rattle.vt_propagate.specs.Retyping.{FollowsTypes, shared_by, typed_entry, with_type_in};
+ghost use Rattle.vt_propagate.specs.Retyping.{FollowsTypes, FollowsTypesLeft, shared_by, typed_entry, with_type_in};
 
 use vt_group::{Groups, NewGroup};
 use vt_location::{GroupId, Mount, MountId, Propagation};
@@ -26,10 +26,12 @@ pub fn leave_all(mounts: &mut Mounts, groups: &mut Groups, ids: &[MountId])
     ensures private { Retypes groups.old groups.new ToPrivate (map (λ id. counted id.count) ids.now) }
     ensures unbindable { Retypes groups.old groups.new ToUnbindable (map (λ id. counted id.count) ids.now) }
     ensures detached { TakesAway groups.old groups.new (map (λ id. counted id.count) ids.now) }
-    ensures types { FollowsTypes groups.old groups.new (map (λ id. counted id.count) ids.now) mounts.old mounts.new }
+    ensures types { FollowsTypesLeft groups.old groups.new (map (λ id. counted id.count) ids.now) mounts.old mounts.new }
 {
-    groups.leave_all(ids);
-    follow(mounts, groups);
+    // Where no group ends, no other mount gets another type.
+    if groups.leave_all(ids) {
+        follow(mounts, groups);
+    }
 }
 
 /// Those of these mounts that are members of a group become slaves of it at once. Then the groups without members end. It does

@@ -1,8 +1,7 @@
-use Rattle.std.proofs.Common.{ap, refl, subst, sym, ◌∙◌}
+use Rattle.std.proofs.Common.{ap, refl, sym, ◌∙◌}
 use Rattle.std.proofs.lemmas.Bool.{le-leb, lt-leb}
 use Rattle.std.specs.Map.{remove_entry}
 use Rattle.std.specs.Option.{option_copied_mut}
-use Rattle.vt_group.specs.Together.{TakesAway}
 use Rattle.vt_location.specs.Numbers.{counted}
 use Rattle.vt_detach.specs.Uses.{kept}
 use Rattle.vt_detach.proofs.EndingLemmas.{absent_left, absent_mounts, fewer_left, fewer_mounts, last_left, last_mounts}
@@ -44,11 +43,6 @@ returns-clause-namespaces c =
 pub returns-clause-mounts : goal.returns-clause-mounts
 returns-clause-mounts c =
     last_mounts c.args.id.count c.args.namespaces.now.entries (counted c.args.id.count) (kept c.args.mounts.now c.args.filesystems.now) c.args.groups.now
-    (kept c.follow.new.mounts c.detach_all.new.filesystems) c.leave_all.new.self c.in-Some.namespace.now
+    (kept c.end_namespace.new.mounts c.end_namespace.new.filesystems) c.end_namespace.new.groups c.in-Some.namespace.now
     (sym c.get_mut.ensures.value ∙ ap option_copied_mut c.in-Some.is) (le-leb c.in-Some.namespace.now.tasks 1 c.if-namespace-gt1.false)
-    (record {
-      entries = c.detach_all.new.mounts;
-      ends = c.detach_all.ensures;
-      groups = subst (TakesAway c.args.groups.now c.leave_all.new.self) c.attached_in.ensures c.leave_all.ensures.detached;
-      types = c.follow.ensures;
-    })
+    c.end_namespace.ensures

@@ -21,7 +21,7 @@ returns-in-Private c =
     subst (λ word. IsRetyped (type_word_of word) numbers c.args.groups.now c.leave_all.new.groups c.args.mounts.now c.leave_all.new.mounts)
     (sym c.in-Private.is)
     (set_retyped ToPrivate Private (λ new old. refl) numbers c.args.groups.now c.leave_all.new.groups c.args.mounts.now c.set_all.new.mounts
-    c.leave_all.new.mounts c.set_all.ensures c.leave_all.ensures.private c.leave_all.ensures.types)
+    c.leave_all.new.mounts refl c.set_all.ensures c.leave_all.ensures.private c.leave_all.ensures.types)
 
 pub returns-in-Unbindable : goal.returns-in-Unbindable
 returns-in-Unbindable c =
@@ -29,5 +29,5 @@ returns-in-Unbindable c =
     subst (λ word. IsRetyped (type_word_of word) numbers c.args.groups.now c.leave_all-in-Unbindable.new.groups c.args.mounts.now c.leave_all-in-Unbindable.new.mounts)
     (sym c.in-Unbindable.is)
     (set_retyped ToUnbindable Unbindable (λ new old. refl) numbers c.args.groups.now c.leave_all-in-Unbindable.new.groups c.args.mounts.now
-    c.set_all-in-Unbindable.new.mounts c.leave_all-in-Unbindable.new.mounts c.set_all-in-Unbindable.ensures
+    c.set_all-in-Unbindable.new.mounts c.leave_all-in-Unbindable.new.mounts refl c.set_all-in-Unbindable.ensures
     c.leave_all-in-Unbindable.ensures.unbindable c.leave_all-in-Unbindable.ensures.types)

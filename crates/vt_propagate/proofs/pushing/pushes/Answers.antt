@@ -3,7 +3,6 @@ use Rattle.std.specs.Map.{lookup}
 use Rattle.vt_location.specs.Locations.{location_of}
 use Rattle.vt_location.specs.MountValue.{mount_of}
 use Rattle.vt_mount.specs.MountsValue.{are_ascending, mounts_in}
-use Rattle.vt_propagate.specs.Falling.{point_of}
 use Rattle.vt_propagate.specs.Pushing.{MovesOnce, PushesBy, leaver, pushes_from}
 use Rattle.vt_propagate.proofs.Pushed.{all_pushed, leaver_stays}
 use Rattle.vt_propagate.proofs.PushedOnce.{pushed_once}

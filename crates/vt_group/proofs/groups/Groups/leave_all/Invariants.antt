@@ -1,13 +1,15 @@
-use Rattle.std.proofs.Common.{ℕ, map, nat_eq, take}
+use Rattle.std.proofs.Common.{◌≡◌, ℕ, false, map, nat_eq, take, true}
 use Rattle.vt_spec.specs.Machine.Receives.{regrouped}
 use Rattle.vt_spec.specs.Machine.World.{World}
 use Rattle.vt_location.specs.Numbers.{counted}
 use Rattle.vt_group.specs.Grouping.{GroupsLive, Has}
-use Rattle.vt_group.specs.Together.{as_private, with_changed}
+use Rattle.vt_group.specs.Together.{LeaveAlone, as_private, is_ordered, with_changed}
 use Rattle.vt_group.proofs.groups.Groups.leave_all.Given as goal
 
 abbrev pub invariant-loop-mount : goal.invariant-loop-mount
 invariant-loop-mount l =
-    (world : World ℕ) → Has world l.initial.self → GroupsLive world
+    ((world : World ℕ) → Has world l.initial.self → GroupsLive world
     → Has (regrouped nat_eq (with_changed as_private world (map (λ mount. counted mount.count)
-    (take l.mount-index l.mounts)))) l.self
+    (take l.mount-index l.mounts)))) l.self)
+    × (l.ended ≡ false → is_ordered l.initial.self ≡ true
+    → LeaveAlone l.initial.self l.self (map (λ mount. counted mount.count) (take l.mount-index l.mounts)))

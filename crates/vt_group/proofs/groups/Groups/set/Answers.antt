@@ -16,7 +16,7 @@ returns-clause-ok c =
     let old = shown-type count es _ c.args.self.now c.self.view_is c.in-Ok.old c.in-Ok.ensures.old in
     let inserted = ap (map numbered_peer) c.in-Ok.ensures.entries ∙ inserted-numbered propagation_of count c.args.kind es
     ∙ (λ i. insert_entry nat_cmp (c.self.view_is i).peers (counted count) (propagation_of c.args.kind)) in
-    c.end_if_lost.ensures
+    c.end_if_lost.ensures.ended
     ∙ (λ i. ended_if_lost (group_of (old i)) (record { peers = inserted i; masters = (c.self.view_is i).masters }))
 
 pub returns-in_default-clause-private : goal.returns-in_default-clause-private

@@ -73,7 +73,7 @@ returns-clause-ok c world has live is =
     ∙ (λ i. insert_entry nat_cmp (c.self.view_is i).peers (counted count) (Shared group)) in
     let masters = ap (map numbered_master) c.in-Ok.ensures.entries ∙ inserted-numbered group_number c.args.group.count c.in-Some.master c.self.inside.above.entries
     ∙ (λ i. insert_entry nat_cmp (c.self.view_is i).masters group (group_number c.in-Some.master)) in
-    let new = c.end_if_lost.ensures
+    let new = c.end_if_lost.ensures.ended
     ∙ (λ i. ended_if_lost (group_of (old i)) (record { peers = peers i; masters = masters i })) in
     let is_some = ap (option_map group_number) c.in-Some.is in
     let lives : HasGroup world (group_number c.in-Some.master) = subst (λ (above : Option ℕ). IfSome above (HasGroup world)) is_some is.2 in
