@@ -1,5 +1,5 @@
 -- A mount is unmounted, with the mounts at the receivers of its parent: umount(2).
-use Rattle.std.proofs.Common.{◌≡◌, refl, sym, ap, subst, ◌∙◌, ℕ, nat_eq, eqb-true, Bool, true, false, true≢false, cond, List, [], map, find, Option, Some, None, option_map, is_some, unwrap_or}
+use Rattle.std.proofs.Common.{◌∷◌, ◌≡◌, refl, sym, ap, subst, ◌∙◌, ℕ, nat_eq, eqb-true, Bool, true, false, true≢false, cond, List, [], map, find, Option, Some, None, option_map, is_some, unwrap_or}
 use Rattle.std.proofs.lemmas.List.{append-nil}
 use Rattle.std.specs.Prelude.{All}
 use Rattle.std.specs.List.{list_all, list_any}
