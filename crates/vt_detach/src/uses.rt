@@ -48,7 +48,8 @@ pub fn leave(mounts: &mut Mounts, filesystems: &mut Filesystems, at: Location, w
 
 /// A mount goes if it is in no namespace and nothing is on it, and its filesystem with its last mount.
 pub(crate) fn let_go_mount(mounts: &mut Mounts, filesystems: &mut Filesystems, id: MountId)
-    ensures { kept mounts.new filesystems.new ≡ meant.let_go_mount (counted id.count) (kept mounts.old filesystems.old) }
+    ensures { kept mounts.new filesystems.new
+        ≡ meant.let_go_mount (counted id.count) (kept mounts.old filesystems.old) }
 {
     let Some(mount) = mounts.get(id) else {
         return;

@@ -23,10 +23,11 @@ use vt_spec::errors::{Deny, Rule};
 impl World {
     /// Forks a task, and returns the name of its child: fork(2). The child has these credentials.
     ///
-    /// S5 (ENOMEM): memory was refused, or the task's root, working directory or namespace has 2^64 - 2 uses.
+    /// S5 (ENOMEM): an allocation failed, or the task's root, working directory or namespace has 2^64 - 2 uses.
     pub fn fork(&mut self, name: &TaskName, cred: Cred) -> Result<TaskName, Deny>
         requires { Permits self.old name.now (ToFork cred) }
-        ensures name { IfOk result (λ child. Some child ≡ option_map child_name (task_called (world_of self.old) name.now)) }
+        ensures name { IfOk result (λ child. Some child
+            ≡ option_map child_name (task_called (world_of self.old) name.now)) }
         ensures ok { OnOk result (Becomes self.old name.now (ToFork cred) self.new) }
         ensures memory { IfErr result (λ deny. deny ≡ denial S5) }
         ensures err { OnErr result (self.new ≡ self.old) }

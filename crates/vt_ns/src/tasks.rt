@@ -34,7 +34,8 @@ impl World {
         requires { Permits self.old name.now
             (ToSetCredentials (with_dropped (credentials_called self.old name.now) (capability_bits dropped))) }
         ensures { Becomes self.old name.now
-            (ToSetCredentials (with_dropped (credentials_called self.old name.now) (capability_bits dropped))) self.new }
+            (ToSetCredentials (with_dropped (credentials_called self.old name.now)
+            (capability_bits dropped))) self.new }
     {
         self.tasks.drop_caps(name, dropped);
     }
@@ -89,7 +90,7 @@ impl World {
 
     /// Opens a file of a task under the least number that is free, and tells that number: open(2).
     ///
-    /// S5 (ENOMEM): memory was refused, or the mount or the inode has 2^64 - 1 uses.
+    /// S5 (ENOMEM): an allocation failed, or the mount or the inode has 2^64 - 1 uses.
     pub fn open(&mut self, name: &TaskName, file: Location, access: Access) -> Result<u8, Deny>
         requires { Permits self.old name.now (ToOpen (location_of file) (access_of access)) }
         ensures number { IfOk result (λ number.

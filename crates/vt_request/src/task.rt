@@ -27,7 +27,8 @@ impl Model for TaskName {
 
     ghost view = { λ name. name.numbers.items };
 
-    ghost invariant = { λ name. All (λ k. (1 ≤ k) × (k ≤ 64)) name.numbers.items × (INLINE_NUMBERS ≤ name.numbers.capacity) };
+    ghost invariant = { λ name. All (λ k. (1 ≤ k) × (k ≤ 64)) name.numbers.items
+        × (INLINE_NUMBERS ≤ name.numbers.capacity) };
 }
 
 impl TaskName {
