@@ -112,7 +112,7 @@ fn copy_number(id: MountId, originals: &[MountId], next: u64) -> MountId
     MountId::new(next + 2 * place as u64 + 1)
 }
 
-/// A use of a mount goes to another one, which has room for it. It takes no memory.
+/// A use of a mount goes to another one, which has room for it. It does not allocate.
 pub fn move_use(mounts: &mut Mounts, from: MountId, to: MountId)
     requires uses { nat_eq from.count to.count ≡ false → uses_of mounts.old (counted to.count) < u64.MAX }
     requires writers { nat_eq from.count to.count ≡ false → writers_of mounts.old (counted to.count) < u64.MAX }

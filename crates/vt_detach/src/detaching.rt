@@ -29,7 +29,7 @@ pub fn detach(mounts: &mut Mounts, filesystems: &mut Filesystems, id: MountId) -
     mount.mount_point
 }
 
-/// Mounts leave their namespaces one after the other. It takes no memory.
+/// Mounts leave their namespaces one after the other. It does not allocate.
 pub fn detach_each(mounts: &mut Mounts, filesystems: &mut Filesystems, ids: &[MountId])
     ensures { LeaveInTurn (map (λ id. counted id.count) ids.now) (kept mounts.old filesystems.old)
         (kept mounts.new filesystems.new) }
@@ -40,7 +40,7 @@ pub fn detach_each(mounts: &mut Mounts, filesystems: &mut Filesystems, ids: &[Mo
 }
 
 /// Mounts leave their namespaces one after the other, and their groups at once: the slaves of a group that ends get its
-/// master. It takes no memory.
+/// master. It does not allocate.
 pub fn detach_together(
     mounts: &mut Mounts,
     groups: &mut Groups,

@@ -15,7 +15,7 @@ use vt_location::NamespaceId;
 use vt_mount::Mounts;
 
 /// One task less of a namespace. With its last it goes, and its mounts are detached: they leave their groups at once,
-/// and the slaves of a group that ends get its master. It takes no memory.
+/// and the slaves of a group that ends get its master. It does not allocate.
 pub fn leave_namespace(
     mounts: &mut Mounts,
     groups: &mut Groups,

@@ -49,7 +49,7 @@ impl Model for Groups {
 }
 
 impl Groups {
-    /// No groups. It takes no memory.
+    /// No groups. It does not allocate.
     pub fn new(alloc: Global) -> Self
         ensures { result ≡ no_groups }
     {
@@ -158,7 +158,7 @@ impl Groups {
     }
 
     /// A mount becomes private: it is in no group, and no group's slave. Tells whether it was the last of its group,
-    /// which then has ended. It takes no memory.
+    /// which then has ended. It does not allocate.
     pub fn leave(&mut self, mount: MountId) -> bool
         ensures left { Follows self.old self.new (λ world. ⊤)
             (λ world. with_propagation world (counted mount.count) Private) }

@@ -15,7 +15,7 @@ use vt_request::TaskName;
 use vt_spec::errors::Deny;
 
 impl World {
-    /// Sets the owner, group and mode of an inode: chmod(2), chown(2). It takes no memory.
+    /// Sets the owner, group and mode of an inode: chmod(2), chown(2). It does not allocate.
     #[inline(always)]
     pub fn set_attr(&mut self, name: &TaskName, object: Location, attr: Attr)
         requires { Permits self.old name.now (ToChange (location_of object) (SetAttr (number_of object.node) attr)) }
@@ -25,7 +25,7 @@ impl World {
         self.filesystems.set_attr(object.node, attr);
     }
 
-    /// Sets the whole content of a file: write(2) after open(2) with O_TRUNC. It takes no memory.
+    /// Sets the whole content of a file: write(2) after open(2) with O_TRUNC. It does not allocate.
     #[inline(always)]
     pub fn write(&mut self, name: &TaskName, file: Location, bytes: Vec<u8>)
         requires { Permits self.old name.now

@@ -59,7 +59,7 @@ pub(crate) fn has_room_for_two(mounts: &Mounts, filesystems: &Filesystems, at: L
         && filesystems.uses(at.node) < u64::MAX - 1
 }
 
-// One use more of a location, for which there is room. It takes no memory.
+// One use more of a location, for which there is room. It does not allocate.
 pub(crate) fn hold_once_more(mounts: &mut Mounts, filesystems: &mut Filesystems, at: Location)
     requires { HasRoom 1 at mounts.old filesystems.old }
     ensures held { kept mounts.new filesystems.new ≡ with_location at false (kept mounts.old filesystems.old) }
@@ -83,7 +83,7 @@ pub(crate) fn has_room_for_task(
     }
 }
 
-// One task more in a namespace. It takes no memory.
+// One task more in a namespace. It does not allocate.
 pub(crate) fn count_task(namespaces: &mut IndexMap<NamespaceId, Namespace>, id: NamespaceId)
     requires { IfSome (find (λ entry. nat_eq id.count entry.count) (entries_of namespaces.old.entries))
         (λ entry. entry.tasks < u64.MAX) }

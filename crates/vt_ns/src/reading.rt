@@ -37,7 +37,7 @@ impl World {
         self.tasks.get(name)
     }
 
-    /// Kind, owner, mode and size of an object: stat(2), lstat(2). It takes no memory.
+    /// Kind, owner, mode and size of an object: stat(2), lstat(2). It does not allocate.
     #[inline(always)]
     pub fn stat(&self, name: &TaskName, object: Location) -> StatLine
         requires { Permits self.now name.now (ToStat (location_of object)) }

@@ -22,7 +22,7 @@ use vt_request::{TaskName, TypeWord};
 use vt_spec::errors::Deny;
 
 impl World {
-    /// Sets the flags of a mount: mount(2) with `MS_REMOUNT` and `MS_BIND`. It takes no memory.
+    /// Sets the flags of a mount: mount(2) with `MS_REMOUNT` and `MS_BIND`. It does not allocate.
     pub fn set_flags(&mut self, name: &TaskName, mount: MountId, flags: MountFlags)
         requires { Permits self.old name.now (ToSetFlags (counted mount.count) (flags_of flags)) }
         ensures { Becomes self.old name.now (ToSetFlags (counted mount.count) (flags_of flags)) self.new }
@@ -34,7 +34,7 @@ impl World {
     /// `MS_PRIVATE` or
     /// `MS_UNBINDABLE`, and `MS_REC`.
     ///
-    /// S5 (ENOMEM): an allocation failed. Nothing has changed then. One mount alone takes no memory.
+    /// S5 (ENOMEM): an allocation failed. Nothing has changed then. One mount alone does not allocate.
     pub fn set_type(
         &mut self,
         name: &TaskName,

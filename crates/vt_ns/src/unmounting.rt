@@ -23,7 +23,7 @@ use vt_spec::errors::Deny;
 impl World {
     /// Detaches a mount on which no other stands, and at each receiver of its parent the mount at the same place,
     /// unless others stand on that one; a single one that covers its root takes its place: umount(2). What is detached
-    /// goes, as nothing is on it. Where the mount is in no peer group and its parent is not shared, it takes no memory.
+    /// goes, as nothing is on it. Where the mount is in no peer group and its parent is not shared, it does not allocate.
     ///
     /// S5 (ENOMEM): an allocation failed, or an inode would have more than 2^64 - 1 uses.
     pub fn unmount(&mut self, name: &TaskName, mount: MountId) -> Result<(), Deny>
