@@ -26,7 +26,8 @@ MayBeRefusedMemory call (Err refusal) = IsAfterReceivers call refusal
 module _ {W : Type 0} (seen : W → World ℕ) where
   -- as the outcome says, or refused memory; a denial changes nothing
   abbrev pub Meets : Call → Outcome ℕ → Result Answer Deny → W → W → Type 0
-  Meets call outcome (Ok answer) old new = (outcome.answer ≡ Ok (answer_of answer)) × SameWorlds outcome.world (seen new)
+  Meets call outcome (Ok answer) old new = (outcome.answer ≡ Ok (answer_of answer))
+      × SameWorlds outcome.world (seen new)
   Meets call outcome (Err deny) old new =
       ((outcome.answer ≡ Err deny) ⊎ ((deny ≡ denial S5) × MayBeRefusedMemory call outcome.answer)) × (new ≡ old)
 

@@ -19,15 +19,15 @@ pub trait Calls {
 
     /// The world before the first call.
     ///
-    /// S5 (ENOMEM): memory was refused.
+    /// S5 (ENOMEM): an allocation failed.
     fn opening(alloc: Global) -> Result<Self, Deny>
         ensures opened { IfOk result (λ opened. IsOpened (world opened)) }
         ensures memory { IfErr result (λ deny. deny ≡ denial S5) };
 
     /// Does a call of a task, or refuses it by the first rule that fails and changes nothing.
     ///
-    /// S2 (ESRCH): there is no such task. S5 (ENOMEM): an allocation failed, or a count of uses is full. The other rules are
-    /// those of the call, in its order.
+    /// S2 (ESRCH): there is no such task. S5 (ENOMEM): an allocation failed, or a count of uses is full. The other
+    /// rules are those of the call, in its order.
     fn call(&mut self, name: &TaskName, call: Call) -> Result<Answer, Deny>
         requires { namespaces.has (call_of call) ≡ true }
         ensures { Ends world self.old name.now (call_of call) result self.new };

@@ -1,5 +1,5 @@
--- The numbers that an attachment takes of the supply that it is handed, whatever groups there are: for each mount of the tree at each
--- part one for its copy, and one for a group.
+-- The numbers that an attachment takes of the supply that it is handed, whatever groups there are: for each mount of
+-- the tree at each part one for its copy, and one for a group.
 use Rattle.std.specs.Prelude.{Bool, List, Some, length, nat_eq, true, ℕ, ◌%◌, ◌*◌, ◌+◌, ◌≡◌}
 use Rattle.vt_laws.specs.Numbers.{KeepsTo}
 use Rattle.vt_permit_laws.specs.Left.{left_by}
@@ -23,16 +23,20 @@ numbers_of_new_mount world place = 2 * (2 * length (parts_of nat_eq world place)
 -- The world that a permit leaves keeps to the numbers that the world had and to those that were taken.
 abbrev pub BindsKeepToNumbers : Type 0
 BindsKeepToNumbers =
-    (next : ℕ) (world : World ℕ) (task : Task ℕ) (source place : Location ℕ) (recursive : Bool) → task_called world task.name ≡ Some task
-    → KeepsTo (is_counted_before next) world → permit_named (is_counted_before next) (ToBind source place recursive) ≡ true
+    (next : ℕ) (world : World ℕ) (task : Task ℕ) (source place : Location ℕ) (recursive : Bool)
+    → task_called world task.name ≡ Some task
+    → KeepsTo (is_counted_before next) world
+    → permit_named (is_counted_before next) (ToBind source place recursive) ≡ true
     → KeepsTo (is_counted_before (next + numbers_of_parts world place (bind_tree nat_eq world source recursive)))
     (left_by (counts_from next) world task (ToBind source place recursive))
 
 abbrev pub MovesKeepToNumbers : Type 0
 MovesKeepToNumbers =
-    (next : ℕ) (world : World ℕ) (task : Task ℕ) (mount : ℕ) (place : Location ℕ) → task_called world task.name ≡ Some task
+    (next : ℕ) (world : World ℕ) (task : Task ℕ) (mount : ℕ) (place : Location ℕ)
+    → task_called world task.name ≡ Some task
     → KeepsTo (is_counted_before next) world → permit_named (is_counted_before next) (ToMove mount place) ≡ true
-    → KeepsTo (is_counted_before (next + numbers_of_parts world place (mount_tree nat_eq world.mounts (mount_numbered nat_eq world mount))))
+    → KeepsTo (is_counted_before (next + numbers_of_parts world place
+    (mount_tree nat_eq world.mounts (mount_numbered nat_eq world mount))))
     (left_by (counts_from next) world task (ToMove mount place))
 
 abbrev pub NewMountsKeepToNumbers : Type 0
@@ -40,7 +44,8 @@ NewMountsKeepToNumbers =
     (next inode : ℕ) → inode % 2 ≡ 0 → (world : World ℕ) (task : Task ℕ) (place : Location ℕ) (flags : MountFlags)
     → task_called world task.name ≡ Some task
     → KeepsTo (is_counted_before next) world → permit_named (is_counted_before next) (ToMountPlain place flags) ≡ true
-    → KeepsTo (is_counted_before (next + numbers_of_new_mount (with_new_filesystem world (plain_filesystem nat_eq (handed_from next 2 inode))) place))
+    → KeepsTo (is_counted_before (next + numbers_of_new_mount
+    (with_new_filesystem world (plain_filesystem nat_eq (handed_from next 2 inode))) place))
     (left_by (handed_from next 2 inode) world task (ToMountPlain place flags))
 
 -- So with a new namespace: one for it, and one for the copy of each mount, out of two for each mount.
@@ -48,4 +53,5 @@ abbrev pub UnsharesKeepToNumbers : Type 0
 UnsharesKeepToNumbers =
     (next : ℕ) (world : World ℕ) (task : Task ℕ) → IsWorld nat_eq world → task_called world task.name ≡ Some task
     → KeepsTo (is_counted_before next) world
-    → KeepsTo (is_counted_before (next + 2 * length (mounts_of nat_eq world task.namespace))) (left_by (counts_from next) world task ToUnshare)
+    → KeepsTo (is_counted_before (next + 2 * length (mounts_of nat_eq world task.namespace)))
+    (left_by (counts_from next) world task ToUnshare)

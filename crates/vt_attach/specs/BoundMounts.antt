@@ -15,4 +15,5 @@ rooted_at source mount =
 -- those that are among these mounts
 abbrev pub bound_mounts : Location → List (Mount ℕ) → List MountId → List (Mount ℕ)
 bound_mounts source mounts origins =
-    filter_map (λ id. option_map (rooted_at source) (find (λ mount. nat_eq (counted id.count) mount.number) mounts)) origins
+    filter_map (λ id. option_map (rooted_at source)
+    (find (λ mount. nat_eq (counted id.count) mount.number) mounts)) origins

@@ -22,7 +22,8 @@ use Rattle.vt_attach.specs.PlannedUses.{point_seen}
 use Rattle.vt_attach.specs.Room.{has_small_slots}
 use Rattle.vt_detach.specs.Uses.{Kept}
 
--- These are the parts of a world with these mounts and groups. The mounts that come have greater numbers than all others.
+-- These are the parts of a world with these mounts and groups. The mounts that come have greater numbers than all
+-- others.
 pub record MayGraft (mounts : List MountEntry) (groups : Grouping) (graft : Graft) (counts : Counts) : Type 0 where
   pub world : World ℕ
   pub seen : IsSeen world mounts groups
@@ -32,7 +33,8 @@ pub record MayGraft (mounts : List MountEntry) (groups : Grouping) (graft : Graf
   pub ascending : are_ascending (mounts_in mounts ++ planned_copies world graft counts) ≡ true
 
 -- The plan is the definitions', and all of it was done.
-pub record IsGrafted (graft : Graft) (counts : Counts) (old : Kept) (before : Grouping) (new : Kept) (now : Grouping) : Type 0 where
+pub record IsGrafted (graft : Graft) (counts : Counts) (old : Kept) (before : Grouping) (new : Kept)
+    (now : Grouping) : Type 0 where
   pub copies : List Mount
   pub groups : List NewGroup
   pub points : List Point

@@ -10,7 +10,7 @@ use Rattle.vt_run_laws.specs.Handed.{handed_from}
 abbrev pub opening_numbers : Fresh ℕ
 opening_numbers = handed_from 0 3 (inode_number 2 0)
 
--- one filesystem with an empty root directory, shown by one mount; the directory counts itself, the root of the mount, and the
--- root and the working directory of the task
+-- one filesystem with an empty root directory, shown by one mount; the directory counts itself, the root of the mount,
+-- and the root and the working directory of the task
 abbrev pub first_shown : ℕ → List Shown
 first_shown count = record { count = count; inodes = one_counted (inode_number count 0) 4; mounts = 1 } ∷ []

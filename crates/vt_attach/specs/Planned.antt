@@ -63,5 +63,6 @@ pub record AreMoves (points : List Point) (entries : List MountEntry) (taken lef
 abbrev pub with_planned : List Mount → List Point → List Location → Kept → Kept
 with_planned copies points left k = record {
   mounts = with_points points k.mounts ++ map unused_entry copies;
-  filesystems = folded unpinned_by (folded shown_by (folded pinned_by k.filesystems (points_taken points k.mounts)) copies) left;
+  filesystems = folded unpinned_by
+      (folded shown_by (folded pinned_by k.filesystems (points_taken points k.mounts)) copies) left;
 }

@@ -16,7 +16,8 @@ abbrev pub PointsAreUses : Type 0
 PointsAreUses =
     (world : World ℕ) (entries : List MountEntry) (points : List Point) → mounts_in entries ≡ world.mounts
     → any_pair (λ a b. nat_eq a.number b.number) world.mounts ≡ false → (filesystem : ℕ)
-    → Exchanges (map (inode_at world) (map location_of (points_taken points entries))) (map (inode_at world) (points_left points entries))
+    → Exchanges (map (inode_at world) (map location_of (points_taken points entries)))
+    (map (inode_at world) (points_left points entries))
     filesystem world (with_mounts world (mounts_in (with_points points entries)))
 
 -- a mount and its new mount point, as the definitions see them

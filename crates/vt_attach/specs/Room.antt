@@ -16,7 +16,8 @@ most_counted = 18446744073709551615
 -- how often an inode is in use
 abbrev pub uses_shown : Inode → List Shown → ℕ
 uses_shown inode all =
-    unwrap_or (option_map (λ one. uses_in (one.inodes.inode inode.1)) (find (λ one. nat_eq inode.0 (counted one.count)) all)) 0
+    unwrap_or (option_map (λ one. uses_in (one.inodes.inode inode.1))
+    (find (λ one. nat_eq inode.0 (counted one.count)) all)) 0
 
 abbrev pub point_has_room : ℕ → List Shown → Option Location → Bool
 point_has_room most all None = true

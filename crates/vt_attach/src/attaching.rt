@@ -23,7 +23,8 @@ use vt_spec::errors::{Deny, Rule};
 
 /// Attaches mounts, after all others. Their roots and mount points are in use then, and their filesystems are shown.
 ///
-/// S5 (ENOMEM): memory was refused, or an inode or a filesystem would have more than 2^64 - 1 uses. Nothing is attached then.
+/// S5 (ENOMEM): an allocation failed, or an inode or a filesystem would have more than 2^64 - 1 uses. Nothing is
+/// attached then.
 pub fn attach_all(
     mounts: &mut Mounts,
     filesystems: &mut Filesystems,

@@ -13,8 +13,8 @@ use std::alloc::{AllocError, Global};
 use vt_location::{Location, Mount, MountId, NamespaceId};
 use vt_mount::Mounts;
 
-/// Copies of the mounts of a namespace in the one that is counted `next`, in their order: the copy of the i-th, from 0, is
-/// counted `next + 2·i + 1`, and its mount point is on the copy of its parent.
+/// Copies of the mounts of a namespace in the one that is counted `next`, in their order: the copy of the i-th, from 0,
+/// is counted `next + 2·i + 1`, and its mount point is on the copy of its parent.
 pub(crate) fn copies(
     alloc: Global,
     mounts: &Mounts,
@@ -22,7 +22,8 @@ pub(crate) fn copies(
     next: u64,
 ) -> Result<Vec<Mount>, AllocError>
     requires { next + 2 * length (attached_in (counted namespace.count) mounts.now) + 1 < u64.MAX }
-    ensures { IfOk result (λ copies. map mount_of copies.items ≡ copies_of next (attached_in (counted namespace.count) mounts.now)) }
+    ensures { IfOk result (λ copies. map mount_of copies.items
+        ≡ copies_of next (attached_in (counted namespace.count) mounts.now)) }
 {
     mounts.are_ascending();
     let originals = mounts.attached_in(namespace);
@@ -63,7 +64,8 @@ fn is_in(mounts: &Mounts, id: MountId, namespace: NamespaceId) -> bool
 fn copied(mount: Mount, originals: &[MountId], next: u64) -> Mount
     requires order { are_rising originals.now ≡ true }
     requires room { next + 2 * length originals.now + 1 < u64.MAX }
-    ensures { (all : List (meant.Mount ℕ)) → AreOf originals.now all → mount_of result ≡ copied_by next all (mount_of mount) }
+    ensures { (all : List (meant.Mount ℕ)) → AreOf originals.now all
+        → mount_of result ≡ copied_by next all (mount_of mount) }
 {
     Mount {
         number: copy_number(mount.number, originals, next),
@@ -78,7 +80,8 @@ fn point_on_copy(point: Option<Location>, originals: &[MountId], next: u64) -> O
     requires order { are_rising originals.now ≡ true }
     requires room { next + 2 * length originals.now + 1 < u64.MAX }
     ensures { (all : List (meant.Mount ℕ)) → AreOf originals.now all
-        → option_map location_of result ≡ option_map (location_on_copy (copy_numbers next all)) (option_map location_of point) }
+        → option_map location_of result
+        ≡ option_map (location_on_copy (copy_numbers next all)) (option_map location_of point) }
 {
     Some(on_copy(point?, originals, next))
 }
@@ -100,7 +103,8 @@ fn on_copy(at: Location, originals: &[MountId], next: u64) -> Location
 fn copy_number(id: MountId, originals: &[MountId], next: u64) -> MountId
     requires order { are_rising originals.now ≡ true }
     requires room { next + 2 * length originals.now + 1 < u64.MAX }
-    ensures { (all : List (meant.Mount ℕ)) → AreOf originals.now all → counted result.count ≡ copy_numbers next all (counted id.count) }
+    ensures { (all : List (meant.Mount ℕ)) → AreOf originals.now all
+        → counted result.count ≡ copy_numbers next all (counted id.count) }
 {
     let place = originals
         .binary_search_by_key(&id.count, |other| other.count)
@@ -108,7 +112,7 @@ fn copy_number(id: MountId, originals: &[MountId], next: u64) -> MountId
     MountId::new(next + 2 * place as u64 + 1)
 }
 
-/// A use of a mount goes to another one, which has room for it. It takes no memory.
+/// A use of a mount goes to another one, which has room for it. It does not allocate.
 pub fn move_use(mounts: &mut Mounts, from: MountId, to: MountId)
     requires uses { nat_eq from.count to.count ≡ false → uses_of mounts.old (counted to.count) < u64.MAX }
     requires writers { nat_eq from.count to.count ≡ false → writers_of mounts.old (counted to.count) < u64.MAX }

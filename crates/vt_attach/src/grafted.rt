@@ -1,5 +1,5 @@
-//! Copies of a tree of mounts that are attached at a destination and at its receivers: mount(2), and the kernel's document
-//! sharedsubtree.
+//! Copies of a tree of mounts that are attached at a destination and at its receivers: mount(2), and the kernel's
+//! document sharedsubtree.
 ghost use Rattle.std.specs.Prelude.{◌≡◌, IfErr, OnErr, OnOk};
 ghost use Rattle.vt_propagate.specs.Copying.{HasRoomFor};
 ghost use Rattle.vt_spec.specs.declared.errors.Rule.TheVariants.{S5};
@@ -15,10 +15,11 @@ use vt_mount::Mounts;
 use vt_propagate::{Counts, Graft, attachment};
 use vt_spec::errors::Deny;
 
-/// Attaches copies of a tree at all parts, with the groups that they form, and moves the mounts that stood there onto them: all or
-/// nothing.
+/// Attaches copies of a tree at all parts, with the groups that they form, and moves the mounts that stood there onto
+/// them: all or nothing.
 ///
-/// S5 (ENOMEM): an allocation failed, or an inode or a filesystem would have more than 2^64 - 1 uses. Nothing has changed then.
+/// S5 (ENOMEM): an allocation failed, or an inode or a filesystem would have more than 2^64 - 1 uses. Nothing has
+/// changed then.
 pub fn attach_graft(
     alloc: Global,
     mounts: &mut Mounts,

@@ -9,8 +9,8 @@ pub fn attached_worlds_grow()
     ensures { AttachedWorldsGrow }
 {}
 
-/// An attachment takes two numbers for each mount of the tree at each part, and a new namespace two for each of its mounts: the
-/// world that is left has no others beside its own.
+/// An attachment takes two numbers for each mount of the tree at each part, and a new namespace two for each of its
+/// mounts: the world that is left has no others beside its own.
 pub fn attachments_keep_to_their_numbers()
     ensures binds { BindsKeepToNumbers }
     ensures moves { MovesKeepToNumbers }
@@ -24,7 +24,8 @@ pub fn copies_begin_the_groups_that_are_made()
     ensures named { GroupsOfCopiesAreNamed }
 {}
 
-/// Where mounts get other mount points, the inodes there are used once more, and those at the old mount points once less.
+/// Where mounts get other mount points, the inodes there are used once more, and those at the old mount points once
+/// less.
 pub fn points_are_uses()
     ensures uses { PointsAreUses }
     ensures mounts { PointsAreMoved }

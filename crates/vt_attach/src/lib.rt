@@ -1,5 +1,5 @@
-//! Mounts that are attached, and the copies that a bind and a new namespace attach, over mounts and filesystems whose uses are
-//! counted.
+//! Mounts that are attached, and the copies that a bind and a new namespace attach, over mounts and filesystems whose
+//! uses are counted.
 #![tactic(auto)]
 
 pub mod attaching;

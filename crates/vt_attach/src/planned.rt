@@ -42,11 +42,12 @@ struct Moves {
     left: Vec<Location>,
 }
 
-/// Attaches mounts after all others, with the groups that they form, and moves others: all or nothing. The roots and the mount
-/// points of the mounts that come are in use then, their filesystems are shown, and the mount points that were left are in use
-/// once less. Where mounts move, all mounts are passed over.
+/// Attaches mounts after all others, with the groups that they form, and moves others: all or nothing. The roots and
+/// the mount points of the mounts that come are in use then, their filesystems are shown, and the mount points that
+/// were left are in use once less. Where mounts move, all mounts are passed over.
 ///
-/// S5 (ENOMEM): memory was refused, or an inode or a filesystem would have more than 2^64 - 1 uses. Nothing has changed then.
+/// S5 (ENOMEM): an allocation failed, or an inode or a filesystem would have more than 2^64 - 1 uses. Nothing has
+/// changed then.
 pub fn attach_planned(
     alloc: Global,
     mounts: &mut Mounts,
@@ -55,7 +56,8 @@ pub fn attach_planned(
     plan: &Planned,
 ) -> Result<(), Deny>
     requires { are_ascending (mounts_in mounts.old ++ map mount_of plan.now.copies.now) ≡ true }
-    ensures ok { OnOk result ((left : List Location) × (map location_of left ≡ points_left plan.now.points.now mounts.old)
+    ensures ok { OnOk result ((left : List Location)
+        × (map location_of left ≡ points_left plan.now.points.now mounts.old)
         × (list_all is_small left ≡ true)
         × (kept mounts.new filesystems.new
         ≡ with_planned plan.now.copies.now plan.now.points.now left (kept mounts.old filesystems.old))) }
@@ -78,11 +80,13 @@ pub fn attach_planned(
     Ok(())
 }
 
-// Whether all uses that come can be counted: two of an inode for each copy, and one for each mount that moves, at the most.
+// Whether all uses that come can be counted: two of an inode for each copy, and one for each mount that moves, at the
+// most.
 fn plan_has_room(filesystems: &Filesystems, plan: &Planned) -> bool
     ensures fits { result ≡ true → 2 * length plan.now.copies.now + length plan.now.points.now ≤ most_counted }
     ensures copies { result ≡ true → list_all
-        (has_room (most_counted - (2 * length plan.now.copies.now + length plan.now.points.now)) (shown filesystems.now))
+        (has_room (most_counted - (2 * length plan.now.copies.now + length plan.now.points.now))
+        (shown filesystems.now))
         plan.now.copies.now ≡ true }
     ensures points { result ≡ true → list_all
         (λ point. point_has_room (most_counted - (2 * length plan.now.copies.now + length plan.now.points.now))
@@ -98,7 +102,8 @@ fn plan_has_room(filesystems: &Filesystems, plan: &Planned) -> bool
 
 // Whether the inodes at new mount points have no more uses than so many.
 fn places_have_room(filesystems: &Filesystems, points: &[NewPoint], most: u64) -> bool
-    ensures { result ≡ true → list_all (λ point. point_has_room most (shown filesystems.now) (Some point.place)) points.now ≡ true }
+    ensures { result ≡ true → list_all
+        (λ point. point_has_room most (shown filesystems.now) (Some point.place)) points.now ≡ true }
 {
     for point in points {
         if filesystems.uses(point.place.node) > most {
@@ -206,7 +211,8 @@ fn move_one(mounts: &mut Mounts, point: NewPoint, moves: &mut Moves) -> Result<(
     ensures left { OnOk result
         (map location_of moves.new.left.items ≡ map location_of moves.old.left.items ++ left_at point mounts.old) }
     ensures small { list_all is_small moves.old.taken.items ≡ true → list_all is_small moves.old.left.items ≡ true
-        → OnOk result ((list_all is_small moves.new.taken.items ≡ true) × (list_all is_small moves.new.left.items ≡ true)) }
+        → OnOk result ((list_all is_small moves.new.taken.items ≡ true)
+        × (list_all is_small moves.new.left.items ≡ true)) }
     ensures memory { IfErr result (λ deny. deny ≡ denial S5) }
 {
     if let Some(mount) = mounts.get(point.mount) {
@@ -233,7 +239,8 @@ fn note(moves: &mut Moves, taken: Location, left: Option<Location>) -> Result<()
 
 // The inodes at mount points are used once more.
 fn pin_all(filesystems: &mut Filesystems, points: &[Location])
-    requires { list_all (λ point. point_has_room (most_counted - length points.now) (shown filesystems.old) (Some point)) points.now ≡ true }
+    requires { list_all (λ point. point_has_room (most_counted - length points.now) (shown filesystems.old)
+        (Some point)) points.now ≡ true }
     ensures { shown filesystems.new ≡ folded pinned_by (shown filesystems.old) points.now }
 {
     for point in points {

@@ -1,4 +1,5 @@
--- A right stands behind each effect: what a call tells its task may read, and what it changes its task may write, or owns.
+-- A right stands behind each effect: what a call tells its task may read, and what it changes its task may write, or
+-- owns.
 use Rattle.std.specs.Prelude.{Bool, List, Ok, Some, drop, false, nat_eq, take, true, ℕ, ◌==◌, ◌||◌, ◌≡◌, ◌⊎◌}
 use Rattle.vt_call_laws.specs.Inodes.{HasNoOverlays, IsNotHanded, inode_in, mounts_overlay, owner_of}
 use Rattle.vt_spec.specs.declared.attributes.Kind.TheVariants.{Symlink}
@@ -26,12 +27,13 @@ MayDo world task filesystem number wanted =
 -- it has the inode open for this: open(2)
 abbrev pub HasOpenFor : (Descriptor ℕ → Bool) → World ℕ → Task ℕ → ℕ → ℕ → Type 0
 HasOpenFor fits world task filesystem number =
-    (descriptor : Descriptor ℕ) × (which : ℕ) × (descriptor_numbered task which ≡ Some descriptor) × (fits descriptor ≡ true)
+    (descriptor : Descriptor ℕ) × (which : ℕ) × (descriptor_numbered task which ≡ Some descriptor)
+    × (fits descriptor ≡ true)
     × (filesystem ≡ (mount_at nat_eq world descriptor.location).filesystem) × (number ≡ descriptor.location.node)
 
--- What is otherwise than it was is so by right: bytes, as the task may write the object, or has it open for writing; the mode,
--- as it owns the object; owner and group, as the object is its own, or by CAP_CHOWN; an entry, as it may write and search the
--- directory; the opaque mark by CAP_SYS_ADMIN.
+-- What is otherwise than it was is so by right: bytes, as the task may write the object, or has it open for writing;
+-- the mode, as it owns the object; owner and group, as the object is its own, or by CAP_CHOWN; an entry, as it may
+-- write and search the directory; the opaque mark by CAP_SYS_ADMIN.
 pub record IsByRight (world : World ℕ) (task : Task ℕ) (filesystem number : ℕ) (was now : Node ℕ) : Type 0 where
   pub bytes : (bytes_of now.content ≡ bytes_of was.content)
       ⊎ (MayDo world task filesystem number write_right
@@ -65,8 +67,8 @@ NamesAreToldByRight =
     → (directory : Location ℕ) × (names ≡ names_in (node_at nat_eq world directory))
     × (node_allows task.credentials read_right (node_at nat_eq world directory) ≡ true)
 
--- Bytes that it tells are those of an object that the task may read, a part of those of a file that it has open for reading, or
--- the text of a symlink: read(2), pread(2), readlink(2).
+-- Bytes that it tells are those of an object that the task may read, a part of those of a file that it has open for
+-- reading, or the text of a symlink: read(2), pread(2), readlink(2).
 abbrev pub BytesAreToldByRight : Type 0
 BytesAreToldByRight =
     (fresh : Fresh ℕ) (world : World ℕ) (call : Call) (task : Task ℕ) (permit : Permit ℕ) (bytes : List ℕ)
@@ -77,10 +79,11 @@ BytesAreToldByRight =
     ⊎ (((file : Location ℕ) × (bytes ≡ bytes_in (node_at nat_eq world file))
     × (is_kind_in Symlink (node_at nat_eq world file) ≡ true))
     ⊎ ((descriptor : Descriptor ℕ) × (which offset size : ℕ) × (descriptor_numbered task which ≡ Some descriptor)
-    × (descriptor.reads ≡ true) × (bytes ≡ take size (drop offset (bytes_in (node_at nat_eq world descriptor.location))))))
+    × (descriptor.reads ≡ true) × (bytes
+    ≡ take size (drop offset (bytes_in (node_at nat_eq world descriptor.location))))))
 
--- A descriptor that a granted call gives is for a file that the task may read and write as it asked, both as one request, or for
--- a new one: open(2).
+-- A descriptor that a granted call gives is for a file that the task may read and write as it asked, both as one
+-- request, or for a new one: open(2).
 abbrev pub OpensAreByRight : Type 0
 OpensAreByRight =
     (fresh : Fresh ℕ) (world : World ℕ) (call : Call) (task : Task ℕ) (permit : Permit ℕ) (number : ℕ)

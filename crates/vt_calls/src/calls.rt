@@ -6,7 +6,7 @@ ghost use Rattle.vt_detach.specs.WorldValue.{world_of};
 ghost use Rattle.vt_calls.specs.Meets.{Ends};
 ghost use Rattle.vt_calls.specs.Permitted.{IsPermitted};
 
-use crate::spending::spend;
+use crate::applying::apply;
 use std::alloc::Global;
 use std::marker::Model;
 use vt_answers::Calls;
@@ -55,7 +55,7 @@ fn judged_call(world: &mut World, name: &TaskName, call: Call) -> Result<Answer,
     ensures { Ends world.old name.now (call_of call) result world.new }
 {
     match permit_of(world, name, call) {
-        Ok(permit) => spend(world, name, permit),
+        Ok(permit) => apply(world, name, permit),
         Err(deny) => Err(deny),
     }
 }

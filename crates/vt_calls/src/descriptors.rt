@@ -8,7 +8,8 @@ use vt_permits::Permit;
 use vt_request::{Answer, TaskName};
 use vt_spec::errors::Deny;
 
-// Opens or closes a file as a permit allows. S5 (ENOMEM): an allocation failed, or a count of uses is full; nothing has changed.
+// Opens or closes a file as a permit allows. S5 (ENOMEM): an allocation failed, or a count of uses is full; nothing has
+// changed.
 #[inline(always)]
 pub(crate) fn change_descriptors(
     world: &mut World,

@@ -2,6 +2,7 @@
 #![tactic(auto)]
 
 mod answers;
+mod applying;
 mod calls;
 mod descriptors;
 mod files;
@@ -9,7 +10,6 @@ mod looking;
 mod making;
 mod mounting;
 mod removing;
-mod spending;
 mod tasks;
 
 pub use calls::Kernel;

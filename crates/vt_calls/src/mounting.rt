@@ -15,7 +15,8 @@ use vt_permits::Permit;
 use vt_request::{Answer, TaskName, TypeWord};
 use vt_spec::errors::Deny;
 
-// Changes mounts as a permit allows. S5 (ENOMEM): an allocation failed, or a count of uses is full; nothing has changed.
+// Changes mounts as a permit allows. S5 (ENOMEM): an allocation failed, or a count of uses is full; nothing has
+// changed.
 pub(crate) fn change_mounts(
     world: &mut World,
     name: &TaskName,

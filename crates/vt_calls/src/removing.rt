@@ -9,7 +9,8 @@ use vt_permits::Permit;
 use vt_request::{Answer, TaskName};
 use vt_spec::errors::Deny;
 
-// Takes a name away as a permit allows. S5 (ENOMEM): an allocation failed, or a count of uses is full; nothing has changed.
+// Takes a name away as a permit allows. S5 (ENOMEM): an allocation failed, or a count of uses is full; nothing has
+// changed.
 #[inline(always)]
 pub(crate) fn remove(world: &mut World, name: &TaskName, permit: Permit) -> Result<Answer, Deny>
     requires given { IsGiven world.old name.now permit }

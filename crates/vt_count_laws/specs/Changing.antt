@@ -1,5 +1,5 @@
--- A change of counted inodes, and the change of the tree with the sweep after it: link(2), unlink(2), rename(2), mkdir(2),
--- write(2), chmod(2).
+-- A change of counted inodes, and the change of the tree with the sweep after it: link(2), unlink(2), rename(2),
+-- mkdir(2), write(2), chmod(2).
 use Rattle.std.specs.Prelude.{false, is_some, nat_eq, true, ℕ, ⊤, ◌≡◌, ◌≢◌}
 use Rattle.vt_spec.specs.FileTree.{FileTree}
 use Rattle.vt_spec.specs.Language.Changes.{Change}
@@ -70,7 +70,8 @@ OtherCountsStay =
     → IsCounted (after_change fresh world location change)
     (filesystem_numbered nat_eq (after_change fresh world location change) other) others
 
--- So the world with the changed inodes in that filesystem, their numbers in whatever order, is the world after the change.
+-- So the world with the changed inodes in that filesystem, their numbers in whatever order, is the world after the
+-- change.
 abbrev pub CountedChangesAreSwept : Type 0
 CountedChangesAreSwept =
     (fresh : Fresh ℕ) (world : World ℕ) (location : Location ℕ) (inodes : Inodes ℕ) (change : Change ℕ)

@@ -1,5 +1,5 @@
--- The inodes of a filesystem in a world, each with the count of its uses: inode(7), "Hard link count", and unlink(2) on a
--- file that is still open.
+-- The inodes of a filesystem in a world, each with the count of its uses: inode(7), "Hard link count", and unlink(2) on
+-- a file that is still open.
 use Rattle.std.specs.Prelude.{All, false, length, nat_eq, ℕ, ◌≡◌}
 use Rattle.vt_spec.specs.Lists.{any_pair}
 use Rattle.vt_spec.specs.Machine.World.{Filesystem, World, is_overlay}
@@ -10,8 +10,8 @@ use Rattle.vt_letting_go.specs.Counts.{inode_uses}
 abbrev pub IsPlain : World ℕ → Type 0
 IsPlain world = All (λ filesystem. is_overlay filesystem ≡ false) world.filesystems
 
--- Counted inodes are those of a filesystem in a world: the same root, the same nodes, each with the count of its uses. No
--- number stands twice beside the tree.
+-- Counted inodes are those of a filesystem in a world: the same root, the same nodes, each with the count of its uses.
+-- No number stands twice beside the tree.
 pub record IsCounted (world : World ℕ) (filesystem : Filesystem ℕ) (inodes : Inodes ℕ) : Type 0 where
   pub root : inodes.root ≡ filesystem.files.tree.root
   pub node : (number : ℕ) → node_in (inodes.inode number) ≡ filesystem.files.tree.node number

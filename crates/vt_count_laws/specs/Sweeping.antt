@@ -1,4 +1,5 @@
--- Counted inodes after the sweep at the end of a call, and in worlds that differ in change numbers and the order of numbers.
+-- Counted inodes after the sweep at the end of a call, and in worlds that differ in change numbers and the order of
+-- numbers.
 use Rattle.std.specs.Prelude.{List, nat_eq, ℕ}
 use Rattle.vt_spec.specs.Machine.SameWorlds.{SameWorlds}
 use Rattle.vt_spec.specs.Machine.Settled.{settled, without_dead_filesystems, without_dead_mounts}

@@ -20,11 +20,13 @@ use Rattle.vt_count_laws.specs.Counted.{IsCounted, IsPlain}
 abbrev pub is_inode : ℕ → ℕ → Inode → Bool
 is_inode filesystem number inode = nat_eq filesystem inode.0 && nat_eq number inode.1
 
--- From one world to the next the inodes of a filesystem get these uses and lose those, each as often as it stands there.
+-- From one world to the next the inodes of a filesystem get these uses and lose those, each as often as it stands
+-- there.
 pub record Exchanges (gained lost : List Inode) (filesystem : ℕ) (world after : World ℕ) : Type 0 where
   pub same : filesystem_numbered nat_eq after filesystem ≡ filesystem_numbered nat_eq world filesystem
   pub uses : (number : ℕ)
-      → inode_uses world (filesystem_numbered nat_eq world filesystem) number + times (is_inode filesystem number) gained
+      → inode_uses world (filesystem_numbered nat_eq world filesystem) number + times
+      (is_inode filesystem number) gained
       ≡ inode_uses after (filesystem_numbered nat_eq after filesystem) number + times (is_inode filesystem number) lost
 
 -- those of a list that are of this filesystem are used once more, or once less
@@ -35,14 +37,16 @@ abbrev pub unpinned_if : ℕ → Inodes ℕ → Inode → Inodes ℕ
 unpinned_if filesystem inodes inode = if nat_eq filesystem inode.0 then unpinned nat_eq inodes inode.1 else inodes
 
 abbrev pub exchanged : ℕ → List Inode → List Inode → Inodes ℕ → Inodes ℕ
-exchanged filesystem gained lost inodes = folded (unpinned_if filesystem) (folded (pinned_if filesystem) inodes gained) lost
+exchanged filesystem gained lost inodes =
+    folded (unpinned_if filesystem) (folded (pinned_if filesystem) inodes gained) lost
 
 -- what gets a use is there
 abbrev pub AreThere : ℕ → Inodes ℕ → List Inode → Type 0
 AreThere filesystem inodes gained =
     list_all (λ inode. not (nat_eq filesystem inode.0) || is_some (inodes.inode inode.1)) gained ≡ true
 
--- Where all inodes were in use: those that lost a use are looked at in the world; counted inodes are pinned, and then unpinned.
+-- Where all inodes were in use: those that lost a use are looked at in the world; counted inodes are pinned, and then
+-- unpinned.
 abbrev pub UsesAreExchanged : Type 0
 UsesAreExchanged =
     (world after : World ℕ) (gained lost : List Inode) (filesystem : ℕ) (inodes : Inodes ℕ)
@@ -98,7 +102,8 @@ MountIsPlaced =
     → world.mounts ≡ front ++ (old ∷ back) → after.mounts ≡ front ++ (new ∷ back)
     → new.number ≡ old.number → new.filesystem ≡ old.filesystem → new.root ≡ old.root
     → (filesystem : ℕ)
-    → Exchanges (map (inode_at world) (option_to_list new.mount_point)) (map (inode_at world) (option_to_list old.mount_point))
+    → Exchanges (map (inode_at world) (option_to_list new.mount_point))
+    (map (inode_at world) (option_to_list old.mount_point))
     filesystem world after
 
 -- Where other plain filesystems come and go, the uses in this one stay.
@@ -152,4 +157,5 @@ NewTreeIsCounted =
 abbrev pub OpeningIsCounted : Type 0
 OpeningIsCounted =
     (fresh : Fresh ℕ)
-    → IsCounted (opening nat_eq fresh) (filesystem_numbered nat_eq (opening nat_eq fresh) (fresh 2)) (one_counted (fresh 3) 4)
+    → IsCounted (opening nat_eq fresh) (filesystem_numbered nat_eq (opening nat_eq fresh) (fresh 2))
+    (one_counted (fresh 3) 4)

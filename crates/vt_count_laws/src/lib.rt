@@ -1,5 +1,5 @@
-//! Inodes that count their uses: laws of the sweep of a world, one change at a time. Each public function is a theorem of
-//! the written policy, and does nothing.
+//! Inodes that count their uses: laws of the sweep of a world, one change at a time. Each public function is a theorem
+//! of the written policy, and does nothing.
 #![tactic(auto)]
 
 pub mod changing;

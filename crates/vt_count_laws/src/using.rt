@@ -2,8 +2,8 @@
 ghost use Rattle.vt_count_laws.specs.Sweeping.{SameWorldsCountAlike, UsesAreSwept};
 ghost use Rattle.vt_count_laws.specs.Using.{ExchangesFollow, ExchangesTurn, LocationsAreUses, LocationsOfWorldsStand, MountIsPlaced, MountsAreUses, MountsLeaveTheirRoots, NewTreeIsCounted, OpeningIsCounted, OthersUseNothing, PlacesStand, UsesAreExchanged};
 
-/// Where inodes get some uses and lose some, those that are left with none go, and the others have the new counts. The sweep
-/// at the end of a call does the same, once mounts and filesystems without a use are gone.
+/// Where inodes get some uses and lose some, those that are left with none go, and the others have the new counts. The
+/// sweep at the end of a call does the same, once mounts and filesystems without a use are gone.
 ///
 /// Before, all inodes were in use; there is no overlay, and the inodes that get a use exist.
 pub fn uses_are_exchanged()
@@ -39,7 +39,8 @@ pub fn a_new_tree_is_counted()
     ensures opening { OpeningIsCounted }
 {}
 
-/// Worlds without overlays that differ only in change numbers and in the order of numbers beside trees have the same counts.
+/// Worlds without overlays that differ only in change numbers and in the order of numbers beside trees have the same
+/// counts.
 pub fn same_worlds_count_alike()
     ensures { SameWorldsCountAlike }
 {}

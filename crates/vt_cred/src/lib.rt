@@ -1,4 +1,5 @@
-//! Who may do what to an object: credentials(7), path_resolution(7) and capabilities(7). And what may be done through a mount: mount(2).
+//! Who may do what to an object: credentials(7), path_resolution(7) and capabilities(7). And what may be done through a
+//! mount: mount(2).
 #![tactic(auto)]
 
 pub mod access;

@@ -18,7 +18,8 @@ LeaveInTurn (number ∷ rest) k last =
     × LeaveInTurn rest (without_attachment number point k) last
 
 -- They leave their groups at once, too, and then each mount has the type that the groups tell.
-pub record LeaveTogether (numbers : List ℕ) (old : Kept) (before : Grouping) (new : Kept) (now : Grouping) : Type 0 where
+pub record LeaveTogether (numbers : List ℕ) (old : Kept) (before : Grouping) (new : Kept)
+    (now : Grouping) : Type 0 where
   pub entries : List MountEntry
   pub turn : LeaveInTurn numbers old (record new { mounts = entries })
   pub groups : TakesAway before now numbers

@@ -1,5 +1,5 @@
--- How an event changes the code's world: as the policy applies its permit, with what nothing uses gone, change numbers and
--- the order of numbers beside trees aside.
+-- How an event changes the code's world: as the policy applies its permit, with what nothing uses gone, change numbers
+-- and the order of numbers beside trees aside.
 use Rattle.std.specs.Prelude.{Some, nat_eq, option_map, unwrap_or, ℕ, ◌/◌, ◌≡◌}
 use Rattle.vt_spec.specs.Language.Calls.{TaskName}
 use Rattle.vt_spec.specs.Lists.{Fresh}

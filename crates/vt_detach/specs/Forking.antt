@@ -12,7 +12,8 @@ use Rattle.vt_detach.specs.WorldValue.{NamespaceEntry}
 pub record HasRoom (more : ℕ) (at : Location) (mounts : List MountEntry) (filesystems : Filesystems) : Type 0 where
   pub uses : uses_of mounts (counted at.mount.count) + more ≤ 18446744073709551615
   pub writers : writers_of mounts (counted at.mount.count) < 18446744073709551615
-  pub inode : uses_in ((inodes_at filesystems at.node.filesystem.count).inode (number_of at.node)) + more ≤ 18446744073709551615
+  pub inode : uses_in ((inodes_at filesystems at.node.filesystem.count).inode
+      (number_of at.node)) + more ≤ 18446744073709551615
 
 -- the namespaces, with one task more in that of this count
 abbrev pub more_tasks : NamespaceEntry → NamespaceEntry

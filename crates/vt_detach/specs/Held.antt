@@ -1,5 +1,5 @@
--- What holds of each world of the code: the invariants of a world, and that what is kept beside it, groups and counts, is
--- what the definitions say.
+-- What holds of each world of the code: the invariants of a world, and that what is kept beside it, groups and counts,
+-- is what the definitions say.
 use Rattle.std.specs.Prelude.{All, Bool, List, None, [], false, nat_eq, true, ℕ, ◌&&◌, ◌+◌, ◌∷◌, ◌≡◌}
 use Rattle.std.specs.List.{list_all}
 use Rattle.vt_spec.specs.Machine.Mounts.{Propagation}

@@ -16,8 +16,8 @@ use Rattle.vt_detach.specs.WorldValue.{WorldValue, world_of}
 abbrev pub looks_of_value : WorldValue → Looks ℕ
 looks_of_value value = looks_of nat_eq (world_of value)
 
--- the mount of a location shows the filesystem that the location's inode is in; a number that no mount has stands for a mount
--- of the filesystem with that number
+-- the mount of a location shows the filesystem that the location's inode is in; a number that no mount has stands for a
+-- mount of the filesystem with that number
 abbrev pub is_seen : WorldValue → Location → Bool
 is_seen value at =
     nat_eq (mount_at nat_eq (world_of value) (location_of at)).filesystem (counted at.node.filesystem.count)
@@ -25,7 +25,8 @@ is_seen value at =
 -- M9: a namespace has too many mounts once this permit is applied, whichever task it is given
 abbrev pub overfills_of : WorldValue → Permit ℕ → Bool
 overfills_of value permit =
-    has_too_many nat_eq (apply nat_eq (counts_from value.next) (world_of value) (first_task nat_eq (λ place. place)) permit).world
+    has_too_many nat_eq (apply nat_eq (counts_from value.next) (world_of value)
+    (first_task nat_eq (λ place. place)) permit).world
 
 -- the namespace of a mount has too many mounts once it gets so many
 abbrev pub has_too_many_with : WorldValue → ℕ → ℕ → Bool

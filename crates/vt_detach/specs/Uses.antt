@@ -31,11 +31,15 @@ abbrev pub pinned_in : Inode → List Shown → List Shown
 pinned_in inode all = map (λ (one : Shown). record one { inodes = pinned_if (counted one.count) one.inodes inode }) all
 
 abbrev pub unpinned_in : Inode → List Shown → List Shown
-unpinned_in inode all = map (λ (one : Shown). record one { inodes = unpinned_if (counted one.count) one.inodes inode }) all
+unpinned_in inode all = map (λ (one : Shown). record one {
+  inodes = unpinned_if
+      (counted one.count) one.inodes inode;
+}) all
 
 -- one mount less of a filesystem
 abbrev pub released_if : ℕ → Shown → Shown
-released_if filesystem one = if nat_eq filesystem (counted one.count) then record one { mounts = one.mounts - 1 } else one
+released_if filesystem one = if nat_eq filesystem (counted one.count) then record one { mounts = one.mounts - 1 }
+    else one
 
 abbrev pub released_in : ℕ → List Shown → List Shown
 released_in filesystem all = map (released_if filesystem) all
@@ -50,7 +54,8 @@ without_filesystem filesystem all = filter (λ one. not (nat_eq filesystem (coun
 
 -- the filesystem goes if no mount shows it
 abbrev pub let_go_filesystem : ℕ → List Shown → List Shown
-let_go_filesystem filesystem all = if nat_eq (mounts_shown filesystem all) 0 then without_filesystem filesystem all else all
+let_go_filesystem filesystem all =
+    if nat_eq (mounts_shown filesystem all) 0 then without_filesystem filesystem all else all
 
 -- a mount goes with a use of its root, and one mount of its filesystem
 abbrev pub without_mount : ℕ → Mount ℕ → Kept → Kept
@@ -119,7 +124,8 @@ pinned_at (Some point) all = pinned_in (inode_of point.node) all
 
 -- one mount more of a filesystem
 abbrev pub mounted_if : ℕ → Shown → Shown
-mounted_if filesystem one = if nat_eq filesystem (counted one.count) then record one { mounts = one.mounts + 1 } else one
+mounted_if filesystem one = if nat_eq filesystem (counted one.count) then record one { mounts = one.mounts + 1 }
+    else one
 
 abbrev pub mounted_in : ℕ → List Shown → List Shown
 mounted_in filesystem all = map (mounted_if filesystem) all

@@ -12,10 +12,12 @@ use vt_group::Groups;
 use vt_location::{Location, MountId};
 use vt_mount::Mounts;
 
-/// A mount leaves its namespace and its mount point, which is returned, and goes if nothing is on it. It takes no memory.
+/// A mount leaves its namespace and its mount point, which is returned, and goes if nothing is on it. It takes no
+/// memory.
 pub fn detach(mounts: &mut Mounts, filesystems: &mut Filesystems, id: MountId) -> Option<Location>
     ensures point { option_map location_of result ≡ point_of (counted id.count) mounts.old }
-    ensures left { kept mounts.new filesystems.new ≡ without_attachment (counted id.count) result (kept mounts.old filesystems.old) }
+    ensures left { kept mounts.new filesystems.new
+        ≡ without_attachment (counted id.count) result (kept mounts.old filesystems.old) }
     ensures slot { IfSome result (λ point. point.node.slot < 18446744073709551616) }
 {
     let mount = mounts.get(id)?;
@@ -27,17 +29,18 @@ pub fn detach(mounts: &mut Mounts, filesystems: &mut Filesystems, id: MountId) -
     mount.mount_point
 }
 
-/// Mounts leave their namespaces one after the other. It takes no memory.
+/// Mounts leave their namespaces one after the other. It does not allocate.
 pub fn detach_each(mounts: &mut Mounts, filesystems: &mut Filesystems, ids: &[MountId])
-    ensures { LeaveInTurn (map (λ id. counted id.count) ids.now) (kept mounts.old filesystems.old) (kept mounts.new filesystems.new) }
+    ensures { LeaveInTurn (map (λ id. counted id.count) ids.now) (kept mounts.old filesystems.old)
+        (kept mounts.new filesystems.new) }
 {
     for id in ids {
         detach(mounts, filesystems, *id);
     }
 }
 
-/// Mounts leave their namespaces one after the other, and their groups at once: the slaves of a group that ends get its master. It
-/// takes no memory.
+/// Mounts leave their namespaces one after the other, and their groups at once: the slaves of a group that ends get its
+/// master. It does not allocate.
 pub fn detach_together(
     mounts: &mut Mounts,
     groups: &mut Groups,

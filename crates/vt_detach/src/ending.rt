@@ -14,8 +14,8 @@ use vt_group::Groups;
 use vt_location::NamespaceId;
 use vt_mount::Mounts;
 
-/// One task less of a namespace. With its last it goes, and its mounts are detached: they leave their groups at once, and the
-/// slaves of a group that ends get its master. It takes no memory.
+/// One task less of a namespace. With its last it goes, and its mounts are detached: they leave their groups at once,
+/// and the slaves of a group that ends get its master. It does not allocate.
 pub fn leave_namespace(
     mounts: &mut Mounts,
     groups: &mut Groups,
@@ -23,7 +23,8 @@ pub fn leave_namespace(
     namespaces: &mut IndexMap<NamespaceId, Namespace>,
     id: NamespaceId,
 )
-    ensures namespaces { entries_of namespaces.new.entries ≡ with_one_task_less id.count (entries_of namespaces.old.entries) }
+    ensures namespaces { entries_of namespaces.new.entries
+        ≡ with_one_task_less id.count (entries_of namespaces.old.entries) }
     ensures mounts { MountsAreLeft (counted id.count) (namespace_entry id.count (entries_of namespaces.old.entries))
         (kept mounts.old filesystems.old) groups.old (kept mounts.new filesystems.new) groups.new }
 {
@@ -45,7 +46,8 @@ fn end_namespace(
     filesystems: &mut Filesystems,
     id: NamespaceId,
 )
-    ensures { NamespaceIsLeft (counted id.count) (kept mounts.old filesystems.old) groups.old (kept mounts.new filesystems.new) groups.new }
+    ensures { NamespaceIsLeft (counted id.count) (kept mounts.old filesystems.old) groups.old
+        (kept mounts.new filesystems.new) groups.new }
 {
     mounts.are_ascending();
     let ended = groups.leave_all(mounts.attached_in(id));

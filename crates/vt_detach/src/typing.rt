@@ -11,7 +11,7 @@ use vt_group::Groups;
 use vt_location::{MountId, Propagation};
 use vt_mount::Mounts;
 
-/// Every mount gets the type that the groups tell; an unbindable one stays so. It takes no memory.
+/// Every mount gets the type that the groups tell; an unbindable one stays so. It does not allocate.
 pub fn follow(mounts: &mut Mounts, groups: &Groups)
     ensures { mounts.new ≡ map (typed_entry groups.now) mounts.old }
 {

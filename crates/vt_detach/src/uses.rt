@@ -12,7 +12,7 @@ use vt_location::{FilesystemId, Location, MountId};
 use vt_mount::Mounts;
 use vt_spec::errors::Deny;
 
-/// One use more of a location. It takes no memory.
+/// One use more of a location. It does not allocate.
 ///
 /// S5 (ENOMEM): the mount or the inode has 2^64 - 1 uses.
 pub fn hold(
@@ -36,7 +36,7 @@ pub fn hold(
     Ok(())
 }
 
-/// One use less of a location: what nothing uses any more goes. It takes no memory.
+/// One use less of a location: what nothing uses any more goes. It does not allocate.
 pub fn leave(mounts: &mut Mounts, filesystems: &mut Filesystems, at: Location, writes: bool)
     ensures left { kept mounts.new filesystems.new ≡ without_location at writes (kept mounts.old filesystems.old) }
     ensures slot { at.node.slot < 18446744073709551616 }
@@ -48,7 +48,8 @@ pub fn leave(mounts: &mut Mounts, filesystems: &mut Filesystems, at: Location, w
 
 /// A mount goes if it is in no namespace and nothing is on it, and its filesystem with its last mount.
 pub(crate) fn let_go_mount(mounts: &mut Mounts, filesystems: &mut Filesystems, id: MountId)
-    ensures { kept mounts.new filesystems.new ≡ meant.let_go_mount (counted id.count) (kept mounts.old filesystems.old) }
+    ensures { kept mounts.new filesystems.new
+        ≡ meant.let_go_mount (counted id.count) (kept mounts.old filesystems.old) }
 {
     let Some(mount) = mounts.get(id) else {
         return;

@@ -74,7 +74,8 @@ pub fn modes()
     ensures empty { script_text [] (codes "t mkdir /d \\e\n") ≡ codes "1 deny 22 EINVAL S1\n" }
 {}
 
-/// A task is `t` and any number of `.k`, with k from 1 to 64 without leading zeros. S2 answers a task that is not there.
+/// A task is `t` and any number of `.k`, with k from 1 to 64 without leading zeros. S2 answers a task that is not
+/// there.
 #[tactic(auto, unfolding(crate::specs::Opened::computed))]
 pub fn task_names()
     ensures child { script_text [] (codes "t.1 ls /\n") ≡ codes "1 deny 3 ESRCH S2\n" }

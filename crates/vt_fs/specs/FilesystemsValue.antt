@@ -67,7 +67,16 @@ entry_of filesystems count = find (λ entry. nat_eq count entry.count) filesyste
 
 -- the value of a count that no filesystem has: no inodes, and the number of the filesystem as that of its root
 abbrev pub no_entry : ℕ → FilesystemEntry
-no_entry count = record { count = count; tree = record { root = exchanged count (counted count); slots = []; next = 0 }; mounts = 0 }
+no_entry count = record {
+  count = count;
+  tree = record {
+    root = exchanged count
+        (counted count);
+    slots = [];
+    next = 0;
+  };
+  mounts = 0;
+}
 
 abbrev pub entry_at : Filesystems → ℕ → FilesystemEntry
 entry_at filesystems count = unwrap_or (entry_of filesystems count) (no_entry count)

@@ -36,5 +36,6 @@ NumbersAreCounted = (entry : FilesystemEntry) → length (numbers_seen entry) �
 abbrev pub FilesystemsAreFound : Type 0
 FilesystemsAreFound =
     (filesystems : Filesystems) (count : ℕ)
-    → unwrap_or (find (λ filesystem. nat_eq (counted count) filesystem.number) (filesystems_seen filesystems)) (no_filesystem (counted count))
+    → unwrap_or (find (λ filesystem. nat_eq (counted count) filesystem.number) (filesystems_seen filesystems))
+    (no_filesystem (counted count))
     ≡ filesystem_seen (entry_at filesystems count)

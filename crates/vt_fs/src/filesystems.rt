@@ -50,8 +50,8 @@ impl Filesystem {
     }
 }
 
-// The filesystem of a number. The first one is mostly the root filesystem, where most walks are: it is compared before a hash is
-// taken.
+// The filesystem of a number. The first one is mostly the root filesystem, where most walks are: it is compared before
+// a hash is taken.
 #[inline(always)]
 fn found_under(
     by_number: &IndexMap<FilesystemId, Filesystem>,
@@ -67,7 +67,8 @@ fn found_under(
 
 /// The plain filesystems, in the order in which they were made. Each is a tree of inodes in slots of its own.
 ///
-/// In a filesystem that does not exist there is nothing to read, and a change of bytes, attributes or uses has no effect.
+/// In a filesystem that does not exist there is nothing to read, and a change of bytes, attributes or uses has no
+/// effect.
 #[derive(Debug, Drop)]
 pub struct Filesystems {
     by_number: IndexMap<FilesystemId, Filesystem>,
@@ -138,7 +139,8 @@ impl Filesystems {
     // The tree of a filesystem, for a change.
     fn get_mut(&mut self, filesystem: FilesystemId) -> Option<&mut Tree>
         ensures* writes_back { sem 𝓛 (lends_tree self.entry filesystem.count result) }
-        ensures value { option_copied_mut result ≡ option_map (λ entry. entry.tree) (entry_of self.old filesystem.count) }
+        ensures value { option_copied_mut result
+            ≡ option_map (λ entry. entry.tree) (entry_of self.old filesystem.count) }
         ensures apart { any_pair (λ a b. nat_eq a.count b.count) self.old ≡ false }
     {
         match self.by_number.get_index_of(&filesystem) {
@@ -210,8 +212,8 @@ impl Filesystems {
         }
     }
 
-    /// Whether a directory other than the root has no name, as after rmdir(2) of a directory in use. What is no directory counts
-    /// as removed. Directories must be named in their parents, as for `is_under`.
+    /// Whether a directory other than the root has no name, as after rmdir(2) of a directory in use. What is no
+    /// directory counts as removed. Directories must be named in their parents, as for `is_under`.
     pub fn is_removed(&self, directory: NodeRef) -> bool
         requires named { ParentsAreNamed (files_at self.now directory.filesystem.count).tree }
         ensures { result ≡ is_removed nat_eq (files_at self.now directory.filesystem.count).tree (number_of directory) }
@@ -292,7 +294,8 @@ impl Filesystems {
 
     /// Takes back a mount that `hold_mount` counted; a count of 0 stays 0. It does not allocate.
     pub fn release_mount(&mut self, filesystem: FilesystemId)
-        ensures { self.new ≡ with_changed filesystem.count (λ entry. record entry { mounts = entry.mounts - 1 }) self.old }
+        ensures { self.new ≡ with_changed filesystem.count
+            (λ entry. record entry { mounts = entry.mounts - 1 }) self.old }
     {
         if let Some(found) = self.by_number.get_mut(&filesystem) {
             found.mounts = found.mounts.saturating_sub(1);
@@ -320,8 +323,10 @@ impl Filesystems {
     /// S5 (ENOMEM): an allocation failed; an empty result needs none.
     pub fn read_part(&self, file: NodeRef, offset: usize, size: usize) -> Result<Vec<u8>, Deny>
         ensures ok { IfOk result (λ bytes. bytes.items
-            ≡ take size (drop offset (bytes_in ((files_at self.now file.filesystem.count).tree.node (number_of file))))) }
-        ensures empty { take size (drop offset (bytes_in ((files_at self.now file.filesystem.count).tree.node (number_of file)))) ≡ []
+            ≡ take size (drop offset (bytes_in
+            ((files_at self.now file.filesystem.count).tree.node (number_of file))))) }
+        ensures empty { take size (drop offset
+            (bytes_in ((files_at self.now file.filesystem.count).tree.node (number_of file)))) ≡ []
             → IsOk result }
         ensures memory { IfErr result (λ deny. deny ≡ denial S5) }
     {
@@ -374,8 +379,8 @@ impl Filesystems {
         tree.link(slot_of(directory), name, slot_of(object))
     }
 
-    /// Removes a name of an inode that has no entries: unlink(2), rmdir(2). With its last use the inode is freed. It does not
-    /// allocate.
+    /// Removes a name of an inode that has no entries: unlink(2), rmdir(2). With its last use the inode is freed. It
+    /// does not allocate.
     pub fn unlink(&mut self, directory: NodeRef, name: &[u8], object: NodeRef)
         requires one_filesystem { object.filesystem ≡ directory.filesystem }
         requires named { number_at (files_at self.old directory.filesystem.count).tree
@@ -422,8 +427,8 @@ impl Filesystems {
         tree.rename(slot_of(from), old, slot_of(to), new, slot_of(object))
     }
 
-    /// Sets the whole content of a file: write(2) after open(2) with O_TRUNC. It does not allocate. A symlink, a whiteout and
-    /// a number without an inode stay as they are.
+    /// Sets the whole content of a file: write(2) after open(2) with O_TRUNC. It does not allocate. A symlink, a
+    /// whiteout and a number without an inode stay as they are.
     pub fn write(&mut self, file: NodeRef, bytes: Vec<u8>)
         requires file { is_directory_node
             ((files_at self.old file.filesystem.count).tree.node (number_of file)) ≡ false }
@@ -446,7 +451,8 @@ impl Filesystems {
         requires size { offset + length bytes.now ≤ largest_file }
         ensures ok { OnOk result (ChangesInodes file.filesystem.count
             (λ inodes. changed nat_eq inodes (SetBytes (number_of file)
-            (overwritten offset bytes.now (bytes_in ((files_at self.old file.filesystem.count).tree.node (number_of file))))))
+            (overwritten offset bytes.now (bytes_in
+            ((files_at self.old file.filesystem.count).tree.node (number_of file))))))
             self.old self.new) }
         ensures file { IsErrOf result (denial S5)
             → IsTrue (is_kind_in File ((files_at self.old file.filesystem.count).tree.node (number_of file))) }
@@ -477,7 +483,8 @@ impl Filesystems {
     /// S5 (ENOMEM): the inode has 2^64 - 1 uses.
     pub fn pin(&mut self, object: NodeRef) -> Result<(), Deny>
         ensures ok { OnOk result
-            (ChangesInodes object.filesystem.count (λ inodes. pinned nat_eq inodes (number_of object)) self.old self.new) }
+            (ChangesInodes object.filesystem.count
+            (λ inodes. pinned nat_eq inodes (number_of object)) self.old self.new) }
         ensures limit { IsErrOf result (denial S5)
             ↔ (uses_in ((inodes_at self.old object.filesystem.count).inode (number_of object)) ≡ most_uses) }
         ensures memory { IfErr result (λ deny. deny ≡ denial S5) }

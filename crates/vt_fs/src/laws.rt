@@ -13,7 +13,8 @@ pub fn filesystems_are_found()
     ensures { FilesystemsAreFound }
 {}
 
-/// In every tree of a world a directory other than the root has a name in its parent, or it has none and is its own parent.
+/// In every tree of a world a directory other than the root has a name in its parent, or it has none and is its own
+/// parent.
 pub fn trees_name_parents()
     ensures { TreesNameParents }
 {}

@@ -32,21 +32,26 @@ ShowsMasters =
     (world : World ℕ) (groups : Grouping) (group : ℕ) → Has world groups → HasGroup world group
     → master_in groups group ≡ world.master group
 
--- A regrouped world has just the types and masters of its groups: the type of each mount is that of the groups, or it is private
--- or unbindable as it was.
+-- A regrouped world has just the types and masters of its groups: the type of each mount is that of the groups, or it
+-- is private or unbindable as it was.
 abbrev pub typed_by : Grouping → Mount ℕ → Mount ℕ
 typed_by groups mount =
-    record mount { propagation = if is_unbindable mount.propagation then Unbindable else propagation_in groups mount.number }
+    record mount {
+      propagation = if is_unbindable mount.propagation then Unbindable
+          else propagation_in groups mount.number;
+    }
 
 abbrev pub RegroupedIsTyped : Type 0
 RegroupedIsTyped =
     (world : World ℕ) (groups : Grouping) → Has (regrouped nat_eq world) groups
-    → without_dead_groups nat_eq (regrouped nat_eq world) ≡ record world { mounts = map (typed_by groups) world.mounts; master = master_in groups }
+    → without_dead_groups nat_eq (regrouped nat_eq world)
+    ≡ record world { mounts = map (typed_by groups) world.mounts; master = master_in groups }
 
 -- Groups live on where a mount leaves,
 abbrev pub LeavingKeepsGroups : Type 0
 LeavingKeepsGroups =
-    (world : World ℕ) (mount : ℕ) → GroupsLive world → GroupsLive (regrouped nat_eq (with_propagation world mount Private))
+    (world : World ℕ) (mount : ℕ) → GroupsLive world
+    → GroupsLive (regrouped nat_eq (with_propagation world mount Private))
 
 -- becomes a slave,
 abbrev pub SlavesKeepGroups : Type 0

@@ -21,11 +21,12 @@ use Rattle.vt_group.specs.declared.groups.NewGroup.{NewGroup}
 use Rattle.vt_group.specs.Grouping.{Grouping, GroupsLive, Has, HasGroup, LacksGroup, are_rising, numbers_of, peers_of, propagation_in}
 use Rattle.vt_group.specs.Steps.{group_number}
 
--- What a change of the type of all these mounts follows: each living world that had the groups has those that are left. The
--- numbers of new groups are of no group that is there.
+-- What a change of the type of all these mounts follows: each living world that had the groups has those that are left.
+-- The numbers of new groups are of no group that is there.
 abbrev pub Retypes : Grouping → Grouping → TypeWord → List ℕ → Type 0
 Retypes old new word numbers =
-    (world : World ℕ) (group : ℕ → ℕ) (named : List (Mount ℕ)) → Has world old → GroupsLive world → numbers_of named ≡ numbers
+    (world : World ℕ) (group : ℕ → ℕ) (named : List (Mount ℕ)) → Has world old → GroupsLive world
+    → numbers_of named ≡ numbers
     → ((number : ℕ) → LacksGroup world (group number)) → Has (retyped nat_eq world group word named) new
 
 -- each mount has one type
@@ -77,16 +78,19 @@ abbrev pub with_master_of : List (ℕ × ℕ) → ℕ × Option ℕ → List (�
 with_master_of masters new = with_entry_of new.0 new.1 masters
 
 abbrev pub all_added : Grouping → List (ℕ × Propagation ℕ) → List (ℕ × Option ℕ) → Grouping
-all_added groups types new = record { peers = folded with_type_of groups.peers types; masters = folded with_master_of groups.masters new }
+all_added groups types new =
+    record { peers = folded with_type_of groups.peers types; masters = folded with_master_of groups.masters new }
 
--- A world grows: some mounts get types, no group loses its last member, and each group that gets its first member is new.
+-- A world grows: some mounts get types, no group loses its last member, and each group that gets its first member is
+-- new.
 pub record Grows (world after : World ℕ) (types : List (ℕ × Propagation ℕ)) (new : List (ℕ × Option ℕ)) : Type 0 where
   pub order : are_rising (numbers_of after.mounts) ≡ true
   pub peers : peers_of after.mounts ≡ folded with_type_of (peers_of world.mounts) types
   pub master : (group : ℕ) → after.master group ≡ folded (masters_with nat_eq) world.master new group
   pub stay : (group : ℕ) → HasGroup world group → HasGroup after group
   pub begin : All (λ entry. is_some entry.1 ≡ true → HasGroup after entry.0) new
-  pub named : (group : ℕ) → LacksGroup world group → HasGroup after group → is_among nat_eq group (map (λ entry. entry.0) new) ≡ true
+  pub named : (group : ℕ) → LacksGroup world group → HasGroup after group
+      → is_among nat_eq group (map (λ entry. entry.0) new) ≡ true
 
 -- each world that had the groups, and grows so, has the new ones: an attachment has no groups to end
 abbrev pub GrowsTo : Grouping → Grouping → List (ℕ × Propagation ℕ) → List (ℕ × Option ℕ) → Type 0
@@ -101,7 +105,8 @@ new_group new = (group_number new.group, option_map group_number new.master)
 -- What a change of these mounts to shared follows, each with the number of a group for it, if it needs one.
 abbrev pub Shares : Grouping → Grouping → List (ℕ × ℕ) → Type 0
 Shares old new pairs =
-    (world : World ℕ) (group : ℕ → ℕ) (named : List (Mount ℕ)) → Has world old → GroupsLive world → All (Contains world.mounts) named
+    (world : World ℕ) (group : ℕ → ℕ) (named : List (Mount ℕ)) → Has world old → GroupsLive world
+    → All (Contains world.mounts) named
     → map (λ mount. (mount.number, group mount.number)) named ≡ pairs → ((number : ℕ) → LacksGroup world (group number))
     → Has (retyped nat_eq world group ToShared named) new
 

@@ -49,7 +49,7 @@ impl Model for Groups {
 }
 
 impl Groups {
-    /// No groups. It takes no memory.
+    /// No groups. It does not allocate.
     pub fn new(alloc: Global) -> Self
         ensures { result ≡ no_groups }
     {
@@ -73,13 +73,14 @@ impl Groups {
         self.above.get(&group.count).copied()
     }
 
-    /// The mounts that receive the events of a group, in order of attachment: its members and slaves, and those of every
-    /// group below it.
+    /// The mounts that receive the events of a group, in order of attachment: its members and slaves, and those of
+    /// every group below it.
     ///
-    /// S5 (ENOMEM): memory was refused.
+    /// S5 (ENOMEM): an allocation failed.
     pub fn receivers(&self, alloc: Global, group: GroupId) -> Result<Vec<MountId>, Deny>
         ensures ok { IfOk result (λ mounts. (world : World ℕ) → Has world self.now → GroupsLive world
-            → map (λ mount. counted mount.count) mounts.items ≡ numbers_of (receivers nat_eq world (counted group.count))) }
+            → map (λ mount. counted mount.count) mounts.items
+            ≡ numbers_of (receivers nat_eq world (counted group.count))) }
         ensures memory { IfErr result (λ deny. deny ≡ denial S5) }
     {
         let mut receivers = Vec::new(alloc);
@@ -124,7 +125,7 @@ impl Groups {
 
     /// A mount becomes a member of a group. A group that is not there is made, without a master.
     ///
-    /// S5 (ENOMEM): memory was refused.
+    /// S5 (ENOMEM): an allocation failed.
     pub fn join(&mut self, group: GroupId, mount: MountId) -> Result<(), Deny>
         ensures ok { let mount = counted mount.count in
             let group = counted group.count in
@@ -141,7 +142,7 @@ impl Groups {
 
     /// A mount becomes a slave of a group, and is no member of any.
     ///
-    /// S5 (ENOMEM): memory was refused.
+    /// S5 (ENOMEM): an allocation failed.
     pub fn make_slave(&mut self, mount: MountId, master: GroupId) -> Result<(), Deny>
         ensures ok { let mount = counted mount.count in
             let master = counted master.count in
@@ -156,11 +157,13 @@ impl Groups {
         self.set(mount, Propagation::Slave(master))
     }
 
-    /// A mount becomes private: it is in no group, and no group's slave. Tells whether it was the last of its group, which then
-    /// has ended. It takes no memory.
+    /// A mount becomes private: it is in no group, and no group's slave. Tells whether it was the last of its group,
+    /// which then has ended. It does not allocate.
     pub fn leave(&mut self, mount: MountId) -> bool
-        ensures left { Follows self.old self.new (λ world. ⊤) (λ world. with_propagation world (counted mount.count) Private) }
-        ensures alone { result ≡ false → is_ordered self.old ≡ true → LeaveAlone self.old self.new (counted mount.count ∷ []) }
+        ensures left { Follows self.old self.new (λ world. ⊤)
+            (λ world. with_propagation world (counted mount.count) Private) }
+        ensures alone { result ≡ false → is_ordered self.old ≡ true
+            → LeaveAlone self.old self.new (counted mount.count ∷ []) }
     {
         let old = self.mounts.remove(&mount.count);
         self.end_if_lost(old)
@@ -182,8 +185,8 @@ impl Groups {
         ended
     }
 
-    /// Those of these mounts that are members of a group become slaves of it at once; then the groups without members end. It does
-    /// not allocate.
+    /// Those of these mounts that are members of a group become slaves of it at once; then the groups without members
+    /// end. It does not allocate.
     pub fn make_slaves(&mut self, mounts: &[MountId])
         ensures { Retypes self.old self.new ToSlave (map (λ mount. counted mount.count) mounts.now) }
     {
@@ -208,10 +211,10 @@ impl Groups {
         let _ = self.set(mount, Propagation::Slave(group));
     }
 
-    /// Mounts get the types that they have here, and new groups their masters, in whatever order they come: an attachment. No
-    /// group that was there may lose its last member by it.
+    /// Mounts get the types that they have here, and new groups their masters, in whatever order they come: an
+    /// attachment. No group that was there may lose its last member by it.
     ///
-    /// S5 (ENOMEM): memory was refused.
+    /// S5 (ENOMEM): an allocation failed.
     pub fn add(&mut self, mounts: &[Mount], new: &[NewGroup]) -> Result<(), Deny>
         ensures ok { OnOk result (GrowsTo self.old self.new (map typed mounts.now) (map new_group new.now)) }
         ensures memory { IfErr result (λ deny. deny ≡ denial S5) }
@@ -224,10 +227,10 @@ impl Groups {
         Ok(())
     }
 
-    /// All these mounts become shared at once. One that is not shared yet is the first member of a new group, which is given beside
-    /// it; if it was a slave, its master is the master of that group.
+    /// All these mounts become shared at once. One that is not shared yet is the first member of a new group, which is
+    /// given beside it; if it was a slave, its master is the master of that group.
     ///
-    /// S5 (ENOMEM): memory was refused.
+    /// S5 (ENOMEM): an allocation failed.
     pub fn share(&mut self, named: &[(MountId, GroupId)]) -> Result<(), Deny>
         ensures ok { OnOk result (Shares self.old self.new (map pair_of named.now)) }
         ensures memory { IfErr result (λ deny. deny ≡ denial S5) }
@@ -256,7 +259,8 @@ impl Groups {
 
     // The type of a mount that becomes shared.
     fn when_shared(&self, mount: MountId, group: GroupId) -> Propagation
-        ensures { (counted mount.count, propagation_of result) ≡ shared_type self.now (counted mount.count, counted group.count) }
+        ensures { (counted mount.count, propagation_of result)
+            ≡ shared_type self.now (counted mount.count, counted group.count) }
     {
         match self.propagation_of(mount) {
             Some(Propagation::Shared(own)) => Propagation::Shared(own),
@@ -316,7 +320,8 @@ impl Groups {
 
     // A group gets a master, or none.
     fn put_master(&mut self, new: NewGroup) -> Result<(), AllocError>
-        ensures { OnOk result (self.new ≡ record self.old { masters = with_master_of self.old.masters (new_group new) }) }
+        ensures { OnOk result (self.new
+            ≡ record self.old { masters = with_master_of self.old.masters (new_group new) }) }
     {
         match new.master {
             Some(master) => {
@@ -329,9 +334,10 @@ impl Groups {
         Ok(())
     }
 
-    /// A mount becomes the first member of a new group, which has this master, if any. A group that has a master keeps it.
+    /// A mount becomes the first member of a new group, which has this master, if any. A group that has a master keeps
+    /// it.
     ///
-    /// S5 (ENOMEM): memory was refused.
+    /// S5 (ENOMEM): an allocation failed.
     pub fn start_group(
         &mut self,
         group: GroupId,

@@ -13,14 +13,14 @@ pub fn a_world_has_one_grouping()
     ensures masters { ShowsMasters }
 {}
 
-/// Once a world is regrouped, its groups alone tell the types of its mounts and the masters: no other record of them is needed but
-/// which mounts are unbindable.
+/// Once a world is regrouped, its groups alone tell the types of its mounts and the masters: no other record of them is
+/// needed but which mounts are unbindable.
 pub fn a_regrouped_world_is_typed_by_its_groups()
     ensures { RegroupedIsTyped }
 {}
 
-/// The group or master of each mount has members, and so has each group up the masters, which come to an end: that stays
-/// so where a mount leaves, becomes a slave, joins a group or is the first member of a new one.
+/// The group or master of each mount has members, and so has each group up the masters, which come to an end: that
+/// stays so where a mount leaves, becomes a slave, joins a group or is the first member of a new one.
 pub fn groups_live_on()
     ensures leave { LeavingKeepsGroups }
     ensures slave { SlavesKeepGroups }

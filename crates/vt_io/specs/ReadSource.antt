@@ -11,6 +11,7 @@ pub record Reading (R : Type 0) : Type 0 where
 
 -- known bytes that are within a limit, seen as a list
 pub length-known_le :
-    (known : Option (List ℕ)) (limit : ℕ) → IsSomeAnd known (λ bytes. length bytes ≤ limit) → length (unwrap_or known []) ≤ limit
+    (known : Option (List ℕ)) (limit : ℕ) → IsSomeAnd known (λ bytes. length bytes ≤ limit)
+    → length (unwrap_or known []) ≤ limit
 length-known_le None limit h = absurd h
 length-known_le (Some bytes) limit h = h

@@ -49,7 +49,7 @@ impl LineBuffer {
     {
         let room = LONGEST_LINE - self.bytes.len();
         let (kept, over) = bytes.split_at(bytes.len().min(room));
-        // Within the capacity it takes no memory.
+        // Within the capacity it does not allocate.
         let _ = self.bytes.extend_from_slice(kept);
         self.overlong |= !over.is_empty();
     }

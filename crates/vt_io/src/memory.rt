@@ -154,7 +154,8 @@ impl Sink for BytesSink {
 /// Counts a call, and says whether it is the one that fails.
 fn is_due(before_failure: &mut Option<usize>) -> bool
     ensures due { IsTrue result ↔ (before_failure.old ≡ Some 0) }
-    ensures counted { before_failure.new ≡ option_and_then (λ n. if nat_lt 0 n then Some (n - 1) else None) before_failure.old }
+    ensures counted { before_failure.new
+        ≡ option_and_then (λ n. if nat_lt 0 n then Some (n - 1) else None) before_failure.old }
 {
     let is_due = *before_failure == Some(0);
     *before_failure = before_failure.and_then(|n| n.checked_sub(1));

@@ -25,8 +25,8 @@ IsAnswered world name call answer = (fresh : Fresh ℕ) → (policy nat_eq fresh
 abbrev pub IsOneInode : World ℕ → Location ℕ → Location ℕ → Type 0
 IsOneInode world a b = ((mount_at nat_eq world a).filesystem ≡ (mount_at nat_eq world b).filesystem) × (a.node ≡ b.node)
 
--- Bytes that were written by a descriptor at an offset are read there, by whatever descriptor of whatever task that is on the
--- same file, and reads.
+-- Bytes that were written by a descriptor at an offset are read there, by whatever descriptor of whatever task that is
+-- on the same file, and reads.
 abbrev pub PwriteThenPread : Type 0
 PwriteThenPread =
     (world : World ℕ) (fresh : Fresh ℕ) (name reader : TaskName) (task reading : Task ℕ) (written read : Descriptor ℕ)
@@ -56,10 +56,11 @@ OpensFile world fresh name task call file access number =
 abbrev pub ReadsBy : World ℕ → Fresh ℕ → TaskName → Call → Access → ℕ → List ℕ → Type 0
 ReadsBy world fresh name call access number bytes =
     access.reads ≡ true → (offset size : ℕ)
-    → IsAnswered (policy nat_eq fresh world name call).world name (Pread number offset size) (Bytes (take size (drop offset bytes)))
+    → IsAnswered (policy nat_eq fresh world name call).world name (Pread number offset size)
+    (Bytes (take size (drop offset bytes)))
 
--- The descriptor that open gives has the least number that is free, and is on the file that the path led to; where it reads, it
--- reads that as it was.
+-- The descriptor that open gives has the least number that is free, and is on the file that the path led to; where it
+-- reads, it reads that as it was.
 abbrev pub OpenThenPread : Type 0
 OpenThenPread =
     (world : World ℕ) (fresh : Fresh ℕ) (name : TaskName) (task : Task ℕ) (path : List ℕ) (access : Access) (number : ℕ)
@@ -67,31 +68,37 @@ OpenThenPread =
     → (policy nat_eq fresh world name (OpenFile path access NoCreation)).answer ≡ Ok (Opened number)
     → (here : Here ℕ) × (object_walk nat_eq world task path ≡ Ok here)
     × OpensFile world fresh name task (OpenFile path access NoCreation) here.location access number
-    × ReadsBy world fresh name (OpenFile path access NoCreation) access number (bytes_in (node_at nat_eq world here.location))
+    × ReadsBy world fresh name (OpenFile path access NoCreation) access number
+    (bytes_in (node_at nat_eq world here.location))
 
 -- So it is with creat, where the walk of the path led to a file that is there.
 abbrev pub OpenOrCreateThenPread : Type 0
 OpenOrCreateThenPread =
-    (world : World ℕ) (fresh : Fresh ℕ) (name : TaskName) (task : Task ℕ) (path : List ℕ) (access : Access) (mode number : ℕ)
+    (world : World ℕ) (fresh : Fresh ℕ) (name : TaskName) (task : Task ℕ) (path : List ℕ) (access : Access)
+    (mode number : ℕ)
     (place : Place ℕ) (file : Location ℕ)
     → IsWorld nat_eq world → IsPlain world → Serves nat_eq world fresh → task_called world name ≡ Some task
     → file_walk nat_eq world task path ≡ Ok place → place.object ≡ Some file
     → (policy nat_eq fresh world name (OpenFile path access (OrCreate mode))).answer ≡ Ok (Opened number)
     → OpensFile world fresh name task (OpenFile path access (OrCreate mode)) file access number
-    × ReadsBy world fresh name (OpenFile path access (OrCreate mode)) access number (bytes_in (node_at nat_eq world file))
+    × ReadsBy world fresh name (OpenFile path access (OrCreate mode)) access number
+    (bytes_in (node_at nat_eq world file))
 
--- The descriptor is on the new regular file, whose number is the first of those that were handed in, and which is empty.
+-- The descriptor is on the new regular file, whose number is the first of those that were handed in, and which is
+-- empty.
 abbrev pub OpensNewFile : World ℕ → Fresh ℕ → TaskName → Task ℕ → Call → Place ℕ → Access → ℕ → ℕ → Type 0
 OpensNewFile world fresh name task call place access mode number =
     OpensFile world fresh name task call (record { mount = place.parent.mount; node = fresh 0 }) access number
-    × (node_at nat_eq (policy nat_eq fresh world name call).world (record { mount = place.parent.mount; node = fresh 0 })
+    × (node_at nat_eq (policy nat_eq fresh world name call).world
+    (record { mount = place.parent.mount; node = fresh 0 })
     ≡ Some (new_file task mode []))
     × ReadsBy world fresh name call access number []
 
 -- So it is after creat, where the walk of the path led to a missing name, and after creat with excl.
 abbrev pub CreateThenPread : Type 0
 CreateThenPread =
-    (world : World ℕ) (fresh : Fresh ℕ) (name : TaskName) (task : Task ℕ) (path : List ℕ) (access : Access) (mode number : ℕ)
+    (world : World ℕ) (fresh : Fresh ℕ) (name : TaskName) (task : Task ℕ) (path : List ℕ) (access : Access)
+    (mode number : ℕ)
     (place : Place ℕ)
     → IsWorld nat_eq world → IsPlain world → Serves nat_eq world fresh → task_called world name ≡ Some task
     → file_walk nat_eq world task path ≡ Ok place → place.object ≡ None
@@ -100,7 +107,8 @@ CreateThenPread =
 
 abbrev pub ExclusiveThenPread : Type 0
 ExclusiveThenPread =
-    (world : World ℕ) (fresh : Fresh ℕ) (name : TaskName) (task : Task ℕ) (path : List ℕ) (access : Access) (mode number : ℕ)
+    (world : World ℕ) (fresh : Fresh ℕ) (name : TaskName) (task : Task ℕ) (path : List ℕ) (access : Access)
+    (mode number : ℕ)
     → IsWorld nat_eq world → IsPlain world → Serves nat_eq world fresh → task_called world name ≡ Some task
     → (policy nat_eq fresh world name (OpenFile path access (Exclusive mode))).answer ≡ Ok (Opened number)
     → (place : Place ℕ) × (new_walk nat_eq world task path ≡ Ok place)

@@ -1,5 +1,5 @@
--- What later calls see where a name of an object became another one, in a world that has the invariants, and no overlay: by whatever
--- path and task, if it leads to the directory that has the name.
+-- What later calls see where a name of an object became another one, in a world that has the invariants, and no
+-- overlay: by whatever path and task, if it leads to the directory that has the name.
 use Rattle.std.specs.Prelude.{Bool, Contains, Err, List, None, Ok, Some, false, nat_eq, true, ℕ, ◌&&◌, ◌≡◌, ◌⊎◌}
 use Rattle.vt_spec.specs.declared.errors.Rule.{Rule}
 use Rattle.vt_spec.specs.declared.errors.Rule.TheVariants.{C1, W6}
@@ -22,17 +22,18 @@ use Rattle.vt_world_laws.specs.Worlds.Kept.{IsPlain}
 use Rattle.vt_later_laws.specs.Later.{IsAnswered}
 use Rattle.vt_later_laws.specs.LaterPaths.{IsAnsweredUnless, IsRefused, LooksFrom}
 
--- In a later world a path of a task leads to the directory that is at a location of an earlier one, through whatever mount, and to this
--- last word in it.
-pub record LeadsToName (world later : World ℕ) (task : Task ℕ) (path : List ℕ) (directory : Location ℕ) (last : LastWord) : Type 0 where
+-- In a later world a path of a task leads to the directory that is at a location of an earlier one, through whatever
+-- mount, and to this last word in it.
+pub record LeadsToName (world later : World ℕ) (task : Task ℕ) (path : List ℕ) (directory : Location ℕ)
+    (last : LastWord) : Type 0 where
   pub place : Place ℕ
   pub walked : place_walk nat_eq later task path ≡ Ok place
   pub filesystem : (mount_at nat_eq later place.parent).filesystem ≡ (mount_at nat_eq world directory).filesystem
   pub node : place.parent.node ≡ directory.node
   pub last_is : place.last ≡ last
 
--- What holds of the two names of a granted rename, whatever has the new one: a file goes over a file, a directory over an empty
--- directory. The two names are not of one object, since then nothing is done.
+-- What holds of the two names of a granted rename, whatever has the new one: a file goes over a file, a directory over
+-- an empty directory. The two names are not of one object, since then nothing is done.
 abbrev pub AfterRename : (World ℕ → World ℕ → TaskName → Place ℕ → Place ℕ → List ℕ → Type 0) → Type 0
 AfterRename IsSo =
     (old new : List ℕ) (world : World ℕ) (fresh : Fresh ℕ) (name : TaskName) (task : Task ℕ) (from to : Place ℕ)
@@ -42,14 +43,16 @@ AfterRename IsSo =
     → (policy nat_eq fresh world name (Rename old new)).answer ≡ Ok Done
     → IsSo world (policy nat_eq fresh world name (Rename old new)).world name from to old
 
--- lstat tells by the new name what it told by the old one, which is missing. A slash behind a name asks for a directory.
+-- lstat tells by the new name what it told by the old one, which is missing. A slash behind a name asks for a
+-- directory.
 abbrev pub RenameThenFound : Type 0
 RenameThenFound =
     AfterRename (λ world later name from to old.
     (line : StatLine) × IsAnswered world name (Lstat old) (Told line)
     × ((reader : TaskName) (reading : Task ℕ) (path : List ℕ) → task_called later reader ≡ Some reading
     → (LeadsToName world later reading path to.parent to.last
-    → (ends_in_slash path ≡ true → is_directory_there nat_eq world from ≡ true) → IsAnswered later reader (Lstat path) (Told line))
+    → (ends_in_slash path ≡ true → is_directory_there nat_eq world from ≡ true)
+    → IsAnswered later reader (Lstat path) (Told line))
     × (LeadsToName world later reading path from.parent from.last → IsRefused W6 later reader (Lstat path))))
 
 -- A directory has the names in it that it had.
@@ -59,7 +62,8 @@ RenameThenListed =
     is_directory_there nat_eq world from ≡ true
     → (names : List (List ℕ)) × IsAnsweredUnless C1 world name (Ls old) (Names names)
     × ((reader : TaskName) (reading : Task ℕ) (path : List ℕ) → task_called later reader ≡ Some reading
-    → LeadsToName world later reading path to.parent to.last → IsAnsweredUnless C1 later reader (Ls path) (Names names)))
+    → LeadsToName world later reading path to.parent to.last
+    → IsAnsweredUnless C1 later reader (Ls path) (Names names)))
 
 -- a directory lies in another one: it is that, or lies under it
 abbrev pub lies_in : World ℕ → Location ℕ → Location ℕ → Bool
@@ -67,16 +71,18 @@ lies_in world top here =
     nat_eq (mount_at nat_eq world here).filesystem (mount_at nat_eq world top).filesystem
     && is_directory_under nat_eq (files_at nat_eq world top) top.node here.node
 
--- The task stands outside of a directory: neither its root nor its working directory lies in it, nor does any mount point of its
--- namespace.
+-- The task stands outside of a directory: neither its root nor its working directory lies in it, nor does any mount
+-- point of its namespace.
 pub record StandsOutside (world : World ℕ) (task : Task ℕ) (top : Location ℕ) : Type 0 where
   pub root : lies_in world top task.root ≡ false
   pub directory : lies_in world top task.directory ≡ false
-  pub points : (mount : Mount ℕ) (place : Location ℕ) → Contains world.mounts mount → mount.namespace ≡ Some task.namespace
+  pub points : (mount : Mount ℕ) (place : Location ℕ) → Contains world.mounts mount
+      → mount.namespace ≡ Some task.namespace
       → mount.mount_point ≡ Some place → lies_in world top place ≡ false
 
--- A directory that was given a name that was free is found at the same path, by a task that stands outside of it, and its old path is
--- missing. W6 is the one refusal of the new path that there may be: that may have led through the old name (`/a` to `/a/../b`).
+-- A directory that was given a name that was free is found at the same path, by a task that stands outside of it, and
+-- its old path is missing. W6 is the one refusal of the new path that there may be: that may have led through the old
+-- name (`/a` to `/a/../b`).
 abbrev pub RenameDirectoryThenLstat : Type 0
 RenameDirectoryThenLstat =
     (old new : List ℕ) (world : World ℕ) (fresh : Fresh ℕ) (name : TaskName) (task : Task ℕ) (from to : Place ℕ)

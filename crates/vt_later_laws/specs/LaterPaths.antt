@@ -1,5 +1,5 @@
--- What later calls see at a path of an earlier one, in a world that has the invariants, and no overlay. The later call is at the
--- same path; symlinks on the way are followed, and a final one where the call follows it.
+-- What later calls see at a path of an earlier one, in a world that has the invariants, and no overlay. The later call
+-- is at the same path; symlinks on the way are followed, and a final one where the call follows it.
 use Rattle.std.specs.Prelude.{Bool, Err, List, None, Ok, Option, Some, [], false, length, nat_eq, nat_le, true, ℕ, ◌||◌, ◌≡◌, ◌⊎◌}
 use Rattle.vt_spec.specs.declared.attributes.Attr.{Attr}
 use Rattle.vt_spec.specs.declared.errors.Rule.{Rule}
@@ -35,7 +35,8 @@ AfterGranted call IsSo =
 abbrev pub IsAnsweredUnless : Rule → World ℕ → TaskName → Call → Answer → Type 0
 IsAnsweredUnless rule world name call answer =
     (fresh : Fresh ℕ)
-    → ((policy nat_eq fresh world name call).answer ≡ Ok answer) ⊎ ((policy nat_eq fresh world name call).answer ≡ Err (denial rule))
+    → ((policy nat_eq fresh world name call).answer ≡ Ok answer)
+    ⊎ ((policy nat_eq fresh world name call).answer ≡ Err (denial rule))
 
 -- it is refused by this rule
 abbrev pub IsRefused : Rule → World ℕ → TaskName → Call → Type 0
@@ -63,8 +64,8 @@ abbrev pub IsRefusedToAll : Rule → World ℕ → Task ℕ → Call → Type 0
 IsRefusedToAll rule world task call =
     (name : TaskName) (reading : Task ℕ) → LooksFrom world task name reading → IsRefused rule world name call
 
--- What was written at a path is read there, unless the task may write and not read. A final symlink is followed, also one that
--- led to no file yet.
+-- What was written at a path is read there, unless the task may write and not read. A final symlink is followed, also
+-- one that led to no file yet.
 abbrev pub WriteThenRead : Type 0
 WriteThenRead =
     (path bytes : List ℕ)
@@ -99,16 +100,17 @@ IsRefusedBy rule other world name call =
     → ((policy nat_eq fresh world name call).answer ≡ Err (denial rule))
     ⊎ ((policy nat_eq fresh world name call).answer ≡ Err (denial other))
 
--- So is the name of a directory that was removed, for the task and for each that looks from where it stands. Mounts that stood on the
--- directory in other namespaces are gone. W8 may be the refusal where the working directory is the one that was removed, since `..`
--- leads nowhere from it.
+-- So is the name of a directory that was removed, for the task and for each that looks from where it stands. Mounts
+-- that stood on the directory in other namespaces are gone. W8 may be the refusal where the working directory is the
+-- one that was removed, since `..` leads nowhere from it.
 abbrev pub RmdirThenLstat : Type 0
 RmdirThenLstat =
     (path : List ℕ) (world : World ℕ) (fresh : Fresh ℕ) (name : TaskName) (task : Task ℕ) (place : Place ℕ)
     → IsWorld nat_eq world → IsPlain world → Serves nat_eq world fresh → task_called world name ≡ Some task
     → old_walk nat_eq world task path ≡ Ok place → (policy nat_eq fresh world name (Rmdir path)).answer ≡ Ok Done
     → IsRefusedBy W6 W8 (policy nat_eq fresh world name (Rmdir path)).world name (Lstat path)
-    × ((reader : TaskName) (reading : Task ℕ) → LooksFrom (policy nat_eq fresh world name (Rmdir path)).world task reader reading
+    × ((reader : TaskName) (reading : Task ℕ)
+    → LooksFrom (policy nat_eq fresh world name (Rmdir path)).world task reader reading
     → IsRefusedBy W6 W8 (policy nat_eq fresh world name (Rmdir path)).world reader (Lstat path))
     × (¬ (IsOneInode world task.directory (object_there place))
     → IsRefused W6 (policy nat_eq fresh world name (Rmdir path)).world name (Lstat path)
@@ -124,16 +126,18 @@ LinkThenLstat =
     × IsAnswered (policy nat_eq fresh world name (LinkTo old new)).world name (Lstat new) (Told line)
     × IsSeenByAll (policy nat_eq fresh world name (LinkTo old new)).world task (Lstat new) (Told line)
 
--- After a granted call that sets attributes stat tells these in the place of those that it told before, and nothing else has
--- changed. Where the object is a directory on the way, the task may have lost the right to search it.
+-- After a granted call that sets attributes stat tells these in the place of those that it told before, and nothing
+-- else has changed. Where the object is a directory on the way, the task may have lost the right to search it.
 abbrev pub TellsAfter : Call → List ℕ → (Attr → Attr) → Type 0
 TellsAfter call path set =
     (world : World ℕ) (fresh : Fresh ℕ) (name : TaskName) (task : Task ℕ)
     → IsWorld nat_eq world → IsPlain world → Serves nat_eq world fresh → task_called world name ≡ Some task
     → (policy nat_eq fresh world name call).answer ≡ Ok Done
     → (line : StatLine) × IsAnswered world name (Stat path) (Told line)
-    × IsAnsweredUnless W4 (policy nat_eq fresh world name call).world name (Stat path) (Told (record line { attr = set line.attr }))
-    × IsSeenByAll (policy nat_eq fresh world name call).world task (Stat path) (Told (record line { attr = set line.attr }))
+    × IsAnsweredUnless W4 (policy nat_eq fresh world name call).world name (Stat path)
+    (Told (record line { attr = set line.attr }))
+    × IsSeenByAll (policy nat_eq fresh world name call).world task (Stat path)
+    (Told (record line { attr = set line.attr }))
 
 abbrev pub ChmodThenStat : Type 0
 ChmodThenStat = (path : List ℕ) (mode : ℕ) → TellsAfter (Chmod path mode) path (λ attr. attr_with_mode attr mode)
@@ -142,9 +146,9 @@ abbrev pub ChownThenStat : Type 0
 ChownThenStat =
     (path : List ℕ) (uid gid : Option ℕ) → TellsAfter (Chown path uid gid) path (λ attr. attr_with_owner attr uid gid)
 
--- An object that is no directory and was given a name that was free has this name: lstat tells of it what it told by the old
--- one. The old name is missing. W6 is the one refusal of the new one that there may be: its path may have led through the old
--- one, a symlink.
+-- An object that is no directory and was given a name that was free has this name: lstat tells of it what it told by
+-- the old one. The old name is missing. W6 is the one refusal of the new one that there may be: its path may have led
+-- through the old one, a symlink.
 abbrev pub RenameThenLstat : Type 0
 RenameThenLstat =
     (old new : List ℕ) (world : World ℕ) (fresh : Fresh ℕ) (name : TaskName) (task : Task ℕ) (from to : Place ℕ)
@@ -160,19 +164,23 @@ RenameThenLstat =
     → IsAnsweredUnless W6 (policy nat_eq fresh world name (Rename old new)).world reader (Lstat new) (Told line)
     × IsRefused W6 (policy nat_eq fresh world name (Rename old new)).world reader (Lstat old))
 
--- After a granted open with creat and excl another one of the path is refused by E1, where the task has a descriptor left.
+-- After a granted open with creat and excl another one of the path is refused by E1, where the task has a descriptor
+-- left.
 abbrev pub ExclusiveTwice : Type 0
 ExclusiveTwice =
     (path : List ℕ) (world : World ℕ) (fresh : Fresh ℕ) (name : TaskName) (task : Task ℕ) (access again : Access)
     (mode other number : ℕ)
     → IsWorld nat_eq world → IsPlain world → Serves nat_eq world fresh → task_called world name ≡ Some task
     → (policy nat_eq fresh world name (OpenFile path access (Exclusive mode))).answer ≡ Ok (Opened number)
-    → ((now : Task ℕ) → task_called (policy nat_eq fresh world name (OpenFile path access (Exclusive mode))).world name ≡ Some now
+    → ((now : Task ℕ) → task_called (policy nat_eq fresh world name (OpenFile path access (Exclusive mode))).world name
+    ≡ Some now
     → nat_le most_descriptors (length now.descriptors) ≡ false
-    → IsRefused E1 (policy nat_eq fresh world name (OpenFile path access (Exclusive mode))).world name (OpenFile path again
+    → IsRefused E1 (policy nat_eq fresh world name (OpenFile path access (Exclusive mode))).world name
+    (OpenFile path again
     (Exclusive other)))
     × ((reader : TaskName) (reading : Task ℕ)
     → LooksFrom (policy nat_eq fresh world name (OpenFile path access (Exclusive mode))).world task reader reading
     → nat_le most_descriptors (length reading.descriptors) ≡ false
-    → IsRefused E1 (policy nat_eq fresh world name (OpenFile path access (Exclusive mode))).world reader (OpenFile path again
+    → IsRefused E1 (policy nat_eq fresh world name (OpenFile path access (Exclusive mode))).world reader
+    (OpenFile path again
     (Exclusive other)))

@@ -1,4 +1,5 @@
--- What each call asks, in its order: the rules of the script and of capabilities, then its walks, then one table of rules.
+-- What each call asks, in its order: the rules of the script and of capabilities, then its walks, then one table of
+-- rules.
 use Rattle.std.specs.Prelude.{Bool, IsErrAnd, IsOk, List, None, Ok, Option, Result, Some, [], false, filter, is_err, is_none, is_some, length, map, nat_eq, nat_lt, true, unwrap_or, ℕ, ◌++◌, ◌||◌, ◌∷◌, ◌≡◌, ◌≤◌}
 use Rattle.vt_laws.specs.RuleRanks.{is_among, rank}
 use Rattle.vt_spec.specs.declared.errors.Deny.{Deny}
@@ -33,8 +34,10 @@ walked walk next = and_then (walk_end walk) next
 abbrev pub asked_first : World ℕ → Task ℕ → Call → Rules
 asked_first world task (Opaque path mark) = admin_rules task
 asked_first world task (OpenFile path access how) = descriptor_rules task
-asked_first world task (Pread number offset size) = (is_err (descriptor_at task number (λ descriptor. descriptor.reads)), S4) ∷ []
-asked_first world task (Pwrite number offset bytes) = (is_err (descriptor_at task number (λ descriptor. descriptor.writes)), S4) ∷ []
+asked_first world task (Pread number offset size) =
+    (is_err (descriptor_at task number (λ descriptor. descriptor.reads)), S4) ∷ []
+asked_first world task (Pwrite number offset bytes) =
+    (is_err (descriptor_at task number (λ descriptor. descriptor.writes)), S4) ∷ []
 asked_first world task (Close number) = (is_err (descriptor_at task number (λ descriptor. true)), S4) ∷ []
 asked_first world task (Chroot path) = (lacks task cap_sys_chroot, K1) ∷ []
 asked_first world task (Fork words) = fork_rules task (child_credentials task.credentials words)
@@ -58,7 +61,8 @@ asked_first world task call = []
 
 -- write(2): of a file that is there, or of one that is made
 abbrev pub asked_of_write : Fresh ℕ → World ℕ → Task ℕ → Place ℕ → List ℕ → Option (Location ℕ) → Rules
-asked_of_write fresh world task place bytes (Some file) = file_word_rules place ++ rewrite_rules nat_eq world task file bytes
+asked_of_write fresh world task place bytes (Some file) =
+    file_word_rules place ++ rewrite_rules nat_eq world task file bytes
 asked_of_write fresh world task place bytes None =
     file_word_rules place
     ++ ((nat_lt largest_file (length bytes), E6) ∷ make_rules nat_eq world task place
@@ -66,11 +70,14 @@ asked_of_write fresh world task place bytes None =
 
 -- open(2) with O_CREAT: of a file that is there, or of one that is made
 abbrev pub asked_of_creation : Fresh ℕ → World ℕ → Task ℕ → Place ℕ → ℕ → Rules
-asked_of_creation fresh world task place mode = make_rules nat_eq world task place (making place (evens fresh 0) (new_file task mode []))
+asked_of_creation fresh world task place mode =
+    make_rules nat_eq world task place (making place (evens fresh 0) (new_file task mode []))
 
 abbrev pub asked_of_open : Fresh ℕ → World ℕ → Task ℕ → Place ℕ → Access → ℕ → Option (Location ℕ) → Rules
-asked_of_open fresh world task place access mode (Some file) = file_word_rules place ++ open_rules nat_eq world task file access
-asked_of_open fresh world task place access mode None = file_word_rules place ++ asked_of_creation fresh world task place mode
+asked_of_open fresh world task place access mode (Some file) =
+    file_word_rules place ++ open_rules nat_eq world task file access
+asked_of_open fresh world task place access mode None =
+    file_word_rules place ++ asked_of_creation fresh world task place mode
 
 -- a last word that is not made new, and a slash behind a name: open(2) with O_EXCL
 abbrev pub exclusive_last_words : Place ℕ → Rules
@@ -85,15 +92,16 @@ asked_of_rename world task from to object true = same_object_rules nat_eq world 
 asked_of_rename world task from to object false = rename_rules nat_eq world task from to object
 
 -- mount(2) of an overlay: options that are no list of options name no layers
-abbrev pub asked_of_overlay : Fresh ℕ → World ℕ → Task ℕ → Location ℕ → MountFlags → Option OverlayWords → Result Rules Deny
+abbrev pub asked_of_overlay : Fresh ℕ → World ℕ → Task ℕ → Location ℕ → MountFlags → Option OverlayWords
+    → Result Rules Deny
 asked_of_overlay fresh world task place flags None = Ok ((true, O2) ∷ [])
 asked_of_overlay fresh world task place flags (Some words) =
     and_then (layers_walked nat_eq world task words) (λ places.
     Ok (layer_rules nat_eq world places (overlay_at nat_eq world task places)
     ++ new_mount_rules nat_eq world task place (overlay_mounted nat_eq fresh world task place places flags)))
 
--- The table that a call asks last, or how a walk refused it. The last word of a path is judged with the walk of that path
--- where it stands out of the order of the table: rmdir, rename and exclusive open (profile).
+-- The table that a call asks last, or how a walk refused it. The last word of a path is judged with the walk of that
+-- path where it stands out of the order of the table: rmdir, rename and exclusive open (profile).
 abbrev pub asked_last : Fresh ℕ → World ℕ → Task ℕ → Call → Result Rules Deny
 asked_last fresh world task (Ls path) =
     walked (directory_walk nat_eq world task path) (λ here. Ok (list_rules nat_eq world task here.location))
@@ -114,13 +122,15 @@ asked_last fresh world task (Mkdir path mode) =
 asked_last fresh world task (SymlinkAt text path) =
     unless (symlink_text_rules text)
     (walked (new_leaf_walk nat_eq world task path) (λ place.
-    Ok (new_rules nat_eq fresh world task place (record { attr = exact_attr task symlink_mode; content = Symlink text }))))
+    Ok (new_rules nat_eq fresh world task place
+    (record { attr = exact_attr task symlink_mode; content = Symlink text }))))
 asked_last fresh world task (MakeWhiteout path) =
     walked (new_leaf_walk nat_eq world task path) (λ place. Ok (whiteout_rules nat_eq world task place))
 asked_last fresh world task (LinkTo old new) =
     walked (symlink_walk nat_eq world task old) (λ from.
     walked (new_leaf_walk nat_eq world task new) (λ place.
-    Ok ((is_special place.last, E1) ∷ hard_link_rules nat_eq world task from.location place (linking from.location place))))
+    Ok ((is_special place.last, E1)
+    ∷ hard_link_rules nat_eq world task from.location place (linking from.location place))))
 asked_last fresh world task (Unlink path) =
     walked (old_leaf_walk nat_eq world task path) (λ place.
     Ok ((is_special place.last, E2) ∷ unlink_rules nat_eq world task place (object_there place)))
@@ -132,7 +142,8 @@ asked_last fresh world task (Rename old new) =
     unless (old_word_rules from)
     (walked (rename_new_walk nat_eq world task new (is_directory_there nat_eq world from)) (λ to.
     unless (old_word_rules to)
-    (Ok (asked_of_rename world task from to (object_there from) (is_one_object nat_eq world (object_there from) to.object))))))
+    (Ok (asked_of_rename world task from to (object_there from)
+    (is_one_object nat_eq world (object_there from) to.object))))))
 asked_last fresh world task (Chmod path mode) =
     walked (object_walk nat_eq world task path) (λ here.
     Ok (attr_rules nat_eq world here.location (owns task.credentials (attr_at nat_eq world here.location))
@@ -140,14 +151,16 @@ asked_last fresh world task (Chmod path mode) =
 asked_last fresh world task (Chown path uid gid) =
     walked (object_walk nat_eq world task path) (λ here.
     Ok (attr_rules nat_eq world here.location
-    (may_chown task.credentials (attr_at nat_eq world here.location) (attr_with_owner (attr_at nat_eq world here.location) uid gid))
+    (may_chown task.credentials (attr_at nat_eq world here.location)
+    (attr_with_owner (attr_at nat_eq world here.location) uid gid))
     (attr_with_owner (attr_at nat_eq world here.location) uid gid)))
 asked_last fresh world task (Opaque path mark) =
     walked (directory_walk nat_eq world task path) (λ here. Ok (opaque_rules nat_eq world here.location))
 asked_last fresh world task (OpenFile path access NoCreation) =
     walked (object_walk nat_eq world task path) (λ here. Ok (open_rules nat_eq world task here.location access))
 asked_last fresh world task (OpenFile path access (OrCreate mode)) =
-    walked (file_walk nat_eq world task path) (λ place. Ok (asked_of_open fresh world task place access mode place.object))
+    walked (file_walk nat_eq world task path)
+    (λ place. Ok (asked_of_open fresh world task place access mode place.object))
 asked_last fresh world task (OpenFile path access (Exclusive mode)) =
     walked (new_walk nat_eq world task path) (λ place.
     unless (exclusive_last_words place)
@@ -172,15 +185,18 @@ asked_last fresh world task (MountPlain path flags) =
     Ok (new_mount_rules nat_eq world task here.location
     (mounted nat_eq (odds fresh) world here.location (plain_filesystem nat_eq fresh) flags)))
 asked_last fresh world task (MountOverlay path options flags) =
-    walked (destination_walk nat_eq world task path) (λ here. asked_of_overlay fresh world task here.location flags options)
+    walked (destination_walk nat_eq world task path)
+    (λ here. asked_of_overlay fresh world task here.location flags options)
 asked_last fresh world task (Bind source path recursive) =
     walked (source_walk nat_eq world task source) (λ from.
     walked (destination_walk nat_eq world task path) (λ here.
-    Ok (bind_rules nat_eq world task from.location here.location (bound_at nat_eq fresh world from.location here.location recursive))))
+    Ok (bind_rules nat_eq world task from.location here.location
+    (bound_at nat_eq fresh world from.location here.location recursive))))
 asked_last fresh world task (MoveMount source path) =
     walked (source_walk nat_eq world task source) (λ from.
     walked (destination_walk nat_eq world task path) (λ here.
-    Ok (move_rules nat_eq world task from.location here.location (moved_to nat_eq fresh world from.location here.location))))
+    Ok (move_rules nat_eq world task from.location here.location
+    (moved_to nat_eq fresh world from.location here.location))))
 asked_last fresh world task (Umount path) =
     walked (directory_walk nat_eq world task path) (λ here. Ok (umount_rules nat_eq world task here.location))
 asked_last fresh world task (Lazy path) =
@@ -208,7 +224,8 @@ failing rules = map (λ row. row.1) (filter (λ row. row.0) rules)
 
 -- one of some rules, with none of them before it in the policy's order
 abbrev pub IsLeastOf : Rule → List Rule → Type 0
-IsLeastOf rule rules = (is_among rule rules ≡ true) × ((other : Rule) → is_among other rules ≡ true → rank rule ≤ rank other)
+IsLeastOf rule rules = (is_among rule rules ≡ true)
+    × ((other : Rule) → is_among other rules ≡ true → rank rule ≤ rank other)
 
 -- the answer is a refusal by the least of the rules that fail, or granted where there is none
 abbrev pub IsAnsweredByLeast : {A : Type 0} → Result A Deny → List Rule → Type 0

@@ -52,11 +52,13 @@ module _ {N M : Type 0} (there : N → M) (back : M → N) where
   abbrev pub renamed_turned : Turned N → Turned M
   renamed_turned turned = record { sched = renamed_sched turned.sched; reply = turned.reply }
 
--- A call in a renamed world, to which the renamed numbers are handed in, is answered alike and leaves the renamed world.
+-- A call in a renamed world, to which the renamed numbers are handed in, is answered alike and leaves the renamed
+-- world.
 abbrev pub CallsDoNotSeeNumbers : Type 0
 CallsDoNotSeeNumbers =
     (renaming : Renaming ℕ ℕ) (fresh : Fresh ℕ) (world : World ℕ) (name : TaskName) (call : Call)
-    → policy nat_eq (renamed_supply renaming.there renaming.back fresh) (renamed renaming.there renaming.back world) name call
+    → policy nat_eq (renamed_supply renaming.there renaming.back fresh)
+    (renamed renaming.there renaming.back world) name call
     ≡ renamed_outcome renaming.there renaming.back (policy nat_eq fresh world name call)
 
 -- So is a directive,
@@ -86,8 +88,10 @@ TurnsDoNotSeeNumbers =
 abbrev pub SameWorldsAnswerAlike : Type 0
 SameWorldsAnswerAlike =
     (world other : World ℕ) (same : SameWorld world other) (fresh : Fresh ℕ) (name : TaskName) (call : Call)
-    → ((policy nat_eq (renamed_supply same.there same.back fresh) other name call).answer ≡ (policy nat_eq fresh world name call).answer)
-    × SameWorld (policy nat_eq fresh world name call).world (policy nat_eq (renamed_supply same.there same.back fresh) other name call).world
+    → ((policy nat_eq (renamed_supply same.there same.back fresh) other name call).answer
+    ≡ (policy nat_eq fresh world name call).answer)
+    × SameWorld (policy nat_eq fresh world name call).world
+    (policy nat_eq (renamed_supply same.there same.back fresh) other name call).world
 
 -- A call changes no number but those that are handed in and those that it names.
 
@@ -155,7 +159,8 @@ module _ (named : ℕ → Bool) where
 
   abbrev pub task_named : Task ℕ → Bool
   task_named task =
-      named task.namespace && location_named task.root && location_named task.directory && list_all descriptor_named task.descriptors
+      named task.namespace && location_named task.root && location_named task.directory
+      && list_all descriptor_named task.descriptors
 
   -- what is found by its number is found at these numbers alone, and has these numbers alone
   pub record IsFoundAmong {A : Type 0} (test : A → Bool) (find : ℕ → Option A) : Type 0 where
@@ -214,7 +219,8 @@ abbrev pub CallsMakeNoOtherNumber : Type 0
 CallsMakeNoOtherNumber =
     (named : ℕ → Bool) (fresh : Fresh ℕ) (world : World ℕ) (name : TaskName) (call : Call)
     → KeepsTo named world → IsSuppliedFrom named fresh → LeavesOutTwo named
-    → (number : ℕ) → is_among nat_eq number (numbers_in_use (policy nat_eq fresh world name call).world) ≡ true → named number ≡ true
+    → (number : ℕ) → is_among nat_eq number (numbers_in_use (policy nat_eq fresh world name call).world) ≡ true
+    → named number ≡ true
 
 -- The text of a script is one, whatever unused numbers are handed in.
 
@@ -252,9 +258,9 @@ is_kept allotment number = is_kept_lot (allotment.lot number)
 abbrev pub is_in_hand : Allotment → ℕ → Bool
 is_in_hand allotment number = is_in_hand_lot (allotment.lot number)
 
--- Which new numbers a call is handed does not matter: in two worlds that are the same but for their numbers, of which the
--- one keeps to what its allotment keeps, and the other's allotment keeps the same numbers renamed, a call is answered alike,
--- and leaves worlds that are the same but for their numbers.
+-- Which new numbers a call is handed does not matter: in two worlds that are the same but for their numbers, of which
+-- the one keeps to what its allotment keeps, and the other's allotment keeps the same numbers renamed, a call is
+-- answered alike, and leaves worlds that are the same but for their numbers.
 abbrev pub SuppliesDoNotMatter : Type 0
 SuppliesDoNotMatter =
     (world other : World ℕ) (same : SameWorld world other) (first second : Allotment) (name : TaskName) (call : Call)
@@ -262,8 +268,8 @@ SuppliesDoNotMatter =
     → ((policy nat_eq second.new other name call).answer ≡ (policy nat_eq first.new world name call).answer)
     × SameWorld (policy nat_eq first.new world name call).world (policy nat_eq second.new other name call).world
 
--- Of the numbers in hand some may be given back, if the world keeps to those that are kept. So a number is used again only
--- where nothing has it any more.
+-- Of the numbers in hand some may be given back, if the world keeps to those that are kept. So a number is used again
+-- only where nothing has it any more.
 pub record ServesWithRoom (in_hand : ℕ → Bool) (world : World ℕ) (allotment : Allotment) : Type 0 where
   pub from_hand : (number : ℕ) → is_kept allotment number ≡ true → in_hand number ≡ true
   pub keeps : KeepsTo (is_kept allotment) world
@@ -275,11 +281,13 @@ TellsWithRoom grammar in_hand world number [] refused text = text ≡ []
 TellsWithRoom grammar in_hand world number (line ∷ lines) [] text = ⊥
 TellsWithRoom grammar in_hand world number (line ∷ lines) (true ∷ refused) text =
     (rest : List ℕ) × (text ≡ step_text number (line_step nat_eq grammar world line None) ++ rest)
-    × TellsWithRoom grammar in_hand (step_world world (line_step nat_eq grammar world line None)) (number + 1) lines refused rest
+    × TellsWithRoom grammar in_hand (step_world world (line_step nat_eq grammar world line None))
+    (number + 1) lines refused rest
 TellsWithRoom grammar in_hand world number (line ∷ lines) (false ∷ refused) text =
     (allotment : Allotment) × ServesWithRoom in_hand world allotment
     × (rest : List ℕ) × (text ≡ step_text number (line_step nat_eq grammar world line (Some allotment.new)) ++ rest)
-    × TellsWithRoom grammar (is_in_hand allotment) (step_world world (line_step nat_eq grammar world line (Some allotment.new)))
+    × TellsWithRoom grammar (is_in_hand allotment)
+    (step_world world (line_step nat_eq grammar world line (Some allotment.new)))
     (number + 1) lines refused rest
 
 -- the opening world has the first four numbers in hand
@@ -307,7 +315,8 @@ WorldsKeepToHand =
 -- definition of the machine allows.
 abbrev pub RoomServes : Type 0
 RoomServes =
-    (in_hand : ℕ → Bool) (world : World ℕ) (allotment : Allotment) → ServesWithRoom in_hand world allotment → Serves nat_eq world allotment.new
+    (in_hand : ℕ → Bool) (world : World ℕ) (allotment : Allotment) → ServesWithRoom in_hand world allotment
+    → Serves nat_eq world allotment.new
 
 abbrev pub TextsAreTold : Type 0
 TextsAreTold =

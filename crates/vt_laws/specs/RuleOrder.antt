@@ -23,7 +23,8 @@ use Rattle.vt_spec.specs.Machine.Walk.{Here, LastWord, Place, follow_rules, new_
 use Rattle.vt_spec.specs.Machine.World.{Task, World, is_removed_at, task_called}
 use Rattle.vt_spec.specs.PathText.{path_rules}
 
--- the rules of walks, which each call with a path has: path_resolution(7); those of a removed directory and of nosymfollow too
+-- the rules of walks, which each call with a path has: path_resolution(7); those of a removed directory and of
+-- nosymfollow too
 abbrev pub walk_rules : List Rule
 walk_rules = W1 ∷ W2 ∷ W3 ∷ W4 ∷ W5 ∷ W6 ∷ W7 ∷ W8 ∷ W9 ∷ []
 
@@ -47,8 +48,8 @@ own_rules_of_open NoCreation true = S3 ∷ E2 ∷ E9 ∷ F1 ∷ F2 ∷ L1 ∷ C1
 own_rules_of_open (OrCreate mode) writes = S3 ∷ E2 ∷ E9 ∷ F1 ∷ F2 ∷ L1 ∷ C1 ∷ B1 ∷ B2 ∷ []
 own_rules_of_open (Exclusive mode) writes = S3 ∷ E1 ∷ E2 ∷ F1 ∷ F2 ∷ L1 ∷ C1 ∷ B1 ∷ B2 ∷ []
 
--- The rules that a call has beside those of its walks; B1 and B2 are what an overlay's mounter is asked. The errors of each
--- are those of its man page, and where that leaves a choice the profile's.
+-- The rules that a call has beside those of its walks; B1 and B2 are what an overlay's mounter is asked. The errors of
+-- each are those of its man page, and where that leaves a choice the profile's.
 abbrev pub own_rules : Call → List Rule
 own_rules (Ls path) = C1 ∷ B1 ∷ []
 own_rules (Stat path) = []
@@ -108,8 +109,8 @@ DenialHasErrorOfRule =
     → (policy nat_eq fresh world name call).answer ≡ Err deny
     → deny ≡ denial deny.rule
 
--- The rules that a line may be refused by: of the grammar, of memory, and those of what it asks for. A line that is too long
--- is of none of the grammar, whatever it asks for (profile).
+-- The rules that a line may be refused by: of the grammar, of memory, and those of what it asks for. A line that is too
+-- long is of none of the grammar, whatever it asks for (profile).
 abbrev pub rules_of_request : Option Request → List Rule
 rules_of_request None = S1 ∷ S5 ∷ []
 rules_of_request (Some (Calling name call)) = S1 ∷ S5 ∷ rules_of call
@@ -136,7 +137,8 @@ FirstRulesAnswer =
     (fresh : Fresh ℕ) (world : World ℕ) (name : TaskName) (task : Task ℕ) (call : Call)
     → task_called world name ≡ Some task
     → failing (asked_first world task call) ≢ []
-    → IsErrAnd (policy nat_eq fresh world name call).answer (λ deny. IsLeastOf deny.rule (failing (asked_first world task call)))
+    → IsErrAnd (policy nat_eq fresh world name call).answer
+    (λ deny. IsLeastOf deny.rule (failing (asked_first world task call)))
 
 -- where none of those fails, a walk that is refused is the call's refusal, path by path (profile)
 abbrev pub WalksAnswerNext : Type 0
@@ -167,7 +169,8 @@ WalksRefuseAsWalks =
 
 -- the rules that a call asks before its walks are in the policy's order, and before those of walks
 abbrev pub FirstTablesInOrder : Type 0
-FirstTablesInOrder = (world : World ℕ) (task : Task ℕ) (call : Call) → IsInOrder (asked_first world task call ++ ((true, W1) ∷ []))
+FirstTablesInOrder = (world : World ℕ) (task : Task ℕ) (call : Call)
+    → IsInOrder (asked_first world task call ++ ((true, W1) ∷ []))
 
 -- the rules that a call asks after its walks are in the policy's order, and after those of walks
 abbrev pub LastTablesInOrder : Type 0
@@ -191,18 +194,21 @@ ParentRulesInOrder =
     (world : World ℕ) (task : Task ℕ) (place : Place ℕ)
     → IsInOrder (search_rules nat_eq world task place.parent ++ new_name_rules nat_eq world place)
 
--- The special last words of rmdir and of an exclusive open. They are asked with the walk, so each before the call's last
--- table, which begins with a lesser rule, E3 or E1 (profile). Those of rename are one rule, P1.
+-- The special last words of rmdir and of an exclusive open. They are asked with the walk, so each before the call's
+-- last table, which begins with a lesser rule, E3 or E1 (profile). Those of rename are one rule, P1.
 abbrev pub LastWordRulesInOrder : Type 0
-LastWordRulesInOrder = (place : Place ℕ) → IsInOrderAfterWalk (rmdir_word_rules place) × IsInOrderAfterWalk (exclusive_last_words place)
+LastWordRulesInOrder = (place : Place ℕ)
+    → IsInOrderAfterWalk (rmdir_word_rules place) × IsInOrderAfterWalk (exclusive_last_words place)
 
--- The one table in another order: whether a link is followed at all, and how many were, is asked before its text is looked
--- at, so W9 before W7 before W2 (profile).
+-- The one table in another order: whether a link is followed at all, and how many were, is asked before its text is
+-- looked at, so W9 before W7 before W2 (profile).
 abbrev pub FollowRulesInReverse : Type 0
 FollowRulesInReverse =
-    (world : World ℕ) (link : Here ℕ) (text : List ℕ) → map (λ row. row.1) (follow_rules nat_eq world link text) ≡ (W9 ∷ W7 ∷ W2 ∷ [])
+    (world : World ℕ) (link : Here ℕ) (text : List ℕ)
+    → map (λ row. row.1) (follow_rules nat_eq world link text) ≡ (W9 ∷ W7 ∷ W2 ∷ [])
 
--- a slash behind a missing name is asked last: a removed directory, W8, answers before it, though W6 is the lesser rule (profile)
+-- a slash behind a missing name is asked last: a removed directory, W8, answers before it, though W6 is the lesser rule
+-- (profile)
 abbrev pub RemovedBeforeSlash : Type 0
 RemovedBeforeSlash =
     (world : World ℕ) (task : Task ℕ) (path : List ℕ) (place : Place ℕ)
@@ -219,8 +225,8 @@ MissingBeforeSlash =
     → place.object ≡ None
     → walk_end (old_leaf_walk nat_eq world task path) ≡ Err (denial W6)
 
--- the new name of a rename: a removed directory, W8, answers before the slash asks that the old object is a directory, though
--- W3 is the lesser rule (profile)
+-- the new name of a rename: a removed directory, W8, answers before the slash asks that the old object is a directory,
+-- though W3 is the lesser rule (profile)
 abbrev pub RemovedBeforeSlashOfRename : Type 0
 RemovedBeforeSlashOfRename =
     (world : World ℕ) (task : Task ℕ) (path : List ℕ) (place : Place ℕ) (old_is_directory : Bool)

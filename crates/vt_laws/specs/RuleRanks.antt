@@ -7,7 +7,8 @@ use Rattle.vt_spec.specs.declared.errors.Rule.TheVariants.{W9}
 use Rattle.vt_spec.specs.Errors.{Rules, rule_name}
 use Rattle.vt_spec.specs.Language.Script.{value_from}
 
--- the letters in their order: script, capabilities, walk, entries, flags, layers, places, credentials, overlays, the mounter, mounts
+-- the letters in their order: script, capabilities, walk, entries, flags, layers, places, credentials, overlays, the
+-- mounter, mounts
 abbrev pub letters : List ℕ
 letters = codes "SKWEFLPCOBM"
 

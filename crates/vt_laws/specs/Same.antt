@@ -1,4 +1,5 @@
--- Worlds that are the same but for change numbers, and for the order of the numbers that stand beside trees, look alike.
+-- Worlds that are the same but for change numbers, and for the order of the numbers that stand beside trees, look
+-- alike.
 use Rattle.std.specs.Prelude.{Bool, false, nat_eq, ℕ, ◌≡◌}
 use Rattle.std.specs.List.{All}
 use Rattle.vt_laws.specs.Judged.{LookAlike}

@@ -1,8 +1,8 @@
 //! A call that is refused leaves the world as it was, and a call that only looks does too.
 ghost use Rattle.vt_laws.specs.Denials.{DenialChangesNothing, DeniedLineChangesNothing, DirectiveChangesNothing, LookChangesNothing, RefusedMemoryChangesNothing};
 
-/// Whatever rule refuses a call, at whatever point, the whole world is as it was: mounts, groups, trees, namespaces, tasks
-/// and change numbers.
+/// Whatever rule refuses a call, at whatever point, the whole world is as it was: mounts, groups, trees, namespaces,
+/// tasks and change numbers.
 ///
 /// So is it after a line of a script that is answered by a denial, and after a line that was refused memory.
 pub fn denials_change_nothing()

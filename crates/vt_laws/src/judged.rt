@@ -10,8 +10,9 @@ pub fn calls_are_judged_then_applied()
     ensures policy { PolicyJudgesThenApplies }
 {}
 
-/// Once what is not in use is gone, the policy changes nothing but change numbers: answers, files, overlays, mounts, groups,
-/// namespaces and tasks are those that the call left. Each change number stays or is one more; `numbers_raised` says which.
+/// Once what is not in use is gone, the policy changes nothing but change numbers: answers, files, overlays, mounts,
+/// groups, namespaces and tasks are those that the call left. Each change number stays or is one more; `numbers_raised`
+/// says which.
 pub fn the_last_step_raises_change_numbers_alone()
     ensures { LastStepRaisesNumbersAlone }
 {}

@@ -16,8 +16,8 @@ pub fn numbers_do_not_matter()
 /// A call makes no number but those that are handed in: where a world keeps to some numbers, and the new ones are from
 /// them too, the world after the call keeps to them.
 ///
-/// So mounts, groups, filesystems, namespaces and inodes have no other numbers after the call. The opening world keeps to
-/// its four, and each world to all that it names.
+/// So mounts, groups, filesystems, namespaces and inodes have no other numbers after the call. The opening world keeps
+/// to its four, and each world to all that it names.
 pub fn calls_make_no_other_number()
     ensures opening { OpeningKeepsToFour }
     ensures named { NamedIsKept }
@@ -29,8 +29,8 @@ pub fn calls_make_no_other_number()
 
 /// The answers to a script are one text, whatever unused numbers are handed in line by line.
 ///
-/// Each line is handed numbers that the world does not keep to, so that endless ones are left over; numbers that the world
-/// no longer keeps to may come again. A text may always be told so, and any two are one.
+/// Each line is handed numbers that the world does not keep to, so that endless ones are left over; numbers that the
+/// world no longer keeps to may come again. A text may always be told so, and any two are one.
 pub fn answers_are_one_text()
     ensures one { AnyTwoTextsAreOne }
     ensures supplies { SuppliesDoNotMatter }

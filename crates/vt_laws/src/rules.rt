@@ -12,8 +12,8 @@ pub fn denials_are_by_own_rules()
 
 /// Of several rules that fail, the least in the policy's order refuses the call, and a call that fails none is granted.
 ///
-/// The rules of the script and of capabilities are asked before the walks, those of walks as each path is walked, and all
-/// others of the places that the walks led to.
+/// The rules of the script and of capabilities are asked before the walks, those of walks as each path is walked, and
+/// all others of the places that the walks led to.
 pub fn the_least_rule_answers()
     ensures no_task { NoTaskIsRefused }
     ensures first { FirstRulesAnswer }
@@ -22,10 +22,11 @@ pub fn the_least_rule_answers()
     ensures walk_rules { WalksRefuseAsWalks }
 {}
 
-/// Each table of rules is in the policy's order: those asked before the walks, those of walks, and those asked after them.
+/// Each table of rules is in the policy's order: those asked before the walks, those of walks, and those asked after
+/// them.
 ///
-/// A link's own rules are in the other order, the special last words of rmdir and of an exclusive open come before the table
-/// that begins with a lesser rule, and a slash behind a missing name is asked last.
+/// A link's own rules are in the other order, the special last words of rmdir and of an exclusive open come before the
+/// table that begins with a lesser rule, and a slash behind a missing name is asked last.
 pub fn tables_are_in_order()
     ensures first { FirstTablesInOrder }
     ensures last { LastTablesInOrder }

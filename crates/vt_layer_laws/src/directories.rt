@@ -3,9 +3,9 @@ ghost use Rattle.vt_layer_laws.specs.Layers.Directories.{ShownUnderName, MergedA
 ghost use Rattle.vt_layer_laws.specs.Layers.DirectoryTrees.{OneDirectoryIsEnough, ObjectsAreThoseShown, OverlaysAreMergedByDirectory, RealObjectsAreThoseShown};
 ghost use Rattle.vt_layer_laws.specs.Layers.NewOverlays.{ChangedStayApart, LowersStayApart, NewOverlayHasOwnParents, NewOverlayIsFit, NewOverlayIsTree, NewOverlayListsNumbers, OverlaysStillMerge};
 
-/// What layers show under a name is what the directories show that are merged under it: those of the layers that have one
-/// there, from the top to the first that is opaque or that has something else there. In trees these are found by the one
-/// name in each layer's directory.
+/// What layers show under a name is what the directories show that are merged under it: those of the layers that have
+/// one there, from the top to the first that is opaque or that has something else there. In trees these are found by
+/// the one name in each layer's directory.
 pub fn layers_merge_one_directory_at_a_time()
     ensures under { ShownUnderName }
     ensures views { MergedAreViews }
@@ -15,9 +15,9 @@ pub fn layers_merge_one_directory_at_a_time()
     ensures directories { DirectoriesAreMerged }
 {}
 
-/// A tree of which each directory has under each name what its views show there, the root all layers' and a directory under
-/// a name those that are merged under it, has at every path what the layers show; and what is found so as the real object of
-/// an inode is the one that is shown.
+/// A tree of which each directory has under each name what its views show there, the root all layers' and a directory
+/// under a name those that are merged under it, has at every path what the layers show; and what is found so as the
+/// real object of an inode is the one that is shown.
 pub fn one_directory_at_a_time_is_enough()
     ensures tree { OneDirectoryIsEnough }
     ensures objects { ObjectsAreThoseShown }
@@ -25,10 +25,10 @@ pub fn one_directory_at_a_time_is_enough()
     ensures real { RealObjectsAreThoseShown }
 {}
 
-/// A newly mounted overlay is a tree as the invariants of a world ask for: each directory has one place, its names stand in
-/// their order, all that is in it is listed, and its names, texts and files are within the limits. If the rules on layers
-/// let it be mounted, upper and work directories still lie apart from each other and from lower layers, and each overlay is
-/// what its layers show.
+/// A newly mounted overlay is a tree as the invariants of a world ask for: each directory has one place, its names
+/// stand in their order, all that is in it is listed, and its names, texts and files are within the limits. If the
+/// rules on layers let it be mounted, upper and work directories still lie apart from each other and from lower layers,
+/// and each overlay is what its layers show.
 pub fn a_new_overlay_meets_the_invariants()
     ensures tree { NewOverlayIsTree }
     ensures own_parents { NewOverlayHasOwnParents }

@@ -15,8 +15,8 @@ pub fn one_object_is_shown()
 {}
 
 /// A change leaves every inode but its own as it was, and every filesystem but the one that is mounted and that of its
-/// upper layer, in which it writes to new inodes and to the overlay's own objects. What is locked, as each lower layer is,
-/// stays as it was in every call that changes no mount by its own, if no overlay has its upper layer in that tree.
+/// upper layer, in which it writes to new inodes and to the overlay's own objects. What is locked, as each lower layer
+/// is, stays as it was in every call that changes no mount by its own, if no overlay has its upper layer in that tree.
 pub fn lower_layers_stay()
     ensures inodes { OtherInodesStay }
     ensures filesystems { OtherFilesystemsStay }
@@ -25,17 +25,19 @@ pub fn lower_layers_stay()
     ensures locked { LockedInodesStay }
 {}
 
-/// A change of an overlay changes its tree as any tree, and in the upper layer what is asked: copies with their parents, what
-/// the change makes of them (a new object, a name, bytes, attributes or a mark), whiteouts where a lower name is left, opaque
-/// marks where a lower directory would be merged, and nothing else. Each overlay of a world is one of which this is said.
+/// A change of an overlay changes its tree as any tree, and in the upper layer what is asked: copies with their
+/// parents, what the change makes of them (a new object, a name, bytes, attributes or a mark), whiteouts where a lower
+/// name is left, opaque marks where a lower directory would be merged, and nothing else. Each overlay of a world is one
+/// of which this is said.
 pub fn overlays_change_their_upper_layer()
     ensures changes { OverlayChanges }
     ensures copies { CopiesHaveTheirName }
     ensures fit { OverlaysAreFit }
 {}
 
-/// A newly mounted overlay has at every path what its layers show. So an overlay that is mounted anew over layers that lead
-/// at every path to what another one left there shows the same tree, whoever mounts it, whatever numbers the inodes have.
+/// A newly mounted overlay has at every path what its layers show. So an overlay that is mounted anew over layers that
+/// lead at every path to what another one left there shows the same tree, whoever mounts it, whatever numbers the
+/// inodes have.
 pub fn new_overlays_show_their_layers()
     ensures merged { NewOverlayIsMerged }
     ensures remount { RemountShowsTheSame }

@@ -1,4 +1,5 @@
--- What goes when mounts are attached: mount(2), also with MS_BIND, MS_REC and MS_MOVE. Copies at receivers are counted in.
+-- What goes when mounts are attached: mount(2), also with MS_BIND, MS_REC and MS_MOVE. Copies at receivers are counted
+-- in.
 use Rattle.std.specs.Prelude.{All, Bool, Contains, List, false, is_some, map, nat_eq, option_to_list, true, ℕ, ◌∷◌, ◌≡◌}
 use Rattle.vt_spec.specs.Language.Calls.{MountFlags}
 use Rattle.vt_spec.specs.Lists.{Fresh}
@@ -71,7 +72,8 @@ MovedTreesLetGo =
 abbrev pub MovesLetGo : Type 0
 MovesLetGo =
     (fresh : Fresh ℕ) (world : World ℕ) (task : Task ℕ) (mount : ℕ) (place : Location ℕ)
-    → IsSettledPlain world → LocationsStand world → is_attached world place.mount ≡ true → is_attached world mount ≡ true
+    → IsSettledPlain world → LocationsStand world → is_attached world place.mount ≡ true
+    → is_attached world mount ≡ true
     → settled nat_eq (apply nat_eq fresh world task (ToMove mount place)).world
     ≡ let_go_inodes (apply nat_eq fresh world task (ToMove mount place)).world
     (inodes_of_mount_point world (mount_numbered nat_eq world mount))

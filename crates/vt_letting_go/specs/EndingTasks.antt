@@ -21,7 +21,8 @@ use Rattle.vt_letting_go.specs.Overlays.{let_go_all}
 abbrev pub gone_with : List (Location ℕ) → World ℕ → List ℕ
 gone_with left ending = map (λ location. location.mount) left ++ ended_mounts ending
 
--- What they used, with the locations themselves, and the mount points of mounts of ended namespaces and of mounts on them
+-- What they used, with the locations themselves, and the mount points of mounts of ended namespaces and of mounts on
+-- them
 abbrev pub used_by_ended : World ℕ → List (Location ℕ) → World ℕ → Losers
 used_by_ended world left ending =
     used_by_mounts world (gone_with left ending) (places_lost world (ended_mounts ending) ++ left)
@@ -81,7 +82,8 @@ EntersWithOverlaysLetGo =
     (fresh : Fresh ℕ) (world : World ℕ) (task : Task ℕ) (namespace : ℕ) → IsSettled world
     → settled nat_eq (apply nat_eq fresh world task (ToEnterNamespace namespace)).world
     ≡ let_go_all (apply nat_eq fresh world task (ToEnterNamespace namespace)).world
-    (used_by_ended_with_layers world (locations_of_named world task.name) (namespace_entered nat_eq world task namespace))
+    (used_by_ended_with_layers world (locations_of_named world task.name)
+    (namespace_entered nat_eq world task namespace))
 
 -- One that gets copies of its mounts in a namespace of its own leaves the same; the copies take nothing away.
 abbrev pub UnsharesLetGo : Type 0

@@ -38,7 +38,8 @@ names_lost files (CopyUp object) = []
 -- with the number of its filesystem
 abbrev pub inodes_lost : World ℕ → Location ℕ → Change ℕ → List Inode
 inodes_lost world location change =
-    map (λ inode. ((mount_at nat_eq world location).filesystem, inode)) (names_lost (files_at nat_eq world location) change)
+    map (λ inode. ((mount_at nat_eq world location).filesystem, inode))
+    (names_lost (files_at nat_eq world location) change)
 
 -- A new inode has a new number and a directory for its name; what moves has the old name, and a directory for the new
 -- one. The rules of the calls ask for it.
@@ -72,10 +73,12 @@ abbrev pub FileChangesLetGo : Type 0
 FileChangesLetGo =
     (fresh : Fresh ℕ) (world : World ℕ) (location : Location ℕ) (change : Change ℕ) → IsSettled world
     → any_pair (λ (a b : Filesystem ℕ). nat_eq a.number b.number) world.filesystems ≡ false
-    → is_among nat_eq (mount_at nat_eq world location).filesystem (map (λ filesystem. filesystem.number) world.filesystems)
+    → is_among nat_eq (mount_at nat_eq world location).filesystem
+    (map (λ filesystem. filesystem.number) world.filesystems)
     ≡ true
     → is_overlay (filesystem_at nat_eq world location) ≡ false
-    → IsListedTree (changed nat_eq (files_at nat_eq world location) change) → MayChange (files_at nat_eq world location) change
+    → IsListedTree (changed nat_eq (files_at nat_eq world location) change)
+    → MayChange (files_at nat_eq world location) change
     → settled nat_eq (with_change nat_eq fresh world location change)
     ≡ let_go_all_inodes (with_change nat_eq fresh world location change)
     (inodes_lost world location change)
@@ -85,10 +88,12 @@ abbrev pub TakenAndFileChangesLetGo : Type 0
 TakenAndFileChangesLetGo =
     (fresh : Fresh ℕ) (world : World ℕ) (gone : List ℕ) (location : Location ℕ) (change : Change ℕ) → IsSettled world
     → any_pair (λ (a b : Filesystem ℕ). nat_eq a.number b.number) world.filesystems ≡ false
-    → is_among nat_eq (mount_at nat_eq world location).filesystem (map (λ filesystem. filesystem.number) world.filesystems)
+    → is_among nat_eq (mount_at nat_eq world location).filesystem
+    (map (λ filesystem. filesystem.number) world.filesystems)
     ≡ true
     → is_overlay (filesystem_at nat_eq world location) ≡ false
-    → IsListedTree (changed nat_eq (files_at nat_eq world location) change) → MayChange (files_at nat_eq world location) change
+    → IsListedTree (changed nat_eq (files_at nat_eq world location) change)
+    → MayChange (files_at nat_eq world location) change
     → settled nat_eq (with_change nat_eq fresh (taken_away nat_eq world gone) location change)
     ≡ let_go_all (with_change nat_eq fresh (taken_away nat_eq world gone) location change)
     (with_lost (used_by_gone_with_layers world gone) (inodes_lost world location change))
@@ -99,7 +104,8 @@ RemovedDirectoriesLetGo =
     (fresh : Fresh ℕ) (world : World ℕ) (task : Task ℕ) (parent : Location ℕ) (name : List ℕ) (directory : Location ℕ)
     → IsSettled world
     → any_pair (λ (a b : Filesystem ℕ). nat_eq a.number b.number) world.filesystems ≡ false
-    → is_among nat_eq (mount_at nat_eq world parent).filesystem (map (λ filesystem. filesystem.number) world.filesystems)
+    → is_among nat_eq (mount_at nat_eq world parent).filesystem
+    (map (λ filesystem. filesystem.number) world.filesystems)
     ≡ true
     → is_overlay (filesystem_at nat_eq world parent) ≡ false
     → IsListedTree (changed nat_eq (files_at nat_eq world parent) (Remove parent.node name directory.node))
@@ -111,7 +117,8 @@ RemovedDirectoriesLetGo =
 -- and of a rename that replaces an object.
 abbrev pub ReplacingLetsGo : Type 0
 ReplacingLetsGo =
-    (fresh : Fresh ℕ) (world : World ℕ) (task : Task ℕ) (from : Location ℕ) (old : List ℕ) (to : Location ℕ) (new : List ℕ)
+    (fresh : Fresh ℕ) (world : World ℕ) (task : Task ℕ) (from : Location ℕ) (old : List ℕ) (to : Location ℕ)
+    (new : List ℕ)
     (object replaced : Location ℕ) → IsSettled world
     → any_pair (λ (a b : Filesystem ℕ). nat_eq a.number b.number) world.filesystems ≡ false
     → is_among nat_eq (mount_at nat_eq world from).filesystem (map (λ filesystem. filesystem.number) world.filesystems)
@@ -130,7 +137,8 @@ MadeKeepsAll =
     (fresh : Fresh ℕ) (world : World ℕ) (task : Task ℕ) (directory : Location ℕ) (name : List ℕ) (node : Node ℕ)
     → IsSettled world
     → any_pair (λ (a b : Filesystem ℕ). nat_eq a.number b.number) world.filesystems ≡ false
-    → is_among nat_eq (mount_at nat_eq world directory).filesystem (map (λ filesystem. filesystem.number) world.filesystems)
+    → is_among nat_eq (mount_at nat_eq world directory).filesystem
+    (map (λ filesystem. filesystem.number) world.filesystems)
     ≡ true
     → is_overlay (filesystem_at nat_eq world directory) ≡ false
     → IsListedTree (changed nat_eq (files_at nat_eq world directory) (Make directory.node name (evens fresh 0) node))
@@ -146,7 +154,8 @@ OpenedNewKeepsAll =
     (access : Access) → IsSettled world
     → any_pair (λ (a b : Filesystem ℕ). nat_eq a.number b.number) world.filesystems ≡ false
     → any_pair (λ (a b : Task ℕ). same_name a.name b.name) world.tasks ≡ false → Contains world.tasks task
-    → is_among nat_eq (mount_at nat_eq world directory).filesystem (map (λ filesystem. filesystem.number) world.filesystems)
+    → is_among nat_eq (mount_at nat_eq world directory).filesystem
+    (map (λ filesystem. filesystem.number) world.filesystems)
     ≡ true
     → is_overlay (filesystem_at nat_eq world directory) ≡ false
     → IsListedTree (changed nat_eq (files_at nat_eq world directory) (Make directory.node name (evens fresh 0) node))

@@ -70,7 +70,8 @@ NewMountsKeepAll =
     (world : World ℕ) (mounts : List (Mount ℕ)) (filesystems : List (Filesystem ℕ)) (master : ℕ → Option ℕ)
     → AllInUse world → MountsStand world → LocationsStand world
     → list_all (λ mount. is_some mount.namespace) mounts ≡ true
-    → list_all (λ filesystem. is_mounted nat_eq (with_new world mounts filesystems master) filesystem.number) filesystems
+    → list_all (λ filesystem. is_mounted nat_eq
+    (with_new world mounts filesystems master) filesystem.number) filesystems
     ≡ true
     → list_all has_only_named filesystems ≡ true
     → GroupsInUse (with_new world mounts filesystems master)

@@ -21,12 +21,14 @@ pub record IsSettled (world : World ℕ) : Type 0 where
 abbrev pub filesystems_of_layers : World ℕ → ℕ → List ℕ
 filesystems_of_layers world number =
     flat_map (λ filesystem.
-    if nat_eq filesystem.number number then map (λ layer. layer.filesystem) (of_overlay [] layers_of filesystem) else [])
+    if nat_eq filesystem.number number then map (λ layer. layer.filesystem) (of_overlay [] layers_of filesystem)
+    else [])
     world.filesystems
 
 abbrev pub filesystems_of_location : World ℕ → Location ℕ → List ℕ
 filesystems_of_location world location =
-    (mount_at nat_eq world location).filesystem ∷ filesystems_of_layers world (mount_at nat_eq world location).filesystem
+    (mount_at nat_eq world location).filesystem
+    ∷ filesystems_of_layers world (mount_at nat_eq world location).filesystem
 
 -- what the locations that were left used, and what overlays among that used
 abbrev pub used_with_layers : World ℕ → List (Location ℕ) → Losers
@@ -38,7 +40,8 @@ used_with_layers world left = record {
   groups = [];
 }
 
--- A change of tasks: of what the locations that were left used, that goes which nothing uses any more, and nothing else.
+-- A change of tasks: of what the locations that were left used, that goes which nothing uses any more, and nothing
+-- else.
 abbrev pub LeavingOverlaysLetsGo : Type 0
 LeavingOverlaysLetsGo =
     (world : World ℕ) (tasks : List (Task ℕ)) (left : List (Location ℕ)) → IsSettled world

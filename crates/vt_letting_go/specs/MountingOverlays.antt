@@ -1,5 +1,5 @@
--- What goes after a change of mounts in worlds with overlays: what an overlay used goes with the overlay's last use. The
--- kernel's overlayfs document, umount(2), mount(2) with MS_MOVE, pivot_root(2).
+-- What goes after a change of mounts in worlds with overlays: what an overlay used goes with the overlay's last use.
+-- The kernel's overlayfs document, umount(2), mount(2) with MS_MOVE, pivot_root(2).
 use Rattle.std.specs.List.{list_all}
 use Rattle.std.specs.Prelude.{List, Option, [], flat_map, map, nat_eq, true, ℕ, ◌++◌, ◌∷◌, ◌≡◌}
 use Rattle.vt_spec.specs.Lists.{Fresh}
@@ -61,7 +61,8 @@ MovingWithOverlaysLetsGo =
     → list_all is_nowhere_or_attached (with_changed world change master).mounts ≡ true
     → GroupsInUseBut groups (with_changed world change master)
     → settled nat_eq (with_changed world change master)
-    ≡ let_go_all (with_changed world change master) (used_by_mounts_with_layers world [] (places_moved world moved) groups)
+    ≡ let_go_all (with_changed world change master)
+    (used_by_mounts_with_layers world [] (places_moved world moved) groups)
 
 -- What mounts that go used, with what overlays among that used, and their groups
 abbrev pub used_by_gone_with_layers : World ℕ → List ℕ → Losers

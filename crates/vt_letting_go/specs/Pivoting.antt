@@ -17,8 +17,10 @@ abbrev pub PivotedLetsGo : Type 0
 PivotedLetsGo =
     (world : World ℕ) (namespace old new : ℕ) (put : Location ℕ)
     → IsSettledPlain world → is_attached world old ≡ true → is_attached world new ≡ true
-    → settled nat_eq (pivoted nat_eq world namespace (mount_numbered nat_eq world old) (mount_numbered nat_eq world new) put)
-    ≡ let_go_inodes (pivoted nat_eq world namespace (mount_numbered nat_eq world old) (mount_numbered nat_eq world new) put)
+    → settled nat_eq (pivoted nat_eq world namespace (mount_numbered nat_eq world old)
+    (mount_numbered nat_eq world new) put)
+    ≡ let_go_inodes (pivoted nat_eq world namespace (mount_numbered nat_eq world old)
+    (mount_numbered nat_eq world new) put)
     (inodes_of_mount_point world (mount_numbered nat_eq world new))
 
 -- So it is of the call.

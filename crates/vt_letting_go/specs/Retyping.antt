@@ -1,4 +1,5 @@
--- What goes when types of mounts change: mount(2) with MS_SHARED, MS_SLAVE, MS_PRIVATE, MS_UNBINDABLE, also with MS_REC.
+-- What goes when types of mounts change: mount(2) with MS_SHARED, MS_SLAVE, MS_PRIVATE, MS_UNBINDABLE, also with
+-- MS_REC.
 use Rattle.std.specs.Prelude.{Bool, List, map, nat_eq, true, ℕ, ◌++◌, ◌≡◌}
 use Rattle.vt_spec.specs.Language.Calls.{TypeWord}
 use Rattle.vt_spec.specs.Lists.{Fresh}

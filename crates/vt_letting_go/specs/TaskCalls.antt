@@ -19,8 +19,8 @@ abbrev pub locations_closed : Task ℕ → ℕ → List (Location ℕ)
 locations_closed task number =
     map (λ descriptor. descriptor.location) (filter (λ descriptor. number == descriptor.number) task.descriptors)
 
--- After a call of a task of a world, in which it alone has its name, that goes which nothing uses any more of what these
--- locations used.
+-- After a call of a task of a world, in which it alone has its name, that goes which nothing uses any more of what
+-- these locations used.
 abbrev pub CallLeaves : (Task ℕ → Permit ℕ) → (Task ℕ → List (Location ℕ)) → Type 0
 CallLeaves permit left =
     (fresh : Fresh ℕ) (world : World ℕ) (task : Task ℕ) → IsSettled world
@@ -32,7 +32,8 @@ abbrev pub ClosesLetGo : Type 0
 ClosesLetGo = (number : ℕ) → CallLeaves (λ task. ToClose number) (λ task. locations_closed task number)
 
 abbrev pub ChangedDirectoriesLetGo : Type 0
-ChangedDirectoriesLetGo = (directory : Location ℕ) → CallLeaves (λ task. ToSetDirectory directory) (λ task. task.directory ∷ [])
+ChangedDirectoriesLetGo = (directory : Location ℕ)
+    → CallLeaves (λ task. ToSetDirectory directory) (λ task. task.directory ∷ [])
 
 abbrev pub ChangedRootsLetGo : Type 0
 ChangedRootsLetGo = (root : Location ℕ) → CallLeaves (λ task. ToSetRoot root) (λ task. task.root ∷ [])

@@ -1,5 +1,5 @@
--- What goes when trees change in worlds with overlays: a call on an overlay changes its merged tree, the real objects of
--- its inodes, and the tree of its upper layer. unlink(2), rmdir(2), rename(2), the kernel's overlayfs document.
+-- What goes when trees change in worlds with overlays: a call on an overlay changes its merged tree, the real objects
+-- of its inodes, and the tree of its upper layer. unlink(2), rmdir(2), rename(2), the kernel's overlayfs document.
 use Rattle.std.specs.Prelude.{All, List, [], false, flat_map, map, nat_eq, true, ℕ, ◌++◌, ◌||◌, ◌≡◌}
 use Rattle.std.specs.List.{list_all}
 use Rattle.vt_spec.specs.FileTree.{FileTree}
@@ -42,14 +42,15 @@ pub record ChangesFilesystem (after : World ℕ) (lost : List Inode) (old new : 
       is_among nat_eq object (objects_of_overlay nat_eq number new) || is_inode_among number object lost)
       (objects_of_overlay nat_eq number old) ≡ true
 
--- Where filesystems change, of the inodes that may have lost their last name or overlay those go that nothing uses, with
--- their real objects. Nothing else goes.
+-- Where filesystems change, of the inodes that may have lost their last name or overlay those go that nothing uses,
+-- with their real objects. Nothing else goes.
 abbrev pub ChangedTreesLetGo : Type 0
 ChangedTreesLetGo =
     (world : World ℕ) (change : Filesystem ℕ → Filesystem ℕ) (lost : List Inode) → IsSettled world
     → HasTrees (with_filesystems world change) → UppersArePlain (with_filesystems world change)
     → RealsAreThere (with_filesystems world change)
-    → All (λ filesystem. ChangesFilesystem (with_filesystems world change) lost filesystem (change filesystem)) world.filesystems
+    → All (λ filesystem. ChangesFilesystem (with_filesystems world change) lost filesystem
+    (change filesystem)) world.filesystems
     → settled nat_eq (with_filesystems world change) ≡ let_go_all_inodes (with_filesystems world change) lost
 
 -- Where no inode lost a name or an overlay, nothing goes.
@@ -58,7 +59,8 @@ ChangedTreesKeepAll =
     (world : World ℕ) (change : Filesystem ℕ → Filesystem ℕ) → IsSettled world
     → HasTrees (with_filesystems world change) → UppersArePlain (with_filesystems world change)
     → RealsAreThere (with_filesystems world change)
-    → All (λ filesystem. ChangesFilesystem (with_filesystems world change) [] filesystem (change filesystem)) world.filesystems
+    → All (λ filesystem. ChangesFilesystem (with_filesystems world change) [] filesystem
+    (change filesystem)) world.filesystems
     → settled nat_eq (with_filesystems world change) ≡ with_filesystems world change
 
 -- A plain tree may be a layer of overlays: an inode that loses its last name stays while one of them has it.
@@ -89,7 +91,8 @@ TakenAndChangedLetsGo =
     → UppersArePlain (with_filesystems (taken_away nat_eq world gone) change)
     → RealsAreThere (with_filesystems (taken_away nat_eq world gone) change)
     → All (λ filesystem.
-    ChangesFilesystem (in_use_of (with_filesystems (taken_away nat_eq world gone) change)) lost filesystem (change filesystem))
+    ChangesFilesystem (in_use_of (with_filesystems (taken_away nat_eq world gone) change)) lost filesystem
+    (change filesystem))
     world.filesystems
     → settled nat_eq (with_filesystems (taken_away nat_eq world gone) change)
     ≡ let_go_all (with_filesystems (taken_away nat_eq world gone) change)
@@ -104,7 +107,8 @@ LeftAndChangedLetsGo =
     → UppersArePlain (with_filesystems (with_tasks world tasks) change)
     → RealsAreThere (with_filesystems (with_tasks world tasks) change)
     → All (λ filesystem.
-    ChangesFilesystem (in_use_of (with_filesystems (with_tasks world tasks) change)) lost filesystem (change filesystem))
+    ChangesFilesystem (in_use_of (with_filesystems (with_tasks world tasks) change)) lost filesystem
+    (change filesystem))
     world.filesystems
     → settled nat_eq (with_filesystems (with_tasks world tasks) change)
     ≡ let_go_all (with_filesystems (with_tasks world tasks) change) (with_lost (used_with_layers world left) lost)

@@ -16,7 +16,8 @@ use Rattle.vt_letting_go.specs.OneByOne.{Losers, let_go}
 -- the groups of the mounts of these numbers
 abbrev pub groups_of_mounts : World ℕ → List ℕ → List ℕ
 groups_of_mounts world numbers =
-    filter_map (λ mount. group_of mount.propagation) (filter (λ mount. is_among nat_eq mount.number numbers) world.mounts)
+    filter_map (λ mount. group_of mount.propagation)
+    (filter (λ mount. is_among nat_eq mount.number numbers) world.mounts)
 
 -- What mounts that go used: filesystems and roots, mount points, also of mounts on them, and groups
 abbrev pub used_by_gone : World ℕ → List ℕ → Losers

@@ -21,8 +21,8 @@ pub fn too_many_mounts_are_counted()
     ensures one { TooManyIsOfOne }
 {}
 
-/// Where tasks end or come to other namespaces, and namespaces end with them, that goes which nothing uses any more of what
-/// the locations that they left and the mounts of those namespaces used, and nothing else.
+/// Where tasks end or come to other namespaces, and namespaces end with them, that goes which nothing uses any more of
+/// what the locations that they left and the mounts of those namespaces used, and nothing else.
 pub fn what_tasks_leave_with_namespaces_goes()
     ensures left { LeavingNamespacesLetsGo }
     ensures exit { ExitsLetGo }

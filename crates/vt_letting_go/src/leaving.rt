@@ -46,8 +46,8 @@ pub fn what_loses_its_name_goes()
     ensures named { NamedStay }
 {}
 
-/// After a call that changed a plain tree at the most the inode goes that lost a name: the one that was removed, or that
-/// another one replaced. With a directory that was removed or replaced that goes which only the mounts on it used.
+/// After a call that changed a plain tree at the most the inode goes that lost a name: the one that was removed, or
+/// that another one replaced. With a directory that was removed or replaced that goes which only the mounts on it used.
 pub fn what_a_file_call_leaves_goes()
     ensures names { ChangesKeepNames }
     ensures change { FileChangesLetGo }
@@ -62,16 +62,16 @@ pub fn what_is_made_keeps_all()
     ensures open { OpenedNewKeepsAll }
 {}
 
-/// Where trees changed in a world with overlays, the inodes go that lost their last name or overlay and where nothing is,
-/// with their real objects, and nothing else.
+/// Where trees changed in a world with overlays, the inodes go that lost their last name or overlay and where nothing
+/// is, with their real objects, and nothing else.
 pub fn what_loses_its_name_goes_with_overlays()
     ensures trees { ChangedTreesLetGo }
     ensures kept { ChangedTreesKeepAll }
     ensures plain { UnnamedGoWithOverlays }
 {}
 
-/// Where mounts are taken away or tasks leave locations, and trees change in the same call, that goes of what both took uses
-/// from which nothing uses any more.
+/// Where mounts are taken away or tasks leave locations, and trees change in the same call, that goes of what both took
+/// uses from which nothing uses any more.
 pub fn what_one_call_leaves_goes_with_overlays()
     ensures removed { TakenAndChangedLetsGo }
     ensures left { LeftAndChangedLetsGo }

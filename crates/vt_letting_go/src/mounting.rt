@@ -14,8 +14,8 @@ pub fn what_mounts_leave_goes()
     ensures moved { MovingLetsGo }
 {}
 
-/// Where mounts are attached, with a copy at each receiver, nothing goes: a bind, recursive or not, and a mount of a new
-/// filesystem.
+/// Where mounts are attached, with a copy at each receiver, nothing goes: a bind, recursive or not, and a mount of a
+/// new filesystem.
 pub fn what_is_attached_keeps_all()
     ensures copies { CopiesKeepAll }
     ensures bind { BindsKeepAll }
@@ -35,8 +35,8 @@ pub fn what_a_pivot_leaves_goes()
     ensures pivot { PivotsLetGo }
 {}
 
-/// After an unmount with its receivers, a lazy one, or the end of the mounts on a removed directory, that goes which nothing
-/// uses any more of what the detached mounts used, and of their mount points and those of the mounts on them.
+/// After an unmount with its receivers, a lazy one, or the end of the mounts on a removed directory, that goes which
+/// nothing uses any more of what the detached mounts used, and of their mount points and those of the mounts on them.
 pub fn what_an_unmount_leaves_goes()
     ensures unmount { UnmountsLetGo }
     ensures lazy { LazyUnmountsLetGo }

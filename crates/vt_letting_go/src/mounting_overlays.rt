@@ -1,8 +1,8 @@
 //! What goes after a change of mounts in worlds with overlays: what an overlay used goes with the overlay's last use.
 ghost use Rattle.vt_letting_go.specs.MountingOverlays.{EndingWithOverlaysLetsGo, LazyUnmountsWithOverlaysLetGo, MountsOnDirectoriesWithOverlaysLetGo, MovesWithOverlaysLetGo, MovingWithOverlaysLetsGo, PivotsWithOverlaysLetGo, TakingAwayWithOverlaysLetsGo, UnmountsWithOverlaysLetGo};
 
-/// Where any mounts are taken away, the filesystems go that only they used, with the layers that only these used, and the
-/// inodes of all of that. Where mounts only get other mount points, at the most the inodes of their old ones go.
+/// Where any mounts are taken away, the filesystems go that only they used, with the layers that only these used, and
+/// the inodes of all of that. Where mounts only get other mount points, at the most the inodes of their old ones go.
 pub fn what_mounts_leave_goes_with_overlays()
     ensures taken_away { TakingAwayWithOverlaysLetsGo }
     ensures ended { EndingWithOverlaysLetsGo }

@@ -16,8 +16,8 @@ use Rattle.vt_line.specs.declared.calls.tasks.Child.{Child}
 use Rattle.vt_line.specs.declared.calls.ReadError.{ReadError}
 use Rattle.vt_line.specs.declared.calls.ReadError.TheVariants.{Grammar, Memory}
 
--- A call that keeps a text of its line, a list of groups, or a task's name of many numbers, takes memory for it. The others
--- take none.
+-- A call that keeps a text of its line, a list of groups, or a task's name of many numbers, takes memory for it. The
+-- others take none.
 abbrev pub KeepsWords : spec.Call → Type 0
 KeepsWords (Pread descriptor offset size) = ⊥
 KeepsWords (Close descriptor) = ⊥

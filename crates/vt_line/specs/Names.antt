@@ -52,7 +52,8 @@ name_text Remount = codes "remount"
 name_text SetType = codes "type"
 name_text Mounts = codes "mounts"
 
--- The names of the calls on files and tasks, in their order: those on names, and those on files and of a task on itself.
+-- The names of the calls on files and tasks, in their order: those on names, and those on files and of a task on
+-- itself.
 abbrev pub name_call_names : List (List ℕ)
 name_call_names =
     codes "ls" ∷ codes "stat" ∷ codes "lstat" ∷ codes "readlink" ∷ codes "read" ∷ codes "write" ∷ codes "exec"

@@ -57,4 +57,5 @@ shown_words line =
 
 -- the lines of a list of mounts
 abbrev pub printed_mounts : ℕ → List MountLine → List ℕ
-printed_mounts number lines = flat_map (printed_line number) (map mount_line_words (counted_from 1 (map mount_line_of lines)))
+printed_mounts number lines = flat_map (printed_line number)
+    (map mount_line_words (counted_from 1 (map mount_line_of lines)))

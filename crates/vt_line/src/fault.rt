@@ -8,6 +8,6 @@ pub enum RunFault {
     Read,
     #[error("the answers could not be written; what came out is a beginning of them")]
     Write,
-    #[error("memory was refused before the script was read")]
+    #[error("an allocation failed before the script was read")]
     Memory,
 }

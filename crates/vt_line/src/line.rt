@@ -73,8 +73,8 @@ fn request(alloc: Global, line: &[u8]) -> Result<(TaskName, Call), ReadError>
 impl Line {
     /// Reads a line, given without its newline.
     ///
-    /// Refused by S1 where it is too long or not of the grammar, whatever memory there is, and by S5 where there is none for
-    /// what the line's request keeps. A line without an answer takes no memory.
+    /// Refused by S1 where it is too long or not of the grammar, whatever memory there is, and by S5 where there is
+    /// none for what the line's request keeps. A line without an answer does not allocate.
     pub fn parse(alloc: Global, line: &[u8]) -> Result<Line, Deny>
         ensures silent { (result ≡ Ok Line.Silent) ↔ IsSilent line.now }
         ensures reading { IfOk result (IsReadingOf line.now) }

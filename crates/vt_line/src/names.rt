@@ -124,7 +124,8 @@ impl CallName {
     /// The call that a text names.
     pub fn from_text(text: &[u8]) -> Option<Self>
         ensures named { IfSome result (λ name. text.now ≡ name_text name) }
-        ensures unknown { result ≡ None → list_any (bytes_eq text.now) (file_call_names ++ mounting_call_names) ≡ false }
+        ensures unknown { result ≡ None
+            → list_any (bytes_eq text.now) (file_call_names ++ mounting_call_names) ≡ false }
     {
         if let Some(name) = CallName::on_names(text) {
             return Some(name);

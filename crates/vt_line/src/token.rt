@@ -128,7 +128,8 @@ impl Model for Unescaped {
 /// Appends the text that a token spells, if it spells one; `\e` is the empty text.
 fn unescape(token: &[u8], text: &mut ArrayVec<u8, LONGEST_LINE>) -> bool
     requires { length text.old.items + length token.now ≤ LONGEST_LINE }
-    ensures value { cond result (Some text.new.items) None ≡ option_map (λ bytes. text.old.items ++ bytes) (token_text token.now) }
+    ensures value { cond result (Some text.new.items) None
+        ≡ option_map (λ bytes. text.old.items ++ bytes) (token_text token.now) }
     ensures size { length text.new.items ≤ length text.old.items + length token.now }
 {
     if token == b"\\e".as_slice() {

@@ -1,5 +1,5 @@
--- The numbers by which the definitions know what code counts, and inodes in their slots. Mounts, peer groups, filesystems
--- and namespaces have odd numbers, inodes even ones; no number `4·c + 3` is given out.
+-- The numbers by which the definitions know what code counts, and inodes in their slots. Mounts, peer groups,
+-- filesystems and namespaces have odd numbers, inodes even ones; no number `4·c + 3` is given out.
 use Rattle.std.specs.Prelude.{Bool, if◌then◌else◌, nat_eq, nat_lt, not, ℕ, ◌&&◌, ◌*◌, ◌+◌, ◌-◌, ◌/◌}
 
 -- the number of the mount, peer group, filesystem or namespace with this count

@@ -1,4 +1,5 @@
-//! Numbers of mounts, peer groups, filesystems and mount namespaces: one counter counts them all, and no number is reused.
+//! Numbers of mounts, peer groups, filesystems and mount namespaces: one counter counts them all, and no number is
+//! reused.
 ghost use Rattle.std.specs.Prelude.{◌≡◌};
 
 /// The number of a mount: its count. It is only ever compared.

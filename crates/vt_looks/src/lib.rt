@@ -1,5 +1,5 @@
-//! What walks and rules look at in a world, as a trait: they are the same however the state is kept. And the places where
-//! walks end, which the rules are asked of.
+//! What walks and rules look at in a world, as a trait: they are the same however the state is kept. And the places
+//! where walks end, which the rules are asked of.
 #![tactic(auto)]
 
 mod look;

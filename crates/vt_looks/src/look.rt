@@ -54,7 +54,8 @@ pub trait Look {
 
     /// The namespace of the task of this name, if there is such a task: setns(2).
     fn namespace_called(&self, name: &TaskName) -> Option<NamespaceId>
-        ensures { option_map (λ namespace. counted namespace.count) result ≡ (looks self.now).namespace_called name.now };
+        ensures { option_map (λ namespace. counted namespace.count) result
+            ≡ (looks self.now).namespace_called name.now };
 
     /// The mount of this number, if there is one.
     fn mount(&self, id: MountId) -> Option<Mount>
@@ -93,16 +94,19 @@ pub trait Look {
     fn is_removed(&self, at: Location) -> bool
         ensures { result ≡ (looks self.now).is_removed (location_of at) };
 
-    /// Whether a directory is the one at a location, or lies under it in the filesystem of that mount: EINVAL of rename(2).
+    /// Whether a directory is the one at a location, or lies under it in the filesystem of that mount: EINVAL of
+    /// rename(2).
     fn is_under(&self, top: Location, directory: NodeRef) -> bool
-        ensures { result ≡ (looks self.now).is_under (mount_at (looks self.now) (location_of top)).filesystem (number_of top.node) (number_of directory) };
+        ensures { result ≡ (looks self.now).is_under (mount_at (looks self.now) (location_of top)).filesystem
+            (number_of top.node) (number_of directory) };
 
     /// Whether a location is the root of its mount, or lies under it; where it does not, `..` answers ENOENT.
     fn is_under_root(&self, at: Location) -> bool
-        ensures { result ≡ (looks self.now).is_under (mount_at (looks self.now) (location_of at)).filesystem (mount_at (looks self.now) (location_of at)).root (number_of at.node) };
+        ensures { result ≡ (looks self.now).is_under (mount_at (looks self.now) (location_of at)).filesystem
+            (mount_at (looks self.now) (location_of at)).root (number_of at.node) };
 
-    /// A theorem about every such world, which does nothing: no location is in an overlay. So no mounter's rights are checked, no
-    /// lower layer has a directory, and nothing is locked.
+    /// A theorem about every such world, which does nothing: no location is in an overlay. So no mounter's rights are
+    /// checked, no lower layer has a directory, and nothing is locked.
     fn has_no_overlays(&self)
         ensures { HasNoOverlays (looks self.now) };
 }
@@ -118,7 +122,8 @@ pub trait LookAtMounts: Look {
 
     /// Whether a mount or a descendant of it is unbindable: EINVAL of mount(2) with `MS_MOVE`.
     fn has_unbindable(&self, top: MountId) -> bool
-        ensures { result ≡ list_any (λ mount. is_unbindable mount.propagation) ((Self.looks self.now).mount_tree (counted top.count)) };
+        ensures { result ≡ list_any (λ mount. is_unbindable mount.propagation)
+            ((Self.looks self.now).mount_tree (counted top.count)) };
 
     /// Whether a mount is busy: it has a child, or a mount that would be detached is in use: EBUSY of umount(2).
     ///

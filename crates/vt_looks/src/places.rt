@@ -55,7 +55,8 @@ impl<'a> LastWord<'a> {
     }
 }
 
-/// Where a parent walk ends: the directory, the last word in it, the object there, if any, and whether a slash follows the word.
+/// Where a parent walk ends: the directory, the last word in it, the object there, if any, and whether a slash follows
+/// the word.
 #[derive(Clone, Copy, Debug)]
 pub struct Place<'a> {
     pub parent: Location,

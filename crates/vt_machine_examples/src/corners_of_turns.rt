@@ -33,7 +33,8 @@ pub fn numbers_of_overlays()
         ≡ codes "1 ok\n2 ok\n3 ok\n4 ok\n5 ok\n6 ok\n7 ok t.1\n9 ok 0\n10 ok\n11 ok 1\n8 ok x\n" }
 {}
 
-/// A name that is to be made is looked up without entering the mount over it, so a change in that mount restarts nothing.
+/// A name that is to be made is looked up without entering the mount over it, so a change in that mount restarts
+/// nothing.
 pub fn a_name_under_a_mount()
     ensures { turns_text One [] (codes "t mkdir /m\nt mount plain /m\nt fork\nt.1 mkdir /m\nt write /m/f x\n") (codes "t\nt\nt\nt\nt\nt.1\nt\nt\nt\nt.1\n")
         ≡ codes "1 ok\n2 ok\n3 ok t.1\n5 ok\n4 deny 17 EEXIST E1\n" }

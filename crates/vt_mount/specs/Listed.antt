@@ -18,4 +18,5 @@ inserted id (other ∷ list) = if nat_lt id.count other.count then id ∷ other 
 -- there is a list under this key, and room for one more in it
 abbrev pub has_room : {K : Type 0} → (K → K → Bool) → K → MountsBy K → Bool
 has_room eq key lists =
-    unwrap_or (option_map (λ list. nat_lt (vec_len list) (vec_capacity list)) (lookup (eq key) lists.lists.entries)) false
+    unwrap_or (option_map (λ list. nat_lt (vec_len list) (vec_capacity list))
+    (lookup (eq key) lists.lists.entries)) false

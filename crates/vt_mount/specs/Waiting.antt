@@ -14,4 +14,5 @@ tree_numbers mounts (suc depth) number =
 -- the trees of the stack, from its top down
 abbrev pub to_come : List (Mount ℕ) → List Branch → List ℕ
 to_come mounts [] = []
-to_come mounts (branch ∷ waiting) = to_come mounts waiting ++ tree_numbers mounts branch.depth (counted branch.mount.count)
+to_come mounts (branch ∷ waiting) =
+    to_come mounts waiting ++ tree_numbers mounts branch.depth (counted branch.mount.count)

@@ -36,7 +36,8 @@ impl Mounts {
     /// S5 (ENOMEM): an allocation failed.
     pub fn attach(&mut self, mount: Mount) -> Result<(), Deny>
         requires { list_all (λ entry. nat_lt entry.mount.number (counted mount.number.count)) self.old ≡ true }
-        ensures ok { OnOk result (self.new ≡ self.old ++ record { mount = mount_of mount; uses = 0; writers = 0 } ∷ []) }
+        ensures ok { OnOk result (self.new ≡ self.old
+            ++ record { mount = mount_of mount; uses = 0; writers = 0 } ∷ []) }
         // taken out again, the mounts are as they were
         ensures undone { OnOk result (without (counted mount.number.count) self.new ≡ self.old) }
         ensures memory { IfErr result (λ deny. deny ≡ denial S5) }
@@ -52,7 +53,8 @@ impl Mounts {
 
     /// Removes a mount, whatever its uses, and returns it. Mounts on it keep their mount points. It does not allocate.
     pub fn remove(&mut self, id: MountId) -> Option<Mount>
-        ensures value { option_map mount_of result ≡ find (λ mount. nat_eq (counted id.count) mount.number) (mounts_in self.old) }
+        ensures value { option_map mount_of result
+            ≡ find (λ mount. nat_eq (counted id.count) mount.number) (mounts_in self.old) }
         ensures rest { self.new ≡ without (counted id.count) self.old }
     {
         let kept = self.by_number.swap_remove(&id)?;
@@ -67,7 +69,12 @@ impl Mounts {
     pub fn move_to(&mut self, id: MountId, place: Location) -> Result<(), Deny>
         ensures ok { OnOk result (self.new
             ≡ changed (counted id.count)
-            (λ entry. record entry { mount = record entry.mount { mount_point = Some (location_of place) } }) self.old) }
+            (λ entry. record entry {
+              mount = record entry.mount {
+                mount_point = Some
+                    (location_of place);
+              };
+            }) self.old) }
         ensures memory { IfErr result (λ deny. deny ≡ denial S5) }
         ensures err { OnErr result (self.new ≡ self.old) }
     {
@@ -81,14 +88,19 @@ impl Mounts {
         Ok(())
     }
 
-    /// Moves a mount to another namespace, as a move between namespaces does with a tree: mount(2) with `MS_MOVE`. The order of the
-    /// mounts stays.
+    /// Moves a mount to another namespace, as a move between namespaces does with a tree: mount(2) with `MS_MOVE`. The
+    /// order of the mounts stays.
     ///
     /// S5 (ENOMEM): an allocation failed.
     pub fn set_namespace(&mut self, id: MountId, namespace: NamespaceId) -> Result<(), Deny>
         ensures ok { OnOk result (self.new
             ≡ changed (counted id.count)
-            (λ entry. record entry { mount = record entry.mount { namespace = Some (counted namespace.count) } }) self.old) }
+            (λ entry. record entry {
+              mount = record entry.mount {
+                namespace = Some
+                    (counted namespace.count);
+              };
+            }) self.old) }
         ensures memory { IfErr result (λ deny. deny ≡ denial S5) }
         ensures err { OnErr result (self.new ≡ self.old) }
     {
@@ -106,10 +118,12 @@ impl Mounts {
         Ok(())
     }
 
-    /// Detaches a mount: it loses its mount point and its namespace, becomes private, and keeps its uses: umount(2) with
+    /// Detaches a mount: it loses its mount point and its namespace, becomes private, and keeps its uses: umount(2)
+    /// with
     /// `MNT_DETACH`. It does not allocate.
     pub fn detach(&mut self, id: MountId)
-        ensures { self.new ≡ changed (counted id.count) (λ entry. record entry { mount = detached entry.mount }) self.old }
+        ensures { self.new ≡ changed (counted id.count)
+            (λ entry. record entry { mount = detached entry.mount }) self.old }
     {
         let Some(kept) = self.by_number.get_mut(&id) else {
             return;

@@ -88,10 +88,14 @@ impl Indexes {
 
     /// Removes a mount from its lists. It does not allocate.
     pub(crate) fn leave(&mut self, mount: &Mount)
-        ensures namespace { (q : NamespaceId) → listed_in self.new q ≡ taken (is_in q mount.now) mount.now.number (listed_in self.old q) }
-        ensures parent { (q : MountId) → listed_on self.new q ≡ taken (is_on q mount.now) mount.now.number (listed_on self.old q) }
-        ensures place { (q : Location) → listed_at self.new q ≡ taken (is_at q mount.now) mount.now.number (listed_at self.old q) }
-        ensures inode { (q : NodeRef) → listed_over self.new q ≡ taken (is_over q mount.now) mount.now.number (listed_over self.old q) }
+        ensures namespace { (q : NamespaceId)
+            → listed_in self.new q ≡ taken (is_in q mount.now) mount.now.number (listed_in self.old q) }
+        ensures parent { (q : MountId)
+            → listed_on self.new q ≡ taken (is_on q mount.now) mount.now.number (listed_on self.old q) }
+        ensures place { (q : Location)
+            → listed_at self.new q ≡ taken (is_at q mount.now) mount.now.number (listed_at self.old q) }
+        ensures inode { (q : NodeRef) → listed_over self.new q
+            ≡ taken (is_over q mount.now) mount.now.number (listed_over self.old q) }
     {
         if let Some(namespace) = mount.namespace {
             self.by_namespace.remove(&namespace, mount.number);
@@ -152,7 +156,8 @@ impl Indexes {
 
     // Removes a mount from the list of its old namespace, which stays even if it is empty.
     fn leave_namespace(&mut self, was: Option<NamespaceId>, mount: MountId)
-        ensures namespace { (q : NamespaceId) → listed_in self.new q ≡ taken (was_in q was) mount (listed_in self.old q) }
+        ensures namespace { (q : NamespaceId)
+            → listed_in self.new q ≡ taken (was_in q was) mount (listed_in self.old q) }
         ensures room { (q : NamespaceId) → has_room same_namespace q self.old.by_namespace
             ≡ true → has_room same_namespace q self.new.by_namespace ≡ true }
         ensures parent { self.new.by_parent ≡ self.old.by_parent }
@@ -196,8 +201,10 @@ impl Indexes {
         ensures namespace { self.new.by_namespace ≡ self.old.by_namespace }
         ensures parent { (q : MountId) → listed_on self.new q ≡ taken (stood_on q was) mount (listed_on self.old q) }
         ensures place { (q : Location) → listed_at self.new q ≡ taken (stood_at q was) mount (listed_at self.old q) }
-        ensures inode { (q : NodeRef) → listed_over self.new q ≡ taken (stood_over q was) mount (listed_over self.old q) }
-        ensures parent_room { (q : MountId) → has_room same_id q self.old.by_parent ≡ true → has_room same_id q self.new.by_parent ≡ true }
+        ensures inode { (q : NodeRef) → listed_over self.new q
+            ≡ taken (stood_over q was) mount (listed_over self.old q) }
+        ensures parent_room { (q : MountId) → has_room same_id q self.old.by_parent ≡ true
+            → has_room same_id q self.new.by_parent ≡ true }
         ensures place_room { (q : Location) → has_room same_place q self.old.by_location
             ≡ true → has_room same_place q self.new.by_location ≡ true }
         ensures inode_room { (q : NodeRef) → has_room same_inode q self.old.by_inode
@@ -217,9 +224,12 @@ impl Indexes {
         requires inode { has_room same_inode place.node self.old.by_inode ≡ true }
         ensures slot { nat_lt place.node.slot 18446744073709551616 ≡ true }
         ensures namespace { self.new.by_namespace ≡ self.old.by_namespace }
-        ensures parent { (q : MountId) → listed_on self.new q ≡ put_in_place (same_id q place.mount) mount (listed_on self.old q) }
-        ensures place { (q : Location) → listed_at self.new q ≡ put_in_place (same_place q place) mount (listed_at self.old q) }
-        ensures inode { (q : NodeRef) → listed_over self.new q ≡ put_in_place (same_inode q place.node) mount (listed_over self.old q) }
+        ensures parent { (q : MountId)
+            → listed_on self.new q ≡ put_in_place (same_id q place.mount) mount (listed_on self.old q) }
+        ensures place { (q : Location)
+            → listed_at self.new q ≡ put_in_place (same_place q place) mount (listed_at self.old q) }
+        ensures inode { (q : NodeRef) → listed_over self.new q
+            ≡ put_in_place (same_inode q place.node) mount (listed_over self.old q) }
     {
         self.by_parent.put_in(&place.mount, mount);
         self.by_location.put_in(&place, mount);
@@ -248,7 +258,8 @@ impl Indexes {
         ensures same { self.new.by_namespace ≡ self.old.by_namespace }
         ensures parent_ok { OnOk result ((q : MountId) → listed_on self.new q
             ≡ pushed (same_id q place.mount) mount (listed_on self.old q)) }
-        ensures place_ok { OnOk result ((q : Location) → listed_at self.new q ≡ pushed (same_place q place) mount (listed_at self.old q)) }
+        ensures place_ok { OnOk result
+            ((q : Location) → listed_at self.new q ≡ pushed (same_place q place) mount (listed_at self.old q)) }
         ensures inode_ok { OnOk result ((q : NodeRef) → listed_over self.new q
             ≡ pushed (same_inode q place.node) mount (listed_over self.old q)) }
         ensures parent_err { OnErr result ((q : MountId) → listed_on self.new q ≡ listed_on self.old q) }

@@ -79,7 +79,8 @@ impl<K: Eq + Hash + Copy + Clone + Drop> MountsBy<K> {
     /// Removes a mount from the list under a key, which stays even if it is empty. It does not allocate.
     pub(crate) fn take_out(&mut self, key: &K, mount: MountId)
         ensures taken { (q : K) → listed K.eq q self.new
-            ≡ (if K.eq q key.now then filter (λ other. not (same_id other mount)) (listed K.eq q self.old) else listed K.eq q self.old) }
+            ≡ (if K.eq q key.now then filter (λ other. not (same_id other mount)) (listed K.eq q self.old)
+            else listed K.eq q self.old) }
         ensures room { (q : K) → has_room K.eq q self.old ≡ true → has_room K.eq q self.new ≡ true }
     {
         if let Some(list) = self.lists.get_mut(key) {
@@ -110,7 +111,8 @@ impl<K: Eq + Hash + Copy + Clone + Drop> MountsBy<K> {
     /// Removes a mount from the list under a key. It does not allocate.
     pub(crate) fn remove(&mut self, key: &K, mount: MountId)
         ensures { (q : K) → listed K.eq q self.new
-            ≡ (if K.eq q key.now then filter (λ other. not (same_id other mount)) (listed K.eq q self.old) else listed K.eq q self.old) }
+            ≡ (if K.eq q key.now then filter (λ other. not (same_id other mount)) (listed K.eq q self.old)
+            else listed K.eq q self.old) }
     {
         let Some(list) = self.lists.get_mut(key) else {
             return;

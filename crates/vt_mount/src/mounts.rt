@@ -27,9 +27,9 @@ use vt_spec::errors::{Deny, Rule};
 
 /// The mounts of all namespaces, and those that were detached and are still in use.
 ///
-/// They are kept by hash, in no order; the lists under a namespace, a mount, a location and an inode keep the order of their
-/// numbers, which is that of attachment. Attaching a mount costs the same however many there are; removing or moving one
-/// passes over the lists that it is in.
+/// They are kept by hash, in no order; the lists under a namespace, a mount, a location and an inode keep the order of
+/// their numbers, which is that of attachment. Attaching a mount costs the same however many there are; removing or
+/// moving one passes over the lists that it is in.
 ///
 /// What is done to a mount that does not exist has no effect.
 #[derive(Debug, Drop)]
@@ -52,8 +52,8 @@ impl Model for Mounts {
     ghost invariant = { λ m. IsIndexed m.indexes (in_order m.by_number.entries) };
 }
 
-// What is kept under a number. The first mount is mostly the root of the first namespace, where most walks are: it is compared
-// before a hash is taken.
+// What is kept under a number. The first mount is mostly the root of the first namespace, where most walks are: it is
+// compared before a hash is taken.
 #[inline(always)]
 pub(crate) fn kept_under(by_number: &IndexMap<MountId, Mounted>, id: MountId) -> Option<&Mounted>
     ensures { option_copied result ≡ lookup (same_id id) by_number.now.entries }
@@ -82,7 +82,8 @@ impl Mounts {
         self.by_number.len()
     }
 
-    /// A theorem, which does nothing: the mounts are in the ascending order of their numbers, no two of which are equal.
+    /// A theorem, which does nothing: the mounts are in the ascending order of their numbers, no two of which are
+    /// equal.
     pub fn are_ascending(&self)
         ensures { are_ascending (mounts_in self.now) ≡ true }
     {
@@ -106,7 +107,8 @@ impl Mounts {
     /// The mount of this number.
     #[inline(always)]
     pub fn get(&self, id: MountId) -> Option<Mount>
-        ensures { option_map mount_of result ≡ find (λ mount. nat_eq (counted id.count) mount.number) (mounts_in self.now) }
+        ensures { option_map mount_of result
+            ≡ find (λ mount. nat_eq (counted id.count) mount.number) (mounts_in self.now) }
     {
         let kept = kept_under(&self.by_number, id)?;
         Some(kept.mount(id))
@@ -142,7 +144,8 @@ impl Mounts {
     /// Sets the flags of one mount: mount(2) with `MS_REMOUNT` and `MS_BIND`. It does not allocate.
     pub fn set_flags(&mut self, id: MountId, flags: MountFlags)
         ensures { self.new
-            ≡ changed (counted id.count) (λ entry. record entry { mount = record entry.mount { flags = flags_of flags } }) self.old }
+            ≡ changed (counted id.count) (λ entry.
+            record entry { mount = record entry.mount { flags = flags_of flags } }) self.old }
     {
         if let Some(kept) = self.by_number.get_mut(&id) {
             kept.flags = flags;
@@ -160,7 +163,8 @@ impl Mounts {
         }
     }
 
-    /// Sets the propagation type of each mount to what a function returns for its number and its type. It does not allocate.
+    /// Sets the propagation type of each mount to what a function returns for its number and its type. It does not
+    /// allocate.
     pub fn retype<F: Fn(MountId, Propagation) -> Propagation>(&mut self, kind: F)
         requires { F.IsAlwaysCallable kind }
         ensures { (seen : ℕ → Type_of_mount ℕ → Type_of_mount ℕ)
@@ -179,7 +183,8 @@ impl Mounts {
     /// S5 (ENOMEM): 2^64 - 1 uses or writers are counted. It does not allocate.
     pub fn hold(&mut self, id: MountId, writes: bool) -> Result<(), Deny>
         ensures ok { OnOk result (self.new ≡ changed (counted id.count) (held writes) self.old) }
-        ensures few { uses_of self.old (counted id.count) < u64.MAX → writers_of self.old (counted id.count) < u64.MAX → IsOk result }
+        ensures few { uses_of self.old (counted id.count) < u64.MAX → writers_of self.old (counted id.count) < u64.MAX
+            → IsOk result }
         // released again, the mounts are as they were
         ensures undone { OnOk result (changed (counted id.count) (released writes) self.new ≡ self.old) }
         ensures memory { IfErr result (λ deny. deny ≡ denial S5) }

@@ -50,7 +50,8 @@ impl Mounts {
 
     // The root of the mount that stands at a location.
     fn root_over(&self, place: Location) -> Option<Location>
-        ensures { option_map location_of result ≡ option_map root_of (child_at nat_eq (mounts_in self.now) (location_of place)) }
+        ensures { option_map location_of result
+            ≡ option_map root_of (child_at nat_eq (mounts_in self.now) (location_of place)) }
     {
         let child = self.child_at(place)?;
         let kept = kept_under(&self.by_number, child)?;
@@ -71,7 +72,8 @@ impl Mounts {
     /// Whether an inode is a mount point in this namespace, through whatever mount it is seen: EBUSY of rmdir(2).
     pub fn is_point_in(&self, namespace: NamespaceId, inode: NodeRef) -> bool
         ensures { result
-            ≡ list_any (λ mount. stands_over (number_of inode) mount && holds_of (nat_eq (counted namespace.count)) mount.namespace)
+            ≡ list_any (λ mount. stands_over (number_of inode) mount
+            && holds_of (nat_eq (counted namespace.count)) mount.namespace)
             (mounts_in self.now) }
     {
         self.indexes
@@ -83,7 +85,8 @@ impl Mounts {
 
     /// Whether an inode is a mount point in any namespace, through whatever mount it is seen: EBUSY of rename(2).
     pub fn is_point_anywhere(&self, inode: NodeRef) -> bool
-        ensures { result ≡ list_any (λ mount. stands_over (number_of inode) mount && is_some mount.namespace) (mounts_in self.now) }
+        ensures { result ≡ list_any (λ mount. stands_over (number_of inode) mount && is_some mount.namespace)
+            (mounts_in self.now) }
     {
         self.indexes
             .by_inode
@@ -106,7 +109,8 @@ impl Mounts {
     // Whether a mount is attached in any namespace.
     fn is_attached(&self, id: MountId) -> bool
         ensures { result
-            ≡ holds_of (λ mount. is_some mount.namespace) (find (λ mount. nat_eq (counted id.count) mount.number) (mounts_in self.now)) }
+            ≡ holds_of (λ mount. is_some mount.namespace)
+            (find (λ mount. nat_eq (counted id.count) mount.number) (mounts_in self.now)) }
     {
         match self.get(id) {
             Some(mount) => mount.namespace.is_some(),

@@ -20,8 +20,8 @@ struct Branch {
 }
 
 impl Mounts {
-    /// A mount and all its descendants: each mount before its children, those in the order of their numbers. A number that no
-    /// mount has counts as a mount here.
+    /// A mount and all its descendants: each mount before its children, those in the order of their numbers. A number
+    /// that no mount has counts as a mount here.
     ///
     /// S5 (ENOMEM): an allocation failed.
     pub fn tree(&self, id: MountId) -> Result<Vec<MountId>, Deny>

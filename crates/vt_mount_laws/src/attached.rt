@@ -9,8 +9,8 @@ pub fn attaching_keeps_mounts_nowhere()
 {}
 
 /// The group or master of each mount has members, and so has each group up the masters, which come to an end: what is
-/// attached keeps that, with the new groups of its copies and their masters. The numbers handed in are unused; for a bind
-/// and a move each mount stands and has a number of its own.
+/// attached keeps that, with the new groups of its copies and their masters. The numbers handed in are unused; for a
+/// bind and a move each mount stands and has a number of its own.
 pub fn attaching_keeps_groups_living()
     ensures bind { BindsKeepGroups }
     ensures new_mount { NewMountsKeepGroups }

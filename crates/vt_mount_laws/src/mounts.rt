@@ -25,8 +25,8 @@ pub fn receivers_are_the_closure()
     ensures least { ReceiversAreLeast }
 {}
 
-/// An unmount takes just the mounts that propagation names, and leaves all else of every other mount but its place, where
-/// that was on what goes, and its master, where that lost its last member.
+/// An unmount takes just the mounts that propagation names, and leaves all else of every other mount but its place,
+/// where that was on what goes, and its master, where that lost its last member.
 pub fn an_unmount_takes_just_what_propagation_names()
     ensures named { WhatGoesIsNamed }
     ensures order { UnmountKeepsTheOrder }
@@ -52,8 +52,8 @@ pub fn calls_on_files_are_of_no_mount()
     ensures { FileCallsLeaveMounts }
 {}
 
-/// A bind or a new mount leaves each mount that was there all that it had, but for the place of one that stood at the place
-/// of a receiver. New mounts come last.
+/// A bind or a new mount leaves each mount that was there all that it had, but for the place of one that stood at the
+/// place of a receiver. New mounts come last.
 pub fn a_bind_leaves_the_other_mounts()
     ensures order { NewMountsFollow }
     ensures kept { AttachKeepsMounts }
@@ -102,16 +102,16 @@ pub fn mounts_keep_numbers_of_their_own()
     ensures settling { KeptBySettling OneNumberEach }
 {}
 
-/// Each mount stands on one that stands, in its namespace; that is what the test of it computes, and so a mount and all below it, and
-/// what a bind takes of them, are each once in their tree.
+/// Each mount stands on one that stands, in its namespace; that is what the test of it computes, and so a mount and all
+/// below it, and what a bind takes of them, are each once in their tree.
 pub fn mounts_stand_on_one_another()
     ensures computed { StandingIsComputed }
     ensures trees { TreesHaveEachOnce }
     ensures binds { BindsTakeEachOnce }
 {}
 
-/// A bind and a new mount leave each mount standing and at most one at a place, and these and a move leave each mount with a number of
-/// its own: the copies at all receivers included, and what they push up.
+/// A bind and a new mount leave each mount standing and at most one at a place, and these and a move leave each mount
+/// with a number of its own: the copies at all receivers included, and what they push up.
 pub fn attaching_keeps_mounts_standing()
     ensures bind { BindsKeepStanding }
     ensures bind_numbers { BindsKeepNumbers }
@@ -145,8 +145,8 @@ pub fn places_keep_one_mount()
     ensures settling { KeptBySettling AreApart }
 {}
 
-/// Mounts that end without propagation, with a directory or a namespace, are just those: every other mount keeps all but
-/// its place, where that was on one of them, and its master, where that lost its last member.
+/// Mounts that end without propagation, with a directory or a namespace, are just those: every other mount keeps all
+/// but its place, where that was on one of them, and its master, where that lost its last member.
 pub fn mounts_that_end_are_just_those()
     ensures taken { TakenAreDetached }
     ensures kept { OthersAreKept }
@@ -178,8 +178,8 @@ pub fn granted_calls_make_these_changes()
     ensures setns { SetnsEnters }
 {}
 
-/// The group or master of each mount has members, and so has each group up the masters, which come to an end: changes of
-/// mounts keep that.
+/// The group or master of each mount has members, and so has each group up the masters, which come to an end: changes
+/// of mounts keep that.
 pub fn groups_live_on()
     ensures computed { LivingIsComputed }
     ensures taking_away { KeptByTakingAway GroupsLive }
@@ -194,7 +194,8 @@ pub fn groups_live_on()
     ensures settling { SettlingKeepsGroups }
 {}
 
-/// The places below a mount come to an end, at a mount without a place, in its namespace: these changes of mounts keep that.
+/// The places below a mount come to an end, at a mount without a place, in its namespace: these changes of mounts keep
+/// that.
 pub fn places_below_come_to_an_end()
     ensures types { TypeKeepsPlacesEnding }
     ensures flags { FlagsKeepPlacesEnding }

@@ -166,7 +166,8 @@ impl Node {
         }
     }
 
-    /// At most `size` bytes of a file, or of a symlink's text, from an offset on: pread(2). Past the end there are none.
+    /// At most `size` bytes of a file, or of a symlink's text, from an offset on: pread(2). Past the end there are
+    /// none.
     pub fn bytes_part(&self, offset: usize, size: usize) -> &[u8]
         ensures { result.now ≡ take size (drop offset (bytes_of self.now.content)) }
     {
@@ -260,8 +261,8 @@ impl Node {
         self.attr = attr;
     }
 
-    /// Writes bytes into a file from an offset on, and zeros into a gap before them: pwrite(2). Any other node stays as it
-    /// is. It fails only if an allocation does, and only a file that gets longer allocates.
+    /// Writes bytes into a file from an offset on, and zeros into a gap before them: pwrite(2). Any other node stays as
+    /// it is. It fails only if an allocation does, and only a file that gets longer allocates.
     pub fn write_at(&mut self, offset: usize, bytes: &[u8]) -> Result<(), AllocError>
         requires { offset + length bytes.now < 2 ^ 64 }
         ensures ok { OnOk result (self.new ≡ record {

@@ -19,7 +19,8 @@ group_numbers groups = map (λ group. counted group.count) groups
 -- If the groups were those of a list, each once, they are now those of that list with these after it.
 abbrev pub SeesMore : List GroupId → List GroupId → List ℕ → Type 0
 SeesMore old new more =
-    (before : List ℕ) → group_numbers old ≡ each_once nat_eq before → group_numbers new ≡ each_once nat_eq (before ++ more)
+    (before : List ℕ) → group_numbers old ≡ each_once nat_eq before
+    → group_numbers new ≡ each_once nat_eq (before ++ more)
 
 -- Attached mounts, each with the place of its namespace and its own in it, and its type
 

@@ -43,4 +43,5 @@ looks_alone ToListMounts = true
 -- a task that is given such a permit leaves the world as it was
 abbrev pub LookingChangesNothing : WorldValue → Type 0
 LookingChangesNothing value =
-    (name : TaskName) (permit : Permit ℕ) → looks_alone permit ≡ true → Permits value name permit → Becomes value name permit value
+    (name : TaskName) (permit : Permit ℕ) → looks_alone permit ≡ true → Permits value name permit
+    → Becomes value name permit value

@@ -10,7 +10,8 @@ use Rattle.vt_ns.specs.declared.trees.Branch.{Branch}
 abbrev pub bindable_numbers : List (Mount ℕ) → ℕ → ℕ → List ℕ
 bindable_numbers mounts zero number = number ∷ []
 bindable_numbers mounts (suc depth) number =
-    number ∷ flat_map (bindable_numbers mounts depth) (map (λ child. child.number) (bindable_children nat_eq mounts number))
+    number ∷ flat_map (bindable_numbers mounts depth)
+    (map (λ child. child.number) (bindable_children nat_eq mounts number))
 
 -- the trees of the stack, from its top down
 abbrev pub bindable_to_come : List (Mount ℕ) → List Branch → List ℕ

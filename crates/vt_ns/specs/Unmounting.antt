@@ -8,4 +8,5 @@ use Rattle.vt_detach.specs.Held.{is_ungrouped}
 abbrev pub unmounts_alone : List (Mount ℕ) → ℕ → Bool
 unmounts_alone mounts number =
     is_ungrouped (mount_in nat_eq mounts number).propagation
-    && not (holds_of (λ place. is_shared (mount_in nat_eq mounts place.mount).propagation) (mount_in nat_eq mounts number).mount_point)
+    && not (holds_of (λ place. is_shared (mount_in nat_eq mounts place.mount).propagation)
+    (mount_in nat_eq mounts number).mount_point)

@@ -20,8 +20,8 @@ use vt_request::TaskName;
 use vt_spec::errors::{Deny, Rule};
 
 impl World {
-    /// Moves a task to a namespace, with its root and its working directory at the root of that one: setns(2). The namespace that
-    /// it leaves ends with its last task. It takes no memory.
+    /// Moves a task to a namespace, with its root and its working directory at the root of that one: setns(2). The
+    /// namespace that it leaves ends with its last task. It does not allocate.
     ///
     /// S5 (ENOMEM): the root or the namespace has 2^64 - 2 uses.
     pub fn enter_namespace(&mut self, name: &TaskName, namespace: NamespaceId) -> Result<(), Deny>

@@ -15,19 +15,21 @@ use vt_request::TaskName;
 use vt_spec::errors::Deny;
 
 impl World {
-    /// Sets the owner, group and mode of an inode: chmod(2), chown(2). It takes no memory.
+    /// Sets the owner, group and mode of an inode: chmod(2), chown(2). It does not allocate.
     #[inline(always)]
     pub fn set_attr(&mut self, name: &TaskName, object: Location, attr: Attr)
         requires { Permits self.old name.now (ToChange (location_of object) (SetAttr (number_of object.node) attr)) }
-        ensures { Becomes self.old name.now (ToChange (location_of object) (SetAttr (number_of object.node) attr)) self.new }
+        ensures { Becomes self.old name.now
+            (ToChange (location_of object) (SetAttr (number_of object.node) attr)) self.new }
     {
         self.filesystems.set_attr(object.node, attr);
     }
 
-    /// Sets the whole content of a file: write(2) after open(2) with O_TRUNC. It takes no memory.
+    /// Sets the whole content of a file: write(2) after open(2) with O_TRUNC. It does not allocate.
     #[inline(always)]
     pub fn write(&mut self, name: &TaskName, file: Location, bytes: Vec<u8>)
-        requires { Permits self.old name.now (ToChange (location_of file) (SetBytes (number_of file.node) bytes.items)) }
+        requires { Permits self.old name.now
+            (ToChange (location_of file) (SetBytes (number_of file.node) bytes.items)) }
         ensures { Becomes self.old name.now
             (ToChange (location_of file) (SetBytes (number_of file.node) bytes.items)) self.new }
     {
@@ -36,7 +38,7 @@ impl World {
 
     /// Makes a further hard link to an inode: link(2).
     ///
-    /// S5 (ENOMEM): memory was refused, or the inode has 2^64 - 1 uses.
+    /// S5 (ENOMEM): an allocation failed, or the inode has 2^64 - 1 uses.
     pub fn link(
         &mut self,
         name: &TaskName,
@@ -47,27 +49,31 @@ impl World {
         requires { Permits self.old name.now
             (ToChange (location_of directory) (AddName (number_of directory.node) entry.items (number_of object))) }
         ensures ok { OnOk result (Becomes self.old name.now
-            (ToChange (location_of directory) (AddName (number_of directory.node) entry.items (number_of object))) self.new) }
+            (ToChange (location_of directory)
+            (AddName (number_of directory.node) entry.items (number_of object))) self.new) }
         ensures memory { IfErr result (λ deny. deny ≡ denial S5) }
         ensures err { OnErr result (self.new ≡ self.old) }
     {
         self.filesystems.link(directory.node, entry, object)
     }
 
-    /// Takes a name from an inode that is no directory: unlink(2). With its last use the inode goes. It takes no memory.
+    /// Takes a name from an inode that is no directory: unlink(2). With its last use the inode goes. It takes no
+    /// memory.
     #[inline(always)]
     pub fn unlink(&mut self, name: &TaskName, directory: Location, entry: &[u8], object: NodeRef)
         requires { Permits self.old name.now
             (ToChange (location_of directory) (Remove (number_of directory.node) entry.now (number_of object))) }
         ensures { Becomes self.old name.now
-            (ToChange (location_of directory) (Remove (number_of directory.node) entry.now (number_of object))) self.new }
+            (ToChange (location_of directory)
+            (Remove (number_of directory.node) entry.now (number_of object))) self.new }
     {
         self.filesystems.unlink(directory.node, entry, object);
     }
 
-    /// Writes bytes into a file from an offset on, and zeros into a gap before them: pwrite(2). No bytes change nothing.
+    /// Writes bytes into a file from an offset on, and zeros into a gap before them: pwrite(2). No bytes change
+    /// nothing.
     ///
-    /// S5 (ENOMEM): memory was refused.
+    /// S5 (ENOMEM): an allocation failed.
     #[inline(always)]
     pub fn write_part(
         &mut self,
@@ -77,7 +83,8 @@ impl World {
         bytes: &[u8],
     ) -> Result<(), Deny>
         requires { Permits self.old name.now (ToWritePart (location_of file) offset bytes.now) }
-        ensures ok { OnOk result (Becomes self.old name.now (ToWritePart (location_of file) offset bytes.now) self.new) }
+        ensures ok { OnOk result (Becomes self.old name.now
+            (ToWritePart (location_of file) offset bytes.now) self.new) }
         ensures memory { IfErr result (λ deny. deny ≡ denial S5) }
         ensures err { OnErr result (self.new ≡ self.old) }
     {
@@ -90,7 +97,7 @@ impl World {
 
     /// Makes an inode under a name of a directory: mkdir(2), symlink(2), mknod(2).
     ///
-    /// S5 (ENOMEM): memory was refused.
+    /// S5 (ENOMEM): an allocation failed.
     #[inline(always)]
     pub fn make(
         &mut self,

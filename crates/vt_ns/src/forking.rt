@@ -23,10 +23,11 @@ use vt_spec::errors::{Deny, Rule};
 impl World {
     /// Forks a task, and returns the name of its child: fork(2). The child has these credentials.
     ///
-    /// S5 (ENOMEM): memory was refused, or the task's root, working directory or namespace has 2^64 - 2 uses.
+    /// S5 (ENOMEM): an allocation failed, or the task's root, working directory or namespace has 2^64 - 2 uses.
     pub fn fork(&mut self, name: &TaskName, cred: Cred) -> Result<TaskName, Deny>
         requires { Permits self.old name.now (ToFork cred) }
-        ensures name { IfOk result (λ child. Some child ≡ option_map child_name (task_called (world_of self.old) name.now)) }
+        ensures name { IfOk result (λ child. Some child
+            ≡ option_map child_name (task_called (world_of self.old) name.now)) }
         ensures ok { OnOk result (Becomes self.old name.now (ToFork cred) self.new) }
         ensures memory { IfErr result (λ deny. deny ≡ denial S5) }
         ensures err { OnErr result (self.new ≡ self.old) }
@@ -58,7 +59,7 @@ pub(crate) fn has_room_for_two(mounts: &Mounts, filesystems: &Filesystems, at: L
         && filesystems.uses(at.node) < u64::MAX - 1
 }
 
-// One use more of a location, for which there is room. It takes no memory.
+// One use more of a location, for which there is room. It does not allocate.
 pub(crate) fn hold_once_more(mounts: &mut Mounts, filesystems: &mut Filesystems, at: Location)
     requires { HasRoom 1 at mounts.old filesystems.old }
     ensures held { kept mounts.new filesystems.new ≡ with_location at false (kept mounts.old filesystems.old) }
@@ -82,7 +83,7 @@ pub(crate) fn has_room_for_task(
     }
 }
 
-// One task more in a namespace. It takes no memory.
+// One task more in a namespace. It does not allocate.
 pub(crate) fn count_task(namespaces: &mut IndexMap<NamespaceId, Namespace>, id: NamespaceId)
     requires { IfSome (find (λ entry. nat_eq id.count entry.count) (entries_of namespaces.old.entries))
         (λ entry. entry.tasks < u64.MAX) }

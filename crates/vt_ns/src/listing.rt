@@ -16,9 +16,10 @@ use vt_spec::errors::Deny;
 impl World {
     /// Where a mount point is: its path from the root of the mount that it is on.
     ///
-    /// S5 (ENOMEM): memory was refused.
+    /// S5 (ENOMEM): an allocation failed.
     pub(crate) fn place_spot(&self, place: Location) -> Result<Spot, Deny>
-        ensures ok { IfOk result (λ spot. spot_of spot ≡ listed.place_spot nat_eq (world_of self.now) (location_of place)) }
+        ensures ok { IfOk result (λ spot. spot_of spot
+            ≡ listed.place_spot nat_eq (world_of self.now) (location_of place)) }
         ensures memory { IfErr result (λ deny. deny ≡ denial S5) }
     {
         match self.mounts.get(place.mount) {
@@ -32,9 +33,10 @@ impl World {
 
     /// Where the tree begins that a mount shows: the path of its root from the root of its filesystem.
     ///
-    /// S5 (ENOMEM): memory was refused.
+    /// S5 (ENOMEM): an allocation failed.
     pub(crate) fn root_spot(&self, mount: &Mount) -> Result<Spot, Deny>
-        ensures ok { IfOk result (λ spot. spot_of spot ≡ listed.root_spot nat_eq (world_of self.now) (mount_of mount.now)) }
+        ensures ok { IfOk result (λ spot. spot_of spot
+            ≡ listed.root_spot nat_eq (world_of self.now) (mount_of mount.now)) }
         ensures memory { IfErr result (λ deny. deny ≡ denial S5) }
     {
         Ok(reached(self.filesystems.path_from_root(self.alloc, mount.root)?))

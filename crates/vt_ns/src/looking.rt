@@ -13,7 +13,8 @@ use vt_node::Node;
 use vt_request::TaskName;
 
 impl World {
-    /// The filesystem that a mount shows. A number that no mount has stands for a mount of the filesystem with that number.
+    /// The filesystem that a mount shows. A number that no mount has stands for a mount of the filesystem with that
+    /// number.
     #[inline(always)]
     pub(crate) fn shown(&self, mount: MountId) -> FilesystemId
         ensures { counted result.count ≡ (mount_numbered nat_eq (world_of self.now) (counted mount.count)).filesystem }

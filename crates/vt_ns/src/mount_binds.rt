@@ -15,11 +15,12 @@ use vt_request::TaskName;
 use vt_spec::errors::{Deny, Rule};
 
 impl World {
-    /// Attaches a copy of the mount of a source, from that directory on: mount(2) with `MS_BIND`. If it is recursive, copies of
-    /// the mounts at or under the source are attached on it, each with its descendants, but for unbindable mounts. Each receiver of
-    /// the destination's mount gets a copy of the whole tree.
+    /// Attaches a copy of the mount of a source, from that directory on: mount(2) with `MS_BIND`. If it is recursive,
+    /// copies of the mounts at or under the source are attached on it, each with its descendants, but for unbindable
+    /// mounts. Each receiver of the destination's mount gets a copy of the whole tree.
     ///
-    /// S5 (ENOMEM): memory was refused, no number is left, or an inode or a filesystem would have more than 2^64 - 1 uses.
+    /// S5 (ENOMEM): an allocation failed, no number is left, or an inode or a filesystem would have more than 2^64 - 1
+    /// uses.
     pub fn bind(
         &mut self,
         name: &TaskName,
@@ -28,7 +29,8 @@ impl World {
         recursive: bool,
     ) -> Result<(), Deny>
         requires { Permits self.old name.now (ToBind (location_of source) (location_of place) recursive) }
-        ensures ok { OnOk result (Becomes self.old name.now (ToBind (location_of source) (location_of place) recursive) self.new) }
+        ensures ok { OnOk result (Becomes self.old name.now
+            (ToBind (location_of source) (location_of place) recursive) self.new) }
         ensures memory { IfErr result (λ deny. deny ≡ denial S5) }
         ensures err { OnErr result (self.new ≡ self.old) }
     {

@@ -25,11 +25,12 @@ use vt_spec::errors::{Deny, Rule};
 impl World {
     /// The mounts of the caller's namespace, in the order of their attachment: mountinfo of proc(5).
     ///
-    /// S5 (ENOMEM): memory was refused.
+    /// S5 (ENOMEM): an allocation failed.
     pub fn mounts(&self, name: &TaskName) -> Result<Vec<MountLine>, Deny>
         requires { Permits self.now name.now ToListMounts }
         ensures ok { (task : Task ℕ) → task_called (world_of self.now) name.now ≡ Some task
-            → IfOk result (λ lines. map mount_line_of lines.items ≡ listing.mount_lines nat_eq (world_of self.now) task.namespace) }
+            → IfOk result (λ lines. map mount_line_of lines.items
+            ≡ listing.mount_lines nat_eq (world_of self.now) task.namespace) }
         ensures memory { IfErr result (λ deny. deny ≡ denial S5) }
     {
         match self.tasks.namespace_called(name) {
@@ -38,7 +39,7 @@ impl World {
         }
     }
 
-    // The lines of the mounts of a namespace. S5 (ENOMEM): memory was refused.
+    // The lines of the mounts of a namespace. S5 (ENOMEM): an allocation failed.
     fn mount_lines(&self, namespace: NamespaceId) -> Result<Vec<MountLine>, Deny>
         ensures ok { IfOk result (λ lines. map mount_line_of lines.items
             ≡ listing.mount_lines nat_eq (world_of self.now) (counted namespace.count)) }
@@ -61,7 +62,7 @@ impl World {
     }
 
     // The filesystems that the mounts of a namespace show, in the order in which they first stand in its list.
-    // S5 (ENOMEM): memory was refused.
+    // S5 (ENOMEM): an allocation failed.
     fn filesystems_in(&self, namespace: NamespaceId) -> Result<IndexSet<FilesystemId>, Deny>
         ensures ok { IfOk result (λ seen. map (λ id. counted id.count) seen.keys
             ≡ listing.filesystems_seen nat_eq (attached_in (counted namespace.count) self.now.mounts)) }
@@ -80,7 +81,7 @@ impl World {
     }
 
     // The groups of the mounts of a namespace, in the order in which they first stand in its list.
-    // S5 (ENOMEM): memory was refused.
+    // S5 (ENOMEM): an allocation failed.
     fn groups_in(&self, namespace: NamespaceId) -> Result<IndexSet<GroupId>, Deny>
         ensures ok { IfOk result (λ seen. map (λ id. counted id.count) seen.keys
             ≡ listing.groups_seen nat_eq (world_of self.now) (attached_in (counted namespace.count) self.now.mounts)) }
@@ -98,7 +99,7 @@ impl World {
 
     /// The groups of a type are seen, as its line names them: a group before its master.
     ///
-    /// S5 (ENOMEM): memory was refused.
+    /// S5 (ENOMEM): an allocation failed.
     pub(crate) fn see_type(
         &self,
         seen: &mut IndexSet<GroupId>,
@@ -122,7 +123,7 @@ impl World {
     }
 
     // The line of a mount in a list of mounts, by the filesystems and the groups of that list in their order.
-    // S5 (ENOMEM): memory was refused.
+    // S5 (ENOMEM): an allocation failed.
     fn mount_line(
         &self,
         mount: &Mount,
@@ -150,7 +151,8 @@ impl World {
     // The type of a mount, as its line shows it, by the groups of its list.
     fn type_shown(&self, kind: Propagation, groups: &IndexSet<GroupId>) -> TypeLine
         ensures { type_line_of result
-            ≡ listing.type_line nat_eq (world_of self.now) (map (λ id. counted id.count) groups.now.keys) (propagation_of kind) }
+            ≡ listing.type_line nat_eq (world_of self.now) (map (λ id. counted id.count) groups.now.keys)
+            (propagation_of kind) }
     {
         match kind {
             Propagation::Shared(group) => TypeLine::Shared {
@@ -176,7 +178,7 @@ impl World {
         }
     }
 
-    // A mount point as a list of mounts shows it. S5 (ENOMEM): memory was refused.
+    // A mount point as a list of mounts shows it. S5 (ENOMEM): an allocation failed.
     fn point_shown(
         &self,
         point: Option<Location>,
@@ -212,7 +214,8 @@ fn mount_place(id: MountId, listed: &[MountId]) -> usize
 
 // The place of a filesystem among others, from 1 on; 0 if it is not among them.
 fn filesystem_place(id: FilesystemId, filesystems: &IndexSet<FilesystemId>) -> usize
-    ensures { result ≡ listing.number_among nat_eq (map (λ other. counted other.count) filesystems.now.keys) (counted id.count) }
+    ensures { result ≡ listing.number_among nat_eq (map (λ other. counted other.count) filesystems.now.keys)
+        (counted id.count) }
 {
     // The index is less than the length, which fits.
     let _ = filesystems.len();
@@ -224,7 +227,8 @@ fn filesystem_place(id: FilesystemId, filesystems: &IndexSet<FilesystemId>) -> u
 
 /// The place of a group among others, from 1 on; 0 if it is not among them.
 pub(crate) fn group_place(id: GroupId, groups: &IndexSet<GroupId>) -> usize
-    ensures { result ≡ listing.number_among nat_eq (map (λ other. counted other.count) groups.now.keys) (counted id.count) }
+    ensures { result ≡ listing.number_among nat_eq (map (λ other. counted other.count) groups.now.keys)
+        (counted id.count) }
 {
     // The index is less than the length, which fits.
     let _ = groups.len();
@@ -234,7 +238,7 @@ pub(crate) fn group_place(id: GroupId, groups: &IndexSet<GroupId>) -> usize
     }
 }
 
-// A group is seen. S5 (ENOMEM): memory was refused.
+// A group is seen. S5 (ENOMEM): an allocation failed.
 fn see(seen: &mut IndexSet<GroupId>, group: GroupId) -> Result<(), Deny>
     ensures ok { OnOk result (SeesMore seen.old.keys seen.new.keys (counted group.count ∷ [])) }
     ensures memory { IfErr result (λ deny. deny ≡ denial S5) }

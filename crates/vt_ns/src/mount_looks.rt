@@ -89,11 +89,12 @@ impl World {
     }
 
     // Whether a namespace has too many mounts once so many are attached at a place, and at the receivers there.
-    // S5 (ENOMEM): memory was refused.
+    // S5 (ENOMEM): an allocation failed.
     fn has_too_many_with(&self, place: Location, count: usize) -> Result<bool, Deny>
         ensures ok { IfOk result (λ too_many. (world : Meant ℕ) (new : Copies ℕ) (tree : List (meant.Mount ℕ))
             → mounts_in self.now.mounts ≡ world.mounts → NamespaceInvariants nat_eq world
-            → parts_of nat_eq world (location_of place) ≡ parts_of nat_eq (world_of self.now) (location_of place) → length tree ≡ count
+            → parts_of nat_eq world (location_of place) ≡ parts_of nat_eq (world_of self.now) (location_of place)
+            → length tree ≡ count
             → too_many ≡ has_too_many nat_eq (attached_by nat_eq world new (location_of place) false tree)) }
         ensures memory { IfErr result (λ deny. deny ≡ denial S5) }
     {
@@ -109,7 +110,7 @@ impl World {
     }
 
     // Whether a namespace has too many mounts once a mount is moved with all that is below it.
-    // S5 (ENOMEM): memory was refused.
+    // S5 (ENOMEM): an allocation failed.
     fn has_too_many_moved(&self, mount: MountId, place: Location) -> Result<bool, Deny>
         ensures ok { IfOk result (λ too_many. too_many
             ≡ overfills_of self.now (ToMove (counted mount.count) (location_of place))) }

@@ -17,7 +17,7 @@ use vt_spec::errors::{Deny, Rule};
 impl World {
     /// Moves a mount, with all that is below it, to another mount point: mount(2) with `MS_MOVE`.
     ///
-    /// S5 (ENOMEM): memory was refused, or the inode at the new mount point has 2^64 - 1 uses.
+    /// S5 (ENOMEM): an allocation failed, or the inode at the new mount point has 2^64 - 1 uses.
     pub fn move_mount(
         &mut self,
         name: &TaskName,
@@ -25,7 +25,8 @@ impl World {
         place: Location,
     ) -> Result<(), Deny>
         requires { Permits self.old name.now (ToMove (counted mount.count) (location_of place)) }
-        ensures ok { OnOk result (Becomes self.old name.now (ToMove (counted mount.count) (location_of place)) self.new) }
+        ensures ok { OnOk result (Becomes self.old name.now
+            (ToMove (counted mount.count) (location_of place)) self.new) }
         ensures memory { IfErr result (λ deny. deny ≡ denial S5) }
         ensures err { OnErr result (self.new ≡ self.old) }
     {

@@ -33,10 +33,10 @@ use vt_spec::errors::{Deny, Rule};
 const ROOT_MODE: u16 = 0o755;
 
 impl World {
-    /// Mounts a new filesystem, which is one empty directory: mount(2) of a tmpfs. Each receiver of the destination's mount gets a
-    /// mount of it too.
+    /// Mounts a new filesystem, which is one empty directory: mount(2) of a tmpfs. Each receiver of the destination's
+    /// mount gets a mount of it too.
     ///
-    /// S5 (ENOMEM): memory was refused, no number is left, or an inode would have more than 2^64 - 1 uses.
+    /// S5 (ENOMEM): an allocation failed, no number is left, or an inode would have more than 2^64 - 1 uses.
     pub fn mount_plain(
         &mut self,
         name: &TaskName,
@@ -44,7 +44,8 @@ impl World {
         flags: MountFlags,
     ) -> Result<(), Deny>
         requires { Permits self.old name.now (ToMountPlain (location_of place) (flags_of flags)) }
-        ensures ok { OnOk result (Becomes self.old name.now (ToMountPlain (location_of place) (flags_of flags)) self.new) }
+        ensures ok { OnOk result (Becomes self.old name.now
+            (ToMountPlain (location_of place) (flags_of flags)) self.new) }
         ensures memory { IfErr result (λ deny. deny ≡ denial S5) }
         ensures err { OnErr result (self.new ≡ self.old) }
     {
@@ -86,7 +87,8 @@ impl World {
 
 // The mount of a new filesystem that is copied to its destination. It has the number of the filesystem.
 fn mount_of_new(filesystem: FilesystemId, flags: MountFlags) -> Mount
-    ensures { mount_of result ≡ new_mount (counted filesystem.count) (inode_number filesystem.count 0) (flags_of flags) }
+    ensures { mount_of result ≡ new_mount (counted filesystem.count) (inode_number filesystem.count 0)
+        (flags_of flags) }
 {
     Mount {
         number: MountId {

@@ -24,7 +24,7 @@ use vt_tasks::Tasks;
 impl World {
     /// The opening world: a namespace with a root mount of an empty filesystem, and the first task, which may do all.
     ///
-    /// S5 (ENOMEM): memory was refused.
+    /// S5 (ENOMEM): an allocation failed.
     pub fn new(alloc: Global) -> Result<World, Deny>
         ensures opening { IfOk result (λ world. world_of world ≡ opening nat_eq opening_numbers) }
         ensures memory { IfErr result (λ deny. deny ≡ denial S5) }
@@ -75,7 +75,8 @@ fn first_mounts(alloc: Global, mount: Mount) -> Result<Mounts, Deny>
     Ok(mounts)
 }
 
-// A filesystem alone, whose root directory is the root of one mount, and the root and the working directory of one task.
+// A filesystem alone, whose root directory is the root of one mount, and the root and the working directory of one
+// task.
 fn first_filesystems(alloc: Global, filesystem: FilesystemId) -> Result<Filesystems, Deny>
     ensures ok { IfOk result (λ filesystems. shown filesystems ≡ first_shown filesystem.count) }
     ensures memory { IfErr result (λ deny. deny ≡ denial S5) }

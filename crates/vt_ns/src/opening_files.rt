@@ -19,10 +19,10 @@ use vt_spec::errors::Deny;
 use vt_tasks::OpenFile;
 
 impl World {
-    /// Makes a file under a name of a directory and opens it, without rights on it, under the least number that is free, which
-    /// is returned: open(2) with O_CREAT.
+    /// Makes a file under a name of a directory and opens it, without rights on it, under the least number that is
+    /// free, which is returned: open(2) with O_CREAT.
     ///
-    /// S5 (ENOMEM): memory was refused, or the mount has 2^64 - 1 uses.
+    /// S5 (ENOMEM): an allocation failed, or the mount has 2^64 - 1 uses.
     pub fn open_new(
         &mut self,
         name: &TaskName,
@@ -32,11 +32,13 @@ impl World {
         access: Access,
     ) -> Result<u8, Deny>
         requires { Permits self.old name.now
-            (ToOpenNew (location_of directory) entry.items (node_seen directory.node.filesystem.count node) (access_of access)) }
+            (ToOpenNew (location_of directory) entry.items (node_seen directory.node.filesystem.count node)
+            (access_of access)) }
         ensures number { IfOk result (λ number.
             Some number ≡ option_map free_number (task_called (world_of self.old) name.now)) }
         ensures ok { OnOk result (Becomes self.old name.now
-            (ToOpenNew (location_of directory) entry.items (node_seen directory.node.filesystem.count node) (access_of access)) self.new) }
+            (ToOpenNew (location_of directory) entry.items (node_seen directory.node.filesystem.count node)
+            (access_of access)) self.new) }
         ensures memory { IfErr result (λ deny. deny ≡ denial S5) }
         ensures err { OnErr result (self.new ≡ self.old) }
     {

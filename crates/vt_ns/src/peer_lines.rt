@@ -17,8 +17,8 @@ use indexmap::IndexSet;
 use vt_location::{GroupId, NamespaceId, Propagation};
 use vt_spec::errors::{Deny, Rule};
 
-/// A mount by its namespace and its place: the namespace by its creation, among those that did not end, the place as in the
-/// list of the namespace's mounts. Both from 1 on.
+/// A mount by its namespace and its place: the namespace by its creation, among those that did not end, the place as in
+/// the list of the namespace's mounts. Both from 1 on.
 #[derive(Clone, Copy, Debug, PartialEq, Eq)]
 pub struct MountPlace {
     pub namespace: usize,
@@ -48,9 +48,10 @@ struct Placed {
 impl World {
     /// The peer groups of all namespaces, in the order in which they first stand among the types of all mounts.
     ///
-    /// S5 (ENOMEM): memory was refused.
+    /// S5 (ENOMEM): an allocation failed.
     pub fn peers(&self) -> Result<Vec<PeerLine>, Deny>
-        ensures ok { IfOk result (λ lines. map peer_line_of lines.items ≡ listing.peer_lines nat_eq (world_of self.now)) }
+        ensures ok { IfOk result (λ lines. map peer_line_of lines.items
+            ≡ listing.peer_lines nat_eq (world_of self.now)) }
         ensures memory { IfErr result (λ deny. deny ≡ denial S5) }
     {
         let namespaces = self.namespaces.keys().as_slice();
@@ -59,7 +60,7 @@ impl World {
         self.lines_of(&groups, &placed)
     }
 
-    // The mounts of these namespaces, each namespace by its place among them. S5 (ENOMEM): memory was refused.
+    // The mounts of these namespaces, each namespace by its place among them. S5 (ENOMEM): an allocation failed.
     fn placed(&self, namespaces: &[NamespaceId]) -> Result<Vec<Placed>, Deny>
         ensures ok { IfOk result (λ placed. all_seen placed.items
             ≡ placed_from (world_of self.now) 1 (map (λ id. counted id.count) namespaces.now)) }
@@ -74,7 +75,7 @@ impl World {
         Ok(placed)
     }
 
-    // Adds the mounts of a namespace, which has this place. S5 (ENOMEM): memory was refused.
+    // Adds the mounts of a namespace, which has this place. S5 (ENOMEM): an allocation failed.
     fn push_placed(
         &self,
         namespace: NamespaceId,
@@ -103,10 +104,12 @@ impl World {
         Ok(())
     }
 
-    // The groups of these mounts, in the order in which they first stand in their types. S5 (ENOMEM): memory was refused.
+    // The groups of these mounts, in the order in which they first stand in their types. S5 (ENOMEM): an allocation
+    // failed.
     fn groups_of(&self, placed: &[Placed]) -> Result<IndexSet<GroupId>, Deny>
         ensures ok { IfOk result (λ seen. group_numbers seen.keys
-            ≡ each_once nat_eq (flat_map (λ one. listing.groups_in_type (world_of self.now) one.2) (all_seen placed.now))) }
+            ≡ each_once nat_eq (flat_map (λ one. listing.groups_in_type (world_of self.now) one.2)
+            (all_seen placed.now))) }
         ensures memory { IfErr result (λ deny. deny ≡ denial S5) }
     {
         let mut seen = IndexSet::new(self.alloc);
@@ -116,10 +119,11 @@ impl World {
         Ok(seen)
     }
 
-    // The lines of these groups. S5 (ENOMEM): memory was refused.
+    // The lines of these groups. S5 (ENOMEM): an allocation failed.
     fn lines_of(&self, groups: &IndexSet<GroupId>, placed: &[Placed]) -> Result<Vec<PeerLine>, Deny>
         ensures ok { IfOk result (λ lines. map peer_line_of lines.items
-            ≡ map (line_from (world_of self.now) (group_numbers groups.now.keys) (all_seen placed.now)) (group_numbers groups.now.keys)) }
+            ≡ map (line_from (world_of self.now) (group_numbers groups.now.keys) (all_seen placed.now))
+            (group_numbers groups.now.keys)) }
         ensures memory { IfErr result (λ deny. deny ≡ denial S5) }
     {
         let mut lines = Vec::new(self.alloc);
@@ -132,7 +136,7 @@ impl World {
         Ok(lines)
     }
 
-    // The line of a group. S5 (ENOMEM): memory was refused.
+    // The line of a group. S5 (ENOMEM): an allocation failed.
     fn peer_line(
         &self,
         group: GroupId,
@@ -140,7 +144,8 @@ impl World {
         placed: &[Placed],
     ) -> Result<PeerLine, Deny>
         ensures ok { IfOk result (λ line. peer_line_of line
-            ≡ line_from (world_of self.now) (group_numbers groups.now.keys) (all_seen placed.now) (counted group.count)) }
+            ≡ line_from (world_of self.now) (group_numbers groups.now.keys) (all_seen placed.now)
+            (counted group.count)) }
         ensures memory { IfErr result (λ deny. deny ≡ denial S5) }
     {
         Ok(PeerLine {
@@ -151,7 +156,7 @@ impl World {
         })
     }
 
-    // The places of the members of a group. S5 (ENOMEM): memory was refused.
+    // The places of the members of a group. S5 (ENOMEM): an allocation failed.
     fn members(&self, placed: &[Placed], group: GroupId) -> Result<Vec<MountPlace>, Deny>
         ensures ok { IfOk result (λ places. map place_of places.items
             ≡ filter_map (member_place (counted group.count)) (all_seen placed.now)) }
@@ -168,7 +173,7 @@ impl World {
         Ok(places)
     }
 
-    // The places of the slaves of a group that are in none. S5 (ENOMEM): memory was refused.
+    // The places of the slaves of a group that are in none. S5 (ENOMEM): an allocation failed.
     fn slaves(&self, placed: &[Placed], group: GroupId) -> Result<Vec<MountPlace>, Deny>
         ensures ok { IfOk result (λ places. map place_of places.items
             ≡ filter_map (slave_place (counted group.count)) (all_seen placed.now)) }
@@ -198,7 +203,8 @@ fn is_member(kind: Propagation, group: GroupId) -> bool
 
 // Whether a mount of this type is a slave of a group, and in none.
 fn is_slave(kind: Propagation, group: GroupId) -> bool
-    ensures { result ≡ (not (is_shared (propagation_of kind)) && holds_of (nat_eq (counted group.count)) (source_of (propagation_of kind))) }
+    ensures { result ≡ (not (is_shared (propagation_of kind))
+        && holds_of (nat_eq (counted group.count)) (source_of (propagation_of kind))) }
 {
     match kind {
         Propagation::Slave(master) => group == master,

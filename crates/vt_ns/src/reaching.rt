@@ -24,13 +24,14 @@ impl Reach for World {
 }
 
 impl World {
-    /// The mounts at which a tree of mounts is attached: that of the place, then the receivers that take part, in the order of
-    /// their attachment.
+    /// The mounts at which a tree of mounts is attached: that of the place, then the receivers that take part, in the
+    /// order of their attachment.
     ///
     /// S5 (ENOMEM): an allocation failed.
     pub(crate) fn parts_at(&self, place: Location) -> Result<Vec<Mount>, Deny>
         requires { is_mounted self.now.mounts (counted place.mount.count) ≡ true }
-        ensures ok { IfOk result (λ parts. map mount_of parts.items ≡ parts_of nat_eq (world_of self.now) (location_of place)) }
+        ensures ok { IfOk result (λ parts. map mount_of parts.items
+            ≡ parts_of nat_eq (world_of self.now) (location_of place)) }
         ensures memory { IfErr result (λ deny. deny ≡ denial S5) }
     {
         parts(self.alloc, &self.mounts, &self.groups, self, place)

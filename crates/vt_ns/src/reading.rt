@@ -37,7 +37,7 @@ impl World {
         self.tasks.get(name)
     }
 
-    /// Kind, owner, mode and size of an object: stat(2), lstat(2). It takes no memory.
+    /// Kind, owner, mode and size of an object: stat(2), lstat(2). It does not allocate.
     #[inline(always)]
     pub fn stat(&self, name: &TaskName, object: Location) -> StatLine
         requires { Permits self.now name.now (ToStat (location_of object)) }
@@ -51,11 +51,12 @@ impl World {
 
     /// The bytes of a file, or the text of a symlink: read(2), readlink(2).
     ///
-    /// S5 (ENOMEM): memory was refused.
+    /// S5 (ENOMEM): an allocation failed.
     #[inline(always)]
     pub fn read(&self, name: &TaskName, file: Location) -> Result<Vec<u8>, Deny>
         requires { Permits self.now name.now (ToRead (location_of file)) }
-        ensures ok { IfOk result (λ bytes. bytes.items ≡ bytes_in (node_at nat_eq (world_of self.now) (location_of file))) }
+        ensures ok { IfOk result (λ bytes. bytes.items
+            ≡ bytes_in (node_at nat_eq (world_of self.now) (location_of file))) }
         ensures memory { IfErr result (λ deny. deny ≡ denial S5) }
     {
         match self.node(file) {
@@ -68,7 +69,7 @@ impl World {
 
     /// The names of a directory, in the order of their bytes: readdir(3).
     ///
-    /// S5 (ENOMEM): memory was refused.
+    /// S5 (ENOMEM): an allocation failed.
     pub fn list(&self, name: &TaskName, directory: Location) -> Result<Vec<Vec<u8>>, Deny>
         requires { Permits self.now name.now (ToList (location_of directory)) }
         ensures ok { IfOk result (λ names. map (λ name. name.items) names.items
@@ -80,7 +81,7 @@ impl World {
 
     /// At most `size` bytes of an open file from an offset on: pread(2). Past the end there are none.
     ///
-    /// S5 (ENOMEM): memory was refused.
+    /// S5 (ENOMEM): an allocation failed.
     #[inline(always)]
     pub fn read_part(
         &self,

@@ -18,9 +18,10 @@ use vt_request::TaskName;
 use vt_spec::errors::{Deny, Rule};
 
 impl World {
-    /// Removes an empty directory: rmdir(2). Mounts on it are detached with all their descendants. With its last use it goes.
+    /// Removes an empty directory: rmdir(2). Mounts on it are detached with all their descendants. With its last use it
+    /// goes.
     ///
-    /// S5 (ENOMEM): memory was refused.
+    /// S5 (ENOMEM): an allocation failed.
     pub fn remove_directory(
         &mut self,
         name: &TaskName,
@@ -28,9 +29,11 @@ impl World {
         entry: &[u8],
         directory: Location,
     ) -> Result<(), Deny>
-        requires { Permits self.old name.now (ToRemoveDirectory (location_of parent) entry.now (location_of directory)) }
+        requires { Permits self.old name.now
+            (ToRemoveDirectory (location_of parent) entry.now (location_of directory)) }
         ensures ok { OnOk result
-            (Becomes self.old name.now (ToRemoveDirectory (location_of parent) entry.now (location_of directory)) self.new) }
+            (Becomes self.old name.now (ToRemoveDirectory (location_of parent) entry.now
+            (location_of directory)) self.new) }
         ensures memory { IfErr result (λ deny. deny ≡ denial S5) }
         ensures err { OnErr result (self.new ≡ self.old) }
     {

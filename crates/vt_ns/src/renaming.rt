@@ -19,10 +19,10 @@ use vt_request::TaskName;
 use vt_spec::errors::Deny;
 
 impl World {
-    /// Renames an inode, and replaces what had the new name: rename(2). Mounts on what is replaced are detached with all their
-    /// descendants.
+    /// Renames an inode, and replaces what had the new name: rename(2). Mounts on what is replaced are detached with
+    /// all their descendants.
     ///
-    /// S5 (ENOMEM): memory was refused.
+    /// S5 (ENOMEM): an allocation failed.
     pub fn rename(
         &mut self,
         name: &TaskName,
@@ -35,7 +35,8 @@ impl World {
     ) -> Result<(), Deny>
         requires { Permits self.old name.now (ToRename (location_of from) old.now (location_of to) new.items
             (location_of object) (option_map location_of replaced)) }
-        ensures ok { OnOk result (Becomes self.old name.now (ToRename (location_of from) old.now (location_of to) new.items
+        ensures ok { OnOk result (Becomes self.old name.now
+            (ToRename (location_of from) old.now (location_of to) new.items
             (location_of object) (option_map location_of replaced)) self.new) }
         ensures memory { IfErr result (λ deny. deny ≡ denial S5) }
         ensures err { OnErr result (self.new ≡ self.old) }
@@ -61,7 +62,8 @@ fn trees_replaced(
     replaced: Option<Location>,
     alloc: Global,
 ) -> Result<Vec<MountId>, Deny>
-    ensures ok { IfOk result (λ ids. map (λ id. counted id.count) ids.items ≡ trees_of_replaced (mounts_in mounts.now) replaced) }
+    ensures ok { IfOk result (λ ids. map (λ id. counted id.count) ids.items
+        ≡ trees_of_replaced (mounts_in mounts.now) replaced) }
     ensures slot { IfSome replaced (λ other. other.node.slot < 18446744073709551616) }
     ensures memory { IfErr result (λ deny. deny ≡ denial S5) }
 {

@@ -22,7 +22,7 @@ use vt_request::{TaskName, TypeWord};
 use vt_spec::errors::Deny;
 
 impl World {
-    /// Sets the flags of a mount: mount(2) with `MS_REMOUNT` and `MS_BIND`. It takes no memory.
+    /// Sets the flags of a mount: mount(2) with `MS_REMOUNT` and `MS_BIND`. It does not allocate.
     pub fn set_flags(&mut self, name: &TaskName, mount: MountId, flags: MountFlags)
         requires { Permits self.old name.now (ToSetFlags (counted mount.count) (flags_of flags)) }
         ensures { Becomes self.old name.now (ToSetFlags (counted mount.count) (flags_of flags)) self.new }
@@ -30,10 +30,11 @@ impl World {
         self.mounts.set_flags(mount, flags);
     }
 
-    /// Makes a mount a slave, private or unbindable, also with all its descendants: mount(2) with `MS_SLAVE`, `MS_PRIVATE` or
+    /// Makes a mount a slave, private or unbindable, also with all its descendants: mount(2) with `MS_SLAVE`,
+    /// `MS_PRIVATE` or
     /// `MS_UNBINDABLE`, and `MS_REC`.
     ///
-    /// S5 (ENOMEM): memory was refused. Nothing has changed then. One mount alone takes no memory.
+    /// S5 (ENOMEM): an allocation failed. Nothing has changed then. One mount alone does not allocate.
     pub fn set_type(
         &mut self,
         name: &TaskName,
@@ -43,7 +44,8 @@ impl World {
     ) -> Result<(), Deny>
         requires permitted { Permits self.old name.now (ToSetType (counted mount.count) (type_word_of word) recursive) }
         requires unshared { makes_shared (ToSetType (counted mount.count) (type_word_of word) recursive) ≡ false }
-        ensures ok { OnOk result (Becomes self.old name.now (ToSetType (counted mount.count) (type_word_of word) recursive) self.new) }
+        ensures ok { OnOk result (Becomes self.old name.now
+            (ToSetType (counted mount.count) (type_word_of word) recursive) self.new) }
         ensures memory { IfErr result (λ deny. deny ≡ denial S5) }
         ensures err { OnErr result (self.new ≡ self.old) }
         ensures one { OnErr result (recursive ≡ true) }
@@ -61,7 +63,8 @@ impl World {
 // Mounts become slaves, private or unbindable, and leave their groups. It does not allocate.
 fn change_types(mounts: &mut Mounts, groups: &mut Groups, ids: &[MountId], word: TypeWord)
     requires { makes_shared (ToSetType 0 (type_word_of word) false) ≡ false }
-    ensures { IsRetyped (type_word_of word) (map (λ id. counted id.count) ids.now) groups.old groups.new mounts.old mounts.new }
+    ensures { IsRetyped (type_word_of word)
+        (map (λ id. counted id.count) ids.now) groups.old groups.new mounts.old mounts.new }
 {
     match word {
         TypeWord::Slave => make_slaves(mounts, groups, ids),
@@ -79,7 +82,8 @@ fn change_types(mounts: &mut Mounts, groups: &mut Groups, ids: &[MountId], word:
 
 // All these mounts get a type. It does not allocate.
 fn set_all(mounts: &mut Mounts, ids: &[MountId], kind: Propagation)
-    ensures { mounts.new ≡ map (retyped (set_if (map (λ id. counted id.count) ids.now) (propagation_of kind))) mounts.old }
+    ensures { mounts.new ≡ map (retyped
+        (set_if (map (λ id. counted id.count) ids.now) (propagation_of kind))) mounts.old }
 {
     for id in ids {
         mounts.set_propagation(*id, kind);

@@ -21,7 +21,7 @@ use vt_spec::errors::Deny;
 use vt_tasks::OpenFile;
 
 impl World {
-    /// Sets the umask of a task: umask(2). It takes no memory.
+    /// Sets the umask of a task: umask(2). It does not allocate.
     pub fn set_umask(&mut self, name: &TaskName, umask: Mode)
         requires { Permits self.old name.now (ToSetUmask umask) }
         ensures { Becomes self.old name.now (ToSetUmask umask) self.new }
@@ -29,17 +29,18 @@ impl World {
         self.tasks.set_umask(name, umask);
     }
 
-    /// Drops capabilities of a task for good: capset(2). It takes no memory.
+    /// Drops capabilities of a task for good: capset(2). It does not allocate.
     pub fn drop_caps(&mut self, name: &TaskName, dropped: Caps)
         requires { Permits self.old name.now
             (ToSetCredentials (with_dropped (credentials_called self.old name.now) (capability_bits dropped))) }
         ensures { Becomes self.old name.now
-            (ToSetCredentials (with_dropped (credentials_called self.old name.now) (capability_bits dropped))) self.new }
+            (ToSetCredentials (with_dropped (credentials_called self.old name.now)
+            (capability_bits dropped))) self.new }
     {
         self.tasks.drop_caps(name, dropped);
     }
 
-    /// Sets the working directory of a task: chdir(2). It takes no memory.
+    /// Sets the working directory of a task: chdir(2). It does not allocate.
     ///
     /// S5 (ENOMEM): the mount or the inode has 2^64 - 1 uses.
     pub fn set_directory(&mut self, name: &TaskName, directory: Location) -> Result<(), Deny>
@@ -55,7 +56,7 @@ impl World {
         Ok(())
     }
 
-    /// Sets the root of a task: chroot(2). It takes no memory.
+    /// Sets the root of a task: chroot(2). It does not allocate.
     ///
     /// S5 (ENOMEM): the mount or the inode has 2^64 - 1 uses.
     pub fn set_root(&mut self, name: &TaskName, root: Location) -> Result<(), Deny>
@@ -71,7 +72,7 @@ impl World {
         Ok(())
     }
 
-    /// Closes a file of a task: close(2). It takes no memory.
+    /// Closes a file of a task: close(2). It does not allocate.
     pub fn close(&mut self, name: &TaskName, descriptor: u8)
         requires { Permits self.old name.now (ToClose descriptor) }
         ensures { Becomes self.old name.now (ToClose descriptor) self.new }
@@ -89,7 +90,7 @@ impl World {
 
     /// Opens a file of a task under the least number that is free, and tells that number: open(2).
     ///
-    /// S5 (ENOMEM): memory was refused, or the mount or the inode has 2^64 - 1 uses.
+    /// S5 (ENOMEM): an allocation failed, or the mount or the inode has 2^64 - 1 uses.
     pub fn open(&mut self, name: &TaskName, file: Location, access: Access) -> Result<u8, Deny>
         requires { Permits self.old name.now (ToOpen (location_of file) (access_of access)) }
         ensures number { IfOk result (λ number.

@@ -29,10 +29,10 @@ struct Branch {
 }
 
 impl World {
-    /// The mounts that a bind copies, each before its children: that of the source, and if the bind is recursive those at or
-    /// under the source with all their descendants, without unbindable mounts and what is below them.
+    /// The mounts that a bind copies, each before its children: that of the source, and if the bind is recursive those
+    /// at or under the source with all their descendants, without unbindable mounts and what is below them.
     ///
-    /// S5 (ENOMEM): memory was refused.
+    /// S5 (ENOMEM): an allocation failed.
     pub(crate) fn bind_tree(&self, source: Location, recursive: bool) -> Result<Vec<MountId>, Deny>
         ensures ok { IfOk result (λ tree. map (λ id. counted id.count) tree.items
             ≡ map (λ mount. mount.number) (meant.bind_tree nat_eq (world_of self.now) (location_of source) recursive)) }
@@ -46,7 +46,7 @@ impl World {
 
     /// The mounts that a bind copies, as it copies them: with the source as the root of that on which it lies.
     ///
-    /// S5 (ENOMEM): memory was refused.
+    /// S5 (ENOMEM): an allocation failed.
     pub(crate) fn mounts_bound(&self, source: Location, recursive: bool) -> Result<Vec<Mount>, Deny>
         requires { is_located_well nat_eq (world_of self.now) (location_of source) ≡ true }
         ensures ok { IfOk result (λ tree. map mount_of tree.items

@@ -21,11 +21,11 @@ use vt_request::TaskName;
 use vt_spec::errors::Deny;
 
 impl World {
-    /// Detaches a mount on which no other stands, and at each receiver of its parent the mount at the same place, unless others
-    /// stand on that one; a single one that covers its root takes its place: umount(2). What is detached goes, as nothing is on it.
-    /// Where the mount is in no peer group and its parent is not shared, it takes no memory.
+    /// Detaches a mount on which no other stands, and at each receiver of its parent the mount at the same place,
+    /// unless others stand on that one; a single one that covers its root takes its place: umount(2). What is detached
+    /// goes, as nothing is on it. Where the mount is in no peer group and its parent is not shared, it does not allocate.
     ///
-    /// S5 (ENOMEM): memory was refused, or an inode would have more than 2^64 - 1 uses.
+    /// S5 (ENOMEM): an allocation failed, or an inode would have more than 2^64 - 1 uses.
     pub fn unmount(&mut self, name: &TaskName, mount: MountId) -> Result<(), Deny>
         requires { Permits self.old name.now (ToUnmount (counted mount.count)) }
         ensures ok { OnOk result (Becomes self.old name.now (ToUnmount (counted mount.count)) self.new) }
@@ -77,9 +77,10 @@ impl World {
         Ok(())
     }
 
-    /// Detaches a mount and all its descendants, in use or not: umount(2) with `MNT_DETACH`. Each goes with its last use.
+    /// Detaches a mount and all its descendants, in use or not: umount(2) with `MNT_DETACH`. Each goes with its last
+    /// use.
     ///
-    /// S5 (ENOMEM): memory was refused.
+    /// S5 (ENOMEM): an allocation failed.
     pub fn unmount_lazily(&mut self, name: &TaskName, mount: MountId) -> Result<(), Deny>
         requires { Permits self.old name.now (ToUnmountLazily (counted mount.count)) }
         ensures ok { OnOk result (Becomes self.old name.now (ToUnmountLazily (counted mount.count)) self.new) }

@@ -15,10 +15,11 @@ use vt_request::TaskName;
 use vt_spec::errors::{Deny, Rule};
 
 impl World {
-    /// Moves a task to a new namespace, with copies of the mounts of the one that it leaves, which ends with its last task. Its
-    /// root and its working directory go along: unshare(2) with `CLONE_NEWNS`.
+    /// Moves a task to a new namespace, with copies of the mounts of the one that it leaves, which ends with its last
+    /// task. Its root and its working directory go along: unshare(2) with `CLONE_NEWNS`.
     ///
-    /// S5 (ENOMEM): memory was refused, no number is left, or an inode or a filesystem would have more than 2^64 - 1 uses.
+    /// S5 (ENOMEM): an allocation failed, no number is left, or an inode or a filesystem would have more than 2^64 - 1
+    /// uses.
     pub fn unshare(&mut self, name: &TaskName) -> Result<(), Deny>
         requires { Permits self.old name.now ToUnshare }
         ensures ok { OnOk result (Becomes self.old name.now ToUnshare self.new) }

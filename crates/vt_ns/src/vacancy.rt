@@ -13,8 +13,8 @@ impl World {
         self.alloc
     }
 
-    /// A theorem, which changes nothing: the number that the next inode gets in the filesystem that a location is in is not in
-    /// use.
+    /// A theorem, which changes nothing: the number that the next inode gets in the filesystem that a location is in is
+    /// not in use.
     #[inline(always)]
     pub fn next_inode_is_vacant(&self, directory: Location)
         ensures { NextInodeIsVacant self.now (location_of directory) }

@@ -100,15 +100,16 @@ abbrev pub upwards : Tree ℕ → ℕ → ℕ → ℕ
 upwards tree zero directory = directory
 upwards tree (suc steps) directory = upwards tree steps (parent_in directory (tree.node directory))
 
--- A tree in which each directory but the root has a name in its parent, and lies under the root: path_resolution(7). A removed
--- directory is gone, since no task is in it.
+-- A tree in which each directory but the root has a name in its parent, and lies under the root: path_resolution(7). A
+-- removed directory is gone, since no task is in it.
 pub record IsWhole (tree : Tree ℕ) : Type 0 where
   pub root_directory : IsDirectory tree tree.root
   pub root_parent : parent_in tree.root (tree.node tree.root) ≡ tree.root
   pub in_order : (directory : ℕ) → is_sorted name_cmp (entries_in (tree.node directory)) ≡ true
   pub in_parent : (directory : ℕ) → IsDirectory tree directory → directory ≢ tree.root
       → has_entry_to nat_eq tree (parent_in directory (tree.node directory)) directory ≡ true
-  pub under_root : (directory : ℕ) → IsDirectory tree directory → (steps : ℕ) × (upwards tree steps directory ≡ tree.root)
+  pub under_root : (directory : ℕ) → IsDirectory tree directory
+      → (steps : ℕ) × (upwards tree steps directory ≡ tree.root)
 
 -- the inodes that names lead to, and those that descriptors are on, each as often as it is so
 abbrev pub named_in : List ℕ → Tree ℕ → List ℕ
@@ -134,20 +135,24 @@ abbrev pub AreInOrder : ℕ → List (Descriptor ℕ) → Type 0
 AreInOrder number [] = ⊤
 AreInOrder number (descriptor ∷ rest) = (number ≤ descriptor.number) × AreInOrder (descriptor.number + 1) rest
 
--- The numbers are those of the inodes that are there, each once, and the counts are those of inodes and of their uses. What
--- nothing uses is not there.
+-- The numbers are those of the inodes that are there, each once, and the counts are those of inodes and of their uses.
+-- What nothing uses is not there.
 pub record IsFit (numbers : List ℕ) (world : World ℕ) : Type 0 where
   pub whole : IsWhole (tree_of world.inodes)
   pub each_once : (number : ℕ) → times_in number numbers ≡ (if is_some (world.inodes.inode number) then 1 else 0)
   pub counted : world.inodes.count ≡ length numbers
   pub uses : (number : ℕ) → uses_in (world.inodes.inode number) ≡ times_in number (used_in numbers world)
   pub in_use : (number : ℕ) → is_some (world.inodes.inode number) ≡ true → 1 ≤ uses_in (world.inodes.inode number)
-  pub one_use : (directory : ℕ) → IsDirectory (tree_of world.inodes) directory → uses_in (world.inodes.inode directory) ≡ 1
-  -- names of tasks are apart, and a task whose name goes on from another's is one of those that the other forked: fork(2)
+  pub one_use : (directory : ℕ) → IsDirectory (tree_of world.inodes) directory
+      → uses_in (world.inodes.inode directory) ≡ 1
+  -- names of tasks are apart, and a task whose name goes on from another's is one of those that the other forked:
+  -- fork(2)
   pub apart : AreApart world.tasks
   pub forked : (name rest : TaskName) (number : ℕ) (task forker : Task ℕ)
-      → task_called world (name ++ (number ∷ rest)) ≡ Some task → task_called world name ≡ Some forker → number ≤ forker.forks
-  pub descriptors : (name : TaskName) (task : Task ℕ) → task_called world name ≡ Some task → AreInOrder 0 task.descriptors
+      → task_called world (name ++ (number ∷ rest)) ≡ Some task → task_called world name ≡ Some forker
+      → number ≤ forker.forks
+  pub descriptors : (name : TaskName) (task : Task ℕ) → task_called world name ≡ Some task
+      → AreInOrder 0 task.descriptors
 
 -- Walks
 
@@ -236,7 +241,8 @@ abbrev pub IsAnsweredAlike : Call → Type 0
 IsAnsweredAlike call =
     (beside : Beside) (world : World ℕ) (name : TaskName) (fresh : Fresh ℕ)
     → IsFit beside.numbers world → world.inodes.inode (fresh 0) ≡ None
-    → IsSameOutcome (policy nat_eq world name call (fresh 0)) (whole_policy.policy nat_eq fresh (embedded beside world) name call)
+    → IsSameOutcome (policy nat_eq world name call (fresh 0))
+    (whole_policy.policy nat_eq fresh (embedded beside world) name call)
 
 -- The opening world is fit.
 abbrev pub OpeningIsFit : Type 0
@@ -246,7 +252,8 @@ OpeningIsFit = (root : ℕ) → IsFit (root ∷ []) (opening nat_eq root)
 abbrev pub LooksAgree : Type 0
 LooksAgree =
     (path : List ℕ)
-    → IsAnsweredAlike (Ls path) × IsAnsweredAlike (Stat path) × IsAnsweredAlike (Lstat path) × IsAnsweredAlike (Readlink path)
+    → IsAnsweredAlike (Ls path) × IsAnsweredAlike (Stat path) × IsAnsweredAlike (Lstat path)
+    × IsAnsweredAlike (Readlink path)
     × IsAnsweredAlike (Read path) × IsAnsweredAlike (Exec path)
 
 -- pread(2)
@@ -317,8 +324,8 @@ RenamesAgree = (old new : List ℕ) → IsAnsweredAlike (Rename old new)
 
 -- Scripts
 
--- Each text that the whole machine may write for a script of the calls on files and tasks is one that the machine of one tree may
--- write, from the same root on.
+-- Each text that the whole machine may write for a script of the calls on files and tasks is one that the machine of
+-- one tree may write, from the same root on.
 abbrev pub FilesAreTold : Type 0
 FilesAreTold =
     (script : List ℕ) (refused : List Bool) (text : List ℕ)

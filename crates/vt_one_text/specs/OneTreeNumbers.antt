@@ -28,7 +28,8 @@ module _ {N M : Type 0} (there : N → M) (back : M → N) where
   abbrev pub renamed_outcome : Outcome N → Outcome M
   renamed_outcome outcome = record { answer = outcome.answer; world = renamed_world outcome.world }
 
--- A call in a renamed world, to which the renamed number is handed, is answered alike, and leaves the renamed world (profile).
+-- A call in a renamed world, to which the renamed number is handed, is answered alike, and leaves the renamed world
+-- (profile).
 abbrev pub OneTreeDoesNotSeeNumbers : Type 0
 OneTreeDoesNotSeeNumbers =
     (renaming : Renaming ℕ ℕ) (world : World ℕ) (name : TaskName) (call : Call) (number : ℕ)

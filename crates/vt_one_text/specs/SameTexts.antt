@@ -7,7 +7,8 @@ use Rattle.vt_spec.specs.OneTree.Run as tree_run
 
 -- The text of the whole machine, kept to the calls on files and tasks, is that of one tree,
 abbrev pub FilesTextIsTheText : Type 0
-FilesTextIsTheText = (script : List ℕ) (refused : List Bool) → whole_run.text_of files refused script ≡ tree_run.script_text refused script
+FilesTextIsTheText = (script : List ℕ) (refused : List Bool)
+    → whole_run.text_of files refused script ≡ tree_run.script_text refused script
 
 -- and so is its text in the whole language, for a script that has no more there than among these calls.
 abbrev pub MachineTextIsTheText : Type 0

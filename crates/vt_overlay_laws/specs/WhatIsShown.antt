@@ -1,5 +1,5 @@
--- Each step of a change of an overlay keeps that its tree is what its layers show: the kernel's overlayfs document, "upper and
--- lower", "directories" and "whiteouts and opaque directories".
+-- Each step of a change of an overlay keeps that its tree is what its layers show: the kernel's overlayfs document,
+-- "upper and lower", "directories" and "whiteouts and opaque directories".
 use Rattle.std.specs.Prelude.{List, [], None, Option, Some, false, is_some, nat_eq, option_map, slice_get, true, ℕ, ◌∷◌, ◌≡◌}
 use Rattle.vt_spec.specs.declared.attributes.Attr.{Attr}
 use Rattle.vt_spec.specs.declared.attributes.Kind.TheVariants.{White}
@@ -30,7 +30,8 @@ real_seen stack merge path =
 -- the inode of a real object
 abbrev pub inode_behind : Stack ℕ → Merge ℕ → Real ℕ → Option (Node ℕ)
 inode_behind stack merge (Upper object) = merge.upper.tree.node object
-inode_behind stack merge (Below layer path) = then_some (slice_get stack.lowers layer) (λ lower. node_at_path lower path)
+inode_behind stack merge (Below layer path) =
+    then_some (slice_get stack.lowers layer) (λ lower. node_at_path lower path)
 
 -- The tree is what the layers show: what `IsMerged` says of an overlay of a world.
 pub record IsWhatIsShown (stack : Stack ℕ) (merge : Merge ℕ) : Type 0 where
@@ -39,20 +40,23 @@ pub record IsWhatIsShown (stack : Stack ℕ) (merge : Merge ℕ) : Type 0 where
       (then_some (shown (layers_under stack merge) path) (layer_node (layers_under stack merge)))
   pub names : (path : List (List ℕ)) (number : ℕ)
       → number_at_path merge.files path ≡ Some number → merge.real number ≡ real_seen stack merge path
-  pub real_objects : (number : ℕ) → SameObject (merge.files.tree.node number) (then_some (merge.real number) (inode_behind stack merge))
+  pub real_objects : (number : ℕ)
+      → SameObject (merge.files.tree.node number) (then_some (merge.real number) (inode_behind stack merge))
   pub real_there : (number : ℕ) → merge.files.tree.node number ≡ None → merge.real number ≡ None
   pub no_whiteout : (number : ℕ) → is_kind_in White (merge.files.tree.node number) ≡ false
   pub no_mark : (number : ℕ) → is_opaque_in (merge.files.tree.node number) ≡ false
-  pub upper_there : (number object : ℕ) → merge.real number ≡ Some (Upper object) → is_some (merge.upper.tree.node object) ≡ true
+  pub upper_there : (number object : ℕ) → merge.real number ≡ Some (Upper object)
+      → is_some (merge.upper.tree.node object) ≡ true
   pub one_to_one : (a b : ℕ) → is_some (merge.real a) ≡ true → merge.real a ≡ merge.real b → a ≡ b
 
--- Its tree and those of its layers are trees, each layer's directory is one, names lead to the upper layer's from the root of its
--- tree, and the overlay's tree is what the layers show.
+-- Its tree and those of its layers are trees, each layer's directory is one, names lead to the upper layer's from the
+-- root of its tree, and the overlay's tree is what the layers show.
 pub record IsWhole (stack : Stack ℕ) (merge : Merge ℕ) : Type 0 where
   pub tree : IsTree merge.files.tree
   pub numbers : ListsNumbers nat_eq merge.files
   pub layers : (depth : ℕ) (layer : OpenLayer ℕ)
-      → slice_get (layers_under stack merge) depth ≡ Some layer → IsTree layer.tree × IsDirectory layer.tree layer.directory
+      → slice_get (layers_under stack merge) depth ≡ Some layer
+      → IsTree layer.tree × IsDirectory layer.tree layer.directory
   pub reached : IsReached merge.upper.tree stack.directory
   pub shown : IsWhatIsShown stack merge
 
@@ -69,8 +73,8 @@ AttrKeepsWhole =
     → IsWhole stack merge → StandsInUpper merge object
     → IsWhole stack (changed_both nat_eq merge object (node_with_attr attr))
 
--- One object that lies only below is copied up, by a number that no inode of the upper layer's tree has: under its name, where
--- the directory of that stands in the upper layer, or under none.
+-- One object that lies only below is copied up, by a number that no inode of the upper layer's tree has: under its
+-- name, where the directory of that stands in the upper layer, or under none.
 abbrev pub CopyKeepsWhole : Type 0
 CopyKeepsWhole =
     (stack : Stack ℕ) (merge : Merge ℕ) (object copy : ℕ) (node : Node ℕ)
@@ -102,8 +106,8 @@ LinkKeepsShown =
     → MayAddName merge.files.tree directory name object
     → IsWhatIsShown stack (linked nat_eq merge directory name object)
 
--- The name of an object without names in it is taken away, with a whiteout where lower layers show something there, or without
--- one.
+-- The name of an object without names in it is taken away, with a whiteout where lower layers show something there, or
+-- without one.
 abbrev pub RemoveKeepsShown : Type 0
 RemoveKeepsShown =
     (fresh : Fresh ℕ) (stack : Stack ℕ) (merge : Merge ℕ) (directory : ℕ) (name : List ℕ) (object : ℕ)
@@ -111,8 +115,8 @@ RemoveKeepsShown =
     → MayRemove merge.files.tree directory name object
     → IsWhatIsShown stack (removed nat_eq fresh stack merge directory name object)
 
--- An object is moved, where it and both directories stand in the upper layer. A directory moves only where no lower layer that is
--- not cut has one (O1).
+-- An object is moved, where it and both directories stand in the upper layer. A directory moves only where no lower
+-- layer that is not cut has one (O1).
 abbrev pub MoveKeepsShown : Type 0
 MoveKeepsShown =
     (fresh : Fresh ℕ) (stack : Stack ℕ) (merge : Merge ℕ) (from : ℕ) (old : List ℕ) (to : ℕ) (new : List ℕ) (object : ℕ)

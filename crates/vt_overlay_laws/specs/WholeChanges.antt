@@ -1,5 +1,5 @@
--- Each change of an overlay keeps that its tree is what its layers show: the kernel's overlayfs document, "upper and lower",
--- "directories" and "whiteouts and opaque directories".
+-- Each change of an overlay keeps that its tree is what its layers show: the kernel's overlayfs document, "upper and
+-- lower", "directories" and "whiteouts and opaque directories".
 use Rattle.std.specs.Prelude.{List, [], None, Some, false, nat_eq, true, ℕ, ◌+◌, ◌∷◌, ◌≡◌, ◌≢◌}
 use Rattle.vt_spec.specs.declared.attributes.Kind.TheVariants.{White}
 use Rattle.vt_spec.specs.FileTree.{is_kind}
@@ -22,8 +22,8 @@ use Rattle.vt_layer_laws.specs.Layers.Untouched.{changes_no_mount}
 use Rattle.vt_layer_laws.specs.Layers.Upper.{IsThere, SpeaksOfWhatIsThere}
 use Rattle.vt_overlay_laws.specs.WhatIsShown.{IsWhatIsShown, IsWhole, layers_under}
 
--- What is asked for: what the calls' tables of rules see to. A directory moves only where no lower layer that is not cut has one
--- (O1), and no call sets a mark through an overlay (O4).
+-- What is asked for: what the calls' tables of rules see to. A directory moves only where no lower layer that is not
+-- cut has one (O1), and no call sets a mark through an overlay (O4).
 abbrev pub IsAskedWell : Stack ℕ → Merge ℕ → Change ℕ → Type 0
 IsAskedWell stack merge (Make directory name number node) =
     MayMake merge.files.tree directory name number node × (is_kind White (kind_of node.content) ≡ false)
@@ -39,8 +39,8 @@ IsAskedWell stack merge (SetAttr object attr) = IsThere merge.files object
 IsAskedWell stack merge (SetMark directory opaque) = ⊥
 IsAskedWell stack merge (CopyUp object) = IsThere merge.files object
 
--- A whole change: the objects that it changes are copied up with the directories above them, and then it is made, by new numbers
--- that no inode of the upper layer's tree has.
+-- A whole change: the objects that it changes are copied up with the directories above them, and then it is made, by
+-- new numbers that no inode of the upper layer's tree has.
 abbrev pub ChangesKeepShown : Type 0
 ChangesKeepShown =
     (fresh : Fresh ℕ) (stack : Stack ℕ) (merge : Merge ℕ) (change : Change ℕ)
@@ -61,19 +61,22 @@ OverlaysAreWhole =
     (world : World ℕ) (number : ℕ) (overlay : Overlay ℕ) (upper : Layer ℕ)
     → IsWorld nat_eq world
     → (filesystem_numbered nat_eq world number).overlay ≡ Some overlay → overlay.upper ≡ Some upper
-    → IsWhole (stack_of nat_eq world overlay upper) (merge_of nat_eq world (filesystem_numbered nat_eq world number) overlay upper)
+    → IsWhole (stack_of nat_eq world overlay upper)
+    (merge_of nat_eq world (filesystem_numbered nat_eq world number) overlay upper)
 
--- What a lower layer shows at a path after a change it showed there before: what is hidden by a whiteout, an opaque mark or an
--- upper object does not show again.
+-- What a lower layer shows at a path after a change it showed there before: what is hidden by a whiteout, an opaque
+-- mark or an upper object does not show again.
 abbrev pub HiddenStaysHidden : Type 0
 HiddenStaysHidden =
     (fresh : Fresh ℕ) (stack : Stack ℕ) (merge : Merge ℕ) (change : Change ℕ) (path : List (List ℕ)) (layer object : ℕ)
     → IsWhole stack merge → ((j k : ℕ) → fresh j ≡ fresh k → j ≡ k) → ((k : ℕ) → merge.upper.tree.node (fresh k) ≡ None)
     → IsAskedWell stack merge change
-    → shown (layers_under stack (merge_changed nat_eq fresh stack merge change)) path ≡ Some (record { layer = layer + 1; object = object })
+    → shown (layers_under stack (merge_changed nat_eq fresh stack merge change)) path
+    ≡ Some (record { layer = layer + 1; object = object })
     → shown (layers_under stack merge) path ≡ Some (record { layer = layer + 1; object = object })
 
--- In a world: an overlay through which a change goes is what its layers show after it, its lower layers as they are then.
+-- In a world: an overlay through which a change goes is what its layers show after it, its lower layers as they are
+-- then.
 abbrev pub ChangedOverlayIsMerged : Type 0
 ChangedOverlayIsMerged =
     (fresh : Fresh ℕ) (world : World ℕ) (location : Location ℕ) (change : Change ℕ) (overlay later : Overlay ℕ)
@@ -81,10 +84,13 @@ ChangedOverlayIsMerged =
     → IsWorld nat_eq world
     → (filesystem_at nat_eq world location).overlay ≡ Some overlay → overlay.upper ≡ Some upper
     → ((j k : ℕ) → fresh j ≡ fresh k → j ≡ k) → ((filesystem : ℕ) → AreNoInodes fresh world filesystem)
-    → IsAskedWell (stack_of nat_eq world overlay upper) (merge_of nat_eq world (filesystem_at nat_eq world location) overlay upper) change
-    → (filesystem_numbered nat_eq (with_change nat_eq fresh world location change) (mount_at nat_eq world location).filesystem).overlay ≡ Some later
+    → IsAskedWell (stack_of nat_eq world overlay upper)
+    (merge_of nat_eq world (filesystem_at nat_eq world location) overlay upper) change
+    → (filesystem_numbered nat_eq (with_change nat_eq fresh world location change)
+    (mount_at nat_eq world location).filesystem).overlay ≡ Some later
     → IsMerged nat_eq (with_change nat_eq fresh world location change)
-    (filesystem_numbered nat_eq (with_change nat_eq fresh world location change) (mount_at nat_eq world location).filesystem) later
+    (filesystem_numbered nat_eq (with_change nat_eq fresh world location change)
+    (mount_at nat_eq world location).filesystem) later
 
 -- and every other overlay goes on being what its layers show.
 abbrev pub OtherOverlaysStayMerged : Type 0
@@ -95,12 +101,14 @@ OtherOverlaysStayMerged =
     → (filesystem_at nat_eq world location).overlay ≡ Some overlay → overlay.upper ≡ Some upper
     → ((filesystem : ℕ) → AreNoInodes fresh world filesystem)
     → SpeaksOfWhatIsThere (files_at nat_eq world location) change
-    → number ≢ (mount_at nat_eq world location).filesystem → (filesystem_numbered nat_eq world number).overlay ≡ Some other
-    → (filesystem_numbered nat_eq (with_change nat_eq fresh world location change) number ≡ filesystem_numbered nat_eq world number)
+    → number ≢ (mount_at nat_eq world location).filesystem
+    → (filesystem_numbered nat_eq world number).overlay ≡ Some other
+    → (filesystem_numbered nat_eq (with_change nat_eq fresh world location change) number
+    ≡ filesystem_numbered nat_eq world number)
     × IsMerged nat_eq (with_change nat_eq fresh world location change) (filesystem_numbered nat_eq world number) other
 
--- So after a call on files each overlay that the call does not go through is what its layers show: every one, after a call through
--- a plain mount.
+-- So after a call on files each overlay that the call does not go through is what its layers show: every one, after a
+-- call through a plain mount.
 abbrev pub CallsKeepOtherOverlays : Type 0
 CallsKeepOtherOverlays =
     (fresh : Fresh ℕ) (world : World ℕ) (task : Task ℕ) (call : Call) (through number : ℕ) (other : Overlay ℕ)
@@ -108,5 +116,6 @@ CallsKeepOtherOverlays =
     → ((filesystem : ℕ) → AreNoInodes fresh world filesystem)
     → GoesThrough fresh world (call_outcome nat_eq fresh world task call).world through
     → number ≢ through → (filesystem_numbered nat_eq world number).overlay ≡ Some other
-    → (filesystem_numbered nat_eq (call_outcome nat_eq fresh world task call).world number ≡ filesystem_numbered nat_eq world number)
+    → (filesystem_numbered nat_eq (call_outcome nat_eq fresh world task call).world number
+    ≡ filesystem_numbered nat_eq world number)
     × IsMerged nat_eq (call_outcome nat_eq fresh world task call).world (filesystem_numbered nat_eq world number) other

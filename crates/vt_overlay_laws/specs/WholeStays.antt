@@ -1,5 +1,5 @@
--- An overlay stays whole in each change, so that changes follow one another, and the tree of its upper layer stays a tree: the
--- kernel's overlayfs document, "upper and lower", "directories" and "whiteouts and opaque directories".
+-- An overlay stays whole in each change, so that changes follow one another, and the tree of its upper layer stays a
+-- tree: the kernel's overlayfs document, "upper and lower", "directories" and "whiteouts and opaque directories".
 use Rattle.std.specs.Prelude.{List, [], None, Some, false, nat_eq, true, ℕ, ⊤, ◌∷◌, ◌≡◌, ◌⊎◌}
 use Rattle.vt_spec.specs.declared.attributes.Kind.TheVariants.{White}
 use Rattle.vt_spec.specs.FileTree.{is_kind}
@@ -109,7 +109,8 @@ MergedTreesStay =
 -- A name in the upper layer's tree leads where it led, or to such an upper object, or to a new inode.
 abbrev pub NamesLeadToOwn : Type 0
 NamesLeadToOwn =
-    (fresh : Fresh ℕ) (stack : Stack ℕ) (merge : Merge ℕ) (change : Change ℕ) (directory : ℕ) (name : List ℕ) (object : ℕ)
+    (fresh : Fresh ℕ) (stack : Stack ℕ) (merge : Merge ℕ) (change : Change ℕ) (directory : ℕ) (name : List ℕ)
+    (object : ℕ)
     → IsWhole stack merge → AreNew fresh merge → IsAskedWell stack merge change
     → entry_at (merge_changed nat_eq fresh stack merge change).upper.tree directory name ≡ Some object
     → (entry_at merge.upper.tree directory name ≡ Some object) ⊎ (IsOwnPlaced stack merge object ⊎ IsNewBy fresh object)

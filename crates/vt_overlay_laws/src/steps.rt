@@ -2,9 +2,9 @@
 ghost use Rattle.vt_overlay_laws.specs.WhatIsShown.{AttrKeepsWhole, BytesKeepWhole, CopiesKeepWhole, CopyKeepsWhole};
 ghost use Rattle.vt_overlay_laws.specs.WhatIsShown.{LinkKeepsShown, MakeKeepsShown, MoveKeepsShown, RemoveKeepsShown};
 
-/// The tree of an overlay is what its layers show after each step of a change: bytes and attributes of what stands in the upper
-/// layer are set; one object is copied up, or one with all the directories above it; a new object, or one that is there, is put
-/// under a name; a name is taken away; an object is moved.
+/// The tree of an overlay is what its layers show after each step of a change: bytes and attributes of what stands in
+/// the upper layer are set; one object is copied up, or one with all the directories above it; a new object, or one
+/// that is there, is put under a name; a name is taken away; an object is moved.
 pub fn steps_keep_what_is_shown()
     ensures bytes { BytesKeepWhole }
     ensures attr { AttrKeepsWhole }

@@ -4,8 +4,8 @@ ghost use Rattle.vt_overlay_laws.specs.WholeStays.{ChangesFollowOneAnother, Chan
 ghost use Rattle.vt_overlay_laws.specs.WholeStays.{MergedTreesStay, MoveKeepsWhole, NamesLeadToOwn, ObjectsAreOwn, RemoveKeepsWhole};
 ghost use Rattle.vt_overlay_laws.specs.WholeStays.{SizesStay, UpperTreesStay};
 
-/// An overlay stays whole in each change: its tree and that of its upper layer are trees, names lead to the upper layer's directory,
-/// and its tree is what its layers show. So after any number of changes, one after the other.
+/// An overlay stays whole in each change: its tree and that of its upper layer are trees, names lead to the upper
+/// layer's directory, and its tree is what its layers show. So after any number of changes, one after the other.
 pub fn changes_keep_overlays_whole()
     ensures made { MakeKeepsWhole }
     ensures linked { LinkKeepsWhole }
@@ -15,9 +15,10 @@ pub fn changes_keep_overlays_whole()
     ensures rows { ChangesFollowOneAnother }
 {}
 
-/// The overlay's tree and that of its upper layer stay trees, with the numbers of their inodes beside them, and what lost its name is
-/// its own parent. Each name of the upper layer's tree leads where it led, or to an object of the overlay or a new inode, and the
-/// upper object of an inode is the one that it was, or a new one. Names, texts and files stay within their limits.
+/// The overlay's tree and that of its upper layer stay trees, with the numbers of their inodes beside them, and what
+/// lost its name is its own parent. Each name of the upper layer's tree leads where it led, or to an object of the
+/// overlay or a new inode, and the upper object of an inode is the one that it was, or a new one. Names, texts and
+/// files stay within their limits.
 pub fn changes_keep_both_trees()
     ensures upper { UpperTreesStay }
     ensures merged { MergedTreesStay }
@@ -26,9 +27,10 @@ pub fn changes_keep_both_trees()
     ensures sizes { SizesStay }
 {}
 
-/// In a world that has all invariants a change of an overlay keeps those of overlays, all of them: layers of live overlays stand
-/// apart, layers are directories of plain trees, and each overlay is what its layers show. Each filesystem is still a tree, and names
-/// lead to the directory of the upper layer; all invariants of trees hold where what the change gives is within the limits.
+/// In a world that has all invariants a change of an overlay keeps those of overlays, all of them: layers of live
+/// overlays stand apart, layers are directories of plain trees, and each overlay is what its layers show. Each
+/// filesystem is still a tree, and names lead to the directory of the upper layer; all invariants of trees hold where
+/// what the change gives is within the limits.
 pub fn changes_keep_overlay_invariants()
     ensures apart { LayersStayApart }
     ensures overlays { OverlayInvariantsStay }

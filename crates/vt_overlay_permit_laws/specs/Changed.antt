@@ -19,10 +19,12 @@ use Rattle.vt_overlay_permit_laws.specs.Asked.{change_asked}
 -- The change of an overlay that asks for what it may leaves both trees trees.
 abbrev pub AskedChangesCanBeMade : Type 0
 AskedChangesCanBeMade =
-    (fresh : Fresh ℕ) (world : World ℕ) (location : Location ℕ) (change : Change ℕ) (overlay : Overlay ℕ) (upper : Layer ℕ)
+    (fresh : Fresh ℕ) (world : World ℕ) (location : Location ℕ) (change : Change ℕ) (overlay : Overlay ℕ)
+    (upper : Layer ℕ)
     → IsWorld nat_eq world → (filesystem_at nat_eq world location).overlay ≡ Some overlay → overlay.upper ≡ Some upper
     → ((j k : ℕ) → fresh j ≡ fresh k → j ≡ k) → ((k : ℕ) → inode_in world upper.filesystem (fresh k) ≡ None)
-    → IsAskedWell (stack_of nat_eq world overlay upper) (merge_of nat_eq world (filesystem_at nat_eq world location) overlay upper) change
+    → IsAskedWell (stack_of nat_eq world overlay upper)
+    (merge_of nat_eq world (filesystem_at nat_eq world location) overlay upper) change
     → CanChange fresh world location change overlay upper
 
 -- the numbers that are left for copies and whiteouts: a new inode has one of the others
@@ -34,7 +36,8 @@ numbers_left fresh permit = fresh
 -- So does the change that a permit asks for.
 abbrev pub PermitsCanChange : Type 0
 PermitsCanChange =
-    (world : World ℕ) (fresh : Fresh ℕ) (task : Task ℕ) (call : Call) (permit : Permit ℕ) (location : Location ℕ) (change : Change ℕ)
+    (world : World ℕ) (fresh : Fresh ℕ) (task : Task ℕ) (call : Call) (permit : Permit ℕ) (location : Location ℕ)
+    (change : Change ℕ)
     (overlay : Overlay ℕ) (upper : Layer ℕ)
     → IsWorld nat_eq world → Serves nat_eq world fresh → task_called world task.name ≡ Some task
     → judge_in nat_eq fresh world task call ≡ Ok permit → change_asked fresh world permit ≡ Some (location, change)

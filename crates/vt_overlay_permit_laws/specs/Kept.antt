@@ -14,8 +14,8 @@ use Rattle.vt_spec.specs.Machine.World.{Layer, Overlay, Task, World, filesystem_
 use Rattle.vt_overlay_permit_laws.specs.Asked.{change_asked}
 use Rattle.vt_overlay_permit_laws.specs.Changed.{numbers_left}
 
--- A permit that asks for a change leaves the filesystems that the change makes: rmdir(2) and rename(2) take mounts away as well, and
--- open(2) gives a descriptor.
+-- A permit that asks for a change leaves the filesystems that the change makes: rmdir(2) and rename(2) take mounts away
+-- as well, and open(2) gives a descriptor.
 abbrev pub PermitsMakeTheirChange : Type 0
 PermitsMakeTheirChange =
     (world : World ℕ) (fresh : Fresh ℕ) (task : Task ℕ) (permit : Permit ℕ) (location : Location ℕ) (change : Change ℕ)
@@ -23,11 +23,12 @@ PermitsMakeTheirChange =
     → (apply nat_eq fresh world task permit).world.filesystems
     ≡ (with_change nat_eq (numbers_left fresh permit) world location change).filesystems
 
--- In a world that has all invariants a granted call that changes an overlay, before the sweep, leaves all invariants of overlays
--- and of trees.
+-- In a world that has all invariants a granted call that changes an overlay, before the sweep, leaves all invariants of
+-- overlays and of trees.
 abbrev pub PermitsKeepOverlayInvariants : Type 0
 PermitsKeepOverlayInvariants =
-    (world : World ℕ) (fresh : Fresh ℕ) (task : Task ℕ) (call : Call) (permit : Permit ℕ) (location : Location ℕ) (change : Change ℕ)
+    (world : World ℕ) (fresh : Fresh ℕ) (task : Task ℕ) (call : Call) (permit : Permit ℕ) (location : Location ℕ)
+    (change : Change ℕ)
     (overlay : Overlay ℕ) (upper : Layer ℕ)
     → IsWorld nat_eq world → Serves nat_eq world fresh → task_called world task.name ≡ Some task
     → judge_in nat_eq fresh world task call ≡ Ok permit → change_asked fresh world permit ≡ Some (location, change)

@@ -1,5 +1,5 @@
--- Overlays that are mounted anew in worlds that scripts lead to: mount(2), and the kernel's overlayfs document, "upper and lower" and
--- "changes to underlying filesystems".
+-- Overlays that are mounted anew in worlds that scripts lead to: mount(2), and the kernel's overlayfs document, "upper
+-- and lower" and "changes to underlying filesystems".
 use Rattle.std.specs.Prelude.{Bool, List, Ok, Some, map, nat_eq, ℕ, ◌≡◌}
 use Rattle.vt_spec.specs.Language.Answers.Answer.{Done}
 use Rattle.vt_spec.specs.Language.Calls.{MountFlags, OverlayWords}
@@ -23,8 +23,9 @@ pub record IsLedTo (world : World ℕ) : Type 0 where
   pub apart : (j k : ℕ) → fresh j ≡ fresh k → j ≡ k
   pub leads : LeadsTo grammar (opening nat_eq fresh) lines refused world
 
--- An overlay stands in a world that a script leads to, and a task of another such world, that the same script leads to later or any
--- other, mounts one over layers that lead everywhere to what the first one's led to: it shows the tree that the first one showed.
+-- An overlay stands in a world that a script leads to, and a task of another such world, that the same script leads to
+-- later or any other, mounts one over layers that lead everywhere to what the first one's led to: it shows the tree
+-- that the first one showed.
 abbrev pub MountedAnewOverScripts : Type 0
 MountedAnewOverScripts =
     (fresh : Fresh ℕ) (before later : World ℕ) (number : ℕ) (left : Overlay ℕ) (task : Task ℕ) (path : List ℕ)

@@ -1,5 +1,5 @@
--- Which filesystem a granted call on files goes through, and the layers that it leaves as they were: the kernel's overlayfs
--- document, "changes to underlying filesystems" (that a layer in use is locked is the profile's).
+-- Which filesystem a granted call on files goes through, and the layers that it leaves as they were: the kernel's
+-- overlayfs document, "changes to underlying filesystems" (that a layer in use is locked is the profile's).
 use Rattle.std.specs.Prelude.{Bool, Contains, List, None, Ok, Some, [], false, is_some, nat_eq, true, ℕ, ◌∷◌, ◌≡◌, ◌≢◌}
 use Rattle.vt_spec.specs.Language.Calls.{Call, TaskName}
 use Rattle.vt_spec.specs.Language.Changes.{Change}
@@ -21,23 +21,27 @@ use Rattle.vt_world_laws.specs.Worlds.Calls.{LeadsTo}
 use Rattle.vt_overlay_permit_laws.specs.Asked.{change_asked}
 use Rattle.vt_overlay_permit_laws.specs.LockedOverScripts.{is_live}
 
--- A granted call that changes something goes through the filesystem of the location that it changes. (The world is the one before
--- what nothing uses any more is let go.)
+-- A granted call that changes something goes through the filesystem of the location that it changes. (The world is the
+-- one before what nothing uses any more is let go.)
 abbrev pub CallsGoThroughTheirLocation : Type 0
 CallsGoThroughTheirLocation =
-    (world : World ℕ) (fresh : Fresh ℕ) (task : Task ℕ) (call : Call) (permit : Permit ℕ) (location : Location ℕ) (change : Change ℕ)
+    (world : World ℕ) (fresh : Fresh ℕ) (task : Task ℕ) (call : Call) (permit : Permit ℕ) (location : Location ℕ)
+    (change : Change ℕ)
     → IsWorld nat_eq world → Serves nat_eq world fresh → task_called world task.name ≡ Some task
     → judge_in nat_eq fresh world task call ≡ Ok permit → change_asked fresh world permit ≡ Some (location, change)
-    → GoesThrough fresh world (call_outcome nat_eq fresh world task call).world (mount_at nat_eq world location).filesystem
+    → GoesThrough fresh world (call_outcome nat_eq fresh world task call).world
+    (mount_at nat_eq world location).filesystem
 
 -- One on files that asks for no change leaves all filesystems.
 abbrev pub OtherCallsLeaveFilesystems : Type 0
 OtherCallsLeaveFilesystems =
     (world : World ℕ) (fresh : Fresh ℕ) (task : Task ℕ) (call : Call) (permit : Permit ℕ)
-    → judge_in nat_eq fresh world task call ≡ Ok permit → change_asked fresh world permit ≡ None → changes_no_mount call ≡ true
+    → judge_in nat_eq fresh world task call ≡ Ok permit → change_asked fresh world permit ≡ None
+    → changes_no_mount call ≡ true
     → (call_outcome nat_eq fresh world task call).world.filesystems ≡ world.filesystems
 
--- Every path leads from a layer's directory where it led, to what is as it was; and so is all that lies or counts under it.
+-- Every path leads from a layer's directory where it led, to what is as it was; and so is all that lies or counts under
+-- it.
 pub record LayerStays (world later : World ℕ) (layer : Layer ℕ) : Type 0 where
   pub paths : LeadsAsBefore world later layer
   pub inodes : (inode : ℕ) → lies_or_counts_under nat_eq world layer.filesystem inode layer ≡ true
@@ -47,22 +51,26 @@ pub record LayerStays (world later : World ℕ) (layer : Layer ℕ) : Type 0 whe
 -- So each layer, upper, work or lower, of every overlay stays in which nothing is changed,
 abbrev pub CallsLeaveOtherLayers : Type 0
 CallsLeaveOtherLayers =
-    (world : World ℕ) (fresh : Fresh ℕ) (task : Task ℕ) (call : Call) (permit : Permit ℕ) (location : Location ℕ) (change : Change ℕ)
+    (world : World ℕ) (fresh : Fresh ℕ) (task : Task ℕ) (call : Call) (permit : Permit ℕ) (location : Location ℕ)
+    (change : Change ℕ)
     (number : ℕ) (overlay : Overlay ℕ) (layer : Layer ℕ)
     → IsWorld nat_eq world → Serves nat_eq world fresh → task_called world task.name ≡ Some task
     → judge_in nat_eq fresh world task call ≡ Ok permit → change_asked fresh world permit ≡ Some (location, change)
-    → number ≢ (mount_at nat_eq world location).filesystem → (filesystem_numbered nat_eq world number).overlay ≡ Some overlay
+    → number ≢ (mount_at nat_eq world location).filesystem
+    → (filesystem_numbered nat_eq world number).overlay ≡ Some overlay
     → Contains (layers_of overlay) layer
     → LayerStays world (call_outcome nat_eq fresh world task call).world layer
 
 -- and of all overlays, where what is changed is on a plain filesystem.
 abbrev pub PlainCallsLeaveLayers : Type 0
 PlainCallsLeaveLayers =
-    (world : World ℕ) (fresh : Fresh ℕ) (task : Task ℕ) (call : Call) (permit : Permit ℕ) (location : Location ℕ) (change : Change ℕ)
+    (world : World ℕ) (fresh : Fresh ℕ) (task : Task ℕ) (call : Call) (permit : Permit ℕ) (location : Location ℕ)
+    (change : Change ℕ)
     (number : ℕ) (overlay : Overlay ℕ) (layer : Layer ℕ)
     → IsWorld nat_eq world → Serves nat_eq world fresh → task_called world task.name ≡ Some task
     → judge_in nat_eq fresh world task call ≡ Ok permit → change_asked fresh world permit ≡ Some (location, change)
-    → is_overlay (filesystem_at nat_eq world location) ≡ false → (filesystem_numbered nat_eq world number).overlay ≡ Some overlay
+    → is_overlay (filesystem_at nat_eq world location) ≡ false
+    → (filesystem_numbered nat_eq world number).overlay ≡ Some overlay
     → Contains (layers_of overlay) layer
     → LayerStays world (call_outcome nat_eq fresh world task call).world layer
 
@@ -82,18 +90,19 @@ pub record LayersStay (world later : World ℕ) (number : ℕ) (overlay : Overla
   pub lowers : after.lowers ≡ overlay.lowers
   pub paths : (layer : Layer ℕ) → Contains (layers_of overlay) layer → LeadsAsBefore world later layer
 
--- So it is after every call of every task, granted or refused, mount calls among them, that changes nothing through the overlay and
--- leaves it live, when what nothing uses is gone.
+-- So it is after every call of every task, granted or refused, mount calls among them, that changes nothing through the
+-- overlay and leaves it live, when what nothing uses is gone.
 abbrev pub EveryCallLeavesOtherLayers : Type 0
 EveryCallLeavesOtherLayers =
     (world : World ℕ) (fresh : Fresh ℕ) (name : TaskName) (call : Call) (number : ℕ) (overlay : Overlay ℕ)
     → IsWorld nat_eq world → Serves nat_eq world fresh → names_few_groups call ≡ true
-    → (filesystem_numbered nat_eq world number).overlay ≡ Some overlay → ChangesNothingThrough world fresh name call number
+    → (filesystem_numbered nat_eq world number).overlay ≡ Some overlay
+    → ChangesNothingThrough world fresh name call number
     → is_live (policy nat_eq fresh world name call).world number ≡ true
     → LayersStay world (policy nat_eq fresh world name call).world number overlay
 
--- The worlds that lines lead to, where no line changes something through the overlay, and it is live after each. Each line is handed
--- some numbers that are not in use, or was refused memory.
+-- The worlds that lines lead to, where no line changes something through the overlay, and it is live after each. Each
+-- line is handed some numbers that are not in use, or was refused memory.
 abbrev pub LeadsApart : Grammar → ℕ → World ℕ → List (List ℕ) → List Bool → World ℕ → Type 0
 LeadsApart grammar number world [] refused left = left ≡ world
 LeadsApart grammar number world (line ∷ lines) [] left = ⊥
@@ -102,15 +111,17 @@ LeadsApart grammar number world (line ∷ lines) (true ∷ refused) left =
     × LeadsApart grammar number (step_world world (line_step nat_eq grammar world line None)) lines refused left
 LeadsApart grammar number world (line ∷ lines) (false ∷ refused) left =
     (fresh : Fresh ℕ) × Serves nat_eq world fresh
-    × ((name : TaskName) (call : Call) → request_of grammar line ≡ Some (Calling name call) → ChangesNothingThrough world fresh name call number)
+    × ((name : TaskName) (call : Call) → request_of grammar line ≡ Some (Calling name call)
+    → ChangesNothingThrough world fresh name call number)
     × (is_live (step_world world (line_step nat_eq grammar world line (Some fresh))) number ≡ true)
     × LeadsApart grammar number (step_world world (line_step nat_eq grammar world line (Some fresh))) lines refused left
 
--- So it is over scripts: where the first lines lead to a world with an overlay, and the next ones change nothing through it and leave
--- it live.
+-- So it is over scripts: where the first lines lead to a world with an overlay, and the next ones change nothing
+-- through it and leave it live.
 abbrev pub LayersStayOverScripts : Type 0
 LayersStayOverScripts =
-    (grammar : Grammar) (first next : List (List ℕ)) (refused refused_next : List Bool) (fresh : Fresh ℕ) (mounted left : World ℕ)
+    (grammar : Grammar) (first next : List (List ℕ)) (refused refused_next : List Bool) (fresh : Fresh ℕ)
+    (mounted left : World ℕ)
     (number : ℕ) (overlay : Overlay ℕ)
     → ((j k : ℕ) → fresh j ≡ fresh k → j ≡ k) → LeadsTo grammar (opening nat_eq fresh) first refused mounted
     → (filesystem_numbered nat_eq mounted number).overlay ≡ Some overlay

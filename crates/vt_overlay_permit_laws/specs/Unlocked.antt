@@ -1,5 +1,5 @@
--- What is locked is spared by what a permit asks for: the kernel's overlayfs document, "changes to underlying filesystems" (that a
--- layer in use is locked is the profile's).
+-- What is locked is spared by what a permit asks for: the kernel's overlayfs document, "changes to underlying
+-- filesystems" (that a layer in use is locked is the profile's).
 use Rattle.std.specs.Prelude.{None, Ok, Option, Some, false, is_some, nat_eq, not, true, ℕ, ⊤, ◌≡◌, ◌≢◌}
 use Rattle.vt_spec.specs.FileTree.{FileTree}
 use Rattle.vt_spec.specs.Language.Calls.{Call}
@@ -31,7 +31,8 @@ SparesInode files (CopyUp object) inode = ⊤
 -- F2: what is made in an overlay is made in its upper layer
 abbrev pub HasLayerFor : World ℕ → Location ℕ → Change ℕ → Type 0
 HasLayerFor world location (Make directory name number node) =
-    overlay_or false (λ (overlay : Overlay ℕ). not (is_some overlay.upper)) (filesystem_at nat_eq world location).overlay ≡ false
+    overlay_or false (λ (overlay : Overlay ℕ). not (is_some overlay.upper))
+    (filesystem_at nat_eq world location).overlay ≡ false
 HasLayerFor world location change = ⊤
 
 -- L1: a change spares what is locked in its filesystem

@@ -1,7 +1,8 @@
 //! What is permitted of an overlay can be done.
 ghost use Rattle.vt_overlay_permit_laws.specs.Changed.{AskedChangesCanBeMade, PermitsCanChange};
 
-/// The change of an overlay that a permit asks for leaves its tree and that of its upper layer trees. So the laws of what a change of an overlay leaves hold of it.
+/// The change of an overlay that a permit asks for leaves its tree and that of its upper layer trees. So the laws of
+/// what a change of an overlay leaves hold of it.
 pub fn permits_can_change_overlays()
     ensures asked { AskedChangesCanBeMade }
     ensures permits { PermitsCanChange }

@@ -1,5 +1,5 @@
--- What goes after calls that change an overlay and, at once, take mounts away or open what they made: rmdir(2), rename(2),
--- open(2).
+-- What goes after calls that change an overlay and, at once, take mounts away or open what they made: rmdir(2),
+-- rename(2), open(2).
 use Rattle.std.specs.Prelude.{Bool, Contains, List, Ok, Some, false, map, nat_eq, not, true, ℕ, ◌&&◌, ◌||◌, ◌≡◌}
 use Rattle.std.specs.List.{list_any}
 use Rattle.vt_spec.specs.Language.Calls.{Access, Call}
@@ -22,7 +22,8 @@ use Rattle.vt_letting_go.specs.TreesOverlays.{with_lost}
 use Rattle.vt_letting_go.specs.Unmounting.{numbers_of_trees}
 use Rattle.vt_overlays_let_go.specs.OverlayChanges.{CanChange, inodes_lost_with_upper}
 
--- After a call that makes an inode in an overlay at the most that goes which the change leaves: mkdir(2), symlink(2), mknod(2).
+-- After a call that makes an inode in an overlay at the most that goes which the change leaves: mkdir(2), symlink(2),
+-- mknod(2).
 abbrev pub MadeInOverlaysLetsGo : Type 0
 MadeInOverlaysLetsGo =
     (fresh : Fresh ℕ) (world : World ℕ) (task : Task ℕ) (directory : Location ℕ) (name : List ℕ) (node : Node ℕ)
@@ -38,19 +39,20 @@ keeps_a_mount world gone filesystem =
     list_any (λ mount. nat_eq filesystem mount.filesystem
     && (not (is_among nat_eq mount.number gone) || is_located nat_eq world mount.number)) world.mounts
 
--- Where mounts are taken away and an overlay changes that keeps a mount, that goes of what both took uses from which nothing
--- uses any more.
+-- Where mounts are taken away and an overlay changes that keeps a mount, that goes of what both took uses from which
+-- nothing uses any more.
 abbrev pub TakenAndOverlayChangesLetGo : Type 0
 TakenAndOverlayChangesLetGo =
-    (fresh : Fresh ℕ) (world : World ℕ) (gone : List ℕ) (location : Location ℕ) (change : Change ℕ) (overlay : Overlay ℕ)
+    (fresh : Fresh ℕ) (world : World ℕ) (gone : List ℕ) (location : Location ℕ) (change : Change ℕ)
+    (overlay : Overlay ℕ)
     (upper : Layer ℕ) → IsWorld nat_eq world → CanChange fresh world location change overlay upper
     → keeps_a_mount world gone (mount_at nat_eq world location).filesystem ≡ true
     → settled nat_eq (with_change nat_eq fresh (taken_away nat_eq world gone) location change)
     ≡ let_go_all (with_change nat_eq fresh (taken_away nat_eq world gone) location change)
     (with_lost (used_by_gone_with_layers world gone) (inodes_lost_with_upper fresh world location overlay upper change))
 
--- A granted rmdir takes away no mount that the caller is on: none of its namespace stands on the directory (P1), and its walk
--- led through no other. So the mount of the parent stays.
+-- A granted rmdir takes away no mount that the caller is on: none of its namespace stands on the directory (P1), and
+-- its walk led through no other. So the mount of the parent stays.
 abbrev pub RemovingKeepsTheMount : Type 0
 RemovingKeepsTheMount =
     (fresh : Fresh ℕ) (world : World ℕ) (task : Task ℕ) (call : Call) (parent : Location ℕ) (name : List ℕ)
@@ -61,7 +63,8 @@ RemovingKeepsTheMount =
 -- Nor does a rename that replaces an object.
 abbrev pub ReplacingKeepsTheMount : Type 0
 ReplacingKeepsTheMount =
-    (fresh : Fresh ℕ) (world : World ℕ) (task : Task ℕ) (call : Call) (from : Location ℕ) (old : List ℕ) (to : Location ℕ)
+    (fresh : Fresh ℕ) (world : World ℕ) (task : Task ℕ) (call : Call) (from : Location ℕ) (old : List ℕ)
+    (to : Location ℕ)
     (new : List ℕ) (object replaced : Location ℕ) → IsWorld nat_eq world → task_called world task.name ≡ Some task
     → judge_in nat_eq fresh world task call ≡ Ok (ToRename from old to new object (Some replaced))
     → is_among nat_eq from.mount (numbers_of_trees world (mounts_on nat_eq world replaced)) ≡ false
@@ -82,7 +85,8 @@ RemovedFromOverlaysLetGo =
 -- and of a rename that replaces an object.
 abbrev pub ReplacedInOverlaysLetGo : Type 0
 ReplacedInOverlaysLetGo =
-    (fresh : Fresh ℕ) (world : World ℕ) (task : Task ℕ) (call : Call) (from : Location ℕ) (old : List ℕ) (to : Location ℕ)
+    (fresh : Fresh ℕ) (world : World ℕ) (task : Task ℕ) (call : Call) (from : Location ℕ) (old : List ℕ)
+    (to : Location ℕ)
     (new : List ℕ) (object replaced : Location ℕ) (overlay : Overlay ℕ) (upper : Layer ℕ) → IsWorld nat_eq world
     → task_called world task.name ≡ Some task
     → judge_in nat_eq fresh world task call ≡ Ok (ToRename from old to new object (Some replaced))
@@ -96,8 +100,8 @@ ReplacedInOverlaysLetGo =
 abbrev pub is_on_mount : World ℕ → Location ℕ → Bool
 is_on_mount world location = is_among nat_eq location.mount (map (λ mount. mount.number) world.mounts)
 
--- What a task opens is one use more, so with open(2) of a new file at the most that goes which the change of the overlay
--- leaves.
+-- What a task opens is one use more, so with open(2) of a new file at the most that goes which the change of the
+-- overlay leaves.
 abbrev pub OpenedNewInOverlaysLetsGo : Type 0
 OpenedNewInOverlaysLetsGo =
     (fresh : Fresh ℕ) (world : World ℕ) (task : Task ℕ) (directory : Location ℕ) (name : List ℕ) (node : Node ℕ)

@@ -1,5 +1,6 @@
--- What goes when a call changes an overlay: its merged tree, the real objects of its inodes, and the tree of its upper layer.
--- The kernel's overlayfs document, "upper and lower" (copy_up), "whiteouts and opaque directories"; unlink(2), rename(2).
+-- What goes when a call changes an overlay: its merged tree, the real objects of its inodes, and the tree of its upper
+-- layer. The kernel's overlayfs document, "upper and lower" (copy_up), "whiteouts and opaque directories"; unlink(2),
+-- rename(2).
 use Rattle.std.specs.Prelude.{List, None, Some, filter, map, nat_eq, not, ℕ, ⊤, ◌++◌, ◌≡◌}
 use Rattle.vt_spec.specs.FileTree.{FileTree}
 use Rattle.vt_spec.specs.Language.Changes.{Change, changed}
@@ -37,9 +38,10 @@ abbrev pub merge_after : Fresh ℕ → World ℕ → Location ℕ → Overlay �
 merge_after fresh world location overlay upper change =
     merge_changed nat_eq fresh (stack_of nat_eq world overlay upper) (merge_at world location overlay upper) change
 
--- An overlay with an upper layer is at the location. New numbers are no inode's of the filesystem of that layer. The rules of
--- the calls ask for what the change needs, and both trees are trees afterwards.
-pub record CanChange (fresh : Fresh ℕ) (world : World ℕ) (location : Location ℕ) (change : Change ℕ) (overlay : Overlay ℕ)
+-- An overlay with an upper layer is at the location. New numbers are no inode's of the filesystem of that layer. The
+-- rules of the calls ask for what the change needs, and both trees are trees afterwards.
+pub record CanChange (fresh : Fresh ℕ) (world : World ℕ) (location : Location ℕ) (change : Change ℕ)
+    (overlay : Overlay ℕ)
     (upper : Layer ℕ) : Type 0 where
   pub overlay_there : (filesystem_at nat_eq world location).overlay ≡ Some overlay
   pub upper_there : overlay.upper ≡ Some upper
@@ -57,14 +59,17 @@ unnamed_by before after = filter (λ number. not (is_among nat_eq number (named_
 -- the inode of the overlay that loses a name, and those that lose their last one in the upper layer
 abbrev pub inodes_lost_with_upper : Fresh ℕ → World ℕ → Location ℕ → Overlay ℕ → Layer ℕ → Change ℕ → List Inode
 inodes_lost_with_upper fresh world location overlay upper change =
-    map (λ inode. ((mount_at nat_eq world location).filesystem, inode)) (names_lost (files_at nat_eq world location) change)
+    map (λ inode. ((mount_at nat_eq world location).filesystem, inode))
+    (names_lost (files_at nat_eq world location) change)
     ++ map (λ inode. (upper.filesystem, inode))
-    (unnamed_by (filesystem_numbered nat_eq world upper.filesystem).files (merge_after fresh world location overlay upper change).upper)
+    (unnamed_by (filesystem_numbered nat_eq world upper.filesystem).files
+    (merge_after fresh world location overlay upper change).upper)
 
 -- After a call that changes an overlay at the most these go, with their real objects.
 abbrev pub OverlayChangesLetGo : Type 0
 OverlayChangesLetGo =
-    (fresh : Fresh ℕ) (world : World ℕ) (location : Location ℕ) (change : Change ℕ) (overlay : Overlay ℕ) (upper : Layer ℕ)
+    (fresh : Fresh ℕ) (world : World ℕ) (location : Location ℕ) (change : Change ℕ) (overlay : Overlay ℕ)
+    (upper : Layer ℕ)
     → IsWorld nat_eq world → CanChange fresh world location change overlay upper
     → settled nat_eq (with_change nat_eq fresh world location change)
     ≡ let_go_all_inodes (with_change nat_eq fresh world location change)

@@ -31,8 +31,8 @@ abbrev pub names_under : Merge ℕ → Option ℕ → List ℕ
 names_under merge None = []
 names_under merge (Some directory) = targets_in (merge.upper.tree.node directory)
 
--- What has a name that a change gives, removes or leaves, and the whiteouts in a directory that is removed or replaced, where
--- all that the change asks for is copied.
+-- What has a name that a change gives, removes or leaves, and the whiteouts in a directory that is removed or replaced,
+-- where all that the change asks for is copied.
 abbrev pub upper_names_lost : Merge ℕ → Change ℕ → List ℕ
 upper_names_lost merge (Make directory name number node) = under_name merge directory name
 upper_names_lost merge (AddName directory name object) = under_name merge directory name
@@ -48,7 +48,8 @@ upper_names_lost merge (CopyUp object) = []
 -- Of the filesystem of the upper layer no other inode loses its last name: a copy takes no name away.
 abbrev pub OnlyTheseLoseNames : Type 0
 OnlyTheseLoseNames =
-    (fresh : Fresh ℕ) (world : World ℕ) (location : Location ℕ) (change : Change ℕ) (overlay : Overlay ℕ) (upper : Layer ℕ)
+    (fresh : Fresh ℕ) (world : World ℕ) (location : Location ℕ) (change : Change ℕ) (overlay : Overlay ℕ)
+    (upper : Layer ℕ)
     → IsWorld nat_eq world → CanChange fresh world location change overlay upper
     → list_all (λ inode.
     is_among nat_eq inode (upper_names_lost (copied_for fresh (merge_at world location overlay upper) change) change))
@@ -56,11 +57,12 @@ OnlyTheseLoseNames =
     (merge_after fresh world location overlay upper change).upper)
     ≡ true
 
--- Where a change gives, removes and leaves no name that something had, in the overlay or in its upper layer, nothing goes:
--- write(2), chmod(2), chown(2), a copy, and mkdir(2) where no whiteout was.
+-- Where a change gives, removes and leaves no name that something had, in the overlay or in its upper layer, nothing
+-- goes: write(2), chmod(2), chown(2), a copy, and mkdir(2) where no whiteout was.
 abbrev pub OverlayChangesKeepAll : Type 0
 OverlayChangesKeepAll =
-    (fresh : Fresh ℕ) (world : World ℕ) (location : Location ℕ) (change : Change ℕ) (overlay : Overlay ℕ) (upper : Layer ℕ)
+    (fresh : Fresh ℕ) (world : World ℕ) (location : Location ℕ) (change : Change ℕ) (overlay : Overlay ℕ)
+    (upper : Layer ℕ)
     → IsWorld nat_eq world → CanChange fresh world location change overlay upper
     → names_lost (files_at nat_eq world location) change ≡ []
     → upper_names_lost (copied_for fresh (merge_at world location overlay upper) change) change ≡ []

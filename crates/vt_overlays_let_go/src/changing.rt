@@ -4,8 +4,8 @@ ghost use Rattle.vt_overlays_let_go.specs.OverlayChanges.{OverlayChangesLetGo};
 ghost use Rattle.vt_overlays_let_go.specs.OverlayNames.{OnlyTheseLoseNames, OpenedCopiesKeepAll, OverlayChangesKeepAll};
 
 /// After a call that changed an overlay at the most the inode goes that lost a name there, and those that lost their
-/// last name in the upper layer: a whiteout, what was removed or replaced, and the whiteouts in it. With a directory that
-/// was removed or replaced that goes which only the mounts on it used.
+/// last name in the upper layer: a whiteout, what was removed or replaced, and the whiteouts in it. With a directory
+/// that was removed or replaced that goes which only the mounts on it used.
 pub fn what_a_change_of_an_overlay_leaves_goes()
     ensures names { OnlyTheseLoseNames }
     ensures change { OverlayChangesLetGo }

@@ -1,4 +1,5 @@
--- Which numbers a world has after a permit: those that it had, those that the permit names, and those that were handed in.
+-- Which numbers a world has after a permit: those that it had, those that the permit names, and those that were handed
+-- in.
 use Rattle.std.specs.Prelude.{Bool, Some, option_map, false, true, ℕ, ◌&&◌, ◌≡◌}
 use Rattle.vt_laws.specs.Numbers.{IsSuppliedFrom, KeepsTo, location_named, node_named, none_or}
 use Rattle.vt_permit_laws.specs.Left.{left_by}
@@ -32,7 +33,8 @@ module _ {N M : Type 0} (there : N → M) (back : M → N) where
   renamed_permit (ToRead file) = ToRead (renamed_location there back file)
   renamed_permit (ToReadPart file offset size) = ToReadPart (renamed_location there back file) offset size
   renamed_permit (ToChange location change) = ToChange (renamed_location there back location) (renamed_change change)
-  renamed_permit (ToMake directory name node) = ToMake (renamed_location there back directory) name (renamed_node there back node)
+  renamed_permit (ToMake directory name node) =
+      ToMake (renamed_location there back directory) name (renamed_node there back node)
   renamed_permit (ToRemoveDirectory parent name directory) =
       ToRemoveDirectory (renamed_location there back parent) name (renamed_location there back directory)
   renamed_permit (ToRename from old to new object replaced) =
@@ -54,7 +56,8 @@ module _ {N M : Type 0} (there : N → M) (back : M → N) where
   renamed_permit (ToMountPlain place flags) = ToMountPlain (renamed_location there back place) flags
   renamed_permit (ToMountOverlay place overlay flags) =
       ToMountOverlay (renamed_location there back place) (renamed_overlay there back overlay) flags
-  renamed_permit (ToBind source place recursive) = ToBind (renamed_location there back source) (renamed_location there back place) recursive
+  renamed_permit (ToBind source place recursive) =
+      ToBind (renamed_location there back source) (renamed_location there back place) recursive
   renamed_permit (ToMove mount place) = ToMove (there mount) (renamed_location there back place)
   renamed_permit (ToUnmount mount) = ToUnmount (there mount)
   renamed_permit (ToUnmountLazily mount) = ToUnmountLazily (there mount)

@@ -1,5 +1,5 @@
--- What a permit that a call is given guarantees, besides that what it names exists: names are free and of a legal length, what
--- is removed may go, and the limits of files and tasks hold.
+-- What a permit that a call is given guarantees, besides that what it names exists: names are free and of a legal
+-- length, what is removed may go, and the limits of files and tasks hold.
 use Rattle.std.specs.Prelude.{Bool, List, Option, Some, false, is_some, length, nat_eq, nat_le, nat_lt, not, option_map, true, ℕ, ⊤, ◌&&◌, ◌+◌, ◌<◌, ◌≡◌}
 use Rattle.vt_call_laws.specs.Inodes.{change_of}
 use Rattle.vt_permit_laws.specs.Left.{IsGiven}
@@ -41,7 +41,8 @@ pub record MayBeRenamed (world : World ℕ) (from : Location ℕ) (old : List �
   pub object_mount : object.mount ≡ from.mount
   pub moves : MayMove (tree_at world from) from.node old to.node new object.node
   pub fit_name : is_fit_name new ≡ true
-  pub replaces : replaced ≡ option_map (λ number. record { mount = to.mount; node = number }) (entry_at (tree_at world to) to.node new)
+  pub replaces : replaced ≡ option_map (λ number. record { mount = to.mount; node = number })
+      (entry_at (tree_at world to) to.node new)
   pub kinds : (other : Location ℕ) → replaced ≡ Some other
       → is_directory_at nat_eq world other ≡ is_directory_at nat_eq world object
 
@@ -59,13 +60,15 @@ HasOpen task file fits =
 abbrev pub SeesToChange : World ℕ → Location ℕ → Change ℕ → Type 0
 SeesToChange world location (Make directory name number node) = ⊥
 SeesToChange world location (AddName directory name object) =
-    (directory ≡ location.node) × MayAddName (tree_at world location) location.node name object × (is_fit_name name ≡ true)
+    (directory ≡ location.node) × MayAddName (tree_at world location) location.node name object
+    × (is_fit_name name ≡ true)
 SeesToChange world location (Remove directory name object) =
     (directory ≡ location.node) × MayRemove (tree_at world location) location.node name object
     × (is_directory_node ((tree_at world location).node object) ≡ false)
 SeesToChange world location (Move from old to new object) = ⊥
 SeesToChange world location (SetBytes file bytes) =
-    (file ≡ location.node) × (is_directory_at nat_eq world location ≡ false) × (nat_le (length bytes) largest_file ≡ true)
+    (file ≡ location.node) × (is_directory_at nat_eq world location ≡ false)
+    × (nat_le (length bytes) largest_file ≡ true)
 SeesToChange world location (SetAttr object attr) = object ≡ location.node
 SeesToChange world location (SetMark directory opaque) =
     (directory ≡ location.node) × (is_directory_at nat_eq world location ≡ true)

@@ -24,8 +24,9 @@ makes_inode (ToOpenNew directory name node access) = true
 makes_inode (ToMountPlain place flags) = true
 makes_inode permit = false
 
--- The world has the invariants, no mount is in a group, and all counts are before the next one. The permit is what the call
--- is given, judged with whatever numbers serve, here the next counts; a new inode has an even number that is not in use.
+-- The world has the invariants, no mount is in a group, and all counts are before the next one. The permit is what the
+-- call is given, judged with whatever numbers serve, here the next counts; a new inode has an even number that is not
+-- in use.
 pub record IsStep (next inode : ℕ) (world : World ℕ) (task : Task ℕ) (permit : Permit ℕ) : Type 0 where
   pub whole : IsWorld nat_eq world
   pub plain : IsPlain world

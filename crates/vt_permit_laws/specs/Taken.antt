@@ -32,9 +32,9 @@ is_ungrouped Unbindable = true
 abbrev pub IsUngrouped : World ℕ → Type 0
 IsUngrouped world = list_all (λ mount. is_ungrouped mount.propagation) world.mounts ≡ true
 
--- The numbers that a permit takes are among the first so many of the supply: the number of a new inode; of a new mount its
--- filesystem's, its own and its root's; for each copy of a mount two, of which one is its own; for each mount that becomes
--- shared its group's. The mount of an overlay is left out: here it has 0.
+-- The numbers that a permit takes are among the first so many of the supply: the number of a new inode; of a new mount
+-- its filesystem's, its own and its root's; for each copy of a mount two, of which one is its own; for each mount that
+-- becomes shared its group's. The mount of an overlay is left out: here it has 0.
 abbrev pub numbers_taken : World ℕ → Task ℕ → Permit ℕ → ℕ
 numbers_taken world task (ToMake directory name node) = 1
 numbers_taken world task (ToOpenNew directory name node access) = 1
@@ -53,8 +53,8 @@ OnlyTheFirstAreTaken =
     → ((k : ℕ) → k < numbers_taken world task permit → fresh k ≡ again k)
     → left_by fresh world task permit ≡ left_by again world task permit
 
--- So a world that keeps to some numbers, and a permit of them, leave a world that keeps to more of them, if those that are
--- taken are among these.
+-- So a world that keeps to some numbers, and a permit of them, leave a world that keeps to more of them, if those that
+-- are taken are among these.
 abbrev pub PermitsKeepToTaken : Type 0
 PermitsKeepToTaken =
     (before later : ℕ → Bool) (world : World ℕ) (task : Task ℕ) (permit : Permit ℕ) (fresh : Fresh ℕ)
@@ -93,13 +93,15 @@ HandedCountsGoOn =
     (next inode : ℕ) (world : World ℕ) (task : Task ℕ) (permit : Permit ℕ) → inode % 2 ≡ 0
     → IsWorld nat_eq world → IsPlain world → IsUngrouped world → task_called world task.name ≡ Some task
     → KeepsTo (is_counted_before next) world → permit_named (is_counted_before next) permit ≡ true
-    → KeepsTo (is_counted_before (next + counts_taken world task permit)) (left_by (handed_to next inode permit) world task permit)
+    → KeepsTo (is_counted_before (next + counts_taken world task permit))
+    (left_by (handed_to next inode permit) world task permit)
 
--- Nor does a judgement depend on the supply, whatever groups there are: how many mounts a namespace gets does not depend on
--- their numbers.
+-- Nor does a judgement depend on the supply, whatever groups there are: how many mounts a namespace gets does not
+-- depend on their numbers.
 abbrev pub JudgementsDoNotSeeSupplies : Type 0
 JudgementsDoNotSeeSupplies =
-    (world : World ℕ) (task : Task ℕ) (call : Call) (fresh again : Fresh ℕ) → IsWorld nat_eq world → mounts_overlay call ≡ false
+    (world : World ℕ) (task : Task ℕ) (call : Call) (fresh again : Fresh ℕ) → IsWorld nat_eq world
+    → mounts_overlay call ≡ false
     → judge_in nat_eq fresh world task call ≡ judge_in nat_eq again world task call
 
 -- So the permit that a call is given is given to it with whatever supply serves.
@@ -130,4 +132,5 @@ GivenCountsGoOn =
     (next inode : ℕ) (world : World ℕ) (task : Task ℕ) (permit : Permit ℕ) → inode % 2 ≡ 0
     → IsWorld nat_eq world → IsPlain world → IsUngrouped world → KeepsTo (is_counted_before next) world
     → IsGiven (handed_to next inode permit) world task permit
-    → KeepsTo (is_counted_before (next + counts_taken world task permit)) (left_by (handed_to next inode permit) world task permit)
+    → KeepsTo (is_counted_before (next + counts_taken world task permit))
+    (left_by (handed_to next inode permit) world task permit)

@@ -1,5 +1,5 @@
-//! Laws for code that applies each permit by a change of its own: its world stays the same as the policy's but for change
-//! numbers and the order of numbers beside trees.
+//! Laws for code that applies each permit by a change of its own: its world stays the same as the policy's but for
+//! change numbers and the order of numbers beside trees.
 //!
 //! Each public function is a theorem of the written policy, and does nothing.
 #![tactic(auto)]

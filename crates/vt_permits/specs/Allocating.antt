@@ -3,8 +3,9 @@ use Rattle.std.specs.Prelude.{⊤}
 use Rattle.vt_spec.specs.Language.Calls.{Call}
 use Rattle.vt_spec.specs.Language.Calls.Call.{Chmod, Chown, Close, Drop, Exec, Exit, Lstat, Remount, SetType, Stat, Umask}
 
--- All allocate, or count one use more, which is refused where the count is full, but these: stat(2), lstat(2), execve(2),
--- chmod(2), chown(2), umask(2), capset(2), close(2), _exit(2), and mount(2) with MS_REMOUNT or a propagation type.
+-- All allocate, or count one use more, which is refused where the count is full, but these: stat(2), lstat(2),
+-- execve(2), chmod(2), chown(2), umask(2), capset(2), close(2), _exit(2), and mount(2) with MS_REMOUNT or a propagation
+-- type.
 abbrev pub TakesMemory : Call → Type 0
 TakesMemory (Stat path) = ⊥
 TakesMemory (Lstat path) = ⊥

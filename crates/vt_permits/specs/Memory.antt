@@ -1,5 +1,5 @@
--- How code judges a call, and where an allocation may fail (ENOMEM): for permits that have a copy of a name or credentials, and
--- for mount calls whose receivers are gathered. The other calls do not allocate.
+-- How code judges a call, and where an allocation may fail (ENOMEM): for permits that have a copy of a name or
+-- credentials, and for mount calls whose receivers are gathered. The other calls do not allocate.
 use Rattle.std.specs.Prelude.{Err, Ok, Result, ◌≡◌, ◌⊎◌, ℕ}
 use Rattle.vt_spec.specs.declared.errors.Deny.{Deny}
 use Rattle.vt_spec.specs.declared.errors.Rule.TheVariants.{M10, M8, M9, S5}
@@ -22,8 +22,8 @@ Judges task judged (Ok permit) = judged ≡ Ok (permit_of task permit)
 Judges task (Ok permit) (Err deny) = deny ≡ denial S5
 Judges task (Err refusal) (Err deny) = deny ≡ refusal
 
--- The rule of a call for which the receivers of its event are gathered, and the rule that is checked after it: umount(2), and
--- mount(2) where it attaches mounts.
+-- The rule of a call for which the receivers of its event are gathered, and the rule that is checked after it:
+-- umount(2), and mount(2) where it attaches mounts.
 abbrev pub IsAfterReceivers : Call → Deny → Type 0
 IsAfterReceivers (Umount path) refusal = (refusal ≡ denial M8) ⊎ (refusal ≡ denial M10)
 IsAfterReceivers (MountPlain path flags) refusal = refusal ≡ denial M9
@@ -35,4 +35,5 @@ IsAfterReceivers call refusal = ⊥
 abbrev pub JudgesByReceivers : Call → Task ℕ → Judgement ℕ → Result Permit Deny → Type 0
 JudgesByReceivers call task judged (Ok permit) = judged ≡ Ok (permit_of task permit)
 JudgesByReceivers call task (Ok permit) (Err deny) = deny ≡ denial S5
-JudgesByReceivers call task (Err refusal) (Err deny) = (deny ≡ refusal) ⊎ ((deny ≡ denial S5) × IsAfterReceivers call refusal)
+JudgesByReceivers call task (Err refusal) (Err deny) = (deny ≡ refusal)
+    ⊎ ((deny ≡ denial S5) × IsAfterReceivers call refusal)

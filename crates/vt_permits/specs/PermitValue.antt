@@ -17,7 +17,8 @@ use Rattle.vt_permits.specs.declared.permit.Permit.TheVariants.{Allowed, ToBind,
 
 -- an inode that is made in a directory, its parent by the number of an inode
 abbrev pub node_in : Location → Node ℕ → Node ℕ
-node_in directory node = renamed_node (exchanged directory.node.filesystem.count) (exchanged directory.node.filesystem.count) node
+node_in directory node = renamed_node (exchanged directory.node.filesystem.count)
+    (exchanged directory.node.filesystem.count) node
 
 -- a permit of this task
 abbrev pub permit_of : Task ℕ → Permit → meant.Permit ℕ
@@ -26,7 +27,8 @@ permit_of task (ToList directory) = meant.Permit.ToList (location_of directory)
 permit_of task (ToStat object) = meant.Permit.ToStat (location_of object)
 permit_of task (ToRead file) = meant.Permit.ToRead (location_of file)
 permit_of task (ToReadPart file offset size) = meant.Permit.ToReadPart (location_of file) offset size
-permit_of task (ToMake directory name node) = meant.Permit.ToMake (location_of directory) name.items (node_in directory node)
+permit_of task (ToMake directory name node) =
+    meant.Permit.ToMake (location_of directory) name.items (node_in directory node)
 permit_of task (ToLink directory name object) =
     meant.Permit.ToChange (location_of directory) (AddName (number_of directory.node) name.items (number_of object))
 permit_of task (ToUnlink directory name object) =
@@ -34,9 +36,12 @@ permit_of task (ToUnlink directory name object) =
 permit_of task (ToRemoveDirectory parent name directory) =
     meant.Permit.ToRemoveDirectory (location_of parent) name.items (location_of directory)
 permit_of task (ToRename from old to new object replaced) =
-    meant.Permit.ToRename (location_of from) old.items (location_of to) new.items (location_of object) (option_map location_of replaced)
-permit_of task (ToWrite file bytes) = meant.Permit.ToChange (location_of file) (SetBytes (number_of file.node) bytes.items)
-permit_of task (ToSetAttr object attr) = meant.Permit.ToChange (location_of object) (SetAttr (number_of object.node) attr)
+    meant.Permit.ToRename (location_of from) old.items (location_of to) new.items (location_of object)
+    (option_map location_of replaced)
+permit_of task (ToWrite file bytes) =
+    meant.Permit.ToChange (location_of file) (SetBytes (number_of file.node) bytes.items)
+permit_of task (ToSetAttr object attr) =
+    meant.Permit.ToChange (location_of object) (SetAttr (number_of object.node) attr)
 permit_of task (ToOpen file access) = meant.Permit.ToOpen (location_of file) (access_of access)
 permit_of task (ToOpenNew directory name node access) =
     meant.Permit.ToOpenNew (location_of directory) name.items (node_in directory node) (access_of access)
@@ -56,5 +61,6 @@ permit_of task (ToMove mount place) = meant.Permit.ToMove (counted mount.count) 
 permit_of task (ToUnmount mount) = meant.Permit.ToUnmount (counted mount.count)
 permit_of task (ToUnmountLazily mount) = meant.Permit.ToUnmountLazily (counted mount.count)
 permit_of task (ToSetFlags mount flags) = meant.Permit.ToSetFlags (counted mount.count) (flags_of flags)
-permit_of task (ToSetType mount word recursive) = meant.Permit.ToSetType (counted mount.count) (type_word_of word) recursive
+permit_of task (ToSetType mount word recursive) =
+    meant.Permit.ToSetType (counted mount.count) (type_word_of word) recursive
 permit_of task ToListMounts = meant.Permit.ToListMounts

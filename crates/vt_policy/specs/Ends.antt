@@ -30,7 +30,8 @@ root_rules looks task here =
 abbrev pub root_walk : Looks ℕ → Task ℕ → List ℕ → Result (Here ℕ) Deny
 root_walk looks task path =
     unless (admin_rules task)
-    (and_then (walk_end (directory_walk nat_eq looks task path)) (λ here. unless (root_rules looks task here.location) (Ok here)))
+    (and_then (walk_end (directory_walk nat_eq looks task path))
+    (λ here. unless (root_rules looks task here.location) (Ok here)))
 
 abbrev pub IsRootAt : Looks ℕ → Task ℕ → List ℕ → Location → Type 0
 IsRootAt looks task path at = EndsAt (root_walk looks task path) at

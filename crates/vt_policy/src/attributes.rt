@@ -16,7 +16,8 @@ use vt_tasks::Task;
 /// After the rules of the walk: F1 (EROFS), C2 (EPERM).
 #[tactic(auto, unfolding(vt_spec::specs::Machine::Judge::chmod_permit))]
 pub fn chmod<L: Look>(world: &L, who: &Task, path: &[u8], mode: Mode) -> Result<Permit, Deny>
-    ensures { JudgesAlike (task_of who.now) (chmod_permit nat_eq (L.looks world.now) (task_of who.now) path.now mode) result }
+    ensures { JudgesAlike (task_of who.now)
+        (chmod_permit nat_eq (L.looks world.now) (task_of who.now) path.now mode) result }
 {
     let object = object_at(world, who, path)?;
     let old = attr_at(world, object);
@@ -37,7 +38,8 @@ pub fn chown<L: Look>(
     uid: Option<u32>,
     gid: Option<u32>,
 ) -> Result<Permit, Deny>
-    ensures { JudgesAlike (task_of who.now) (chown_permit nat_eq (L.looks world.now) (task_of who.now) path.now uid gid) result }
+    ensures { JudgesAlike (task_of who.now)
+        (chown_permit nat_eq (L.looks world.now) (task_of who.now) path.now uid gid) result }
 {
     let object = object_at(world, who, path)?;
     let old = attr_at(world, object);

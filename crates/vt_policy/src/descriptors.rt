@@ -26,7 +26,9 @@ fn open_or_create<L: Look>(
     access: Access,
     mode: Mode,
 ) -> Result<Permit, Deny>
-    ensures { Judges (task_of who.now) (open_by_permit nat_eq (L.looks world.now) (task_of who.now) path.now (access_of access) (OrCreate mode)) result }
+    ensures { Judges (task_of who.now)
+        (open_by_permit nat_eq (L.looks world.now) (task_of who.now) path.now (access_of access)
+        (OrCreate mode)) result }
 {
     let place = file_place(world, who, path)?;
     if place.last.is_special() || place.slash {
@@ -47,7 +49,9 @@ fn open_exclusive<L: Look>(
     access: Access,
     mode: Mode,
 ) -> Result<Permit, Deny>
-    ensures { Judges (task_of who.now) (open_by_permit nat_eq (L.looks world.now) (task_of who.now) path.now (access_of access) (Exclusive mode)) result }
+    ensures { Judges (task_of who.now)
+        (open_by_permit nat_eq (L.looks world.now) (task_of who.now) path.now (access_of access)
+        (Exclusive mode)) result }
 {
     let place = new_place(world, who, path)?;
     if place.last.is_special() {
@@ -72,7 +76,9 @@ pub fn open<L: Look>(
     access: Access,
     creation: Creation,
 ) -> Result<Permit, Deny>
-    ensures { Judges (task_of who.now) (open_permit nat_eq (L.looks world.now) (task_of who.now) path.now (access_of access) (creation_of creation)) result }
+    ensures { Judges (task_of who.now)
+        (open_permit nat_eq (L.looks world.now) (task_of who.now) path.now (access_of access)
+        (creation_of creation)) result }
 {
     if who.descriptors.len() >= MAX_DESCRIPTORS {
         return Err(Rule::S3.denial());
@@ -109,7 +115,8 @@ pub fn pwrite<L: Look>(
     offset: u32,
     bytes: Vec<u8>,
 ) -> Result<Permit, Deny>
-    ensures { JudgesAlike (task_of who.now) (pwrite_permit (L.looks world.now) (task_of who.now) descriptor offset bytes.items) result }
+    ensures { JudgesAlike (task_of who.now)
+        (pwrite_permit (L.looks world.now) (task_of who.now) descriptor offset bytes.items) result }
 {
     world.has_no_overlays();
     let file = writable_file(who, descriptor)?;

@@ -1,4 +1,5 @@
-//! What a call is permitted, or the first rule that refuses it: one table of rules for each call, over what a world shows.
+//! What a call is permitted, or the first rule that refuses it: one table of rules for each call, over what a world
+//! shows.
 #![tactic(auto)]
 
 mod attributes;

@@ -38,7 +38,8 @@ pub fn stat<L: Look>(world: &L, who: &Task, path: &[u8]) -> Result<Permit, Deny>
 /// The rules of the walk alone.
 #[tactic(auto, unfolding(vt_spec::specs::Machine::Judge::lstat_permit))]
 pub fn lstat<L: Look>(world: &L, who: &Task, path: &[u8]) -> Result<Permit, Deny>
-    ensures { JudgesAlike (task_of who.now) (lstat_permit nat_eq (L.looks world.now) (task_of who.now) path.now) result }
+    ensures { JudgesAlike (task_of who.now)
+        (lstat_permit nat_eq (L.looks world.now) (task_of who.now) path.now) result }
 {
     let object = symlink_at(world, who, path)?;
     Ok(Permit::ToStat { object })
@@ -47,7 +48,8 @@ pub fn lstat<L: Look>(world: &L, who: &Task, path: &[u8]) -> Result<Permit, Deny
 /// After the rules of the walk: E5 (EINVAL).
 #[tactic(auto, unfolding(vt_spec::specs::Machine::Judge::readlink_permit))]
 pub fn readlink<L: Look>(world: &L, who: &Task, path: &[u8]) -> Result<Permit, Deny>
-    ensures { JudgesAlike (task_of who.now) (readlink_permit nat_eq (L.looks world.now) (task_of who.now) path.now) result }
+    ensures { JudgesAlike (task_of who.now)
+        (readlink_permit nat_eq (L.looks world.now) (task_of who.now) path.now) result }
 {
     let symlink = symlink_at(world, who, path)?;
     if !is_kind(world, symlink, Kind::Symlink) {

@@ -30,7 +30,8 @@ pub fn mkdir<L: Look>(
     path: &[u8],
     mode: Option<Mode>,
 ) -> Result<Permit, Deny>
-    ensures { Judges (task_of who.now) (mkdir_permit nat_eq (L.looks world.now) (task_of who.now) path.now mode) result }
+    ensures { Judges (task_of who.now)
+        (mkdir_permit nat_eq (L.looks world.now) (task_of who.now) path.now mode) result }
 {
     let place = new_place(world, who, path)?;
     if place.last.is_special() || place.object.is_some() {
@@ -55,7 +56,8 @@ pub fn symlink<L: Look>(
     text: Vec<u8>,
     path: &[u8],
 ) -> Result<Permit, Deny>
-    ensures { Judges (task_of who.now) (symlink_permit nat_eq (L.looks world.now) (task_of who.now) text.items path.now) result }
+    ensures { Judges (task_of who.now)
+        (symlink_permit nat_eq (L.looks world.now) (task_of who.now) text.items path.now) result }
 {
     if text.is_empty() {
         return Err(Rule::W1.denial());
@@ -84,7 +86,8 @@ pub fn link<L: Look>(
     old: &[u8],
     new: &[u8],
 ) -> Result<Permit, Deny>
-    ensures { Judges (task_of who.now) (hard_link_permit nat_eq (L.looks world.now) (task_of who.now) old.now new.now) result }
+    ensures { Judges (task_of who.now)
+        (hard_link_permit nat_eq (L.looks world.now) (task_of who.now) old.now new.now) result }
 {
     world.has_no_overlays();
     let object = symlink_at(world, who, old)?;
@@ -120,7 +123,8 @@ pub fn write<L: Look>(
     path: &[u8],
     bytes: Vec<u8>,
 ) -> Result<Permit, Deny>
-    ensures { Judges (task_of who.now) (write_permit nat_eq (L.looks world.now) (task_of who.now) path.now bytes.items) result }
+    ensures { Judges (task_of who.now)
+        (write_permit nat_eq (L.looks world.now) (task_of who.now) path.now bytes.items) result }
 {
     let place = file_place(world, who, path)?;
     if place.last.is_special() || place.slash {

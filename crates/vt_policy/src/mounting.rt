@@ -46,7 +46,8 @@ pub fn mount_plain<L: LookAtMounts>(
     flags: MountFlags,
 ) -> Result<Permit, Deny>
     ensures { JudgesByReceivers (MountPlain path.now (flags_of flags)) (task_of who.now)
-        (mount_plain_permit nat_eq (L.looks world.now) (L.overfills world.now) (task_of who.now) path.now (flags_of flags)) result }
+        (mount_plain_permit nat_eq (L.looks world.now) (L.overfills world.now) (task_of who.now) path.now
+        (flags_of flags)) result }
 {
     if lacks(who, Caps::CAP_SYS_ADMIN) {
         return Err(Rule::K1.denial());
@@ -71,7 +72,8 @@ pub fn bind<L: LookAtMounts>(
     recursive: bool,
 ) -> Result<Permit, Deny>
     ensures { JudgesByReceivers (Bind source.now path.now recursive) (task_of who.now)
-        (bind_permit nat_eq (L.looks world.now) (L.overfills world.now) (task_of who.now) source.now path.now recursive) result }
+        (bind_permit nat_eq (L.looks world.now) (L.overfills world.now)
+        (task_of who.now) source.now path.now recursive) result }
 {
     if lacks(who, Caps::CAP_SYS_ADMIN) {
         return Err(Rule::K1.denial());
@@ -99,8 +101,8 @@ pub fn bind<L: LookAtMounts>(
     })
 }
 
-/// K1 (EPERM), and after the rules of both walks M2 (EINVAL), M4 (EINVAL), M5 (EINVAL), M6 (ELOOP), M7 (EINVAL), M9 (ENOSPC),
-/// M10 (EINVAL).
+/// K1 (EPERM), and after the rules of both walks M2 (EINVAL), M4 (EINVAL), M5 (EINVAL), M6 (ELOOP), M7 (EINVAL), M9
+/// (ENOSPC), M10 (EINVAL).
 #[tactic(auto, unfolding(vt_spec::specs::Machine::Judge::move_permit))]
 pub fn move_mount<L: LookAtMounts>(
     world: &L,

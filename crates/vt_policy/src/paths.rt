@@ -14,40 +14,50 @@ use vt_text::path::PathText;
 
 /// The object that a path leads to, a final symlink followed.
 pub(crate) fn object_at<L: Look>(world: &L, who: &Task, path: &[u8]) -> Result<Location, Deny>
-    ensures ok { IfOk result (λ at. EndsAt (walk_end (object_walk nat_eq (L.looks world.now) (task_of who.now) path.now)) at) }
-    ensures err { IfErr result (λ deny. walk_end (object_walk nat_eq (L.looks world.now) (task_of who.now) path.now) ≡ Err deny) }
+    ensures ok { IfOk result (λ at.
+        EndsAt (walk_end (object_walk nat_eq (L.looks world.now) (task_of who.now) path.now)) at) }
+    ensures err { IfErr result (λ deny. walk_end (object_walk nat_eq (L.looks world.now) (task_of who.now) path.now)
+        ≡ Err deny) }
 {
     vt_walk::object_walk(world, who, &PathText::parse(path)?)
 }
 
 /// The directory that a path leads to.
 pub(crate) fn directory_at<L: Look>(world: &L, who: &Task, path: &[u8]) -> Result<Location, Deny>
-    ensures ok { IfOk result (λ at. EndsAt (walk_end (directory_walk nat_eq (L.looks world.now) (task_of who.now) path.now)) at) }
-    ensures err { IfErr result (λ deny. walk_end (directory_walk nat_eq (L.looks world.now) (task_of who.now) path.now) ≡ Err deny) }
+    ensures ok { IfOk result (λ at.
+        EndsAt (walk_end (directory_walk nat_eq (L.looks world.now) (task_of who.now) path.now)) at) }
+    ensures err { IfErr result (λ deny. walk_end (directory_walk nat_eq (L.looks world.now) (task_of who.now) path.now)
+        ≡ Err deny) }
 {
     vt_walk::directory_walk(world, who, &PathText::parse(path)?)
 }
 
 /// The object that a path leads to, a final symlink itself unless a slash follows.
 pub(crate) fn symlink_at<L: Look>(world: &L, who: &Task, path: &[u8]) -> Result<Location, Deny>
-    ensures ok { IfOk result (λ at. EndsAt (walk_end (symlink_walk nat_eq (L.looks world.now) (task_of who.now) path.now)) at) }
-    ensures err { IfErr result (λ deny. walk_end (symlink_walk nat_eq (L.looks world.now) (task_of who.now) path.now) ≡ Err deny) }
+    ensures ok { IfOk result (λ at.
+        EndsAt (walk_end (symlink_walk nat_eq (L.looks world.now) (task_of who.now) path.now)) at) }
+    ensures err { IfErr result (λ deny. walk_end (symlink_walk nat_eq (L.looks world.now) (task_of who.now) path.now)
+        ≡ Err deny) }
 {
     vt_walk::symlink_walk(world, who, &PathText::parse(path)?)
 }
 
 /// The source of a mount call: a directory that is not removed.
 pub(crate) fn source_at<L: Look>(world: &L, who: &Task, path: &[u8]) -> Result<Location, Deny>
-    ensures ok { IfOk result (λ at. EndsAt (walk_end (source_walk nat_eq (L.looks world.now) (task_of who.now) path.now)) at) }
-    ensures err { IfErr result (λ deny. walk_end (source_walk nat_eq (L.looks world.now) (task_of who.now) path.now) ≡ Err deny) }
+    ensures ok { IfOk result (λ at.
+        EndsAt (walk_end (source_walk nat_eq (L.looks world.now) (task_of who.now) path.now)) at) }
+    ensures err { IfErr result (λ deny. walk_end (source_walk nat_eq (L.looks world.now) (task_of who.now) path.now)
+        ≡ Err deny) }
 {
     vt_walk::source_walk(world, who, &PathText::parse(path)?)
 }
 
 /// The destination of a mount call: the root of the topmost mount over the directory that a path leads to.
 pub(crate) fn destination_at<L: Look>(world: &L, who: &Task, path: &[u8]) -> Result<Location, Deny>
-    ensures ok { IfOk result (λ at. EndsAt (walk_end (destination_walk nat_eq (L.looks world.now) (task_of who.now) path.now)) at) }
-    ensures err { IfErr result (λ deny. walk_end (destination_walk nat_eq (L.looks world.now) (task_of who.now) path.now) ≡ Err deny) }
+    ensures ok { IfOk result (λ at.
+        EndsAt (walk_end (destination_walk nat_eq (L.looks world.now) (task_of who.now) path.now)) at) }
+    ensures err { IfErr result (λ deny.
+        walk_end (destination_walk nat_eq (L.looks world.now) (task_of who.now) path.now) ≡ Err deny) }
 {
     vt_walk::destination_walk(world, who, &PathText::parse(path)?)
 }
@@ -58,8 +68,10 @@ pub(crate) fn new_place<'a, L: Look>(
     who: &Task,
     path: &'a [u8],
 ) -> Result<Place<'a>, Deny>
-    ensures ok { IfOk result (λ place. EndsAtPlace (walk_end (new_walk nat_eq (L.looks world.now) (task_of who.now) path.now)) place) }
-    ensures err { IfErr result (λ deny. walk_end (new_walk nat_eq (L.looks world.now) (task_of who.now) path.now) ≡ Err deny) }
+    ensures ok { IfOk result (λ place.
+        EndsAtPlace (walk_end (new_walk nat_eq (L.looks world.now) (task_of who.now) path.now)) place) }
+    ensures err { IfErr result (λ deny. walk_end (new_walk nat_eq (L.looks world.now) (task_of who.now) path.now)
+        ≡ Err deny) }
 {
     vt_walk::new_walk(world, who, &PathText::parse(path)?)
 }
@@ -70,8 +82,10 @@ pub(crate) fn new_leaf_place<'a, L: Look>(
     who: &Task,
     path: &'a [u8],
 ) -> Result<Place<'a>, Deny>
-    ensures ok { IfOk result (λ place. EndsAtPlace (walk_end (new_leaf_walk nat_eq (L.looks world.now) (task_of who.now) path.now)) place) }
-    ensures err { IfErr result (λ deny. walk_end (new_leaf_walk nat_eq (L.looks world.now) (task_of who.now) path.now) ≡ Err deny) }
+    ensures ok { IfOk result (λ place.
+        EndsAtPlace (walk_end (new_leaf_walk nat_eq (L.looks world.now) (task_of who.now) path.now)) place) }
+    ensures err { IfErr result (λ deny. walk_end (new_leaf_walk nat_eq (L.looks world.now) (task_of who.now) path.now)
+        ≡ Err deny) }
 {
     vt_walk::new_leaf_walk(world, who, &PathText::parse(path)?)
 }
@@ -82,8 +96,10 @@ pub(crate) fn old_place<'a, L: Look>(
     who: &Task,
     path: &'a [u8],
 ) -> Result<Place<'a>, Deny>
-    ensures ok { IfOk result (λ place. EndsAtPlace (walk_end (old_walk nat_eq (L.looks world.now) (task_of who.now) path.now)) place) }
-    ensures err { IfErr result (λ deny. walk_end (old_walk nat_eq (L.looks world.now) (task_of who.now) path.now) ≡ Err deny) }
+    ensures ok { IfOk result (λ place.
+        EndsAtPlace (walk_end (old_walk nat_eq (L.looks world.now) (task_of who.now) path.now)) place) }
+    ensures err { IfErr result (λ deny. walk_end (old_walk nat_eq (L.looks world.now) (task_of who.now) path.now)
+        ≡ Err deny) }
 {
     vt_walk::old_walk(world, who, &PathText::parse(path)?)
 }
@@ -94,8 +110,10 @@ pub(crate) fn old_leaf_place<'a, L: Look>(
     who: &Task,
     path: &'a [u8],
 ) -> Result<Place<'a>, Deny>
-    ensures ok { IfOk result (λ place. EndsAtPlace (walk_end (old_leaf_walk nat_eq (L.looks world.now) (task_of who.now) path.now)) place) }
-    ensures err { IfErr result (λ deny. walk_end (old_leaf_walk nat_eq (L.looks world.now) (task_of who.now) path.now) ≡ Err deny) }
+    ensures ok { IfOk result (λ place.
+        EndsAtPlace (walk_end (old_leaf_walk nat_eq (L.looks world.now) (task_of who.now) path.now)) place) }
+    ensures err { IfErr result (λ deny. walk_end (old_leaf_walk nat_eq (L.looks world.now) (task_of who.now) path.now)
+        ≡ Err deny) }
     ensures there { IfOk result (λ place. is_some place.object ≡ true) }
 {
     vt_walk::old_leaf_walk(world, who, &PathText::parse(path)?)
@@ -107,8 +125,10 @@ pub(crate) fn file_place<'a, L: Look>(
     who: &Task,
     path: &'a [u8],
 ) -> Result<Place<'a>, Deny>
-    ensures ok { IfOk result (λ place. EndsAtPlace (walk_end (file_walk nat_eq (L.looks world.now) (task_of who.now) path.now)) place) }
-    ensures err { IfErr result (λ deny. walk_end (file_walk nat_eq (L.looks world.now) (task_of who.now) path.now) ≡ Err deny) }
+    ensures ok { IfOk result (λ place.
+        EndsAtPlace (walk_end (file_walk nat_eq (L.looks world.now) (task_of who.now) path.now)) place) }
+    ensures err { IfErr result (λ deny. walk_end (file_walk nat_eq (L.looks world.now) (task_of who.now) path.now)
+        ≡ Err deny) }
 {
     vt_walk::file_walk(world, who, &PathText::parse(path)?)
 }
@@ -120,8 +140,11 @@ pub(crate) fn rename_place<'a, L: Look>(
     path: &'a [u8],
     old_is_directory: bool,
 ) -> Result<Place<'a>, Deny>
-    ensures ok { IfOk result (λ place. EndsAtPlace (walk_end (rename_new_walk nat_eq (L.looks world.now) (task_of who.now) path.now old_is_directory)) place) }
-    ensures err { IfErr result (λ deny. walk_end (rename_new_walk nat_eq (L.looks world.now) (task_of who.now) path.now old_is_directory) ≡ Err deny) }
+    ensures ok { IfOk result (λ place.
+        EndsAtPlace (walk_end (rename_new_walk nat_eq (L.looks world.now)
+        (task_of who.now) path.now old_is_directory)) place) }
+    ensures err { IfErr result (λ deny.
+        walk_end (rename_new_walk nat_eq (L.looks world.now) (task_of who.now) path.now old_is_directory) ≡ Err deny) }
 {
     vt_walk::rename_new_walk(world, who, &PathText::parse(path)?, old_is_directory)
 }

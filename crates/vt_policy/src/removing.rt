@@ -81,7 +81,8 @@ pub fn rename<L: Look>(
     old: &[u8],
     new: &[u8],
 ) -> Result<Permit, Deny>
-    ensures { Judges (task_of who.now) (rename_permit nat_eq (L.looks world.now) (task_of who.now) old.now new.now) result }
+    ensures { Judges (task_of who.now)
+        (rename_permit nat_eq (L.looks world.now) (task_of who.now) old.now new.now) result }
 {
     let from = old_leaf_place(world, who, old)?;
     if from.last.is_special() {

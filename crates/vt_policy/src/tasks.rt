@@ -1,4 +1,5 @@
-//! Calls on tasks and namespaces: chdir(2), chroot(2), fork(2), setuid(2), setgroups(2), capset(2), unshare(2), setns(2).
+//! Calls on tasks and namespaces: chdir(2), chroot(2), fork(2), setuid(2), setgroups(2), capset(2), unshare(2),
+//! setns(2).
 ghost use Rattle.std.specs.Prelude.{◌≡◌, nat_eq, option_map, None};
 ghost use Rattle.vt_spec.specs.Machine.Judge.{chdir_permit, chroot_permit, fork_permit, setns_permit, unshare_permit};
 ghost use Rattle.vt_spec.specs.Machine.Outcome.Tasks.{permission_bits};
@@ -18,7 +19,8 @@ use vt_tasks::Task;
 /// After the rules of the walk: C1 (EACCES).
 #[tactic(auto, unfolding(vt_spec::specs::Machine::Judge::chdir_permit))]
 pub fn chdir<L: Look>(world: &L, who: &Task, path: &[u8]) -> Result<Permit, Deny>
-    ensures { JudgesAlike (task_of who.now) (chdir_permit nat_eq (L.looks world.now) (task_of who.now) path.now) result }
+    ensures { JudgesAlike (task_of who.now)
+        (chdir_permit nat_eq (L.looks world.now) (task_of who.now) path.now) result }
 {
     let directory = directory_at(world, who, path)?;
     may_enter(world, who, directory)?;
@@ -28,7 +30,8 @@ pub fn chdir<L: Look>(world: &L, who: &Task, path: &[u8]) -> Result<Permit, Deny
 /// K1 (EPERM), and after the rules of the walk C1 (EACCES).
 #[tactic(auto, unfolding(vt_spec::specs::Machine::Judge::chroot_permit))]
 pub fn chroot<L: Look>(world: &L, who: &Task, path: &[u8]) -> Result<Permit, Deny>
-    ensures { JudgesAlike (task_of who.now) (chroot_permit nat_eq (L.looks world.now) (task_of who.now) path.now) result }
+    ensures { JudgesAlike (task_of who.now)
+        (chroot_permit nat_eq (L.looks world.now) (task_of who.now) path.now) result }
 {
     if lacks(who, Caps::CAP_SYS_CHROOT) {
         return Err(Rule::K1.denial());

@@ -43,12 +43,18 @@ twig copying origin = twig_of (supply copying) (group_of (mount_of copying.desti
 
 abbrev pub graft_seen : Copying → meant.Graft ℕ
 graft_seen copying =
-    record { destination = location_of copying.graft.place; twigs = map (twig copying) (tree_seen copying); moves = copying.graft.moves }
+    record {
+      destination = location_of copying.graft.place;
+      twigs = map (twig copying)
+          (tree_seen copying);
+      moves = copying.graft.moves;
+    }
 
 -- each count that is needed is below 2^64
 abbrev pub HasRoomFor : Graft → Counts → Type 0
 HasRoomFor graft counts =
-    (0 < counts.step) × (counts.first + counts.step * (2 * (length graft.parts.now * length graft.tree.now)) < 18446744073709551616)
+    (0 < counts.step) × (counts.first + counts.step *
+    (2 * (length graft.parts.now * length graft.tree.now)) < 18446744073709551616)
 
 -- and the indexes are those of the graft
 pub record IsReady (copying : Copying) : Type 0 where
@@ -63,7 +69,8 @@ copied world copying part origin = record origin {
   mount_point = Some (copy_place nat_eq (supply copying) (graft_seen copying) part.number origin);
   propagation =
       if is_destination nat_eq (graft_seen copying) part.number then (twig copying origin).propagation
-      else copy_type nat_eq world (supply copying) (parts_seen copying) (mount_of copying.destination) (twig copying origin)
+      else copy_type nat_eq world (supply copying) (parts_seen copying) (mount_of copying.destination)
+      (twig copying origin)
       part.propagation;
 }
 
@@ -74,6 +81,7 @@ made world copying part origin =
     else then_some (group_of part.propagation) (λ group.
     when (not (is_member_of nat_eq group (mount_of copying.destination))) (
       image nat_eq (supply copying) (mount_of copying.destination) (twig copying origin) group,
-      nearest_image nat_eq world (supply copying) (parts_seen copying) (mount_of copying.destination) (twig copying origin)
+      nearest_image nat_eq world (supply copying) (parts_seen copying) (mount_of copying.destination)
+          (twig copying origin)
           (world.master group),
     ))

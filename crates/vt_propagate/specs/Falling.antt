@@ -22,7 +22,8 @@ abbrev pub left_by : List ℕ → List (ℕ × Location ℕ) → Mount ℕ → M
 left_by gone points mount = if is_going nat_eq gone mount.number then detached mount else moved_by points mount
 
 abbrev pub LeavesBy : World ℕ → List ℕ → List (ℕ × Location ℕ) → Type 0
-LeavesBy world gone points = taken_away nat_eq world gone ≡ regrouped nat_eq (with_mounts world (map (left_by gone points) world.mounts))
+LeavesBy world gone points = taken_away nat_eq world gone
+    ≡ regrouped nat_eq (with_mounts world (map (left_by gone points) world.mounts))
 
 -- a mount that stays, and its mount point then
 abbrev pub FallsTo : World ℕ → List ℕ → ℕ × Location ℕ → Type 0

@@ -34,7 +34,8 @@ leaving load namespace = if holds_of (same_namespace namespace) load.leaves then
 -- a namespace has too many mounts once some leave it and it gets so many at each of its parts
 abbrev pub is_overfilled : List (meant.Mount ℕ) → Load → (NamespaceId → ℕ) → Option NamespaceId → Bool
 is_overfilled mounts load parts namespace =
-    holds_of (λ one. nat_lt most_mounts (mount_count mounts (counted one.count) - leaving load one + parts one * load.count)) namespace
+    holds_of (λ one. nat_lt most_mounts
+    (mount_count mounts (counted one.count) - leaving load one + parts one * load.count)) namespace
 
 -- these are mounts of the world, each once, all of one namespace, or all of none
 pub record MovesFrom (world : World ℕ) (namespace : Option NamespaceId) (tree : List (meant.Mount ℕ)) : Type 0 where

@@ -21,7 +21,8 @@ free_at mounts place = then_some (child_at nat_eq mounts place) (λ child. when 
 
 -- the mounts on an inode of each receiver that may go
 abbrev pub free_on : List (Mount ℕ) → ℕ → List ℕ → List (Mount ℕ)
-free_on mounts node receivers = filter_map (λ receiver. free_at mounts (record { mount = receiver; node = node })) receivers
+free_on mounts node receivers =
+    filter_map (λ receiver. free_at mounts (record { mount = receiver; node = node })) receivers
 
 -- the mount point of a mount whose parent is shared, and the parent's group
 abbrev pub group_at : List (Mount ℕ) → Location ℕ → Option (Location ℕ × ℕ)

@@ -26,4 +26,5 @@ place_of_group mounts group = place_from (is_member_of nat_eq group) 0 mounts
 pub record IsIndexed (indexes : Indexes) (graft : Graft) : Type 0 where
   pub parts : (id : MountId) → get same_id indexes.parts id ≡ place_of (map mount_of graft.parts.now) (counted id.count)
   pub tree : (id : MountId) → get same_id indexes.tree id ≡ place_of (map mount_of graft.tree.now) (counted id.count)
-  pub groups : (group : GroupId) → get same_group indexes.groups group ≡ place_of_group (map mount_of graft.parts.now) (counted group.count)
+  pub groups : (group : GroupId)
+      → get same_group indexes.groups group ≡ place_of_group (map mount_of graft.parts.now) (counted group.count)

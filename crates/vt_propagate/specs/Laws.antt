@@ -1,4 +1,5 @@
--- What mounts and groups that change together are seen as: where they were a world's, they are the definitions' world after it.
+-- What mounts and groups that change together are seen as: where they were a world's, they are the definitions' world
+-- after it.
 use Rattle.std.specs.Prelude.{All, Contains, List, map, nat_eq, ℕ, ◌≡◌}
 use Rattle.vt_spec.specs.Language.Calls.{TypeWord}
 use Rattle.vt_spec.specs.Language.Calls.TypeWord.{ToShared, ToSlave}
@@ -16,7 +17,8 @@ use Rattle.vt_propagate.specs.Seen.{IsSeen}
 -- Mounts are detached, and leave their groups.
 abbrev pub DetachingIsSeen : Type 0
 DetachingIsSeen =
-    (world : World ℕ) (kept left after : List MountEntry) (before now : Grouping) (gone : List ℕ) (points : List (ℕ × Location ℕ))
+    (world : World ℕ) (kept left after : List MountEntry) (before now : Grouping) (gone : List ℕ)
+    (points : List (ℕ × Location ℕ))
     → IsSeen world kept before → LeavesBy world gone points → mounts_in left ≡ map (left_by gone points) world.mounts
     → TakesAway before now gone → FollowsTypes before now gone left after
     → IsSeen (taken_away nat_eq world gone) after now

@@ -13,18 +13,21 @@ use Rattle.vt_propagate.specs.Copying.{counts_from}
 -- the numbers of copies and of new groups
 abbrev pub numbers_at : World ℕ → Graft → Counts → Copies ℕ
 numbers_at world graft counts =
-    copies_from nat_eq (counts_from counts) (parts_of nat_eq world (location_of graft.place)) (map mount_of graft.tree.now)
+    copies_from nat_eq (counts_from counts) (parts_of nat_eq world (location_of graft.place))
+    (map mount_of graft.tree.now)
 
 -- the tree with the types of its mounts at the destination
 abbrev pub graft_in : World ℕ → Graft → Counts → meant.Graft ℕ
 graft_in world graft counts =
-    graft_of nat_eq world (numbers_at world graft counts) (location_of graft.place) graft.moves (map mount_of graft.tree.now)
+    graft_of nat_eq world (numbers_at world graft counts) (location_of graft.place) graft.moves
+    (map mount_of graft.tree.now)
 
 -- the copies at the destination, then those at the receivers
 abbrev pub planned_copies : World ℕ → Graft → Counts → List (Mount ℕ)
 planned_copies world graft counts =
     flat_map
-    (copies_at nat_eq world (numbers_at world graft counts) (graft_in world graft counts) (parts_of nat_eq world (location_of graft.place)))
+    (copies_at nat_eq world (numbers_at world graft counts) (graft_in world graft counts)
+    (parts_of nat_eq world (location_of graft.place)))
     (parts_of nat_eq world (location_of graft.place))
 
 -- the groups that they form, with their masters

@@ -18,8 +18,8 @@ use Rattle.vt_propagate.specs.Planned.{graft_in, numbers_at}
 abbrev pub leaver : Graft → Option ℕ
 leaver graft = if graft.moves then option_map (λ top. counted top.number.count) (first_of_list graft.tree.now) else None
 
--- Each mount that does not leave is pushed as these new mount points say, also where it is in another namespace by then or of
--- another type.
+-- Each mount that does not leave is pushed as these new mount points say, also where it is in another namespace by then
+-- or of another type.
 abbrev pub PushesBy : World ℕ → Graft → Counts → List (ℕ × Location ℕ) → Type 0
 PushesBy world graft counts points =
     (before mount : Mount ℕ) → Contains world.mounts before → holds_of (nat_eq before.number) (leaver graft) ≡ false
@@ -30,7 +30,8 @@ PushesBy world graft counts points =
 
 -- the mount that leaves gets no new mount point here
 abbrev pub KeepsLeaver : Graft → List (ℕ × Location ℕ) → Type 0
-KeepsLeaver graft points = (number : ℕ) → holds_of (nat_eq number) (leaver graft) ≡ true → lookup (nat_eq number) points ≡ None
+KeepsLeaver graft points = (number : ℕ) → holds_of (nat_eq number) (leaver graft) ≡ true
+    → lookup (nat_eq number) points ≡ None
 
 -- no two mounts have one number
 abbrev pub EachOnce : List (Mount ℕ) → Type 0
@@ -39,7 +40,8 @@ EachOnce mounts = any_pair (λ (a b : Mount ℕ). nat_eq a.number b.number) moun
 -- the mounts that get new mount points are there, and each gets one
 pub record MovesOnce (mounts : List (Mount ℕ)) (points : List (ℕ × Location ℕ)) : Type 0 where
   pub once : any_pair (λ (a b : ℕ × Location ℕ). nat_eq a.0 b.0) points ≡ false
-  pub there : list_all (λ (point : ℕ × Location ℕ). is_among nat_eq point.0 (map (λ (mount : Mount ℕ). mount.number) mounts)) points ≡ true
+  pub there : list_all (λ (point : ℕ × Location ℕ). is_among nat_eq point.0
+      (map (λ (mount : Mount ℕ). mount.number) mounts)) points ≡ true
 
 -- no two mounts have one mount point
 abbrev pub OneChild : World ℕ → Type 0
@@ -61,7 +63,8 @@ pushed_at mounts left place part copies =
     (stander mounts left (record { mount = part; node = place.node }))
 
 -- at all these parts, each of which has so many of the copies
-abbrev pub pushes_from : List (Mount ℕ) → Option ℕ → Location ℕ → ℕ → List (Mount ℕ) → List (Mount ℕ) → List (ℕ × Location ℕ)
+abbrev pub pushes_from : List (Mount ℕ) → Option ℕ → Location ℕ → ℕ → List (Mount ℕ) → List (Mount ℕ)
+    → List (ℕ × Location ℕ)
 pushes_from mounts left place size [] copies = []
 pushes_from mounts left place size (part ∷ parts) copies =
     cons_option (pushed_at mounts left place part.number (take size copies))

@@ -37,7 +37,8 @@ with_kind kind entry = record entry { mount = record entry.mount { propagation =
 -- one of these mounts with the type that the groups tell, also if it was unbindable
 abbrev pub shared_by : Grouping → List ℕ → MountEntry → MountEntry
 shared_by groups numbers entry =
-    if is_among nat_eq entry.mount.number numbers then with_kind (propagation_in groups entry.mount.number) entry else entry
+    if is_among nat_eq entry.mount.number numbers then with_kind (propagation_in groups entry.mount.number) entry
+    else entry
 
 -- the mounts, one of them with this type
 abbrev pub with_type_in : List MountEntry → ℕ × Propagation ℕ → List MountEntry

@@ -16,7 +16,8 @@ pub record IsSeen (world : World ℕ) (kept : List MountEntry) (grouping : Group
 abbrev pub ReachesAs : World ℕ → (ℕ → ℕ → ℕ → Bool) → Type 0
 ReachesAs world under =
     (filesystem top directory : ℕ)
-    → under filesystem top directory ≡ is_directory_under nat_eq (filesystem_numbered nat_eq world filesystem).files top directory
+    → under filesystem top directory
+    ≡ is_directory_under nat_eq (filesystem_numbered nat_eq world filesystem).files top directory
 
 -- there is a mount with this number
 abbrev pub is_mounted : List MountEntry → ℕ → Bool

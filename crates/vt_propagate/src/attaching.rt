@@ -33,9 +33,9 @@ pub struct Plan {
     pub points: Vec<NewPoint>,
 }
 
-/// Plans an attachment. It changes nothing: the mounts that stood at receivers' places are to be moved, the copies to be attached,
-/// and their types and groups to be added to the groups. Where a tree moves, the first copies are its own mounts, one each: these
-/// are to be moved to the namespace and the mount point that they have there.
+/// Plans an attachment. It changes nothing: the mounts that stood at receivers' places are to be moved, the copies to
+/// be attached, and their types and groups to be added to the groups. Where a tree moves, the first copies are its own
+/// mounts, one each: these are to be moved to the namespace and the mount point that they have there.
 ///
 /// S5 (ENOMEM): an allocation failed.
 pub fn attachment(

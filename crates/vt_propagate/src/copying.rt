@@ -27,7 +27,8 @@ use vt_spec::errors::{Deny, Rule};
 pub struct Graft<'a> {
     /// The mount at the destination, then the receivers that take part.
     pub parts: &'a [Mount],
-    /// Each mount stands before its children. The root of the first may be another directory than that of the mount itself.
+    /// Each mount stands before its children. The root of the first may be another directory than that of the mount
+    /// itself.
     pub tree: &'a [Mount],
     /// The destination.
     pub place: Location,
@@ -42,9 +43,9 @@ pub struct Counts {
     pub step: u64,
 }
 
-/// The copies that are attached, with their types: all at the destination, in the order of the tree, then all at each receiver.
-/// Where a tree moves, those at the destination are the mounts themselves, as they are there. The copy at the i-th part of the
-/// j-th mount of n, both from 0, is the `2·(n·i + j)`-th of the counts.
+/// The copies that are attached, with their types: all at the destination, in the order of the tree, then all at each
+/// receiver. Where a tree moves, those at the destination are the mounts themselves, as they are there. The copy at the
+/// i-th part of the j-th mount of n, both from 0, is the `2·(n·i + j)`-th of the counts.
 ///
 /// S5 (ENOMEM): an allocation failed.
 pub fn copies(
@@ -55,7 +56,8 @@ pub fn copies(
     counts: Counts,
 ) -> Result<Vec<Mount>, Deny>
     requires { HasRoomFor graft.now counts }
-    ensures length { IfOk result (λ copies. length copies.items ≡ length graft.now.parts.now * length graft.now.tree.now) }
+    ensures length { IfOk result (λ copies. length copies.items
+        ≡ length graft.now.parts.now * length graft.now.tree.now) }
     ensures ok { IfOk result (λ copies. (world : World ℕ) → IsSeen world mounts.now groups.now
         → map mount_of graft.now.parts.now ≡ parts_of nat_eq world (location_of graft.now.place)
         → map mount_of copies.items ≡ planned_copies world graft.now counts) }
@@ -79,9 +81,9 @@ pub fn copies(
     Ok(copies)
 }
 
-/// The new groups that copies form, each with its master, in the order of the copies: for each mount of the tree that joins a
-/// group at a shared destination, and for each mount and each further group that has a part. The group of the j-th mount of n for
-/// the group of the i-th part, both from 0, is the `2·(n·i + j) + 1`-th of the counts.
+/// The new groups that copies form, each with its master, in the order of the copies: for each mount of the tree that
+/// joins a group at a shared destination, and for each mount and each further group that has a part. The group of the
+/// j-th mount of n for the group of the i-th part, both from 0, is the `2·(n·i + j) + 1`-th of the counts.
 ///
 /// S5 (ENOMEM): an allocation failed.
 pub fn new_groups(
@@ -125,7 +127,8 @@ impl<'a> Copying<'a> {
     ) -> Result<Vec<Mount>, AllocError>
         requires { IsReady self.now }
         ensures { IfOk result (λ copies. map mount_of copies.items
-            ≡ flat_map (λ part. map (copied (as_kept mounts.now groups.now) self.now part) (tree_seen self.now)) (parts_seen self.now)) }
+            ≡ flat_map (λ part. map (copied (as_kept mounts.now groups.now) self.now part) (tree_seen self.now))
+            (parts_seen self.now)) }
     {
         let mut copies = Vec::new(alloc);
         for part in self.graft.parts {
@@ -158,7 +161,8 @@ impl<'a> Copying<'a> {
         requires ready { IsReady self.now }
         requires parts { 0 < length self.now.graft.parts.now }
         requires tree { 0 < length self.now.graft.tree.now }
-        ensures { mount_of result ≡ copied (as_kept mounts.now groups.now) self.now (mount_of part.now) (mount_of origin.now) }
+        ensures { mount_of result ≡ copied (as_kept mounts.now groups.now) self.now (mount_of part.now)
+            (mount_of origin.now) }
     {
         let propagation = if part.number == self.graft.place.mount {
             self.type_at(origin)
@@ -174,7 +178,8 @@ impl<'a> Copying<'a> {
         }
     }
 
-    // Where the copy of a mount at a part stands: the first of the tree at the destination, each other one on the copy of its parent.
+    // Where the copy of a mount at a part stands: the first of the tree at the destination, each other one on the copy
+    // of its parent.
     fn copy_place(&self, part: MountId, origin: &Mount) -> Location
         requires ready { IsReady self.now }
         requires parts { 0 < length self.now.graft.parts.now }
@@ -258,7 +263,8 @@ impl<'a> Copying<'a> {
         requires ready { IsReady self.now }
         requires parts { 0 < length self.now.graft.parts.now }
         requires tree { 0 < length self.now.graft.tree.now }
-        ensures { option_map new_group result ≡ made (as_kept mounts.now groups.now) self.now (mount_of part.now) (mount_of origin.now) }
+        ensures { option_map new_group result
+            ≡ made (as_kept mounts.now groups.now) self.now (mount_of part.now) (mount_of origin.now) }
     {
         if part.number == self.graft.place.mount {
             return self.group_at_destination(origin);
@@ -275,7 +281,8 @@ impl<'a> Copying<'a> {
         })
     }
 
-    // The group that a mount joins at the destination, if that is a new one. A slave's master becomes the master of the group.
+    // The group that a mount joins at the destination, if that is a new one. A slave's master becomes the master of the
+    // group.
     fn group_at_destination(&self, origin: &Mount) -> Option<NewGroup>
         requires ready { IsReady self.now }
         requires parts { 0 < length self.now.graft.parts.now }

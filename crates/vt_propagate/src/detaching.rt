@@ -27,8 +27,8 @@ pub struct Detachment {
     pub points: Vec<NewPoint>,
 }
 
-/// Plans one unmount event. It changes nothing: the mounts that stay are to be moved, those that go to be detached, and these to
-/// leave their groups at once.
+/// Plans one unmount event. It changes nothing: the mounts that stay are to be moved, those that go to be detached, and
+/// these to leave their groups at once.
 ///
 /// S5 (ENOMEM): an allocation failed.
 pub fn unmount(
@@ -38,7 +38,8 @@ pub fn unmount(
     id: MountId,
 ) -> Result<Detachment, Deny>
     ensures gone { IfOk result (λ plan. (world : World ℕ) → IsSeen world mounts.now groups.now
-        → map (λ id. counted id.count) plan.gone.items ≡ going nat_eq world (mount_numbered nat_eq world (counted id.count))) }
+        → map (λ id. counted id.count) plan.gone.items
+        ≡ going nat_eq world (mount_numbered nat_eq world (counted id.count))) }
     ensures left { IfOk result (λ plan. (world : World ℕ) → mounts_in mounts.now ≡ world.mounts
         → LeavesBy world (map (λ id. counted id.count) plan.gone.items) (map point_of plan.points.items)) }
     ensures each { IfOk result (λ plan. (world : World ℕ) → mounts_in mounts.now ≡ world.mounts

@@ -1,4 +1,5 @@
-//! Where mounts stand once others are detached: umount(2), and the kernel's document sharedsubtree, "Unmount semantics".
+//! Where mounts stand once others are detached: umount(2), and the kernel's document sharedsubtree, "Unmount
+//! semantics".
 ghost use Rattle.std.specs.Prelude.{◌≡◌, ◌++◌, All, IfErr, IfOk, OnOk, filter_map, map, nat_eq, option_map, ℕ};
 ghost use Rattle.vt_spec.specs.declared.errors.Rule.TheVariants.{S5};
 ghost use Rattle.vt_spec.specs.Errors.{denial};
@@ -21,8 +22,8 @@ pub struct NewPoint {
     pub place: Location,
 }
 
-/// The new mount points of the mounts that stay where these are detached. A mount on one of them takes that one's mount point; if
-/// that is on one of them too, the mount point of that, and so on.
+/// The new mount points of the mounts that stay where these are detached. A mount on one of them takes that one's mount
+/// point; if that is on one of them too, the mount point of that, and so on.
 ///
 /// S5 (ENOMEM): an allocation failed.
 pub fn points_left(alloc: Global, mounts: &Mounts, gone: &[MountId]) -> Result<Vec<NewPoint>, Deny>
@@ -88,7 +89,8 @@ fn point_left(mounts: &Mounts, gone: &[MountId], id: MountId) -> Option<NewPoint
 // Where a mount point is left.
 fn place_left(mounts: &Mounts, gone: &[MountId], place: Location) -> Location
     ensures { location_of result
-        ≡ mount_point_left nat_eq (of_mounts (mounts_in mounts.now)) (map (λ id. counted id.count) gone.now) (location_of place) }
+        ≡ mount_point_left nat_eq (of_mounts (mounts_in mounts.now)) (map (λ id. counted id.count) gone.now)
+        (location_of place) }
 {
     let mut here = place;
     for _ in 0..mounts.len() {
@@ -103,7 +105,8 @@ fn place_left(mounts: &Mounts, gone: &[MountId], place: Location) -> Location
 // The mount point of the mount that a mount point is on, if that mount goes.
 fn below_gone(mounts: &Mounts, gone: &[MountId], place: Location) -> Option<Location>
     ensures { option_map location_of result
-        ≡ mount_point_of_parent nat_eq (of_mounts (mounts_in mounts.now)) (map (λ id. counted id.count) gone.now) (location_of place) }
+        ≡ mount_point_of_parent nat_eq (of_mounts (mounts_in mounts.now)) (map (λ id. counted id.count) gone.now)
+        (location_of place) }
 {
     if !is_gone(gone, place.mount) {
         return None;

@@ -35,13 +35,16 @@ pub struct Load {
 ///
 /// S5 (ENOMEM): an allocation failed.
 pub fn overfills(alloc: Global, mounts: &Mounts, parts: &[Mount], load: Load) -> Result<bool, Deny>
-    ensures added { IfOk result (λ too_many. (world : World ℕ) (new : Copies ℕ) (place : meant.Location ℕ) (tree : List (meant.Mount ℕ))
+    ensures added { IfOk result (λ too_many. (world : World ℕ) (new : Copies ℕ) (place : meant.Location ℕ)
+        (tree : List (meant.Mount ℕ))
         → mounts_in mounts.now ≡ world.mounts → NamespaceInvariants nat_eq world
         → map mount_of parts.now ≡ parts_of nat_eq world place → length tree ≡ load.count → load.leaves ≡ None
         → too_many ≡ has_too_many nat_eq (attached_by nat_eq world new place false tree)) }
-    ensures moved { IfOk result (λ too_many. (world : World ℕ) (new : Copies ℕ) (place : meant.Location ℕ) (tree : List (meant.Mount ℕ))
+    ensures moved { IfOk result (λ too_many. (world : World ℕ) (new : Copies ℕ) (place : meant.Location ℕ)
+        (tree : List (meant.Mount ℕ))
         → mounts_in mounts.now ≡ world.mounts → NamespaceInvariants nat_eq world
-        → map mount_of parts.now ≡ parts_of nat_eq world place → length tree ≡ load.count → MovesFrom world load.leaves tree
+        → map mount_of parts.now ≡ parts_of nat_eq world place → length tree ≡ load.count
+        → MovesFrom world load.leaves tree
         → too_many ≡ has_too_many nat_eq (attached_by nat_eq world new place true tree)) }
     ensures more { IfOk result (λ too_many. (world after : World ℕ)
         → mounts_in mounts.now ≡ world.mounts → NamespaceInvariants nat_eq world → load.leaves ≡ None
@@ -73,7 +76,8 @@ fn count_one(
 ) -> Result<(), AllocError>
     requires { (one : NamespaceId) → unwrap_or (get same_namespace counts.old one) 0 < u64.MAX }
     ensures { OnOk result ((one : NamespaceId) → unwrap_or (get same_namespace counts.new one) 0
-        ≡ unwrap_or (get same_namespace counts.old one) 0 + (if holds_of (same_namespace one) namespace then 1 else 0)) }
+        ≡ unwrap_or (get same_namespace counts.old one) 0 +
+        (if holds_of (same_namespace one) namespace then 1 else 0)) }
 {
     if let Some(namespace) = namespace {
         let count = counts.get(&namespace).copied().unwrap_or(0);

@@ -13,7 +13,8 @@ use vt_location::{GroupId, Mount, Propagation};
 use vt_mount::Mounts;
 
 impl<'a> Copying<'a> {
-    /// The type of a mount of the tree at the destination: if that is shared, a mount that is not joins a new group there.
+    /// The type of a mount of the tree at the destination: if that is shared, a mount that is not joins a new group
+    /// there.
     pub(crate) fn type_at(&self, origin: &Mount) -> Propagation
         requires ready { IsReady self.now }
         requires parts { 0 < length self.now.graft.parts.now }
@@ -29,7 +30,8 @@ impl<'a> Copying<'a> {
         }
     }
 
-    /// The group that the copies of a mount form at the members of a group: for the destination's, the group of the mount there.
+    /// The group that the copies of a mount form at the members of a group: for the destination's, the group of the
+    /// mount there.
     pub(crate) fn image(&self, origin: &Mount, group: GroupId) -> GroupId
         requires ready { IsReady self.now }
         requires parts { 0 < length self.now.graft.parts.now }
@@ -46,7 +48,8 @@ impl<'a> Copying<'a> {
         self.new_image(group, origin.number)
     }
 
-    /// The group that the copies of a mount form at the members of the nearest group with a part, from this one up the masters.
+    /// The group that the copies of a mount form at the members of the nearest group with a part, from this one up the
+    /// masters.
     pub(crate) fn nearest_image(
         &self,
         mounts: &Mounts,
@@ -78,7 +81,8 @@ impl<'a> Copying<'a> {
         requires parts { 0 < length self.now.graft.parts.now }
         requires tree { 0 < length self.now.graft.tree.now }
         ensures { propagation_of result
-            ≡ copy_type_of nat_eq (as_kept mounts.now groups.now) (supply self.now) (parts_seen self.now) (mount_of self.now.destination)
+            ≡ copy_type_of nat_eq (as_kept mounts.now groups.now) (supply self.now) (parts_seen self.now)
+            (mount_of self.now.destination)
             (twig self.now (mount_of origin.now)) (propagation_of receiver) }
     {
         match receiver {
@@ -98,7 +102,8 @@ impl<'a> Copying<'a> {
     fn nearest(&self, mounts: &Mounts, groups: &Groups, group: GroupId) -> Option<GroupId>
         requires { IsReady self.now }
         ensures { option_map group_number result
-            ≡ find (has_members nat_eq (parts_seen self.now)) (groups_up (as_kept mounts.now groups.now) (counted group.count)) }
+            ≡ find (has_members nat_eq (parts_seen self.now))
+            (groups_up (as_kept mounts.now groups.now) (counted group.count)) }
     {
         let mut here = group;
         for _ in 0..mounts.len() {

@@ -39,7 +39,8 @@ impl Indexes {
 
 // The index of each of these mounts; of those with one number, the first.
 fn places(alloc: Global, mounts: &[Mount]) -> Result<HashMap<MountId, usize>, AllocError>
-    ensures { IfOk result (λ places. (id : MountId) → get same_id places id ≡ place_of (map mount_of mounts.now) (counted id.count)) }
+    ensures { IfOk result (λ places. (id : MountId)
+        → get same_id places id ≡ place_of (map mount_of mounts.now) (counted id.count)) }
 {
     let mut places = HashMap::new(alloc);
     for (index, mount) in mounts.iter().enumerate() {

@@ -11,7 +11,8 @@ use crate::copying::{Counts, Graft};
 use crate::indexes::Indexes;
 use vt_location::{GroupId, Mount, MountId, Propagation};
 
-/// What is copied and where: a graft, the mount at its destination, the counts of the new numbers, and the indexes of the graft.
+/// What is copied and where: a graft, the mount at its destination, the counts of the new numbers, and the indexes of
+/// the graft.
 #[derive(Clone, Copy, Debug)]
 pub(crate) struct Copying<'a> {
     pub(crate) graft: Graft<'a>,
@@ -27,7 +28,8 @@ impl<'a> Copying<'a> {
         requires parts { 0 < length self.now.graft.parts.now }
         requires tree { 0 < length self.now.graft.tree.now }
         ensures { counted result.count
-            ≡ copy_number_of nat_eq (supply self.now) (graft_seen self.now) (counted part.count) (counted origin.count) }
+            ≡ copy_number_of nat_eq (supply self.now) (graft_seen self.now) (counted part.count)
+            (counted origin.count) }
     {
         if self.graft.moves && part == self.graft.place.mount {
             return origin;

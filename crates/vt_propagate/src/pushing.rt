@@ -1,4 +1,5 @@
-//! Which mounts move onto a copied tree: a mount that stood at a receiver's place goes onto the topmost mount of the copies there.
+//! Which mounts move onto a copied tree: a mount that stood at a receiver's place goes onto the topmost mount of the
+//! copies there.
 ghost use Rattle.std.specs.Prelude.{◌≡◌, ◌*◌, ◌++◌, [], IfErr, IfOk, OnOk, length, map, nat_eq, option_map, ℕ};
 ghost use Rattle.std.specs.List.{cons_option};
 ghost use Rattle.vt_spec.specs.declared.errors.Rule.TheVariants.{S5};
@@ -23,8 +24,8 @@ use vt_location::{Location, Mount, MountId};
 use vt_mount::Mounts;
 use vt_spec::errors::{Deny, Rule};
 
-/// The new mount points of the mounts that stand at the places of receivers: each goes onto the topmost mount of the copies there,
-/// which are given as `copies` returns them. Where a tree moves, its first mount leaves its place before.
+/// The new mount points of the mounts that stand at the places of receivers: each goes onto the topmost mount of the
+/// copies there, which are given as `copies` returns them. Where a tree moves, its first mount leaves its place before.
 ///
 /// S5 (ENOMEM): an allocation failed.
 pub fn pushes(
@@ -34,7 +35,8 @@ pub fn pushes(
     copies: &[Mount],
 ) -> Result<Vec<NewPoint>, Deny>
     requires { length copies.now ≡ length graft.now.parts.now * length graft.now.tree.now }
-    ensures ok { IfOk result (λ points. (world : World ℕ) (counts : Counts) → mounts_in mounts.now ≡ world.mounts → OneChild world
+    ensures ok { IfOk result (λ points. (world : World ℕ) (counts : Counts) → mounts_in mounts.now ≡ world.mounts
+        → OneChild world
         → map mount_of graft.now.parts.now ≡ parts_of nat_eq world (location_of graft.now.place)
         → map mount_of copies.now ≡ planned_copies world graft.now counts
         → PushesBy world graft.now counts (map point_of points.items)) }
@@ -59,7 +61,8 @@ fn all_pushes(
 ) -> Result<Vec<NewPoint>, AllocError>
     requires { length copies.now ≡ length graft.now.parts.now * length graft.now.tree.now }
     ensures { IfOk result (λ points. map point_of points.items
-        ≡ pushes_from (mounts_in mounts.now) (leaver graft.now) (location_of graft.now.place) (length graft.now.tree.now)
+        ≡ pushes_from (mounts_in mounts.now) (leaver graft.now) (location_of graft.now.place)
+        (length graft.now.tree.now)
         (map mount_of graft.now.parts.now) (map mount_of copies.now)) }
 {
     let mut points = Vec::new(alloc);
@@ -81,7 +84,8 @@ fn add_push(
     points: &mut Vec<NewPoint>,
 ) -> Result<(), AllocError>
     ensures { OnOk result (map point_of points.new.items ≡ map point_of points.old.items
-        ++ cons_option (pushed_at (mounts_in mounts.now) (leaver graft.now) (location_of graft.now.place) (counted part.count)
+        ++ cons_option (pushed_at (mounts_in mounts.now) (leaver graft.now) (location_of graft.now.place)
+        (counted part.count)
         (map mount_of copies.now)) []) }
 {
     if let Some(point) = push_at(mounts, graft, part, copies) {
@@ -151,7 +155,8 @@ fn topmost(copies: &[Mount], place: Location) -> Location
 
 // The root of the copy that stands at a location.
 fn root_over(copies: &[Mount], place: Location) -> Option<Location>
-    ensures { option_map location_of result ≡ option_map root_of (child_at nat_eq (map mount_of copies.now) (location_of place)) }
+    ensures { option_map location_of result
+        ≡ option_map root_of (child_at nat_eq (map mount_of copies.now) (location_of place)) }
 {
     for copy in copies {
         if stands_at(copy, place) {

@@ -19,8 +19,8 @@ use vt_location::{Location, Mount, MountId, Propagation};
 use vt_mount::Mounts;
 use vt_spec::errors::{Deny, Rule};
 
-/// The mounts at which a tree of mounts is attached: the destination's mount, then the receivers that take part, in order of
-/// attachment. A receiver takes part if it is attached and shows the destination.
+/// The mounts at which a tree of mounts is attached: the destination's mount, then the receivers that take part, in
+/// order of attachment. A receiver takes part if it is attached and shows the destination.
 ///
 /// S5 (ENOMEM): an allocation failed.
 pub fn parts<R: Reach>(
@@ -31,7 +31,8 @@ pub fn parts<R: Reach>(
     place: Location,
 ) -> Result<Vec<Mount>, Deny>
     requires { is_mounted mounts.now (counted place.mount.count) ≡ true }
-    ensures ok { IfOk result (λ parts. (world : World ℕ) → IsSeen world mounts.now groups.now → ReachesAs world (R.under directories.now)
+    ensures ok { IfOk result (λ parts. (world : World ℕ) → IsSeen world mounts.now groups.now
+        → ReachesAs world (R.under directories.now)
         → map mount_of parts.items ≡ parts_of nat_eq world (location_of place)) }
     ensures memory { IfErr result (λ deny. deny ≡ denial S5) }
 {
@@ -88,7 +89,8 @@ fn with_receivers<R: Reach>(
     Ok(parts)
 }
 
-// Whether a receiver takes part: it is attached, shows the same filesystem, and its root is the destination or above it.
+// Whether a receiver takes part: it is attached, shows the same filesystem, and its root is the destination or above
+// it.
 fn takes_part<R: Reach>(directories: &R, place: Location, parent: &Mount, mount: &Mount) -> bool
     ensures { result ≡ joins (R.under directories.now) (location_of place) (mount_of parent.now) (mount_of mount.now) }
 {

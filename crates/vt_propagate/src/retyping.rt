@@ -1,7 +1,8 @@
-//! Mounts and their groups change together: mount(2) with `MS_SHARED`, `MS_SLAVE`, `MS_PRIVATE` and `MS_UNBINDABLE`, umount(2).
+//! Mounts and their groups change together: mount(2) with `MS_SHARED`, `MS_SLAVE`, `MS_PRIVATE` and `MS_UNBINDABLE`,
+//! umount(2).
 //!
-//! The type of a mount is kept twice, in the mounts and in the groups. These functions change both; where a group ends, they set
-//! the types of the slaves that it leaves.
+//! The type of a mount is kept twice, in the mounts and in the groups. These functions change both; where a group ends,
+//! they set the types of the slaves that it leaves.
 ghost use Rattle.std.specs.Prelude.{◌≡◌, if◌then◌else◌, IfErr, OnErr, OnOk, map};
 ghost use Rattle.vt_spec.specs.declared.errors.Rule.TheVariants.{S5};
 ghost use Rattle.vt_spec.specs.Errors.{denial};
@@ -20,13 +21,14 @@ use vt_location::{GroupId, Mount, MountId, Propagation};
 use vt_mount::Mounts;
 use vt_spec::errors::Deny;
 
-/// All these mounts leave their groups at once; they were detached, or have become private or unbindable, in `mounts`. Then the
-/// groups without members end. It does not allocate.
+/// All these mounts leave their groups at once; they were detached, or have become private or unbindable, in `mounts`.
+/// Then the groups without members end. It does not allocate.
 pub fn leave_all(mounts: &mut Mounts, groups: &mut Groups, ids: &[MountId])
     ensures private { Retypes groups.old groups.new ToPrivate (map (λ id. counted id.count) ids.now) }
     ensures unbindable { Retypes groups.old groups.new ToUnbindable (map (λ id. counted id.count) ids.now) }
     ensures detached { TakesAway groups.old groups.new (map (λ id. counted id.count) ids.now) }
-    ensures types { FollowsTypesLeft groups.old groups.new (map (λ id. counted id.count) ids.now) mounts.old mounts.new }
+    ensures types { FollowsTypesLeft groups.old groups.new
+        (map (λ id. counted id.count) ids.now) mounts.old mounts.new }
 {
     // Where no group ends, no other mount gets another type.
     if groups.leave_all(ids) {
@@ -34,8 +36,8 @@ pub fn leave_all(mounts: &mut Mounts, groups: &mut Groups, ids: &[MountId])
     }
 }
 
-/// Those of these mounts that are members of a group become slaves of it at once. Then the groups without members end. It does
-/// not allocate.
+/// Those of these mounts that are members of a group become slaves of it at once. Then the groups without members end.
+/// It does not allocate.
 pub fn make_slaves(mounts: &mut Mounts, groups: &mut Groups, ids: &[MountId])
     ensures groups { Retypes groups.old groups.new ToSlave (map (λ id. counted id.count) ids.now) }
     ensures types { FollowsTypes groups.old groups.new (map (λ id. counted id.count) ids.now) mounts.old mounts.new }
@@ -44,8 +46,8 @@ pub fn make_slaves(mounts: &mut Mounts, groups: &mut Groups, ids: &[MountId])
     follow(mounts, groups);
 }
 
-/// All these mounts become shared at once, unbindable ones too. One that is not shared yet is the first member of a new group,
-/// which is given beside it; if it was a slave, its master is the master of that group.
+/// All these mounts become shared at once, unbindable ones too. One that is not shared yet is the first member of a new
+/// group, which is given beside it; if it was a slave, its master is the master of that group.
 ///
 /// S5 (ENOMEM): an allocation failed.
 pub fn share(
@@ -67,10 +69,11 @@ pub fn share(
     Ok(())
 }
 
-/// Mounts get the types that they have here, and new groups their masters: an attachment. The copies that are attached have their
-/// types already; mounts that move get theirs. A number that no mount has gets a type in the groups alone.
+/// Mounts get the types that they have here, and new groups their masters: an attachment. The copies that are attached
+/// have their types already; mounts that move get theirs. A number that no mount has gets a type in the groups alone.
 ///
-/// S5 (ENOMEM): an allocation failed. Nothing has changed then, so that this is the last step of an attachment that can fail.
+/// S5 (ENOMEM): an allocation failed. Nothing has changed then, so that this is the last step of an attachment that can
+/// fail.
 pub fn add(
     mounts: &mut Mounts,
     groups: &mut Groups,

@@ -18,11 +18,13 @@ use vt_location::{GroupId, Location, MountId, NodeRef, Propagation};
 use vt_mount::Mounts;
 use vt_spec::errors::{Deny, Rule};
 
-/// Whether an unmount is refused: the mount has a child, or a mount that would be detached is in use: EBUSY of umount(2).
+/// Whether an unmount is refused: the mount has a child, or a mount that would be detached is in use: EBUSY of
+/// umount(2).
 ///
 /// S5 (ENOMEM): an allocation failed.
 pub fn is_busy(alloc: Global, mounts: &Mounts, groups: &Groups, id: MountId) -> Result<bool, Deny>
-    ensures ok { IfOk result (λ busy. (world : World ℕ) → IsSeen world mounts.now groups.now → CountsUses world mounts.now
+    ensures ok { IfOk result (λ busy. (world : World ℕ) → IsSeen world mounts.now groups.now
+        → CountsUses world mounts.now
         → busy ≡ is_busy_of nat_eq world (counted id.count)) }
     ensures memory { IfErr result (λ deny. deny ≡ denial S5) }
 {
@@ -35,14 +37,15 @@ pub fn is_busy(alloc: Global, mounts: &Mounts, groups: &Groups, id: MountId) -> 
 
 // Whether one of these mounts is in use.
 fn are_used(mounts: &Mounts, ids: &[MountId]) -> bool
-    ensures { result ≡ list_any (λ number. nat_lt 0 (uses_of mounts.now number)) (map (λ id. counted id.count) ids.now) }
+    ensures { result ≡ list_any (λ number. nat_lt 0 (uses_of mounts.now number))
+        (map (λ id. counted id.count) ids.now) }
 {
     ids.iter().any(|id| mounts.uses(*id) > 0)
 }
 
-/// The mounts that one unmount detaches. If the mount's parent is shared, they are the mounts at the same mount point of all
-/// receivers of the parent's group, without those that have a child, unless it is a single one that covers the root. Else it
-/// is the mount alone, which then need not exist.
+/// The mounts that one unmount detaches. If the mount's parent is shared, they are the mounts at the same mount point
+/// of all receivers of the parent's group, without those that have a child, unless it is a single one that covers the
+/// root. Else it is the mount alone, which then need not exist.
 ///
 /// S5 (ENOMEM): an allocation failed.
 pub fn going(
@@ -52,7 +55,8 @@ pub fn going(
     id: MountId,
 ) -> Result<Vec<MountId>, Deny>
     ensures ok { IfOk result (λ going. (world : World ℕ) → IsSeen world mounts.now groups.now
-        → map (λ id. counted id.count) going.items ≡ going_of nat_eq world (mount_numbered nat_eq world (counted id.count))) }
+        → map (λ id. counted id.count) going.items
+        ≡ going_of nat_eq world (mount_numbered nat_eq world (counted id.count))) }
     ensures memory { IfErr result (λ deny. deny ≡ denial S5) }
 {
     mounts.are_ascending();
@@ -98,7 +102,8 @@ fn free_on(
     receivers: &[MountId],
 ) -> Result<Vec<MountId>, AllocError>
     ensures { IfOk result (λ going. map (λ id. counted id.count) going.items
-        ≡ map (λ mount. mount.number) (free_on (mounts_in mounts.now) (number_of node) (map (λ id. counted id.count) receivers.now))) }
+        ≡ map (λ mount. mount.number) (free_on (mounts_in mounts.now) (number_of node)
+        (map (λ id. counted id.count) receivers.now))) }
 {
     let mut going = Vec::new(alloc);
     for receiver in receivers {

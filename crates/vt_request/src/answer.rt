@@ -36,8 +36,8 @@ pub enum TypeLine {
 /// A line of the list of mounts: mountinfo of proc(5), in the product's form.
 #[derive(Debug, Drop, PartialEq, Eq)]
 pub struct MountLine {
-    /// The place in the list of the mount that it stands on, from 1 on (0: that one is not in the list), and where it stands
-    /// there. The root mount of a namespace has none.
+    /// The place in the list of the mount that it stands on, from 1 on (0: that one is not in the list), and where it
+    /// stands there. The root mount of a namespace has none.
     pub mount_point: Option<(usize, Spot)>,
     /// Whether its filesystem is an overlay.
     pub overlay: bool,

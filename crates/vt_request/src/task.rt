@@ -8,12 +8,12 @@ use smallvec::SmallVec;
 use std::alloc::{AllocError, Global};
 use std::marker::Model;
 
-/// How many numbers a name may have and take no memory. No task has a name of more.
+/// How many numbers a name may have without allocating. No task has a name of more.
 pub const INLINE_NUMBERS: usize = 8;
 
 /// The name of a task: the numbers of its line of descent, each from 1 to 64.
 ///
-/// The first task has none. A name of at most [`INLINE_NUMBERS`] takes no memory.
+/// The first task has none. A name of at most [`INLINE_NUMBERS`] does not allocate.
 #[derive(Debug, Drop)]
 pub struct TaskName {
     numbers: SmallVec<u8, INLINE_NUMBERS>,
@@ -27,7 +27,8 @@ impl Model for TaskName {
 
     ghost view = { λ name. name.numbers.items };
 
-    ghost invariant = { λ name. All (λ k. (1 ≤ k) × (k ≤ 64)) name.numbers.items × (INLINE_NUMBERS ≤ name.numbers.capacity) };
+    ghost invariant = { λ name. All (λ k. (1 ≤ k) × (k ≤ 64)) name.numbers.items
+        × (INLINE_NUMBERS ≤ name.numbers.capacity) };
 }
 
 impl TaskName {

@@ -72,8 +72,8 @@ pub fn may_stay<L: Look>(world: &L, from: &Place, to: &Place) -> Result<(), Deny
     Ok(())
 }
 
-// What has the new name may give it to the object: E2 (EISDIR), E3 (ENOTDIR), E4 (ENOTEMPTY); and a directory does not go
-// under itself: E5 (EINVAL).
+// What has the new name may give it to the object: E2 (EISDIR), E3 (ENOTDIR), E4 (ENOTEMPTY); and a directory does not
+// go under itself: E5 (EINVAL).
 fn may_replace<L: Look>(world: &L, to: &Place, object: Location) -> Result<(), Deny>
     ensures { (new : PlaceMeant ℕ) → IsPlaceOf to.now new
         → result ≡ unless (kind_rules nat_eq (L.looks world.now) new (location_of object)) (Ok tt) }

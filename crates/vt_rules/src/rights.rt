@@ -224,7 +224,7 @@ pub fn symlink_attr(task: &Task) -> Attr
     }
 }
 
-/// The last word of a place in memory of its own. S5 (ENOMEM): memory was refused.
+/// The last word of a place in memory of its own. S5 (ENOMEM): an allocation failed.
 pub fn name_at(alloc: Global, place: &Place) -> Result<Vec<u8>, Deny>
     ensures ok { IfOk result (λ name. name.items ≡ name_of (last_of place.now.last)) }
     ensures memory { IfErr result (λ deny. deny ≡ denial S5) }

@@ -1,5 +1,5 @@
--- Worlds that are the same but for change numbers, and for the order of the numbers that stand beside trees, are answered
--- alike.
+-- Worlds that are the same but for change numbers, and for the order of the numbers that stand beside trees, are
+-- answered alike.
 use Rattle.std.specs.Prelude.{All, false, nat_eq, ℕ, ◌≡◌}
 use Rattle.vt_spec.specs.Language.Calls.{Call, Directive, TaskName}
 use Rattle.vt_spec.specs.Lists.{Fresh}
@@ -30,7 +30,8 @@ pub record AreAlike (one other : Outcome ℕ) : Type 0 where
   pub worlds : SameWorlds one.world other.world
   pub plain : IsPlain one.world
 
--- In two such worlds of plain filesystems each call but the mount of an overlay has one answer, and leaves two such worlds.
+-- In two such worlds of plain filesystems each call but the mount of an overlay has one answer, and leaves two such
+-- worlds.
 abbrev pub SameWorldsAreAnsweredAlike : Type 0
 SameWorldsAreAnsweredAlike =
     (one other : World ℕ) → SameWorlds one other → IsPlain one → (fresh : Fresh ℕ) (name : TaskName) (call : Call)

@@ -24,8 +24,8 @@ counts_from next k = 4 * (next + k) + 1
 abbrev pub handed_from : ℕ → ℕ → ℕ → Fresh ℕ
 handed_from next place inode k = if k == place then inode else counts_from next k
 
--- What becomes of each number where counts are handed in: what is neither counted from the next on nor never given out is
--- kept. Where an inode's number is handed in too, the count that it stands for is kept.
+-- What becomes of each number where counts are handed in: what is neither counted from the next on nor never given out
+-- is kept. Where an inode's number is handed in too, the count that it stands for is kept.
 abbrev pub is_counted_from : ℕ → ℕ → Bool
 is_counted_from next number = number % 4 == 1 && nat_le next (number / 4)
 
@@ -61,7 +61,8 @@ is_counted_before next number = number % 2 == 0 || (number % 4 == 1 && nat_lt (n
 abbrev pub is_named_before : ℕ → ℕ → ℕ → Bool
 is_named_before next inode number = is_counted_before next number && not (number == inode)
 
--- They serve where the world keeps to the numbers before: each count from the next on is a new one, and so is the inode.
+-- They serve where the world keeps to the numbers before: each count from the next on is a new one, and so is the
+-- inode.
 abbrev pub CountsServe : Type 0
 CountsServe =
     (next : ℕ) (world : World ℕ) → KeepsTo (is_counted_before next) world
@@ -70,7 +71,8 @@ CountsServe =
 abbrev pub AllottedNumbersServe : Type 0
 AllottedNumbersServe =
     (next place inode : ℕ) → inode % 2 ≡ 0 → (world : World ℕ) → KeepsTo (is_named_before next inode) world
-    → (allotment : Allotment) × (allotment.new ≡ handed_from next place inode) × ServesInHand may_be_given world allotment
+    → (allotment : Allotment) × (allotment.new ≡ handed_from next place inode)
+    × ServesInHand may_be_given world allotment
 
 -- So they do where the world has no other numbers anywhere.
 abbrev pub CountsServeNamed : Type 0
@@ -81,7 +83,8 @@ CountsServeNamed =
 abbrev pub AllottedNumbersServeNamed : Type 0
 AllottedNumbersServeNamed =
     (next place inode : ℕ) → inode % 2 ≡ 0 → (world : World ℕ) → WorldNamed (is_named_before next inode) world
-    → (allotment : Allotment) × (allotment.new ≡ handed_from next place inode) × ServesInHand may_be_given world allotment
+    → (allotment : Allotment) × (allotment.new ≡ handed_from next place inode)
+    × ServesInHand may_be_given world allotment
 
 -- A world may open with the first four of such a supply,
 abbrev pub AllottedNumbersOpen : Type 0

@@ -1,5 +1,5 @@
--- A run that keeps its world but for change numbers and the order of numbers beside trees, and gives numbers out again, has
--- the one text of its script.
+-- A run that keeps its world but for change numbers and the order of numbers beside trees, and gives numbers out again,
+-- has the one text of its script.
 use Rattle.std.specs.Prelude.{All, Bool, List, None, Option, Some, [], false, nat_eq, true, ℕ, ◌++◌, ◌+◌, ◌<◌, ◌∷◌, ◌≡◌}
 use Rattle.vt_laws.specs.Numbers.{Allotment, ServesWithRoom, is_in_hand}
 use Rattle.vt_spec.specs.Language.Calls.{Call}
@@ -59,8 +59,8 @@ GrammarsKeepOverlaysOut =
     (grammar : Grammar) → ((call : Call) → grammar.has call ≡ true → mounts_overlay call ≡ false)
     → (lines : List (List ℕ)) → HasNoOverlays grammar lines
 
--- So from any opening world whose numbers are in hand a script without overlays has its one text, whatever numbers of those
--- in hand each line is handed.
+-- So from any opening world whose numbers are in hand a script without overlays has its one text, whatever numbers of
+-- those in hand each line is handed.
 abbrev pub RunsHaveOneText : Type 0
 RunsHaveOneText =
     (grammar : Grammar) (refused : List Bool) (script text : List ℕ) (in_hand : ℕ → Bool) (fresh : Fresh ℕ)

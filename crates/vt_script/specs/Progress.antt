@@ -16,7 +16,8 @@ abbrev pub whole_lines : List ℕ → List ℕ
 whole_lines [] = []
 whole_lines (byte ∷ bytes) = whole_with (byte == 10) byte (whole_lines bytes)
 
--- a moment of a run: the code's world as the definitions see it, how many lines are answered, and what was read of the next line
+-- a moment of a run: the code's world as the definitions see it, how many lines are answered, and what was read of the
+-- next line
 pub record Moment : Type 0 where
   pub world : World ℕ
   pub answered : ℕ
@@ -30,8 +31,8 @@ opening_moment fresh = record { world = opening nat_eq fresh; answered = 0; line
 abbrev pub IsOpening : Moment → Type 0
 IsOpening moment = (fresh : Fresh ℕ) × OpensInHand may_be_given fresh × (moment ≡ opening_moment fresh)
 
--- From one moment to another these bytes were read and this text was written. The lines that ended among them, with what stood before,
--- are told by the text: whatever is told of more, is told behind it.
+-- From one moment to another these bytes were read and this text was written. The lines that ended among them, with
+-- what stood before, are told by the text: whatever is told of more, is told behind it.
 pub record Runs (old : Moment) (bytes text : List ℕ) (new : Moment) : Type 0 where
   pub ended : List ℕ
   pub split : old.line ++ bytes ≡ ended ++ new.line
@@ -40,7 +41,8 @@ pub record Runs (old : Moment) (bytes text : List ℕ) (new : Moment) : Type 0 w
   pub counted : length refused ≡ length (lines_of ended)
   pub goes_on : (more : List ℕ) (later : List Bool) (rest : List ℕ) →
       TellsAlike namespaces may_be_given new.world (new.answered + 1) (lines_of more) later rest →
-      TellsAlike namespaces may_be_given old.world (old.answered + 1) (lines_of (ended ++ more)) (refused ++ later) (text ++ rest)
+      TellsAlike namespaces may_be_given old.world (old.answered + 1) (lines_of (ended ++ more)) (refused ++ later)
+      (text ++ rest)
 
 -- no byte of the line is a newline
 abbrev pub HasNoNewline : List ℕ → Type 0

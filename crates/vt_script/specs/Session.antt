@@ -90,7 +90,8 @@ module _ {W : Type 0} (sink : Ghosts W) where
   Closes old (Ok t) before after = Closed old before after
   Closes old (Err fault) before after = BrokeLast old before after
 
-  -- one line was answered by its step, which leaves this world but for change numbers and the order of numbers beside trees
+  -- one line was answered by its step, which leaves this world but for change numbers and the order of numbers beside
+  -- trees
   pub record Replied (old : World ℕ) (line : List ℕ) (number : ℕ) (new : World ℕ) (before after : W) : Type 0 where
     pub handed : Option Allotment
     pub serves : IsHanded old handed
@@ -110,7 +111,8 @@ module _ {W : Type 0} (sink : Ghosts W) where
   -- the sink was given the policy's answers to the script, of which each line was refused memory or not
   abbrev pub AnswersScript : List ℕ → W → W → Type 0
   AnswersScript script before after =
-      (refused : List Bool) × (length refused ≡ length (lines_of script)) × (sink.written after ≡ sink.written before ++ script_text refused script)
+      (refused : List Bool) × (length refused ≡ length (lines_of script))
+      × (sink.written after ≡ sink.written before ++ script_text refused script)
 
   -- the sink was given the policy's answers to the complete lines of what was read of the script
   abbrev pub AnswersWholeLines : List ℕ → List ℕ → W → W → Type 0

@@ -93,8 +93,10 @@ impl<C: Calls + Drop> Session<C> {
         requires countable { W.failures sink.old + 1 < 2 ^ 64 }
         requires lines { lines_begun (state_of C.world self.old) + 1 < 2 ^ 64 }
         ensures feeds { (line : List ℕ) → IsReading (state_of C.world self.old) line
-            → Feeds W.Sink (moment (state_of C.world self.old) line) (10 ∷ []) result (state_of C.world self.new) sink.old sink.new }
-        ensures begun { OnOk result (lines_begun (state_of C.world self.new) ≤ lines_begun (state_of C.world self.old) + 1) }
+            → Feeds W.Sink (moment (state_of C.world self.old) line) (10 ∷ []) result
+            (state_of C.world self.new) sink.old sink.new }
+        ensures begun { OnOk result (lines_begun (state_of C.world self.new) ≤ lines_begun
+            (state_of C.world self.old) + 1) }
         ensures kept { OnOk result (W.failures sink.new ≡ W.failures sink.old) }
         ensures counted { OnErr result (W.failures sink.new ≡ W.failures sink.old + 1) }
         ensures fault { IfErr result (λ fault. fault ≡ RunFault.Write) }
@@ -112,8 +114,10 @@ impl<C: Calls + Drop> Session<C> {
         requires lines { lines_begun (state_of C.world self.old) + length rest.now + 1 < 2 ^ 64 }
         requires one { HasNoNewline rest.now }
         ensures feeds { (line : List ℕ) → IsReading (state_of C.world self.old) line
-            → Feeds W.Sink (moment (state_of C.world self.old) line) (rest.now ++ 10 ∷ []) result (state_of C.world self.new) sink.old sink.new }
-        ensures begun { OnOk result (lines_begun (state_of C.world self.new) ≤ lines_begun (state_of C.world self.old) + length rest.now + 1) }
+            → Feeds W.Sink (moment (state_of C.world self.old) line) (rest.now ++ 10 ∷ []) result
+            (state_of C.world self.new) sink.old sink.new }
+        ensures begun { OnOk result (lines_begun (state_of C.world self.new) ≤ lines_begun
+            (state_of C.world self.old) + length rest.now + 1) }
         ensures kept { OnOk result (W.failures sink.new ≡ W.failures sink.old) }
         ensures counted { OnErr result (W.failures sink.new ≡ W.failures sink.old + 1) }
         ensures fault { IfErr result (λ fault. fault ≡ RunFault.Write) }
@@ -127,8 +131,10 @@ impl<C: Calls + Drop> Session<C> {
         requires countable { W.failures sink.old + 1 < 2 ^ 64 }
         requires lines { lines_begun (state_of C.world self.old) + length bytes.now < 2 ^ 64 }
         ensures feeds { (line : List ℕ) → IsReading (state_of C.world self.old) line
-            → Feeds W.Sink (moment (state_of C.world self.old) line) bytes.now result (state_of C.world self.new) sink.old sink.new }
-        ensures begun { OnOk result (lines_begun (state_of C.world self.new) ≤ lines_begun (state_of C.world self.old) + length bytes.now) }
+            → Feeds W.Sink (moment (state_of C.world self.old) line) bytes.now result
+            (state_of C.world self.new) sink.old sink.new }
+        ensures begun { OnOk result (lines_begun (state_of C.world self.new) ≤ lines_begun
+            (state_of C.world self.old) + length bytes.now) }
         ensures kept { OnOk result (W.failures sink.new ≡ W.failures sink.old) }
         ensures counted { OnErr result (W.failures sink.new ≡ W.failures sink.old + 1) }
         ensures fault { IfErr result (λ fault. fault ≡ RunFault.Write) }

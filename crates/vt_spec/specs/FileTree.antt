@@ -63,7 +63,8 @@ module _ {N : Type 0} (eq : N → N → Bool) where
   abbrev pub named_parent : Tree N → N → Option N
   named_parent tree directory =
       if eq directory tree.root then None
-      else when (has_entry_to tree (parent_in directory (tree.node directory)) directory) (parent_in directory (tree.node directory))
+      else when (has_entry_to tree (parent_in directory (tree.node directory)) directory)
+      (parent_in directory (tree.node directory))
 
   -- a directory other than the root without a name: rmdir(2) while it is in use
   abbrev pub is_removed : Tree N → N → Bool
@@ -78,7 +79,8 @@ module _ {N : Type 0} (eq : N → N → Bool) where
 
   abbrev pub is_file_under : FileTree N → N → N → Bool
   is_file_under files top file =
-      list_any (λ directory. has_entry_to files.tree directory file && is_directory_under files top directory) files.numbers
+      list_any (λ directory. has_entry_to files.tree directory file
+      && is_directory_under files top directory) files.numbers
 
   -- an inode is a directory, or has a name at or under it
   abbrev pub is_under : FileTree N → N → N → Bool
@@ -89,14 +91,16 @@ module _ {N : Type 0} (eq : N → N → Bool) where
   -- a name of an object, and the directory that has it
   abbrev pub name_in : FileTree N → N → N → Option (N × List ℕ)
   name_in files object directory =
-      option_map (λ entry. (directory, entry.0)) (find (λ entry. eq object entry.1) (entries_in (files.tree.node directory)))
+      option_map (λ entry. (directory, entry.0))
+      (find (λ entry. eq object entry.1) (entries_in (files.tree.node directory)))
 
   abbrev pub a_name : FileTree N → N → Option (N × List ℕ)
   a_name files object = first_of_list (filter_map (name_in files object) files.numbers)
 
   abbrev pub own_name : FileTree N → N → List ℕ
   own_name files directory =
-      unwrap_or (option_map (λ name. name.1) (name_in files directory (parent_in directory (files.tree.node directory)))) []
+      unwrap_or (option_map (λ name. name.1)
+      (name_in files directory (parent_in directory (files.tree.node directory)))) []
 
   -- the names that lead from a directory down to another, if that one lies under it
   abbrev pub path_down : FileTree N → N → N → Option (List (List ℕ))

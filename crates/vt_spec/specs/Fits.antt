@@ -12,7 +12,8 @@ use Rattle.vt_spec.specs.TreeLaws.{IsDirectory, entry_at}
 abbrev pub MayReplace : Tree ℕ → ℕ → Option ℕ → Type 0
 MayReplace tree object None = ⊤
 MayReplace tree object (Some old) =
-    (old ≢ object) × (is_directory_node (tree.node old) ≡ is_directory_node (tree.node object)) × (entries_in (tree.node old) ≡ [])
+    (old ≢ object) × (is_directory_node (tree.node old) ≡ is_directory_node (tree.node object))
+    × (entries_in (tree.node old) ≡ [])
 
 -- a directory does not go under itself
 abbrev pub StaysOutside : Inodes ℕ → ℕ → ℕ → Type 0

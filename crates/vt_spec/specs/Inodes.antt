@@ -68,7 +68,8 @@ module _ {N : Type 0} (eq : N → N → Bool) where
   -- a name or a descriptor less: unlink(2), close(2)
   abbrev pub unpinned : Inodes N → N → Inodes N
   unpinned inodes number = record (with_inode inodes number (used_once_less (inodes.inode number))) {
-    count = if is_some (inodes.inode number) then count_after inodes.count (used_once_less (inodes.inode number)) else inodes.count;
+    count = if is_some (inodes.inode number) then count_after inodes.count (used_once_less (inodes.inode number))
+        else inodes.count;
   }
 
   -- a name that is replaced leads there no more; a directory that lost its name is its own parent
@@ -77,7 +78,8 @@ module _ {N : Type 0} (eq : N → N → Bool) where
   without_replaced inodes (Some object) = unpinned (with_changed inodes object (node_with_parent object)) object
 
   abbrev pub with_new : Inodes N → N → List ℕ → N → Node N → Inodes N
-  with_new inodes directory name number node = record (with_inode (with_changed inodes directory (node_with_entry name number)) number
+  with_new inodes directory name number node =
+      record (with_inode (with_changed inodes directory (node_with_entry name number)) number
       (Some (record { node = node; uses = 1 }))) { count = inodes.count + 1 }
 
   abbrev pub with_name : Inodes N → N → List ℕ → N → Inodes N
@@ -122,7 +124,8 @@ module _ {N : Type 0} (eq : N → N → Bool) where
   abbrev pub one_directory : N → Attr → Inodes N
   one_directory root attr = record {
     root = root;
-    inode = λ other. if eq other root then Some (record { node = record { attr = attr; content = new_directory root }; uses = 1 }) else None;
+    inode = λ other. if eq other root
+        then Some (record { node = record { attr = attr; content = new_directory root }; uses = 1 }) else None;
     count = 1;
   }
 

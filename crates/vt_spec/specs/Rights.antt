@@ -92,7 +92,8 @@ is_directory White = false
 -- one of the three execute bits is set
 abbrev pub has_execute_bit : ℕ → Bool
 has_execute_bit mode =
-    has_all (owner_bits mode) execute_right || has_all (group_bits mode) execute_right || has_all (other_bits mode) execute_right
+    has_all (owner_bits mode) execute_right || has_all (group_bits mode) execute_right
+    || has_all (other_bits mode) execute_right
 
 -- CAP_DAC_OVERRIDE grants everything but execute of a non-directory without an execute bit: capabilities(7)
 abbrev pub override_grants : Attr → Kind → ℕ → Bool
@@ -118,7 +119,8 @@ owns who attr = who.uid == attr.uid || has_all who.capabilities cap_fowner
 -- whether the sticky bit of the directory lets the caller remove or replace the object: unlink(2), EPERM
 abbrev pub may_delete_sticky : Credentials → Attr → Attr → Bool
 may_delete_sticky who directory object =
-    not (is_sticky directory.mode) || who.uid == object.uid || who.uid == directory.uid || has_all who.capabilities cap_fowner
+    not (is_sticky directory.mode) || who.uid == object.uid || who.uid == directory.uid
+    || has_all who.capabilities cap_fowner
 
 -- the mode of a new object: the mode asked for, without the bits of the umask: umask(2)
 abbrev pub masked : ℕ → ℕ → ℕ

@@ -14,7 +14,8 @@ abbrev pub Entries : Type 0 → Type 0
 Entries N = List (List ℕ × N)
 
 -- What an inode holds. A directory knows its parent, the root itself as its own; its mark says that it is
--- opaque in an overlay. A whiteout is the character device 0/0 (the kernel's overlayfs document, "whiteouts and opaque directories").
+-- opaque in an overlay. A whiteout is the character device 0/0 (the kernel's overlayfs document, "whiteouts and opaque
+-- directories").
 pub data Content (N : Type 0) : Type 0 where
   Directory : (parent : N) → (entries : Entries N) → (opaque : Bool) → Content N
   Regular : (bytes : List ℕ) → Content N
@@ -108,7 +109,11 @@ module _ {N : Type 0} where
   abbrev pub node_with_entry : List ℕ → N → Option (Node N) → Option (Node N)
   node_with_entry name number None = None
   node_with_entry name number (Some node) =
-      Some (record { attr = node.attr; content = with_entries node.content (with_entry name number (entries_of node.content)) })
+      Some (record {
+        attr = node.attr;
+        content = with_entries node.content
+            (with_entry name number (entries_of node.content));
+      })
 
   abbrev pub node_with_bytes : List ℕ → Option (Node N) → Option (Node N)
   node_with_bytes bytes None = None
@@ -117,7 +122,11 @@ module _ {N : Type 0} where
 module _ {N : Type 0} (eq : N → N → Bool) where
   -- the tree with this at a number
   abbrev pub with_node : Tree N → N → Option (Node N) → Tree N
-  with_node tree number node = record { root = tree.root; node = λ other. if eq other number then node else tree.node other }
+  with_node tree number node = record {
+    root = tree.root;
+    node = λ other. if eq other number then node
+        else tree.node other;
+  }
 
   -- the tree with a new object under a name of a directory: mkdir(2), open(2) with O_CREAT
   abbrev pub with_object : Tree N → N → List ℕ → N → Node N → Tree N
@@ -131,4 +140,8 @@ module _ {N : Type 0} (eq : N → N → Bool) where
 -- a tree of one empty directory
 abbrev pub tree_of_root : {N : Type 0} → (N → N → Bool) → N → Attr → Tree N
 tree_of_root eq root attr =
-    record { root = root; node = λ other. if eq other root then Some (record { attr = attr; content = new_directory root }) else None }
+    record {
+      root = root;
+      node = λ other. if eq other root
+          then Some (record { attr = attr; content = new_directory root }) else None;
+    }

@@ -26,7 +26,8 @@ module _ {N : Type 0} where
 
   -- a directory without a name is its own parent: rmdir(2) while it is in use
   abbrev pub HasOwnParents : Tree N → Type 0
-  HasOwnParents tree = (number : N) → IsDirectory tree number → ¬ (HasName tree number) → parent_in number (tree.node number) ≡ number
+  HasOwnParents tree = (number : N) → IsDirectory tree number → ¬ (HasName tree number)
+      → parent_in number (tree.node number) ≡ number
 
   pub record IsTree (tree : Tree N) : Type 0 where
     -- the root is a directory, its own parent, and no entry leads to it
@@ -36,11 +37,16 @@ module _ {N : Type 0} where
     -- a directory's names stand in the order of their bytes, each once
     pub in_order : (directory : N) → is_sorted name_cmp (entries_in (tree.node directory)) ≡ true
     -- each entry leads to an object that is there
-    pub alive : (directory : N) (name : List ℕ) (number : N) → entry_at tree directory name ≡ Some number → is_some (tree.node number) ≡ true
+    pub alive : (directory : N) (name : List ℕ) (number : N) → entry_at tree directory name ≡ Some number
+        → is_some (tree.node number) ≡ true
     -- the parent of a directory is there, and has the one entry that leads to it
-    pub one_parent : (directory : N) (name : List ℕ) (number : N) → entry_at tree directory name ≡ Some number → IsDirectory tree number → parent_in number (tree.node number) ≡ directory
-    pub one_name : (directory : N) (name other : List ℕ) (number : N) → entry_at tree directory name ≡ Some number → entry_at tree directory other ≡ Some number → IsDirectory tree number → name ≡ other
-    pub parent_directory : (number : N) → IsDirectory tree number → IsDirectory tree (parent_in number (tree.node number))
+    pub one_parent : (directory : N) (name : List ℕ) (number : N) → entry_at tree directory name ≡ Some number
+        → IsDirectory tree number → parent_in number (tree.node number) ≡ directory
+    pub one_name : (directory : N) (name other : List ℕ) (number : N) → entry_at tree directory name ≡ Some number
+        → entry_at tree directory other ≡ Some number → IsDirectory tree number → name ≡ other
+    pub parent_directory : (number : N) → IsDirectory tree number
+        → IsDirectory tree (parent_in number (tree.node number))
     -- every directory with a name is reached from the root, and one without is empty
     pub reached : (number : N) → IsDirectory tree number → HasName tree number → IsReached tree number
-    pub unnamed_empty : (number : N) → IsDirectory tree number → number ≢ tree.root → ¬ (HasName tree number) → entries_in (tree.node number) ≡ []
+    pub unnamed_empty : (number : N) → IsDirectory tree number → number ≢ tree.root → ¬ (HasName tree number)
+        → entries_in (tree.node number) ≡ []

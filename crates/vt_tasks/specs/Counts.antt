@@ -31,7 +31,8 @@ uses test tasks = times test (locations_in tasks)
 abbrev pub tasks_in : ℕ → Tasks → ℕ
 tasks_in namespace tasks = times (λ task. nat_eq namespace task.namespace) tasks
 
--- how many of the root and the working directory of a task are at a location, if the task is in the namespace; and of all tasks
+-- how many of the root and the working directory of a task are at a location, if the task is in the namespace; and of
+-- all tasks
 abbrev pub places_at : ℕ → Location ℕ → Task ℕ → ℕ
 places_at namespace place task =
     if nat_eq namespace task.namespace then
@@ -53,27 +54,32 @@ ReplacedUses =
 
 abbrev pub DirectoryUses : Type 0
 DirectoryUses =
-    (test : Location ℕ → Bool) (name : TaskName) (tasks : Tasks) (task : Task ℕ) (directory : Location ℕ) → AreNamedApart tasks
+    (test : Location ℕ → Bool) (name : TaskName) (tasks : Tasks) (task : Task ℕ) (directory : Location ℕ)
+    → AreNamedApart tasks
     → called name tasks ≡ Some task
     → uses test (replaced (record task { directory = directory }) tasks) + one_if (test task.directory)
     ≡ uses test tasks + one_if (test directory)
 
 abbrev pub RootUses : Type 0
 RootUses =
-    (test : Location ℕ → Bool) (name : TaskName) (tasks : Tasks) (task : Task ℕ) (root : Location ℕ) → AreNamedApart tasks
+    (test : Location ℕ → Bool) (name : TaskName) (tasks : Tasks) (task : Task ℕ) (root : Location ℕ)
+    → AreNamedApart tasks
     → called name tasks ≡ Some task
-    → uses test (replaced (record task { root = root }) tasks) + one_if (test task.root) ≡ uses test tasks + one_if (test root)
+    → uses test (replaced (record task { root = root }) tasks) + one_if (test task.root)
+    ≡ uses test tasks + one_if (test root)
 
 abbrev pub EnteredUses : Type 0
 EnteredUses =
     (test : Location ℕ → Bool) (name : TaskName) (tasks : Tasks) (task : Task ℕ) (namespace : ℕ) (root : Location ℕ)
     → AreNamedApart tasks → called name tasks ≡ Some task
-    → uses test (replaced (entered_at task namespace root) tasks) + (one_if (test task.root) + one_if (test task.directory))
+    → uses test (replaced (entered_at task namespace root) tasks) +
+    (one_if (test task.root) + one_if (test task.directory))
     ≡ uses test tasks + (one_if (test root) + one_if (test root))
 
 abbrev pub MovedUses : Type 0
 MovedUses =
-    (test : Location ℕ → Bool) (name : TaskName) (tasks : Tasks) (task : Task ℕ) (namespace : ℕ) (root directory : Location ℕ)
+    (test : Location ℕ → Bool) (name : TaskName) (tasks : Tasks) (task : Task ℕ) (namespace : ℕ)
+    (root directory : Location ℕ)
     → AreNamedApart tasks → called name tasks ≡ Some task
     → uses test (replaced (record task { namespace = namespace; root = root; directory = directory }) tasks)
     + (one_if (test task.root) + one_if (test task.directory))
@@ -88,7 +94,8 @@ OpenedUses =
 -- a task has its open files in the order of their numbers
 abbrev pub ClosedUses : Type 0
 ClosedUses =
-    (test : Location ℕ → Bool) (name : TaskName) (tasks : Tasks) (task : Task ℕ) (number : ℕ) (descriptor : Descriptor ℕ)
+    (test : Location ℕ → Bool) (name : TaskName) (tasks : Tasks) (task : Task ℕ) (number : ℕ)
+    (descriptor : Descriptor ℕ)
     → AreNamedApart tasks → called name tasks ≡ Some task → are_ascending_from 0 task.descriptors ≡ true
     → descriptor_numbered task number ≡ Some descriptor
     → uses test (replaced (without_descriptor task number) tasks) + one_if (test descriptor.location) ≡ uses test tasks
@@ -142,5 +149,7 @@ ForkedTasks =
 
 abbrev pub ExitedTasks : Type 0
 ExitedTasks =
-    (namespace : ℕ) (name : TaskName) (tasks : Tasks) (task : Task ℕ) → AreNamedApart tasks → called name tasks ≡ Some task
-    → tasks_in namespace (without_called name tasks) + one_if (nat_eq namespace task.namespace) ≡ tasks_in namespace tasks
+    (namespace : ℕ) (name : TaskName) (tasks : Tasks) (task : Task ℕ) → AreNamedApart tasks
+    → called name tasks ≡ Some task
+    → tasks_in namespace (without_called name tasks) + one_if (nat_eq namespace task.namespace)
+    ≡ tasks_in namespace tasks

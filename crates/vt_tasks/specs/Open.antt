@@ -7,7 +7,13 @@ use Rattle.vt_tasks.specs.declared.descriptors.OpenFile.{OpenFile}
 
 -- an open file under its number
 abbrev pub numbered : ℕ → OpenFile → Descriptor ℕ
-numbered number held = record { number = number; location = location_of held.location; reads = (access_of held.access).reads; writes = (access_of held.access).writes }
+numbered number held = record {
+  number = number;
+  location = location_of held.location;
+  reads =
+      (access_of held.access).reads;
+  writes = (access_of held.access).writes;
+}
 
 abbrev pub descriptor_of : ℕ × OpenFile → Descriptor ℕ
 descriptor_of entry = numbered entry.0 entry.1

@@ -24,7 +24,8 @@ OneGoes = (world : World ℕ) (name : TaskName) → (without_task world name).ta
 
 abbrev pub OneIsForked : Type 0
 OneIsForked =
-    (world : World ℕ) (task child : Task ℕ) → (with_child world task child).tasks ≡ with_child_behind task child world.tasks
+    (world : World ℕ) (task child : Task ℕ)
+    → (with_child world task child).tasks ≡ with_child_behind task child world.tasks
 
 abbrev pub TasksArePivoted : Type 0
 TasksArePivoted =

@@ -89,7 +89,8 @@ impl Descriptors {
         ensures number { IfOk result (λ number. number ≡ free_from 0 self.old) }
         ensures ok { IfOk result (λ number. self.new ≡ inserted (numbered number opened) self.old) }
         // closed again, the others are as they were
-        ensures undone { IfOk result (λ number. filter (λ descriptor. not (number == descriptor.number)) self.new ≡ self.old) }
+        ensures undone { IfOk result (λ number. filter (λ descriptor. not (number == descriptor.number)) self.new
+            ≡ self.old) }
         ensures memory { IfErr result (λ deny. deny ≡ denial S5) }
         ensures err { OnErr result (self.new ≡ self.old) }
     {
@@ -103,7 +104,8 @@ impl Descriptors {
 
     /// Closes the file of this number, and returns it. It does not allocate.
     pub fn remove(&mut self, number: u8) -> Option<OpenFile>
-        ensures value { option_map (numbered number) result ≡ find (λ descriptor. number == descriptor.number) self.old }
+        ensures value { option_map (numbered number) result
+            ≡ find (λ descriptor. number == descriptor.number) self.old }
         ensures rest { self.new ≡ filter (λ descriptor. not (number == descriptor.number)) self.old }
     {
         self.by_number.shift_remove(&number)
@@ -111,8 +113,10 @@ impl Descriptors {
 
     /// The open files, in the order of their numbers.
     pub fn files(&self) -> &[OpenFile]
-        ensures locations { map (λ held. location_of held.location) result.now ≡ map (λ descriptor. descriptor.location) self.now }
-        ensures writes { map (λ held. (access_of held.access).writes) result.now ≡ map (λ descriptor. descriptor.writes) self.now }
+        ensures locations { map (λ held. location_of held.location) result.now
+            ≡ map (λ descriptor. descriptor.location) self.now }
+        ensures writes { map (λ held. (access_of held.access).writes) result.now
+            ≡ map (λ descriptor. descriptor.writes) self.now }
     {
         self.by_number.values().as_slice()
     }

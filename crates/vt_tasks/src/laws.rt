@@ -1,5 +1,5 @@
-//! Lists of tasks: what they are to the worlds of the definitions, and how often they use locations and namespaces. Each public
-//! function is a theorem, and does nothing.
+//! Lists of tasks: what they are to the worlds of the definitions, and how often they use locations and namespaces.
+//! Each public function is a theorem, and does nothing.
 ghost use Rattle.vt_tasks.specs.Counts.{ClosedUses, DirectoryUses, EnteredUses, ExitedTasks, ExitedUses, ForkedTasks, ForkedUses, HasTasksWhileCounted, MovedUses, OpenedUses, PivotedTasks, PivotedUses, ReplacedTasks, ReplacedUses, RootUses};
 ghost use Rattle.vt_tasks.specs.WorldTasks.{LocationsAreOfTasks, OneGoes, OneIsCalled, OneIsForked, OneIsReplaced, OpensWithTheFirst, TasksArePivoted, TheCalledHasTheName, TheCalledIsReplaced};
 
@@ -31,8 +31,8 @@ pub fn uses_of_locations_are_counted()
     ensures exited { ExitedUses }
 {}
 
-/// How many tasks are in a namespace, where one task changes, forks or ends, or tasks are moved by pivot_root(2). No two tasks
-/// have the same name. A namespace has tasks just where there is at least one.
+/// How many tasks are in a namespace, where one task changes, forks or ends, or tasks are moved by pivot_root(2). No
+/// two tasks have the same name. A namespace has tasks just where there is at least one.
 pub fn tasks_of_namespaces_are_counted()
     ensures used { HasTasksWhileCounted }
     ensures replaced { ReplacedTasks }

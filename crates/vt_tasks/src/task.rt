@@ -67,8 +67,8 @@ impl Task {
 
     /// Its next child, with these credentials: fork(2).
     ///
-    /// The child has the parent's umask, namespace, root and working directory, and no open files. It fails if an allocation
-    /// fails.
+    /// The child has the parent's umask, namespace, root and working directory, and no open files. It fails if an
+    /// allocation fails.
     pub fn child(&self, alloc: Global, cred: Cred) -> Result<Task, AllocError>
         requires few { self.now.forks < MAX_FORKS }
         ensures { IfOk result (λ child. task_of child ≡ child_of (task_of self.now) cred) }
@@ -85,8 +85,8 @@ impl Task {
         })
     }
 
-    /// If it is in this namespace, moves its root and its working directory from the root of the first mount to that of the
-    /// second: pivot_root(2). It does not allocate.
+    /// If it is in this namespace, moves its root and its working directory from the root of the first mount to that of
+    /// the second: pivot_root(2). It does not allocate.
     pub fn pivot(&mut self, namespace: NamespaceId, root: &Mount, new: &Mount)
         ensures { task_of self.new
             ≡ pivoted_task nat_eq (counted namespace.count) (mount_of root.now) (mount_of new.now) (task_of self.old) }

@@ -131,7 +131,8 @@ impl Tasks {
     /// Sets the working directory of a task, and returns the old one: chdir(2). It does not allocate.
     pub fn set_directory(&mut self, name: &TaskName, directory: Location) -> Option<Location>
         ensures left { option_map location_of result ≡ option_map (λ task. task.directory) (called name.now self.old) }
-        ensures rest { self.new ≡ changed_called name.now (λ task. record task { directory = location_of directory }) self.old }
+        ensures rest { self.new ≡ changed_called name.now
+            (λ task. record task { directory = location_of directory }) self.old }
     {
         let task = self.by_name.get_mut(name.numbers())?;
         Some(mem::replace(&mut task.directory, directory))
@@ -146,8 +147,8 @@ impl Tasks {
         Some(mem::replace(&mut task.root, root))
     }
 
-    /// Moves a task into a namespace, with this directory as its root and its working directory, and returns what it left:
-    /// setns(2). It does not allocate.
+    /// Moves a task into a namespace, with this directory as its root and its working directory, and returns what it
+    /// left: setns(2). It does not allocate.
     pub fn enter(&mut self, name: &TaskName, namespace: NamespaceId, root: Location) -> Option<Left>
         ensures left { option_map left_of result ≡ option_map left_by (called name.now self.old) }
         ensures rest { self.new
@@ -156,8 +157,8 @@ impl Tasks {
         self.move_root_and_directory(name, namespace, root, root)
     }
 
-    /// Moves a task into a namespace, with this root and this working directory, and returns what it left: unshare(2). It does
-    /// not allocate.
+    /// Moves a task into a namespace, with this root and this working directory, and returns what it left: unshare(2).
+    /// It does not allocate.
     pub fn move_root_and_directory(
         &mut self,
         name: &TaskName,
@@ -183,10 +184,11 @@ impl Tasks {
         Some(left)
     }
 
-    /// Moves the roots and working directories of a namespace's tasks from the root of the first mount to that of the second:
-    /// pivot_root(2). It does not allocate.
+    /// Moves the roots and working directories of a namespace's tasks from the root of the first mount to that of the
+    /// second: pivot_root(2). It does not allocate.
     pub fn pivot(&mut self, namespace: NamespaceId, root: &Mount, new: &Mount)
-        ensures { self.new ≡ map (pivoted_task nat_eq (counted namespace.count) (mount_of root.now) (mount_of new.now)) self.old }
+        ensures { self.new ≡ map (pivoted_task nat_eq (counted namespace.count) (mount_of root.now)
+            (mount_of new.now)) self.old }
     {
         for index in 0..self.by_name.len() {
             if let Some(task) = self.by_name.get_index_mut(index) {
@@ -203,7 +205,8 @@ impl Tasks {
         ensures number { IfOk result (λ number. Some number ≡ option_map free_number (called name.now self.old)) }
         ensures ok { OnOk result (self.new ≡ changed_called name.now (with_open opened) self.old) }
         // closed again, the tasks are as they were
-        ensures undone { IfOk result (λ number. changed_called name.now (λ task. without_descriptor task number) self.new ≡ self.old) }
+        ensures undone { IfOk result (λ number.
+            changed_called name.now (λ task. without_descriptor task number) self.new ≡ self.old) }
         ensures memory { IfErr result (λ deny. deny ≡ denial S5) }
         ensures err { OnErr result (self.new ≡ self.old) }
     {
@@ -223,10 +226,10 @@ impl Tasks {
 
     /// Forks a task, and returns the name of its child: fork(2).
     ///
-    /// The child has these credentials, the parent's umask, namespace, root and working directory, and no open files. It comes
-    /// after all other tasks.
+    /// The child has these credentials, the parent's umask, namespace, root and working directory, and no open files.
+    /// It comes after all other tasks.
     ///
-    /// S5 (ENOMEM): memory was refused.
+    /// S5 (ENOMEM): an allocation failed.
     pub fn fork(&mut self, name: &TaskName, cred: Cred) -> Result<TaskName, Deny>
         requires { MayFork (called name.now self.old) }
         ensures name { IfOk result (λ child. Some child ≡ option_map child_name (called name.now self.old)) }

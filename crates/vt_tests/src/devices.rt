@@ -52,7 +52,7 @@ const TEXTS: [(RunFault, &str); 3] = [
     ),
     (
         RunFault::Memory,
-        "memory was refused before the script was read",
+        "an allocation failed before the script was read",
     ),
 ];
 

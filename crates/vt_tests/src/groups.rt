@@ -12,7 +12,8 @@ fn group(count: u64) -> GroupId {
     GroupId::new(count)
 }
 
-// Mounts 1 and 2 are in group 10, mount 3 is its slave; mount 4 is in group 11 below it, and mount 5 that group's slave.
+// Mounts 1 and 2 are in group 10, mount 3 is its slave; mount 4 is in group 11 below it, and mount 5 that group's
+// slave.
 fn family(rt: HostRuntime) -> Result<Groups, Fail> {
     let mut groups = Groups::new(rt.alloc());
     groups.start_group(group(10), mount(2), None)?;

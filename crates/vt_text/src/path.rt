@@ -53,7 +53,8 @@ fn split_first_word(text: &[u8]) -> Option<(&[u8], &[u8])>
 
 // What stands before the last word of a text, and that word.
 pub(crate) fn split_last_word(text: &[u8]) -> Option<(&[u8], &[u8])>
-    ensures { MatchOption result (words text.now ≡ []) (λ parts. words text.now ≡ words parts.0.now ++ parts.1.now ∷ []) }
+    ensures { MatchOption result (words text.now ≡ [])
+        (λ parts. words text.now ≡ words parts.0.now ++ parts.1.now ∷ []) }
 {
     let last = text.iter().rposition(|byte| *byte != b'/')?;
     let text = &text[..last + 1];

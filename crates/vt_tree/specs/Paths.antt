@@ -24,5 +24,6 @@ module _ {N : Type 0} (eq : N → N → Bool) where
 -- a directory has one name at most
 abbrev pub NamesDirectoriesOnce : Tree ℕ → Type 0
 NamesDirectoriesOnce tree =
-    (directory : ℕ) (name other : List ℕ) (object : ℕ) → entry_at tree directory name ≡ Some object → entry_at tree directory other ≡ Some object
+    (directory : ℕ) (name other : List ℕ) (object : ℕ) → entry_at tree directory name ≡ Some object
+    → entry_at tree directory other ≡ Some object
     → is_directory_node (tree.node object) ≡ true → name ≡ other

@@ -3,7 +3,8 @@ use Rattle.std.specs.Prelude.{ℕ, Bool, List, None, Option, Some, count_by, fal
 use Rattle.vt_spec.specs.Inodes.{Inode, Inodes, inode_with_node, node_in, used_once_less}
 use Rattle.vt_spec.specs.Tree.{Node}
 
--- what is at each number from 0 on, the number that the next insert gives out, and how many nodes fit with no allocation
+-- what is at each number from 0 on, the number that the next insert gives out, and how many nodes fit with no
+-- allocation
 pub record Slots : Type 0 where
   pub slots : List (Option (Inode ℕ))
   pub next : ℕ
@@ -48,4 +49,7 @@ with_slot_node inode node = record inode { node = node }
 
 -- the table after a write through `get_mut(id)`
 abbrev pub with_node_at : Slots → ℕ → Node ℕ → Slots
-with_node_at table id node = record table { slots = slice_set table.slots id (inode_with_node (Some node) (slot_at table id)) }
+with_node_at table id node = record table {
+  slots = slice_set table.slots id
+      (inode_with_node (Some node) (slot_at table id));
+}

@@ -12,8 +12,8 @@ use vt_node::{NodeId, copied_bytes};
 use vt_spec::errors::{Deny, Rule};
 
 impl Tree {
-    /// The names that lead from a directory down to another, if that one lies under it. A directory must have one name at
-    /// most, as in every tree of a world.
+    /// The names that lead from a directory down to another, if that one lies under it. A directory must have one name
+    /// at most, as in every tree of a world.
     ///
     /// S5: an allocation failed.
     pub fn path_down(
@@ -66,7 +66,8 @@ impl Tree {
     fn name_above(&self, directory: NodeId) -> Option<(NodeId, &[u8])>
         requires { NamesDirectoriesOnce (tree_of self.now) }
         ensures parent { option_map (λ above. above.0) result ≡ named_parent nat_eq (tree_of self.now) directory }
-        ensures name { IfSome result (λ above. above.1.now ≡ own_name nat_eq (files_of (inodes_of self.now)) directory) }
+        ensures name { IfSome result (λ above. above.1.now
+            ≡ own_name nat_eq (files_of (inodes_of self.now)) directory) }
     {
         if directory == self.root() {
             return None;

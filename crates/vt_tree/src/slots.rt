@@ -1,4 +1,5 @@
-//! Inodes by number. A number keeps its inode until the last use of the inode goes, and only then is it given out again.
+//! Inodes by number. A number keeps its inode until the last use of the inode goes, and only then is it given out
+//! again.
 ghost use Rattle.std.specs.Prelude.{◌≡◌, ℕ, ◌^◌, [], ◌+◌, ◌-◌, ◌<◌, ◌≤◌, None, Some, IsSome, IsOk, IfOk, IfErr, IsErrOf, OnOk, OnErr, ◌↔◌, option_copied, if◌then◌else◌};
 ghost use Rattle.std.specs.Option.{option_copied_mut};
 ghost use Rattle.std.specs.Borrow.{Lends, sem};
@@ -43,8 +44,8 @@ impl Slot {
 
 /// Nodes by number.
 ///
-/// Each use of a node counts: an entry that leads to it, an open file, a place where a task stands. The count is exact: a
-/// use beyond 2^64 - 1 is refused.
+/// Each use of a node counts: an entry that leads to it, an open file, a place where a task stands. The count is exact:
+/// a use beyond 2^64 - 1 is refused.
 #[derive(Debug, Drop)]
 pub struct Slots {
     slab: Slab<Slot>,

@@ -25,8 +25,8 @@ use std::marker::Model;
 use vt_node::{Attr, Node, NodeId, copied_bytes};
 use vt_spec::errors::{Deny, Rule};
 
-/// A tree of directories, files, symlinks and whiteouts, each with a number, and with a count of its uses: the names that
-/// lead to it, and what a caller pins. With its last use an object goes.
+/// A tree of directories, files, symlinks and whiteouts, each with a number, and with a count of its uses: the names
+/// that lead to it, and what a caller pins. With its last use an object goes.
 #[derive(Debug, Drop)]
 pub struct Tree {
     slots: Slots,
@@ -199,8 +199,8 @@ impl Tree {
         Ok(())
     }
 
-    /// Removes a name of an object that has no entries: unlink(2), rmdir(2). With its last use the object goes. It does not
-    /// allocate.
+    /// Removes a name of an object that has no entries: unlink(2), rmdir(2). With its last use the object goes. It does
+    /// not allocate.
     pub fn unlink(&mut self, directory: NodeId, name: &[u8], object: NodeId)
         requires named { entry_at (tree_of self.old) directory name.now ≡ Some object }
         requires empty { entries_in ((tree_of self.old).node object) ≡ [] }
@@ -242,8 +242,8 @@ impl Tree {
         Ok(())
     }
 
-    /// Sets the whole content of a file: write(2) after open(2) with O_TRUNC. It does not allocate. A symlink, a whiteout and
-    /// a number without an object stay as they are.
+    /// Sets the whole content of a file: write(2) after open(2) with O_TRUNC. It does not allocate. A symlink, a
+    /// whiteout and a number without an object stay as they are.
     pub fn write(&mut self, file: NodeId, bytes: Vec<u8>)
         requires file { is_directory_node ((tree_of self.old).node file) ≡ false }
         requires size { length bytes.items ≤ largest_file }

@@ -66,7 +66,8 @@ ChangesKeepTrees =
 -- The numbers that stand beside a tree are still those of its inodes.
 abbrev pub ChangesKeepNumbers : Type 0
 ChangesKeepNumbers =
-    (files : FileTree ℕ) (change : Change ℕ) → ListsNumbers nat_eq files → ListsNumbers nat_eq (changed nat_eq files change)
+    (files : FileTree ℕ) (change : Change ℕ) → ListsNumbers nat_eq files
+    → ListsNumbers nat_eq (changed nat_eq files change)
 
 -- What lost its name is its own parent.
 abbrev pub ChangesKeepOwnParents : Type 0

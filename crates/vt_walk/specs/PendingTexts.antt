@@ -28,10 +28,11 @@ walked_on_from looks task follow reached = link_passed looks task follow (here_o
 abbrev pub links_within : ℕ → Looks ℕ → Task ℕ → Follow
 links_within depth looks task inside next inner = symlink_walked looks task depth inside next inner
 
--- Pending texts walked one after another, the innermost first: the words that are left of it, then the check of a slash at
--- its end, and from there the others.
+-- Pending texts walked one after another, the innermost first: the words that are left of it, then the check of a slash
+-- at its end, and from there the others.
 abbrev pub texts_walked : Looks ℕ → Task ℕ → Here ℕ → List Pending → Result (Here ℕ) Deny
 texts_walked looks task here [] = Ok here
 texts_walked looks task here (pending ∷ others) =
-    and_then (words_walked looks task (links_within (most_symlinks + 1 - length others) looks task) here (reverse pending.words)) (λ reached.
+    and_then (words_walked looks task (links_within (most_symlinks + 1 - length others) looks task) here
+    (reverse pending.words)) (λ reached.
     unless (slash_rules nat_eq looks pending.text.now reached.location) (texts_walked looks task reached others))

@@ -27,7 +27,8 @@ if_symlink here (Some text) follow = follow text
 abbrev pub entered : Looks ℕ → Place ℕ → Place ℕ
 entered looks place = record place { object = option_map (topmost looks) place.object }
 
-abbrev pub file_or_symlink : Looks ℕ → Place ℕ → Option (List ℕ) → (List ℕ → Result (Place ℕ) Deny) → Result (Place ℕ) Deny
+abbrev pub file_or_symlink : Looks ℕ → Place ℕ → Option (List ℕ) → (List ℕ → Result (Place ℕ) Deny)
+    → Result (Place ℕ) Deny
 file_or_symlink looks place None follow = Ok (entered looks place)
 file_or_symlink looks place (Some text) follow = follow text
 
@@ -90,4 +91,5 @@ module _ (looks : Looks ℕ) (task : Task ℕ) where
       and_then (placed here.location (final_word (reverse (words text))) (slash || ends_in_slash text)) (λ place.
       file_or_symlink looks place (symlink_there nat_eq looks place) (λ inner.
       unless (follow_rules nat_eq looks (symlink_of here place) inner)
-      (file_walked depth (symlink_start here.location (symlink_of here place) inner) inner (slash || ends_in_slash text)))))
+      (file_walked depth (symlink_start here.location (symlink_of here place) inner) inner
+      (slash || ends_in_slash text)))))

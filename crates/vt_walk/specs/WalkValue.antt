@@ -62,7 +62,8 @@ place_end (Err deny) = Err deny
 abbrev pub IsNodeAt : Looks ℕ → Location → Option (Node ℕ) → Type 0
 IsNodeAt looks location node = node_seen location.node.filesystem node ≡ looks.node (location_of location)
 
--- What a place always is: its object is what the last word names in its parent, which is a directory where the last word is a name.
+-- What a place always is: its object is what the last word names in its parent, which is a directory where the last
+-- word is a name.
 pub record IsPlace (looks : Looks ℕ) (task : Task ℕ) (place : Place) : Type 0 where
   pub object : Ok (option_map location_of place.object)
       ≡ object_named nat_eq looks task (location_of place.parent) (last_of place.last)

@@ -23,8 +23,8 @@ use vt_tasks::Task;
 use vt_text::link;
 use vt_text::path::PathText;
 
-// What a last word names in a directory, with no symlink followed. W3, W4: if there is a word, the directory is searched;
-// without a word there is no trailing slash either. W8: `..` of a lost directory.
+// What a last word names in a directory, with no symlink followed. W3, W4: if there is a word, the directory is
+// searched; without a word there is no trailing slash either. W8: `..` of a lost directory.
 #[inline(always)]
 fn placed<'a, L: Look>(
     world: &L,
@@ -57,10 +57,10 @@ fn placed<'a, L: Look>(
 
 /// The parent that a path leads to, and what its last word names there; a final symlink is not followed.
 ///
-/// W2 (ENAMETOOLONG): a word of a symlink's text is too long. W3 (ENOTDIR): a word, or a trailing slash of a symlink's text,
-/// follows what is no directory. W4 (EACCES): no search permission, also on the parent. W6 (ENOENT): a missing name before the
-/// last word. W7 (ELOOP): the 41st symlink. W8 (ENOENT): `..` of a directory that is removed, or not under the root of its
-/// mount. W9 (ELOOP): a symlink on a mount with `MS_NOSYMFOLLOW`.
+/// W2 (ENAMETOOLONG): a word of a symlink's text is too long. W3 (ENOTDIR): a word, or a trailing slash of a symlink's
+/// text, follows what is no directory. W4 (EACCES): no search permission, also on the parent. W6 (ENOENT): a missing
+/// name before the last word. W7 (ELOOP): the 41st symlink. W8 (ENOENT): `..` of a directory that is removed, or not
+/// under the root of its mount. W9 (ELOOP): a symlink on a mount with `MS_NOSYMFOLLOW`.
 pub fn place_walk<'a, L: Look>(
     world: &L,
     who: &Task,
@@ -78,7 +78,8 @@ pub fn place_walk<'a, L: Look>(
 
 // Whether a name is missing in a removed directory, which takes no new name.
 fn takes_no_name<L: Look>(world: &L, place: &Place) -> bool
-    ensures { result ≡ (not (is_some (place_of place.now).object) && (L.looks world.now).is_removed (place_of place.now).parent) }
+    ensures { result ≡ (not (is_some (place_of place.now).object)
+        && (L.looks world.now).is_removed (place_of place.now).parent) }
 {
     place.object.is_none() && world.is_removed(place.parent)
 }
@@ -134,7 +135,8 @@ fn has_directory<L: Look>(world: &L, place: &Place) -> bool
     }
 }
 
-/// As `old_walk`; a trailing slash is accepted only if the object is a directory, else W3 (ENOTDIR): unlink(2), rename(2).
+/// As `old_walk`; a trailing slash is accepted only if the object is a directory, else W3 (ENOTDIR): unlink(2),
+/// rename(2).
 pub fn old_leaf_walk<'a, L: Look>(
     world: &L,
     who: &Task,
@@ -151,7 +153,8 @@ pub fn old_leaf_walk<'a, L: Look>(
     }
 }
 
-/// The second path of rename(2): as `new_walk`; a trailing slash is accepted only if a directory is renamed, else W3 (ENOTDIR).
+/// The second path of rename(2): as `new_walk`; a trailing slash is accepted only if a directory is renamed, else W3
+/// (ENOTDIR).
 pub fn rename_new_walk<'a, L: Look>(
     world: &L,
     who: &Task,
@@ -159,7 +162,8 @@ pub fn rename_new_walk<'a, L: Look>(
     old_is_directory: bool,
 ) -> Result<Place<'a>, Deny>
     ensures value { place_result result
-        ≡ place_end (walk_end (rename_new_walk nat_eq (L.looks world.now) (task_of who.now) path.now old_is_directory)) }
+        ≡ place_end (walk_end (rename_new_walk nat_eq (L.looks world.now)
+        (task_of who.now) path.now old_is_directory)) }
     ensures place { IfOk result (λ place. IsPlace (L.looks world.now) (task_of who.now) place) }
 {
     match new_walk(world, who, path) {
@@ -229,11 +233,11 @@ fn file_walked<'a, L: Look>(
     Err(Rule::W7.denial())
 }
 
-/// The place of a file that is opened or made: open(2) with O_CREAT. A final symlink is followed, also to a missing name, and
-/// the object is the root of the topmost mount over what is named.
+/// The place of a file that is opened or made: open(2) with O_CREAT. A final symlink is followed, also to a missing
+/// name, and the object is the root of the topmost mount over what is named.
 ///
-/// The errors are those of `new_walk`. The last word may come from the text of a symlink, and a slash at the end of any of the
-/// texts counts.
+/// The errors are those of `new_walk`. The last word may come from the text of a symlink, and a slash at the end of any
+/// of the texts counts.
 pub fn file_walk<'a, L: Look>(
     world: &'a L,
     who: &Task,

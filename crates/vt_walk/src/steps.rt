@@ -61,7 +61,8 @@ pub(crate) fn searched<'a, L: Look>(
 // The entry that a name has in a directory, on the same mount.
 #[inline(always)]
 fn entry_location(here: Location, directory: &Node, name: &[u8]) -> Option<Location>
-    ensures { option_map location_of result ≡ option_map (λ object. record { mount = counted here.mount.count; node = object })
+    ensures { option_map location_of result
+        ≡ option_map (λ object. record { mount = counted here.mount.count; node = object })
         (entry_named name.now (entries_in (node_seen here.node.filesystem (Some directory.now)))) }
 {
     let node = directory.entry(name)?;
@@ -71,7 +72,8 @@ fn entry_location(here: Location, directory: &Node, name: &[u8]) -> Option<Locat
     })
 }
 
-// Where a word leads from a directory: a name through the mounts over the entry. W6: a missing name. W8: `..` of a lost directory.
+// Where a word leads from a directory: a name through the mounts over the entry. W6: a missing name. W8: `..` of a lost
+// directory.
 #[inline(always)]
 fn stepped<L: Look>(
     world: &L,
@@ -169,7 +171,8 @@ pub(crate) fn symlink_text(node: Option<&Node>) -> Option<&[u8]>
     }
 }
 
-// Where the walk of a symlink's text begins, if it may be walked, with one symlink less to follow: W9 before W7 before W2.
+// Where the walk of a symlink's text begins, if it may be walked, with one symlink less to follow: W9 before W7 before
+// W2.
 #[inline(always)]
 pub(crate) fn link_begun<L: Look>(
     world: &L,

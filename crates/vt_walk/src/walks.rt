@@ -18,8 +18,9 @@ use vt_text::path::PathText;
 
 /// The object that a path leads to, a final symlink followed. A trailing slash is accepted only if it is a directory.
 ///
-/// W2 (ENAMETOOLONG): a word of a symlink's text is too long. W3 (ENOTDIR): a word, or a trailing slash, follows what is no
-/// directory. W4 (EACCES): no search permission. W6 (ENOENT): a missing name. W7 (ELOOP): the 41st symlink. W8 (ENOENT):
+/// W2 (ENAMETOOLONG): a word of a symlink's text is too long. W3 (ENOTDIR): a word, or a trailing slash, follows what
+/// is no directory. W4 (EACCES): no search permission. W6 (ENOENT): a missing name. W7 (ELOOP): the 41st symlink. W8
+/// (ENOENT):
 /// `..` of a directory that is removed, or not under the root of its mount. W9 (ELOOP): a symlink on a mount with
 /// `MS_NOSYMFOLLOW`.
 pub fn object_walk<L: Look>(world: &L, who: &Task, path: &PathText) -> Result<Location, Deny>
@@ -32,7 +33,8 @@ pub fn object_walk<L: Look>(world: &L, who: &Task, path: &PathText) -> Result<Lo
     Ok(here.location)
 }
 
-/// The directory that a path leads to, a final symlink followed. No search permission is needed on the directory itself.
+/// The directory that a path leads to, a final symlink followed. No search permission is needed on the directory
+/// itself.
 ///
 /// The errors are those of `object_walk`.
 pub fn directory_walk<L: Look>(world: &L, who: &Task, path: &PathText) -> Result<Location, Deny>
@@ -64,7 +66,8 @@ pub fn symlink_walk<L: Look>(world: &L, who: &Task, path: &PathText) -> Result<L
     Ok(last_walked(world, who, here, last)?.location)
 }
 
-/// The source of a mount, or a layer: as `directory_walk`, and the directory is not removed, else W8 (ENOENT): mount(2).
+/// The source of a mount, or a layer: as `directory_walk`, and the directory is not removed, else W8 (ENOENT):
+/// mount(2).
 pub fn source_walk<L: Look>(world: &L, who: &Task, path: &PathText) -> Result<Location, Deny>
     ensures value { location_result result
         ≡ location_end (walk_end (source_walk nat_eq (L.looks world.now) (task_of who.now) path.now)) }
@@ -77,8 +80,8 @@ pub fn source_walk<L: Look>(world: &L, who: &Task, path: &PathText) -> Result<Lo
     }
 }
 
-/// The destination of a mount: as `source_walk`, and then the root of the topmost mount over it, which is not removed either,
-/// else W8 (ENOENT): mount(2).
+/// The destination of a mount: as `source_walk`, and then the root of the topmost mount over it, which is not removed
+/// either, else W8 (ENOENT): mount(2).
 pub fn destination_walk<L: Look>(world: &L, who: &Task, path: &PathText) -> Result<Location, Deny>
     ensures value { location_result result
         ≡ location_end (walk_end (destination_walk nat_eq (L.looks world.now) (task_of who.now) path.now)) }

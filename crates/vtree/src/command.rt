@@ -30,7 +30,7 @@ const NOT_UTF_8: &str =
 
 /// The words that the program was started with, its own name first.
 ///
-/// `Words`: one of them is not UTF-8. `Run` with `Memory`: memory was refused.
+/// `Words`: one of them is not UTF-8. `Run` with `Memory`: an allocation failed.
 pub fn words<R: Env + AllocGlobal>(rt: &R) -> Result<Vec<String>, Fault>
     ensures { IfErr result IsOfWords }
 {
@@ -97,7 +97,7 @@ fn refused(alloc: Global, error: &Error) -> Result<Fault, AllocError>
 /// The name of the script's file, as the words give it.
 ///
 /// `Words`: they are not those of a command. `Help`: they ask for help or the version. `Run` with
-/// `Memory`: memory was refused.
+/// `Memory`: an allocation failed.
 pub(crate) fn script_named<'a>(alloc: Global, words: &'a [String]) -> Result<&'a str, Fault>
     ensures { IfErr result IsOfWords }
 {

@@ -1,5 +1,5 @@
--- What a change of an overlay does to its tree and to its upper layer, clause by clause: the kernel's overlayfs document,
--- "upper and lower" (copy_up) and "whiteouts and opaque directories".
+-- What a change of an overlay does to its tree and to its upper layer, clause by clause: the kernel's overlayfs
+-- document, "upper and lower" (copy_up) and "whiteouts and opaque directories".
 use Rattle.std.specs.Prelude.{List, None, Option, Some, [], false, is_some, nat_eq, true, ℕ, ⊤, ◌++◌, ◌||◌, ◌≡◌, ◌≢◌, ◌⊎◌}
 use Rattle.vt_spec.specs.Language.Changes.{Change, changed, node_with_attr, node_with_mark}
 use Rattle.vt_spec.specs.Language.Changes.Change.{AddName, CopyUp, Make, Move, Remove, SetAttr, SetBytes, SetMark}
@@ -19,17 +19,20 @@ use Rattle.vt_layer_laws.specs.Layers.Upper.{IsThere, SpeaksOfWhatIsThere}
 abbrev pub StandsInUpper : Merge ℕ → ℕ → Type 0
 StandsInUpper merge number = is_some (upper_object (merge.real number)) ≡ true
 
--- What holds of an overlay with an upper layer, and of the new numbers that a change is handed: its tree is a tree; its root
--- stands in the upper layer, and so does each directory that has an entry for what stands there; what lies only below has one
--- name; two inodes have two upper objects, and one with a name has one of its own kind; and no upper object has a new number.
+-- What holds of an overlay with an upper layer, and of the new numbers that a change is handed: its tree is a tree; its
+-- root stands in the upper layer, and so does each directory that has an entry for what stands there; what lies only
+-- below has one name; two inodes have two upper objects, and one with a name has one of its own kind; and no upper
+-- object has a new number.
 pub record IsFitToChange (fresh : Fresh ℕ) (merge : Merge ℕ) : Type 0 where
   pub tree : IsTree merge.files.tree
   pub numbers : ListsNumbers nat_eq merge.files
   pub root : StandsInUpper merge merge.files.tree.root
   pub above : (directory : ℕ) (name : List ℕ) (object : ℕ)
-      → entry_at merge.files.tree directory name ≡ Some object → StandsInUpper merge object → StandsInUpper merge directory
+      → entry_at merge.files.tree directory name ≡ Some object → StandsInUpper merge object
+      → StandsInUpper merge directory
   pub one_name : (directory other : ℕ) (name other_name : List ℕ) (object : ℕ)
-      → entry_at merge.files.tree directory name ≡ Some object → entry_at merge.files.tree other other_name ≡ Some object
+      → entry_at merge.files.tree directory name ≡ Some object
+      → entry_at merge.files.tree other other_name ≡ Some object
       → is_some (upper_object (merge.real object)) ≡ false → directory ≡ other
   pub one_to_one : (a b object : ℕ)
       → upper_object (merge.real a) ≡ Some object → upper_object (merge.real b) ≡ Some object → a ≡ b
@@ -39,8 +42,8 @@ pub record IsFitToChange (fresh : Fresh ℕ) (merge : Merge ℕ) : Type 0 where
   pub unused : (k number : ℕ) → upper_object (merge.real number) ≢ Some (fresh k)
   pub distinct : (j k : ℕ) → fresh j ≡ fresh k → j ≡ k
 
--- what a change asks to be copied: an object that is opened for writing, changed, linked or renamed, and the directories in
--- which something is made, removed or renamed, each behind the directories above it
+-- what a change asks to be copied: an object that is opened for writing, changed, linked or renamed, and the
+-- directories in which something is made, removed or renamed, each behind the directories above it
 abbrev pub asked_copies : FileTree ℕ → Change ℕ → List ℕ
 asked_copies files (Make directory name number node) = line_to nat_eq files directory
 asked_copies files (AddName directory name object) = line_to nat_eq files object ++ line_to nat_eq files directory
@@ -54,9 +57,11 @@ asked_copies files (CopyUp object) = line_to nat_eq files object
 -- the overlay when these are copied, and nothing is changed yet
 abbrev pub copied_for : Fresh ℕ → Merge ℕ → Change ℕ → Merge ℕ
 copied_for fresh merge (Make directory name number node) = copied_up nat_eq (evens fresh) merge directory
-copied_for fresh merge (AddName directory name object) = copied_up nat_eq (odds fresh) (copied_up nat_eq (evens fresh) merge object) directory
+copied_for fresh merge (AddName directory name object) =
+    copied_up nat_eq (odds fresh) (copied_up nat_eq (evens fresh) merge object) directory
 copied_for fresh merge (Remove directory name object) = copied_up nat_eq (evens fresh) merge directory
-copied_for fresh merge (Move from old to new object) = copied_up nat_eq (evens (odds fresh)) (copied_up nat_eq (evens fresh) merge object) to
+copied_for fresh merge (Move from old to new object) =
+    copied_up nat_eq (evens (odds fresh)) (copied_up nat_eq (evens fresh) merge object) to
 copied_for fresh merge (SetBytes file bytes) = copied_up nat_eq fresh merge file
 copied_for fresh merge (SetAttr object attr) = copied_up nat_eq fresh merge object
 copied_for fresh merge (SetMark directory opaque) = copied_up nat_eq fresh merge directory
@@ -74,7 +79,8 @@ pub record IsCopyOf (seen copy : Option (Node ℕ)) : Type 0 where
 abbrev pub StandsNow : Merge ℕ → Merge ℕ → ℕ → Type 0
 StandsNow before copied number =
     (object : ℕ) × (upper_object (copied.real number) ≡ Some object)
-    × ((upper_object (before.real number) ≡ Some object) ⊎ IsCopyOf (before.files.tree.node number) (copied.upper.tree.node object))
+    × ((upper_object (before.real number) ≡ Some object)
+    ⊎ IsCopyOf (before.files.tree.node number) (copied.upper.tree.node object))
 
 -- a new object is as it was asked for; its parent is the upper layer's, and of its mark more is said below
 pub record IsMadeAs (node : Node ℕ) (made : Option (Node ℕ)) : Type 0 where
@@ -88,15 +94,18 @@ pub record IsMadeAs (node : Node ℕ) (made : Option (Node ℕ)) : Type 0 where
 abbrev pub IsReachedDirectory : FileTree ℕ → ℕ → Type 0
 IsReachedDirectory files directory = IsReached files.tree directory × IsDirectory files.tree directory
 
--- What a change asks for stands in the upper layer after it: a new object under its name, an object under a new name, in the
--- object of the directory; and the object has the bytes, owner and mode, or mark. What is left of a removed name is said below.
+-- What a change asks for stands in the upper layer after it: a new object under its name, an object under a new name,
+-- in the object of the directory; and the object has the bytes, owner and mode, or mark. What is left of a removed name
+-- is said below.
 abbrev pub ReachesUpper : Merge ℕ → Merge ℕ → Change ℕ → Type 0
 ReachesUpper copied later (Make directory name number node) =
     IsReachedDirectory copied.files directory
     → (object : ℕ) × (upper_object (later.real number) ≡ Some object)
-    × (entry_at later.upper.tree (upper_of copied directory) name ≡ Some object) × IsMadeAs node (later.upper.tree.node object)
+    × (entry_at later.upper.tree (upper_of copied directory) name ≡ Some object)
+    × IsMadeAs node (later.upper.tree.node object)
 ReachesUpper copied later (AddName directory name object) =
-    IsReachedDirectory copied.files directory → entry_at later.upper.tree (upper_of copied directory) name ≡ Some (upper_of copied object)
+    IsReachedDirectory copied.files directory
+    → entry_at later.upper.tree (upper_of copied directory) name ≡ Some (upper_of copied object)
 ReachesUpper copied later (Remove directory name object) = ⊤
 ReachesUpper copied later (Move from old to new object) =
     IsReachedDirectory copied.files to → entry_at copied.files.tree to new ≢ Some object
@@ -104,9 +113,11 @@ ReachesUpper copied later (Move from old to new object) =
 ReachesUpper copied later (SetBytes file bytes) =
     later.upper.tree.node (upper_of copied file) ≡ node_with_bytes bytes (copied.upper.tree.node (upper_of copied file))
 ReachesUpper copied later (SetAttr object attr) =
-    later.upper.tree.node (upper_of copied object) ≡ node_with_attr attr (copied.upper.tree.node (upper_of copied object))
+    later.upper.tree.node (upper_of copied object)
+    ≡ node_with_attr attr (copied.upper.tree.node (upper_of copied object))
 ReachesUpper copied later (SetMark directory opaque) =
-    later.upper.tree.node (upper_of copied directory) ≡ node_with_mark opaque (copied.upper.tree.node (upper_of copied directory))
+    later.upper.tree.node (upper_of copied directory)
+    ≡ node_with_mark opaque (copied.upper.tree.node (upper_of copied directory))
 ReachesUpper copied later (CopyUp object) = ⊤
 
 -- where a name was, a whiteout stands if lower layers show something there, else nothing
@@ -130,14 +141,16 @@ NamesLeft stack copied later change = ⊤
 -- the directory that a change removes, or that another takes the place of, which shows no names
 abbrev pub RemovedIsEmpty : Merge ℕ → Merge ℕ → Change ℕ → Type 0
 RemovedIsEmpty copied later (Remove directory name object) =
-    (replaced : ℕ) → upper_directory_named copied directory name ≡ Some replaced → entries_in (later.upper.tree.node replaced) ≡ []
+    (replaced : ℕ) → upper_directory_named copied directory name ≡ Some replaced
+    → entries_in (later.upper.tree.node replaced) ≡ []
 RemovedIsEmpty copied later (Move from old to new object) =
-    (replaced number : ℕ) → entry_at copied.files.tree to new ≡ Some number → entries_in (copied.files.tree.node number) ≡ []
+    (replaced number : ℕ) → entry_at copied.files.tree to new ≡ Some number
+    → entries_in (copied.files.tree.node number) ≡ []
     → upper_directory_named copied to new ≡ Some replaced → entries_in (later.upper.tree.node replaced) ≡ []
 RemovedIsEmpty copied later change = ⊤
 
--- A new directory is opaque if lower layers show a directory there, else it has no mark. A moved one is opaque if lower layers
--- show a directory at its new place, else it keeps what it had.
+-- A new directory is opaque if lower layers show a directory there, else it has no mark. A moved one is opaque if lower
+-- layers show a directory at its new place, else it keeps what it had.
 abbrev pub MarksAreRight : Stack ℕ → Merge ℕ → Merge ℕ → Change ℕ → Type 0
 MarksAreRight stack copied later (Make directory name number node) =
     (parent : ℕ) → node.content ≡ new_directory parent
@@ -149,12 +162,14 @@ MarksAreRight stack copied later (Move from old to new object) =
 MarksAreRight stack copied later change = ⊤
 
 -- A change of an overlay.
-pub record ChangesUpper (fresh : Fresh ℕ) (stack : Stack ℕ) (before : Merge ℕ) (change : Change ℕ) (later : Merge ℕ) : Type 0 where
+pub record ChangesUpper (fresh : Fresh ℕ) (stack : Stack ℕ) (before : Merge ℕ) (change : Change ℕ)
+    (later : Merge ℕ) : Type 0 where
   -- its tree changes as any tree does
   pub tree : later.files ≡ changed nat_eq before.files change
   -- what is asked stands in the upper layer, missing parents too, with the shown owner, mode and content, and no mark
   pub stands : (number : ℕ)
-      → is_among nat_eq number (asked_copies before.files change) ≡ true → IsThere before.files number → StandsNow before (copied_for fresh before change) number
+      → is_among nat_eq number (asked_copies before.files change) ≡ true → IsThere before.files number
+      → StandsNow before (copied_for fresh before change) number
   -- and so does, after the change, what it makes of it
   pub reaches : ReachesUpper (copied_for fresh before change) later change
   -- where a name was removed or left stands a whiteout if something is shown below, else nothing
@@ -174,7 +189,8 @@ OverlayChanges =
     → IsFitToChange fresh before → SpeaksOfWhatIsThere before.files change
     → ChangesUpper fresh stack before change (merge_changed nat_eq fresh stack before change)
 
--- Each overlay of a world with an upper layer is fit to change, by new numbers that no inode of the upper layer's filesystem has.
+-- Each overlay of a world with an upper layer is fit to change, by new numbers that no inode of the upper layer's
+-- filesystem has.
 abbrev pub OverlaysAreFit : Type 0
 OverlaysAreFit =
     (fresh : Fresh ℕ) (world : World ℕ) (number : ℕ) (overlay : Overlay ℕ) (upper : Layer ℕ)
@@ -183,8 +199,8 @@ OverlaysAreFit =
     → ((j k : ℕ) → fresh j ≡ fresh k → j ≡ k) → ((k : ℕ) → inode_in world upper.filesystem (fresh k) ≡ None)
     → IsFitToChange fresh (merge_of nat_eq world (filesystem_numbered nat_eq world number) overlay upper)
 
--- An object that lay only below is copied as an inode with no names in it, which stands under the name that the object has, or
--- under none.
+-- An object that lay only below is copied as an inode with no names in it, which stands under the name that the object
+-- has, or under none.
 abbrev pub CopiesHaveTheirName : Type 0
 CopiesHaveTheirName =
     (fresh : Fresh ℕ) (before : Merge ℕ) (object : ℕ)
@@ -193,4 +209,5 @@ CopiesHaveTheirName =
     × IsCopyOf (before.files.tree.node object) ((copied_up nat_eq fresh before object).upper.tree.node copy)
     × (entries_in ((copied_up nat_eq fresh before object).upper.tree.node copy) ≡ [])
     × ((name : ℕ × List ℕ) → a_name nat_eq before.files object ≡ Some name
-    → entry_at (copied_up nat_eq fresh before object).upper.tree (upper_of (copied_up nat_eq fresh before object) name.0) name.1 ≡ Some copy)
+    → entry_at (copied_up nat_eq fresh before object).upper.tree
+    (upper_of (copied_up nat_eq fresh before object) name.0) name.1 ≡ Some copy)

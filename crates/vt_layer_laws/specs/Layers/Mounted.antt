@@ -1,5 +1,5 @@
--- A newly mounted overlay is what its layers show, so one that is mounted anew over the layers that another left shows the
--- same tree: the kernel's overlayfs document, "upper and lower" and "changes to underlying filesystems".
+-- A newly mounted overlay is what its layers show, so one that is mounted anew over the layers that another left shows
+-- the same tree: the kernel's overlayfs document, "upper and lower" and "changes to underlying filesystems".
 use Rattle.std.specs.Prelude.{List, Option, Some, [], is_some, map, nat_eq, true, ℕ, ⊤, ◌∷◌, ◌≡◌, ◌≢◌}
 use Rattle.std.specs.List.{list_all}
 use Rattle.vt_spec.specs.FileTree.{attr_in, is_opaque_in, kind_in}
@@ -38,8 +38,8 @@ pub record IsAlike (one other : Option (Node ℕ)) : Type 0 where
   pub bytes : bytes_in other ≡ bytes_in one
   pub mark : is_opaque_in other ≡ is_opaque_in one
 
--- Layers are as others if each one's directory leads at every path to what the other's leads to. Numbers of inodes, and what
--- lies elsewhere in their trees, may differ.
+-- Layers are as others if each one's directory leads at every path to what the other's leads to. Numbers of inodes, and
+-- what lies elsewhere in their trees, may differ.
 abbrev pub AreAsOthers : List (OpenLayer ℕ) → List (OpenLayer ℕ) → Type 0
 AreAsOthers [] [] = ⊤
 AreAsOthers [] (other ∷ others) = ⊥
@@ -47,12 +47,13 @@ AreAsOthers (layer ∷ layers) [] = ⊥
 AreAsOthers (layer ∷ layers) (other ∷ others) =
     ((path : List (List ℕ)) → IsAlike (node_at_path layer path) (node_at_path other path)) × AreAsOthers layers others
 
--- An overlay that is mounted anew over layers that are as another overlay left them shows the tree that the other showed,
--- whoever mounts it.
+-- An overlay that is mounted anew over layers that are as another overlay left them shows the tree that the other
+-- showed, whoever mounts it.
 abbrev pub RemountShowsTheSame : Type 0
 RemountShowsTheSame =
     (fresh : Fresh ℕ) (before later : World ℕ) (number : ℕ) (left anew : Overlay ℕ)
     → IsWorld nat_eq before → (filesystem_numbered nat_eq before number).overlay ≡ Some left
     → IsWorld nat_eq later → AreLayers later anew → ((j k : ℕ) → fresh j ≡ fresh k → j ≡ k)
-    → AreAsOthers (map (open_layer nat_eq before) (shown_layers left)) (map (open_layer nat_eq later) (shown_layers anew))
+    → AreAsOthers (map (open_layer nat_eq before) (shown_layers left))
+    (map (open_layer nat_eq later) (shown_layers anew))
     → ShowTheSame (overlay_filesystem nat_eq fresh later anew) (filesystem_numbered nat_eq before number)

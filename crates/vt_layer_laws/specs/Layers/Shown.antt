@@ -1,6 +1,6 @@
--- What the layers of an overlay show at a path, said of whole paths: the kernel's overlayfs document, "upper and lower",
--- "whiteouts and opaque directories" and "multiple lower layers". That a middle layer cuts what is below it is the
--- profile's. Layers are counted from the top, which is layer 0.
+-- What the layers of an overlay show at a path, said of whole paths: the kernel's overlayfs document, "upper and
+-- lower", "whiteouts and opaque directories" and "multiple lower layers". That a middle layer cuts what is below it is
+-- the profile's. Layers are counted from the top, which is layer 0.
 use Rattle.std.specs.Prelude.{Contains, List, None, Some, [], slice_get, true, ℕ, ◌++◌, ◌<◌, ◌≡◌, ◌≢◌, ◌↔◌, ◌∷◌}
 use Rattle.vt_spec.specs.Machine.Layers.{OpenLayer, Shown, at_path, names_shown, node_at_path, shown}
 use Rattle.vt_spec.specs.Tree.{Content, Entries, Node}
@@ -27,8 +27,8 @@ pub data HidesLower : Content ℕ → Type 0 where
 abbrev pub IsFrontOf : List (List ℕ) → List (List ℕ) → Type 0
 IsFrontOf front path = (rest : List (List ℕ)) × (front ++ rest ≡ path) × (front ≢ [])
 
--- A layer is cut at a path if a higher layer has, at a non-empty front of the path or at the path itself, a whiteout, an
--- object that is no directory, or an opaque directory.
+-- A layer is cut at a path if a higher layer has, at a non-empty front of the path or at the path itself, a whiteout,
+-- an object that is no directory, or an opaque directory.
 pub record IsCut (layers : List (OpenLayer ℕ)) (depth : ℕ) (path : List (List ℕ)) : Type 0 where
   pub higher : ℕ
   pub is_higher : higher < depth

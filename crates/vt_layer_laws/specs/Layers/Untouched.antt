@@ -1,5 +1,5 @@
--- What a change of a filesystem leaves as it was, and that lower layers stay: the kernel's overlayfs document, "upper and
--- lower", and "changes to underlying filesystems" (that a layer in use is locked is the profile's).
+-- What a change of a filesystem leaves as it was, and that lower layers stay: the kernel's overlayfs document, "upper
+-- and lower", and "changes to underlying filesystems" (that a layer in use is locked is the profile's).
 use Rattle.std.specs.Prelude.{Bool, List, None, Option, Some, [], false, is_some, nat_eq, true, ℕ, ◌≡◌, ◌≢◌, ◌∷◌}
 use Rattle.vt_spec.specs.Language.Calls.{Call}
 use Rattle.vt_spec.specs.Language.Calls.Call.{Bind, Exit, Lazy, MountOverlay, MountPlain, MoveMount, PivotRoot, Remount, SetType, Setns, Umount, Unshare}
@@ -44,15 +44,17 @@ OtherInodesStay =
     → is_among nat_eq inode (inodes_changed change) ≡ false
     → IsKept (files.tree.node inode) ((changed nat_eq files change).tree.node inode)
 
--- A change through a mount changes the filesystem that is mounted and, if that is an overlay, the filesystem of its upper
--- layer: every other one, and so each lower layer in another one, is as it was.
+-- A change through a mount changes the filesystem that is mounted and, if that is an overlay, the filesystem of its
+-- upper layer: every other one, and so each lower layer in another one, is as it was.
 abbrev pub OtherFilesystemsStay : Type 0
 OtherFilesystemsStay =
     (fresh : Fresh ℕ) (world : World ℕ) (location : Location ℕ) (change : Change ℕ) (number : ℕ)
     → number ≢ (mount_at nat_eq world location).filesystem
     → ((overlay : Overlay ℕ) (upper : Layer ℕ)
-    → (filesystem_at nat_eq world location).overlay ≡ Some overlay → overlay.upper ≡ Some upper → number ≢ upper.filesystem)
-    → filesystem_numbered nat_eq (with_change nat_eq fresh world location change) number ≡ filesystem_numbered nat_eq world number
+    → (filesystem_at nat_eq world location).overlay ≡ Some overlay → overlay.upper ≡ Some upper
+    → number ≢ upper.filesystem)
+    → filesystem_numbered nat_eq (with_change nat_eq fresh world location change) number
+    ≡ filesystem_numbered nat_eq world number
 
 -- mounts, groups, namespaces and tasks are as they were
 abbrev pub ChangeKeepsTheRest : Type 0
@@ -65,7 +67,8 @@ ChangeKeepsTheRest =
 pub record HasNoUpperLayer (world : World ℕ) (filesystem : ℕ) : Type 0 where
   pub plain : (filesystem_numbered nat_eq world filesystem).overlay ≡ None
   pub no_upper : (number : ℕ) (overlay : Overlay ℕ) (upper : Layer ℕ)
-      → (filesystem_numbered nat_eq world number).overlay ≡ Some overlay → overlay.upper ≡ Some upper → filesystem ≢ upper.filesystem
+      → (filesystem_numbered nat_eq world number).overlay ≡ Some overlay → overlay.upper ≡ Some upper
+      → filesystem ≢ upper.filesystem
 
 -- calls on files, descriptors, links, directories, and on what a task has: all that change no mount by their own
 abbrev pub changes_no_mount : Call → Bool
@@ -83,12 +86,13 @@ changes_no_mount (SetType path word recursive) = false
 changes_no_mount (PivotRoot new put) = false
 changes_no_mount call = true
 
--- What lies in a lower layer is locked, and while it is, every such call of every task leaves it as it was: through mounts
--- of its own filesystem, and through overlays, which write elsewhere. (The world is the one before what nothing uses any more
--- is let go.)
+-- What lies in a lower layer is locked, and while it is, every such call of every task leaves it as it was: through
+-- mounts of its own filesystem, and through overlays, which write elsewhere. (The world is the one before what nothing
+-- uses any more is let go.)
 abbrev pub LockedInodesStay : Type 0
 LockedInodesStay =
     (fresh : Fresh ℕ) (world : World ℕ) (task : Task ℕ) (call : Call) (filesystem inode : ℕ)
     → changes_no_mount call ≡ true → HasNoUpperLayer world filesystem
     → is_locked nat_eq world filesystem inode ≡ true → ((k : ℕ) → inode ≢ fresh k)
-    → IsKept (inode_in world filesystem inode) (inode_in (call_outcome nat_eq fresh world task call).world filesystem inode)
+    → IsKept (inode_in world filesystem inode)
+    (inode_in (call_outcome nat_eq fresh world task call).world filesystem inode)

@@ -1,5 +1,5 @@
--- What a change through an overlay leaves as it was in the filesystem of its upper layer: the kernel's overlayfs document,
--- "upper and lower".
+-- What a change through an overlay leaves as it was in the filesystem of its upper layer: the kernel's overlayfs
+-- document, "upper and lower".
 use Rattle.std.specs.Prelude.{Some, is_some, nat_eq, true, ℕ, ◌≡◌, ◌≢◌}
 use Rattle.vt_spec.specs.Language.Changes.{Change}
 use Rattle.vt_spec.specs.Language.Changes.Change.{AddName, CopyUp, Make, Move, Remove, SetAttr, SetBytes, SetMark}
@@ -21,7 +21,8 @@ abbrev pub SpeaksOfWhatIsThere : FileTree ℕ → Change ℕ → Type 0
 SpeaksOfWhatIsThere files (Make directory name number node) = IsThere files directory
 SpeaksOfWhatIsThere files (AddName directory name object) = IsThere files directory × IsThere files object
 SpeaksOfWhatIsThere files (Remove directory name object) = IsThere files directory
-SpeaksOfWhatIsThere files (Move from old to new object) = (entry_at files.tree from old ≡ Some object) × IsThere files to
+SpeaksOfWhatIsThere files (Move from old to new object) = (entry_at files.tree from old ≡ Some object)
+    × IsThere files to
 SpeaksOfWhatIsThere files (SetBytes file bytes) = IsThere files file
 SpeaksOfWhatIsThere files (SetAttr object attr) = IsThere files object
 SpeaksOfWhatIsThere files (SetMark directory opaque) = IsThere files directory
@@ -31,11 +32,12 @@ SpeaksOfWhatIsThere files (CopyUp object) = IsThere files object
 abbrev pub IsUpperObject : Overlay ℕ → ℕ → Type 0
 IsUpperObject overlay object = (number : ℕ) × (overlay.real number ≡ Some (Upper object))
 
--- A change through an overlay writes to new inodes and to the overlay's own objects in the upper layer: every other inode of
--- that filesystem, and so a lower layer in it, is as it was.
+-- A change through an overlay writes to new inodes and to the overlay's own objects in the upper layer: every other
+-- inode of that filesystem, and so a lower layer in it, is as it was.
 abbrev pub UpperFilesystemKeepsTheRest : Type 0
 UpperFilesystemKeepsTheRest =
-    (fresh : Fresh ℕ) (world : World ℕ) (location : Location ℕ) (change : Change ℕ) (overlay : Overlay ℕ) (upper : Layer ℕ) (inode : ℕ)
+    (fresh : Fresh ℕ) (world : World ℕ) (location : Location ℕ) (change : Change ℕ) (overlay : Overlay ℕ)
+    (upper : Layer ℕ) (inode : ℕ)
     → IsWorld nat_eq world
     → (filesystem_at nat_eq world location).overlay ≡ Some overlay → overlay.upper ≡ Some upper
     → SpeaksOfWhatIsThere (files_at nat_eq world location) change

@@ -82,7 +82,8 @@ fn creation_words(mut words: Words<'_>) -> Option<Creation>
 
 /// The words of `open PATH ACCESS`, with what is done where the name is missing.
 fn open_words(mut words: Words<'_>) -> Option<(&[u8], Access, Creation)>
-    ensures { option_map (λ w. OpenFile w.0.now (access_of w.1) (creation_of w.2)) result ≡ call_worded CallName.Open words.entry }
+    ensures { option_map (λ w. OpenFile w.0.now (access_of w.1) (creation_of w.2)) result
+        ≡ call_worded CallName.Open words.entry }
 {
     let path = path_word(words.next()?)?;
     let access = access_word(words.next()?)?;

@@ -40,7 +40,8 @@ fn remount_words(mut words: Words<'_>) -> Option<(&[u8], MountFlags)>
 
 /// The words of `type PATH private` and `type PATH unbindable`. The product has no peer groups.
 fn type_words(mut words: Words<'_>) -> Option<(&[u8], TypeWord)>
-    ensures { option_map (λ w. SetType w.0.now (type_word_of w.1) false) result ≡ call_named CallName.SetType words.entry }
+    ensures { option_map (λ w. SetType w.0.now (type_word_of w.1) false) result
+        ≡ call_named CallName.SetType words.entry }
 {
     let path = path_word(words.next()?)?;
     let word = type_word(words.next()?)?;

@@ -45,7 +45,8 @@ fn fork_words(mut words: Words<'_>) -> Option<Option<Child>>
 /// The word of `setns TASK`, which names a task.
 fn setns_word(mut words: Words<'_>) -> Option<&[u8]>
     ensures task { IfSome result (λ task. is_some (task_word task.now) ≡ true) }
-    ensures call { then_some result (λ task. option_map Setns (task_word task.now)) ≡ call_worded CallName.Setns words.entry }
+    ensures call { then_some result (λ task. option_map Setns (task_word task.now))
+        ≡ call_worded CallName.Setns words.entry }
 {
     let task = words.next()?;
     words.end()?;

@@ -1,5 +1,5 @@
--- A bind, a new mount and a move leave the mounts that were there: the kernel's document sharedsubtree, "Bind semantics" and
--- "Move semantics". A mount that stands at the place of a receiver goes onto the copy there (profile).
+-- A bind, a new mount and a move leave the mounts that were there: the kernel's document sharedsubtree, "Bind
+-- semantics" and "Move semantics". A mount that stands at the place of a receiver goes onto the copy there (profile).
 use Rattle.std.specs.Prelude.{Bool, List, false, filter, map, true, ℕ, nat_eq, ◌++◌, ◌≡◌}
 use Rattle.std.specs.List.{list_any}
 use Rattle.vt_spec.specs.Machine.Attach.{attach, receivers_of, takes_part}
@@ -41,14 +41,16 @@ pub record KeepsWhatItShows (before later : Mount ℕ) : Type 0 where
 abbrev pub NewMountsFollow : Type 0
 NewMountsFollow =
     (world : World ℕ) (fresh : Fresh ℕ) (place : Location ℕ) (moves : Bool) (mounts : List (Mount ℕ))
-    → (new : List ℕ) × (numbers_of (attach nat_eq world fresh place moves mounts).mounts ≡ numbers_of world.mounts ++ new)
+    → (new : List ℕ) × (numbers_of (attach nat_eq world fresh place moves mounts).mounts ≡ numbers_of world.mounts
+    ++ new)
 
 -- A bind or a new mount leaves each mount that was there all but its place,
 abbrev pub AttachKeepsMounts : Type 0
 AttachKeepsMounts =
     (world : World ℕ) (fresh : Fresh ℕ) (place : Location ℕ) (mounts : List (Mount ℕ)) (number : ℕ)
     → is_mount world number ≡ true
-    → KeepsAllButPlace (mount_numbered nat_eq world number) (mount_numbered nat_eq (attach nat_eq world fresh place false mounts) number)
+    → KeepsAllButPlace (mount_numbered nat_eq world number)
+    (mount_numbered nat_eq (attach nat_eq world fresh place false mounts) number)
 
 -- and, unless it stands at the place of a receiver, just the record that it had.
 abbrev pub AttachLeavesMounts : Type 0
@@ -62,7 +64,8 @@ abbrev pub MoveKeepsMounts : Type 0
 MoveKeepsMounts =
     (world : World ℕ) (fresh : Fresh ℕ) (place : Location ℕ) (mounts : List (Mount ℕ)) (number : ℕ)
     → is_mount world number ≡ true → is_among nat_eq number (numbers_of mounts) ≡ false
-    → KeepsAllButPlace (mount_numbered nat_eq world number) (mount_numbered nat_eq (attach nat_eq world fresh place true mounts) number)
+    → KeepsAllButPlace (mount_numbered nat_eq world number)
+    (mount_numbered nat_eq (attach nat_eq world fresh place true mounts) number)
 
 abbrev pub MoveLeavesMounts : Type 0
 MoveLeavesMounts =
@@ -80,4 +83,5 @@ abbrev pub MovedMountsShow : Type 0
 MovedMountsShow =
     (world : World ℕ) (fresh : Fresh ℕ) (source place : Location ℕ) (number : ℕ)
     → OneNumberAMount world.mounts → is_mount world number ≡ true
-    → KeepsWhatItShows (mount_numbered nat_eq world number) (mount_numbered nat_eq (moved_to nat_eq fresh world source place) number)
+    → KeepsWhatItShows (mount_numbered nat_eq world number)
+    (mount_numbered nat_eq (moved_to nat_eq fresh world source place) number)

@@ -46,11 +46,13 @@ KeptByUnmount Condition = (world : World ℕ) (one : ℕ) → Condition world �
 
 -- a lazy unmount: umount(2) with MNT_DETACH
 abbrev pub KeptByLazyUnmount : (World ℕ → Type 0) → Type 0
-KeptByLazyUnmount Condition = (world : World ℕ) (one : ℕ) → Condition world → Condition (lazily_unmounted nat_eq world one)
+KeptByLazyUnmount Condition = (world : World ℕ) (one : ℕ) → Condition world
+    → Condition (lazily_unmounted nat_eq world one)
 
 -- the end of any mounts: of those of an unmount, of those on a removed directory, of those of a namespace that ends
 abbrev pub KeptByTakingAway : (World ℕ → Type 0) → Type 0
-KeptByTakingAway Condition = (world : World ℕ) (gone : List ℕ) → Condition world → Condition (taken_away nat_eq world gone)
+KeptByTakingAway Condition = (world : World ℕ) (gone : List ℕ) → Condition world
+    → Condition (taken_away nat_eq world gone)
 
 -- a namespace's end
 abbrev pub KeptByEndedNamespaces : (World ℕ → Type 0) → Type 0
@@ -68,7 +70,8 @@ KeptByType Condition =
 
 -- a change of flags
 abbrev pub KeptByFlags : (World ℕ → Type 0) → Type 0
-KeptByFlags Condition = (world : World ℕ) (here : Location ℕ) (flags : MountFlags) → Condition world → Condition (with_flags nat_eq world here flags)
+KeptByFlags Condition = (world : World ℕ) (here : Location ℕ) (flags : MountFlags) → Condition world
+    → Condition (with_flags nat_eq world here flags)
 
 -- a pivot of the root: pivot_root(2)
 abbrev pub KeptByPivot : (World ℕ → Type 0) → Type 0
@@ -78,7 +81,8 @@ KeptByPivot Condition =
 
 -- a copy of a namespace: unshare(2)
 abbrev pub KeptByUnshare : (World ℕ → Type 0) → Type 0
-KeptByUnshare Condition = (world : World ℕ) (fresh : Fresh ℕ) (task : Task ℕ) → Condition world → Condition (unshared nat_eq world fresh task)
+KeptByUnshare Condition = (world : World ℕ) (fresh : Fresh ℕ) (task : Task ℕ) → Condition world
+    → Condition (unshared nat_eq world fresh task)
 
 -- the end of what nothing uses
 abbrev pub KeptBySettling : (World ℕ → Type 0) → Type 0
@@ -109,22 +113,26 @@ UnshareKeepsNumbers =
 
 -- Places
 
--- An unmount of a mount on which no other stands leaves at most one mount at a place: what covered a mount that goes takes a
--- place that is free.
+-- An unmount of a mount on which no other stands leaves at most one mount at a place: what covered a mount that goes
+-- takes a place that is free.
 abbrev pub UnmountLeavesOneMountAPlace : Type 0
 UnmountLeavesOneMountAPlace =
-    (world : World ℕ) (one : ℕ) → AreApart world → has_child nat_eq world one ≡ false → AreApart (unmounted nat_eq world one)
+    (world : World ℕ) (one : ℕ) → AreApart world → has_child nat_eq world one ≡ false
+    → AreApart (unmounted nat_eq world one)
 
 -- So does the end of whole trees of mounts, as of those on a removed directory: mount_namespaces(7).
 abbrev pub TreesLeaveOneMountAPlace : Type 0
 TreesLeaveOneMountAPlace =
-    (world : World ℕ) (mounts : List (Mount ℕ)) → PlacesEnd world → AreApart world → AreApart (trees_taken_away nat_eq world mounts)
+    (world : World ℕ) (mounts : List (Mount ℕ)) → PlacesEnd world → AreApart world
+    → AreApart (trees_taken_away nat_eq world mounts)
 
 -- And so does the end of namespaces: mount_namespaces(7).
 abbrev pub EndedNamespacesLeaveOneMountAPlace : Type 0
-EndedNamespacesLeaveOneMountAPlace = (world : World ℕ) → PlacesEnd world → AreApart world → AreApart (namespaces_ended nat_eq world)
+EndedNamespacesLeaveOneMountAPlace = (world : World ℕ) → PlacesEnd world → AreApart world
+    → AreApart (namespaces_ended nat_eq world)
 
--- Where each mount has a number of its own, the places below places come to an end in one namespace also after a change of type,
+-- Where each mount has a number of its own, the places below places come to an end in one namespace also after a change
+-- of type,
 abbrev pub TypeKeepsPlacesEnding : Type 0
 TypeKeepsPlacesEnding =
     (world : World ℕ) (fresh : Fresh ℕ) (one : ℕ) (word : TypeWord) (recursive : Bool)
@@ -138,14 +146,16 @@ FlagsKeepPlacesEnding =
 
 -- and the inheritance of groups.
 abbrev pub InheritanceKeepsPlacesEnding : Type 0
-InheritanceKeepsPlacesEnding = (world : World ℕ) → OneNumberEach world → PlacesEnd world → PlacesEnd (regrouped nat_eq world)
+InheritanceKeepsPlacesEnding = (world : World ℕ) → OneNumberEach world → PlacesEnd world
+    → PlacesEnd (regrouped nat_eq world)
 
 -- Groups
 
 -- Groups live on through a change of type whose new groups are not in use.
 abbrev pub TypeKeepsGroups : Type 0
 TypeKeepsGroups =
-    (world : World ℕ) (fresh : Fresh ℕ) (one : ℕ) (word : TypeWord) (recursive : Bool) → Serves nat_eq world fresh → GroupsLive world
+    (world : World ℕ) (fresh : Fresh ℕ) (one : ℕ) (word : TypeWord) (recursive : Bool) → Serves nat_eq world fresh
+    → GroupsLive world
     → GroupsLive (with_type nat_eq fresh world one word recursive)
 
 -- and through a change of flags.

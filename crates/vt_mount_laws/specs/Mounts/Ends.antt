@@ -1,5 +1,5 @@
--- Mounts that end with something else, without propagation: those on a removed directory with all below them, and those of a
--- namespace that ends: mount_namespaces(7). And lazy unmounts: umount(2) with MNT_DETACH.
+-- Mounts that end with something else, without propagation: those on a removed directory with all below them, and those
+-- of a namespace that ends: mount_namespaces(7). And lazy unmounts: umount(2) with MNT_DETACH.
 use Rattle.std.specs.Prelude.{List, Some, false, true, ℕ, nat_eq, ◌≡◌, ◌⊎◌}
 use Rattle.vt_spec.specs.Machine.Detach.{has_child, is_going, lazily_unmounted, taken_away}
 use Rattle.vt_spec.specs.Machine.Mounts.{Location, detached}
@@ -17,7 +17,8 @@ TakenAreDetached =
 abbrev pub OthersAreKept : Type 0
 OthersAreKept =
     (world : World ℕ) (gone : List ℕ) (number : ℕ) → is_going nat_eq gone number ≡ false
-    → KeepsAllButPlaceAndType (mount_numbered nat_eq world number) (mount_numbered nat_eq (taken_away nat_eq world gone) number)
+    → KeepsAllButPlaceAndType (mount_numbered nat_eq world number)
+    (mount_numbered nat_eq (taken_away nat_eq world gone) number)
 
 -- its place, where that is on a mount that stays,
 abbrev pub OthersKeepTheirPlaces : Type 0
@@ -31,14 +32,16 @@ abbrev pub OthersKeepTheirTypes : Type 0
 OthersKeepTheirTypes =
     (world : World ℕ) (gone : List ℕ) (number : ℕ) → is_going nat_eq gone number ≡ false
     → has_its_master (taken_away nat_eq world gone) (mount_numbered nat_eq world number).propagation ≡ true
-    → (mount_numbered nat_eq (taken_away nat_eq world gone) number).propagation ≡ (mount_numbered nat_eq world number).propagation
+    → (mount_numbered nat_eq (taken_away nat_eq world gone) number).propagation
+    ≡ (mount_numbered nat_eq world number).propagation
 
 -- A lazy unmount detaches a mount, or leaves it all but its place and its type.
 abbrev pub LazyDetachesOrKeeps : Type 0
 LazyDetachesOrKeeps =
     (world : World ℕ) (one number : ℕ)
     → (mount_numbered nat_eq (lazily_unmounted nat_eq world one) number ≡ detached (mount_numbered nat_eq world number))
-    ⊎ KeepsAllButPlaceAndType (mount_numbered nat_eq world number) (mount_numbered nat_eq (lazily_unmounted nat_eq world one) number)
+    ⊎ KeepsAllButPlaceAndType (mount_numbered nat_eq world number)
+    (mount_numbered nat_eq (lazily_unmounted nat_eq world one) number)
 
 -- Files, namespaces and tasks are as they were.
 abbrev pub LazyIsOfMounts : Type 0
@@ -47,5 +50,6 @@ LazyIsOfMounts = (world : World ℕ) (one : ℕ) → KeepsAllButMounts world (la
 -- A mount that stands at a place, and on which no other stands, goes itself when it is unmounted.
 abbrev pub TheMountItselfGoes : Type 0
 TheMountItselfGoes =
-    (world : World ℕ) (one : ℕ) (place : Location ℕ) → OneMountAPlace world.mounts → (mount_numbered nat_eq world one).mount_point ≡ Some place
+    (world : World ℕ) (one : ℕ) (place : Location ℕ) → OneMountAPlace world.mounts
+    → (mount_numbered nat_eq world one).mount_point ≡ Some place
     → has_child nat_eq world one ≡ false → goes_with world one one ≡ true

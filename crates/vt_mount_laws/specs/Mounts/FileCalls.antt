@@ -8,8 +8,8 @@ use Rattle.vt_spec.specs.Machine.Policy.{policy}
 use Rattle.vt_spec.specs.Machine.Settled.{mount_lives}
 use Rattle.vt_spec.specs.Machine.World.{World}
 
--- A call that is no mount call, removes no directory and leaves no namespace. A directory that is removed or replaced may
--- be a mount point in another namespace, and a namespace may end with the task that leaves it: mount_namespaces(7).
+-- A call that is no mount call, removes no directory and leaves no namespace. A directory that is removed or replaced
+-- may be a mount point in another namespace, and a namespace may end with the task that leaves it: mount_namespaces(7).
 abbrev pub is_of_no_mount : Call → Bool
 is_of_no_mount (Rmdir path) = false
 is_of_no_mount (Rename old new) = false
@@ -36,4 +36,5 @@ HasLiving world mounts = world.mounts ≡ filter (mount_lives nat_eq world) moun
 abbrev pub FileCallsLeaveMounts : Type 0
 FileCallsLeaveMounts =
     (fresh : Fresh ℕ) (world : World ℕ) (name : TaskName) (call : Call) → is_of_no_mount call ≡ true
-    → ((policy nat_eq fresh world name call).world.mounts ≡ world.mounts) ⊎ HasLiving (policy nat_eq fresh world name call).world world.mounts
+    → ((policy nat_eq fresh world name call).world.mounts ≡ world.mounts)
+    ⊎ HasLiving (policy nat_eq fresh world name call).world world.mounts

@@ -1,4 +1,5 @@
--- What a granted call makes of the mounts: umount(2), mount(2), pivot_root(2), rmdir(2), rename(2), _exit(2), unshare(2), setns(2).
+-- What a granted call makes of the mounts: umount(2), mount(2), pivot_root(2), rmdir(2), rename(2), _exit(2),
+-- unshare(2), setns(2).
 use Rattle.std.specs.Prelude.{Bool, List, Ok, Some, ℕ, nat_eq, ◌≡◌}
 use Rattle.vt_spec.specs.Language.Calls.{Call, MountFlags, OverlayWords, TaskName, TypeWord}
 use Rattle.vt_spec.specs.Language.Calls.Call.{Bind, Exit, Lazy, MountOverlay, MountPlain, MoveMount, PivotRoot, Remount, Rmdir, SetType, Setns, Unshare, Rename}
@@ -23,27 +24,35 @@ Leaves fresh world name task call left =
 
 abbrev pub BindBinds : Type 0
 BindBinds =
-    (fresh : Fresh ℕ) (world : World ℕ) (name : TaskName) (task : Task ℕ) (source path : List ℕ) (recursive : Bool) (from here : Here ℕ)
-    → walk_end (source_walk nat_eq world task source) ≡ Ok from → walk_end (destination_walk nat_eq world task path) ≡ Ok here
-    → Leaves fresh world name task (Bind source path recursive) (bound_at nat_eq fresh world from.location here.location recursive)
+    (fresh : Fresh ℕ) (world : World ℕ) (name : TaskName) (task : Task ℕ) (source path : List ℕ) (recursive : Bool)
+    (from here : Here ℕ)
+    → walk_end (source_walk nat_eq world task source) ≡ Ok from
+    → walk_end (destination_walk nat_eq world task path) ≡ Ok here
+    → Leaves fresh world name task (Bind source path recursive)
+    (bound_at nat_eq fresh world from.location here.location recursive)
 
 abbrev pub MoveMoves : Type 0
 MoveMoves =
     (fresh : Fresh ℕ) (world : World ℕ) (name : TaskName) (task : Task ℕ) (source path : List ℕ) (from here : Here ℕ)
-    → walk_end (source_walk nat_eq world task source) ≡ Ok from → walk_end (destination_walk nat_eq world task path) ≡ Ok here
+    → walk_end (source_walk nat_eq world task source) ≡ Ok from
+    → walk_end (destination_walk nat_eq world task path) ≡ Ok here
     → Leaves fresh world name task (MoveMount source path) (moved_to nat_eq fresh world from.location here.location)
 
 abbrev pub MountMounts : Type 0
 MountMounts =
-    (fresh : Fresh ℕ) (world : World ℕ) (name : TaskName) (task : Task ℕ) (path : List ℕ) (flags : MountFlags) (here : Here ℕ)
+    (fresh : Fresh ℕ) (world : World ℕ) (name : TaskName) (task : Task ℕ) (path : List ℕ) (flags : MountFlags)
+    (here : Here ℕ)
     → walk_end (destination_walk nat_eq world task path) ≡ Ok here
-    → Leaves fresh world name task (MountPlain path flags) (mounted nat_eq (odds fresh) world here.location (plain_filesystem nat_eq fresh) flags)
+    → Leaves fresh world name task (MountPlain path flags)
+    (mounted nat_eq (odds fresh) world here.location (plain_filesystem nat_eq fresh) flags)
 
 abbrev pub OverlayMounts : Type 0
 OverlayMounts =
-    (fresh : Fresh ℕ) (world : World ℕ) (name : TaskName) (task : Task ℕ) (path : List ℕ) (words : OverlayWords) (flags : MountFlags) (here : Here ℕ) (places : LayerPlaces ℕ)
+    (fresh : Fresh ℕ) (world : World ℕ) (name : TaskName) (task : Task ℕ) (path : List ℕ) (words : OverlayWords)
+    (flags : MountFlags) (here : Here ℕ) (places : LayerPlaces ℕ)
     → walk_end (destination_walk nat_eq world task path) ≡ Ok here → layers_walked nat_eq world task words ≡ Ok places
-    → Leaves fresh world name task (MountOverlay path (Some words) flags) (overlay_mounted nat_eq fresh world task here.location places flags)
+    → Leaves fresh world name task (MountOverlay path (Some words) flags)
+    (overlay_mounted nat_eq fresh world task here.location places flags)
 
 abbrev pub LazyUnmounts : Type 0
 LazyUnmounts =
@@ -53,22 +62,27 @@ LazyUnmounts =
 
 abbrev pub RemountSetsFlags : Type 0
 RemountSetsFlags =
-    (fresh : Fresh ℕ) (world : World ℕ) (name : TaskName) (task : Task ℕ) (path : List ℕ) (flags : MountFlags) (here : Here ℕ)
+    (fresh : Fresh ℕ) (world : World ℕ) (name : TaskName) (task : Task ℕ) (path : List ℕ) (flags : MountFlags)
+    (here : Here ℕ)
     → walk_end (directory_walk nat_eq world task path) ≡ Ok here
     → Leaves fresh world name task (Remount path flags) (with_flags nat_eq world here.location flags)
 
 abbrev pub TypeIsSet : Type 0
 TypeIsSet =
-    (fresh : Fresh ℕ) (world : World ℕ) (name : TaskName) (task : Task ℕ) (path : List ℕ) (word : TypeWord) (recursive : Bool) (here : Here ℕ)
+    (fresh : Fresh ℕ) (world : World ℕ) (name : TaskName) (task : Task ℕ) (path : List ℕ) (word : TypeWord)
+    (recursive : Bool) (here : Here ℕ)
     → walk_end (directory_walk nat_eq world task path) ≡ Ok here
-    → Leaves fresh world name task (SetType path word recursive) (with_type nat_eq fresh world here.location.mount word recursive)
+    → Leaves fresh world name task (SetType path word recursive)
+    (with_type nat_eq fresh world here.location.mount word recursive)
 
 abbrev pub PivotPivots : Type 0
 PivotPivots =
     (fresh : Fresh ℕ) (world : World ℕ) (name : TaskName) (task : Task ℕ) (new put : List ℕ) (root here : Here ℕ)
-    → walk_end (source_walk nat_eq world task new) ≡ Ok root → walk_end (destination_walk nat_eq world task put) ≡ Ok here
+    → walk_end (source_walk nat_eq world task new) ≡ Ok root
+    → walk_end (destination_walk nat_eq world task put) ≡ Ok here
     → Leaves fresh world name task (PivotRoot new put)
-    (pivoted nat_eq world task.namespace (mount_at nat_eq world task.root) (mount_at nat_eq world root.location) here.location)
+    (pivoted nat_eq world task.namespace (mount_at nat_eq world task.root)
+    (mount_at nat_eq world root.location) here.location)
 
 -- A removed directory takes the mounts on it away, with all below them.
 abbrev pub RmdirTakesMounts : Type 0
@@ -90,8 +104,10 @@ UnshareCopies =
 
 abbrev pub SetnsEnters : Type 0
 SetnsEnters =
-    (fresh : Fresh ℕ) (world : World ℕ) (name target : TaskName) (task other : Task ℕ) → task_called world target ≡ Some other
-    → Leaves fresh world name task (Setns target) (namespaces_ended nat_eq (namespace_entered nat_eq world task other.namespace))
+    (fresh : Fresh ℕ) (world : World ℕ) (name target : TaskName) (task other : Task ℕ)
+    → task_called world target ≡ Some other
+    → Leaves fresh world name task (Setns target)
+    (namespaces_ended nat_eq (namespace_entered nat_eq world task other.namespace))
 
 -- So does one that a renamed directory replaces; where both names lead to one object, nothing is done.
 abbrev pub RenameReplaces : Type 0

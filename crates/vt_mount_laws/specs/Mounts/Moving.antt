@@ -67,8 +67,8 @@ MovesStayInNamespaces =
 abbrev pub is_mount_of : Location ℕ → Mount ℕ → Bool
 is_mount_of place other = nat_eq other.number place.mount
 
--- A mount that has a place is moved, to a place in its namespace that is on no mount of the tree that moves: mount(2) with
--- MS_MOVE
+-- A mount that has a place is moved, to a place in its namespace that is on no mount of the tree that moves: mount(2)
+-- with MS_MOVE
 pub record CanMove (world : World ℕ) (source place : Location ℕ) : Type 0 where
   pub placed : is_some (mount_at nat_eq world source).mount_point ≡ true
   pub one_namespace : (mount_at nat_eq world place).namespace ≡ (mount_at nat_eq world source).namespace

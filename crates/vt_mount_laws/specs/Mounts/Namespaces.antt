@@ -92,9 +92,9 @@ SetFlagsKeepCounts =
 abbrev pub IsIn : World ℕ → ℕ → ℕ → Type 0
 IsIn world namespace mount = (mount_numbered nat_eq world mount).namespace ≡ Some namespace
 
--- What of pivot_root(2)'s conditions keeps the invariants: the old root mount, the new one and the mount of `put` are in one
--- namespace; the new root mount is a descendant of the old one, `put` is at or under the new root, and no mount is attached
--- there.
+-- What of pivot_root(2)'s conditions keeps the invariants: the old root mount, the new one and the mount of `put` are
+-- in one namespace; the new root mount is a descendant of the old one, `put` is at or under the new root, and no mount
+-- is attached there.
 pub record CanPivot (world : World ℕ) (namespace : ℕ) (root new : Mount ℕ) (put : Location ℕ) : Type 0 where
   pub root_there : mount_numbered nat_eq world root.number ≡ root
   pub new_there : mount_numbered nat_eq world new.number ≡ new

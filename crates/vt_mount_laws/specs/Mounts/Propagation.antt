@@ -79,7 +79,8 @@ moves_to it part = it.moves && nat_eq part.number it.mount_point.mount
 abbrev pub number_at : Attachment → Mount ℕ → Mount ℕ → ℕ
 number_at it part origin =
     if moves_to it part then origin.number
-    else (copies_from nat_eq it.fresh (parts_of nat_eq it.world it.mount_point) it.mounts).copy part.number origin.number
+    else (copies_from nat_eq it.fresh
+    (parts_of nat_eq it.world it.mount_point) it.mounts).copy part.number origin.number
 
 -- the copy of a mount at a part, or at the destination of a move the mount itself
 abbrev pub copy_of : Attachment → Mount ℕ → Mount ℕ → Mount ℕ

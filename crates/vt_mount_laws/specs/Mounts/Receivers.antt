@@ -18,8 +18,8 @@ AllGroupsLive world = All (HasLivingGroups nat_eq world) world.mounts
 abbrev pub LivingIsComputed : Type 0
 LivingIsComputed = (world : World ℕ) → GroupsLive world ↔ AllGroupsLive world
 
--- A mount is found to receive from a group just where it does: as a member of it, as a slave of it, or because it receives
--- from a group whose master it is.
+-- A mount is found to receive from a group just where it does: as a member of it, as a slave of it, or because it
+-- receives from a group whose master it is.
 abbrev pub ReceivesIsComputed : Type 0
 ReceivesIsComputed =
     (world : World ℕ) (group : ℕ) → GroupsLive world

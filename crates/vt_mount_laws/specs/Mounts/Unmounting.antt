@@ -17,8 +17,9 @@ use Rattle.vt_spec.specs.Machine.Invariants.{stands_in_its_namespace}
 use Rattle.vt_mount_laws.specs.Mounts.FileCalls.{HasLiving}
 use Rattle.vt_mount_laws.specs.Mounts.Receivers.{GroupsLive}
 
--- What goes when a mount is unmounted. If the mount that it stands on is shared: what stands at the same inode of each mount that
--- receives from that group, if nothing stands on it, or one mount alone that covers its root. Else the mount itself.
+-- What goes when a mount is unmounted. If the mount that it stands on is shared: what stands at the same inode of each
+-- mount that receives from that group, if nothing stands on it, or one mount alone that covers its root. Else the mount
+-- itself.
 pub data Goes (world : World ℕ) (mount : Mount ℕ) : ℕ → Type 0 where
   from_nowhere : mount.mount_point ≡ None → Goes world mount mount.number
   alone : (place : Location ℕ) → mount.mount_point ≡ Some place → is_shared (mount_at nat_eq world place).propagation ≡ false
@@ -32,7 +33,8 @@ pub data Goes (world : World ℕ) (mount : Mount ℕ) : ℕ → Type 0 where
 
 -- a mount with this number goes when the other is unmounted
 abbrev pub goes_with : World ℕ → ℕ → ℕ → Bool
-goes_with world unmounted_one number = is_going nat_eq (going nat_eq world (mount_numbered nat_eq world unmounted_one)) number
+goes_with world unmounted_one number =
+    is_going nat_eq (going nat_eq world (mount_numbered nat_eq world unmounted_one)) number
 
 -- the mount with a number after another is unmounted
 abbrev pub mount_left : World ℕ → ℕ → ℕ → Mount ℕ
@@ -72,7 +74,8 @@ WhatStaysKeeps =
 -- Where a place is left when mounts go: it stays if its mount stays; else it falls to the place of its mount.
 pub data FallsTo (world : World ℕ) (gone : List ℕ) : Location ℕ → Location ℕ → Type 0 where
   rests : (place : Location ℕ) → is_going nat_eq gone place.mount ≡ false → FallsTo world gone place place
-  falls : (place below rest : Location ℕ) → is_going nat_eq gone place.mount ≡ true → (mount_at nat_eq world place).mount_point ≡ Some below
+  falls : (place below rest : Location ℕ) → is_going nat_eq gone place.mount ≡ true
+      → (mount_at nat_eq world place).mount_point ≡ Some below
       → FallsTo world gone below rest → FallsTo world gone place rest
 
 -- What stood on mounts that stay keeps its place, and a root mount stays one.
@@ -85,7 +88,8 @@ WhatStaysKeepsItsPlace =
 
 abbrev pub RootMountsStay : Type 0
 RootMountsStay =
-    (world : World ℕ) (one number : ℕ) → (mount_numbered nat_eq world number).mount_point ≡ None → (mount_left world one number).mount_point ≡ None
+    (world : World ℕ) (one number : ℕ) → (mount_numbered nat_eq world number).mount_point ≡ None
+    → (mount_left world one number).mount_point ≡ None
 
 -- the places below places come to an end
 abbrev pub PlacesEnd : World ℕ → Type 0
@@ -118,7 +122,8 @@ abbrev pub SlavesAreInherited : Type 0
 SlavesAreInherited =
     (world : World ℕ) (one number master : ℕ) → goes_with world one number ≡ false
     → (mount_numbered nat_eq world number).propagation ≡ Slave master
-    → (mount_left world one number).propagation ≡ slave_of_heir (find (has_members nat_eq (unmounted nat_eq world one).mounts) (groups_up world master))
+    → (mount_left world one number).propagation
+    ≡ slave_of_heir (find (has_members nat_eq (unmounted nat_eq world one).mounts) (groups_up world master))
 
 -- A group keeps its master, unless that lost its last member.
 abbrev pub GroupsKeepTheirMasters : Type 0

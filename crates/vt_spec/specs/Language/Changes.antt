@@ -31,7 +31,11 @@ module _ {N : Type 0} where
   abbrev pub node_without_entry : List ℕ → Option (Node N) → Option (Node N)
   node_without_entry name None = None
   node_without_entry name (Some node) =
-      Some (record { attr = node.attr; content = with_entries node.content (without_entry name (entries_of node.content)) })
+      Some (record {
+        attr = node.attr;
+        content = with_entries node.content
+            (without_entry name (entries_of node.content));
+      })
 
   abbrev pub node_without_entries : Option (Node N) → Option (Node N)
   node_without_entries None = None
@@ -49,7 +53,8 @@ module _ {N : Type 0} where
 
   abbrev pub node_with_mark : Bool → Option (Node N) → Option (Node N)
   node_with_mark opaque None = None
-  node_with_mark opaque (Some node) = Some (record { attr = node.attr; content = content_with_mark opaque node.content })
+  node_with_mark opaque (Some node) =
+      Some (record { attr = node.attr; content = content_with_mark opaque node.content })
 
   -- a directory knows its parent
   abbrev pub content_with_parent : N → Content N → Content N
@@ -60,7 +65,8 @@ module _ {N : Type 0} where
 
   abbrev pub node_with_parent : N → Option (Node N) → Option (Node N)
   node_with_parent parent None = None
-  node_with_parent parent (Some node) = Some (record { attr = node.attr; content = content_with_parent parent node.content })
+  node_with_parent parent (Some node) =
+      Some (record { attr = node.attr; content = content_with_parent parent node.content })
 
 module _ {N : Type 0} (eq : N → N → Bool) where
   -- the tree with one inode changed

@@ -116,7 +116,8 @@ value_from base value (byte ∷ bytes) = value_from base (base * value + (byte -
 -- a number of 1 to `most` digits in a base, of at most `limit`
 abbrev pub number_in : ℕ → ℕ → ℕ → List ℕ → Option ℕ
 number_in base most limit text =
-    if not (is_empty text) && nat_le (length text) most && digits_below base text && nat_le (value_from base 0 text) limit
+    if not (is_empty text) && nat_le (length text) most && digits_below base text
+    && nat_le (value_from base 0 text) limit
     then Some (value_from base 0 text) else None
 
 -- one to four octal digits, at most 1777: chmod(1)
@@ -276,7 +277,8 @@ with_item words OffItem = words
 
 abbrev pub options_of : List ℕ → Option OverlayWords
 options_of text =
-    option_map (folded with_item (record { lowers = []; upper = None; work = None })) (each_of option_item (parts 44 text))
+    option_map (folded with_item (record { lowers = []; upper = None; work = None }))
+    (each_of option_item (parts 44 text))
 
 -- The words after a call's name: one after the other, and no more
 abbrev pub word_then : {A B : Type 0} → (List ℕ → Option A) → (A → List (List ℕ) → Option B) → List (List ℕ) → Option B
@@ -368,11 +370,14 @@ task_words version name words =
 abbrev pub descriptor_words : Version → List ℕ → List (List ℕ) → Option Call
 descriptor_words version name words =
     if bytes_eq name (codes "open") then
-    word_then path_word (λ path. word_then access_word (λ access rest. option_map (OpenFile path access) (creation_words rest))) words
+    word_then path_word (λ path. word_then access_word
+    (λ access rest. option_map (OpenFile path access) (creation_words rest))) words
     else if bytes_eq name (codes "pread") then
-    word_then descriptor_word (λ number. word_then offset_word (λ offset. word_then offset_word (λ size. no_more (Pread number offset size)))) words
+    word_then descriptor_word (λ number.
+    word_then offset_word (λ offset. word_then offset_word (λ size. no_more (Pread number offset size)))) words
     else if bytes_eq name (codes "pwrite") then
-    word_then descriptor_word (λ number. word_then offset_word (λ offset. word_then bytes_word (λ bytes. no_more (Pwrite number offset bytes)))) words
+    word_then descriptor_word (λ number.
+    word_then offset_word (λ offset. word_then bytes_word (λ bytes. no_more (Pwrite number offset bytes)))) words
     else if bytes_eq name (codes "close") then word_then descriptor_word (λ number. no_more (Close number)) words
     else task_words version name words
 
@@ -416,8 +421,8 @@ directive_words name words =
     else if bytes_eq name (codes "sealed") then some_tasks words
     else None
 
--- What of the language is there. A call is there by its name and with its words, since of the calls by one name some may be
--- there and others not; a directive is there by its name. A line with anything else is not of the grammar.
+-- What of the language is there. A call is there by its name and with its words, since of the calls by one name some
+-- may be there and others not; a directive is there by its name. A line with anything else is not of the grammar.
 pub record Grammar : Type 0 where
   pub version : Version
   pub knows : List ℕ → Bool

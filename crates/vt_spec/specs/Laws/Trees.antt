@@ -13,8 +13,8 @@ IsNewIn directory node = (node.content ≡ new_directory directory) ⊎ (is_dire
 abbrev pub RootIsTree : Type 0
 RootIsTree = (root : ℕ) (attr : Attr) → IsTree (tree_of_root nat_eq root attr)
 
--- A new object, with a number that was vacant, under a name that was free, in a directory that names lead to from the root, makes
--- a tree of a tree.
+-- A new object, with a number that was vacant, under a name that was free, in a directory that names lead to from the
+-- root, makes a tree of a tree.
 abbrev pub NewObjectKeepsTree : Type 0
 NewObjectKeepsTree =
     (tree : Tree ℕ) (directory : ℕ) (name : List ℕ) (number : ℕ) (node : Node ℕ)
@@ -24,4 +24,5 @@ NewObjectKeepsTree =
 
 -- so do other bytes of a file
 abbrev pub FileBytesKeepTree : Type 0
-FileBytesKeepTree = (tree : Tree ℕ) (file : ℕ) (bytes : List ℕ) → IsTree tree → IsTree (with_file_bytes nat_eq tree file bytes)
+FileBytesKeepTree = (tree : Tree ℕ) (file : ℕ) (bytes : List ℕ) → IsTree tree
+    → IsTree (with_file_bytes nat_eq tree file bytes)

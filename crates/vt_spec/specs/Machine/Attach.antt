@@ -1,6 +1,6 @@
 -- Attaching a tree of mounts at a destination, with a copy at each receiver of the destination's mount: the kernel's
--- document sharedsubtree, "Bind semantics" and "Move semantics", and mount_namespaces(7). Types and masters of copies at
--- receivers, and where a mount goes that has that mount point already, are the profile's.
+-- document sharedsubtree, "Bind semantics" and "Move semantics", and mount_namespaces(7). Types and masters of copies
+-- at receivers, and where a mount goes that has that mount point already, are the profile's.
 use Rattle.std.specs.Prelude.{Bool, List, None, Option, Some, [], false, filter, filter_map, find, flat_map, if◌then◌else◌, is_some, length, map, nat_lt, not, option_map, suc, true, unwrap_or, zero, ℕ, ◌&&◌, ◌*◌, ◌++◌, ◌+◌, ◌∷◌}
 use Rattle.std.specs.List.{list_any}
 use Rattle.vt_spec.specs.Language.Limits.{most_mounts}
@@ -12,7 +12,8 @@ use Rattle.vt_spec.specs.Machine.Receives.{groups_up, has_members, is_member_of,
 use Rattle.vt_spec.specs.Machine.Types.{master_after, with_master}
 use Rattle.vt_spec.specs.Machine.World.{World, files_at, filesystem_numbered, mount_at, mounts_of}
 
--- one mount of the tree that is attached: the mount that is copied or moves, and its propagation type at the destination
+-- one mount of the tree that is attached: the mount that is copied or moves, and its propagation type at the
+-- destination
 pub record Twig (N : Type 0) : Type 0 where
   pub origin : Mount N
   pub propagation : Propagation N
@@ -84,7 +85,8 @@ module _ {N : Type 0} (eq : N → N → Bool) where
   -- group of the mount attached there, for each other group a new one.
   abbrev pub image : Copies N → Mount N → Twig N → N → N
   image new destination twig group =
-      if is_member_of eq group destination then unwrap_or (group_of twig.propagation) (new.image group twig.origin.number)
+      if is_member_of eq group destination
+      then unwrap_or (group_of twig.propagation) (new.image group twig.origin.number)
       else new.image group twig.origin.number
 
   -- the image of the nearest group with a part, from this group up the masters
@@ -181,7 +183,8 @@ module _ {N : Type 0} (eq : N → N → Bool) where
   abbrev pub attached_at : World N → Copies N → Graft N → List (Mount N) → World N
   attached_at world new graft parts = record world {
     mounts = map (pushed_up world new graft parts)
-        (with_moved_mounts graft.moves world.mounts (copies_at world new graft parts (mount_at eq world graft.destination)))
+        (with_moved_mounts graft.moves world.mounts
+        (copies_at world new graft parts (mount_at eq world graft.destination)))
         ++ added_mounts graft.moves (copies_at world new graft parts (mount_at eq world graft.destination))
         ++ flat_map (copies_at world new graft parts) (rest_of parts);
     master = folded masters_with world.master (all_groups_made world new graft parts);
@@ -208,21 +211,23 @@ module _ {N : Type 0} (eq : N → N → Bool) where
   abbrev pub copies_from : Fresh N → List (Mount N) → List (Mount N) → Copies N
   copies_from fresh parts mounts = record {
     copy = λ part origin. evens fresh (numbered (length mounts) (index_of eq parts part) (index_of eq mounts origin));
-    image = λ group origin. odds fresh (numbered (length mounts) (index_of_group parts group) (index_of eq mounts origin));
+    image = λ group origin. odds fresh
+        (numbered (length mounts) (index_of_group parts group) (index_of eq mounts origin));
   }
 
   abbrev pub attach : World N → Fresh N → Location N → Bool → List (Mount N) → World N
   attach world fresh place moves mounts =
       attached_by world (copies_from fresh (parts_of world place) mounts) place moves mounts
 
-  -- A recursive bind copies each mount at or under the source, with all its descendants; it leaves out unbindable mounts
-  -- and their descendants.
+  -- A recursive bind copies each mount at or under the source, with all its descendants; it leaves out unbindable
+  -- mounts and their descendants.
   abbrev pub bindable_children : List (Mount N) → N → List (Mount N)
   bindable_children mounts number = filter (λ mount. not (is_unbindable mount.propagation)) (children eq mounts number)
 
   abbrev pub bindable_tree : ℕ → List (Mount N) → Mount N → List (Mount N)
   bindable_tree zero mounts mount = mount ∷ []
-  bindable_tree (suc depth) mounts mount = mount ∷ flat_map (bindable_tree depth mounts) (bindable_children mounts mount.number)
+  bindable_tree (suc depth) mounts mount =
+      mount ∷ flat_map (bindable_tree depth mounts) (bindable_children mounts mount.number)
 
   abbrev pub stands_under : World N → Location N → Mount N → Bool
   stands_under world source mount =

@@ -83,7 +83,11 @@ module _ {N : Type 0} (eq : N → N → Bool) where
     real = with_real merge.real object (Upper copy);
     upper = copy_named merge copy (a_name eq merge.files object)
         (with_inode eq merge.upper copy
-        (record { attr = node.attr; content = copied_content (copy_parent merge copy (a_name eq merge.files object)) node.content }));
+        (record {
+          attr = node.attr;
+          content = copied_content
+              (copy_parent merge copy (a_name eq merge.files object)) node.content;
+        }));
   }
 
   abbrev pub copy_of : Merge N → N → N → Option (Node N) → Bool → Merge N
@@ -91,12 +95,13 @@ module _ {N : Type 0} (eq : N → N → Bool) where
   copy_of merge object copy (Some node) true = merge
   copy_of merge object copy (Some node) false = copy_of_node merge object copy node
 
-  -- copy-up: each of these that has its real object in a lower layer is copied, with owner, mode and content; the inode of
-  -- the merged tree stays the same
+  -- copy-up: each of these that has its real object in a lower layer is copied, with owner, mode and content; the inode
+  -- of the merged tree stays the same
   abbrev pub copied_each : Fresh N → ℕ → Merge N → List N → Merge N
   copied_each fresh k merge [] = merge
   copied_each fresh k merge (object ∷ rest) =
-      copied_each fresh (k + 1) (copy_of merge object (fresh k) (merge.files.tree.node object) (is_in_upper merge object)) rest
+      copied_each fresh (k + 1) (copy_of merge object (fresh k) (merge.files.tree.node object)
+      (is_in_upper merge object)) rest
 
   -- an object is copied up, missing parents first
   abbrev pub copied_up : Fresh N → Merge N → N → Merge N
@@ -110,7 +115,8 @@ module _ {N : Type 0} (eq : N → N → Bool) where
   -- what the lower layers show at a name, ignoring what the upper layer has there
   abbrev pub shown_below : Stack N → Merge N → N → List ℕ → Option (Shown N)
   shown_below stack merge directory name =
-      below (record { tree = merge.upper.tree; directory = stack.directory }) stack.lowers (path_to merge directory name)
+      below (record { tree = merge.upper.tree; directory = stack.directory }) stack.lowers
+      (path_to merge directory name)
 
   -- the lower layers show a directory there, which a new one must hide by its opaque mark
   abbrev pub hides_directory : Stack N → Merge N → N → List ℕ → Bool
@@ -145,7 +151,8 @@ module _ {N : Type 0} (eq : N → N → Bool) where
     files = changed eq merge.files (Make directory name number node);
     real = with_real merge.real number (Upper (fresh 0));
     upper = marked (hides_directory stack merge directory name) (with_name eq
-        (with_inode eq merge.upper (fresh 0) (record { attr = node.attr; content = content_with_parent (upper_of merge directory) node.content }))
+        (with_inode eq merge.upper (fresh 0)
+        (record { attr = node.attr; content = content_with_parent (upper_of merge directory) node.content }))
         (upper_of merge directory) name (fresh 0)) (fresh 0);
   }
 
@@ -158,7 +165,8 @@ module _ {N : Type 0} (eq : N → N → Bool) where
   abbrev pub removed : Fresh N → Stack N → Merge N → N → List ℕ → N → Merge N
   removed fresh stack merge directory name object = record merge {
     files = changed eq merge.files (Remove directory name object);
-    upper = emptied (name_left fresh stack merge merge.upper directory name) (upper_directory_named merge directory name);
+    upper = emptied (name_left fresh stack merge merge.upper directory name)
+        (upper_directory_named merge directory name);
   }
 
   abbrev pub moved : Fresh N → Stack N → Merge N → N → List ℕ → N → List ℕ → N → Merge N
@@ -188,8 +196,12 @@ module _ {N : Type 0} (eq : N → N → Bool) where
   merge_changed fresh stack merge (Remove directory name object) =
       removed (odds fresh) stack (copied_up (evens fresh) merge directory) directory name object
   merge_changed fresh stack merge (Move from old to new object) =
-      moved (odds (odds fresh)) stack (copied_up (evens (odds fresh)) (copied_up (evens fresh) merge object) to) from old to new object
-  merge_changed fresh stack merge (SetBytes file bytes) = changed_both (copied_up fresh merge file) file (node_with_bytes bytes)
-  merge_changed fresh stack merge (SetAttr object attr) = changed_both (copied_up fresh merge object) object (node_with_attr attr)
-  merge_changed fresh stack merge (SetMark directory opaque) = changed_both (copied_up fresh merge directory) directory (node_with_mark opaque)
+      moved (odds (odds fresh)) stack
+      (copied_up (evens (odds fresh)) (copied_up (evens fresh) merge object) to) from old to new object
+  merge_changed fresh stack merge (SetBytes file bytes) =
+      changed_both (copied_up fresh merge file) file (node_with_bytes bytes)
+  merge_changed fresh stack merge (SetAttr object attr) =
+      changed_both (copied_up fresh merge object) object (node_with_attr attr)
+  merge_changed fresh stack merge (SetMark directory opaque) =
+      changed_both (copied_up fresh merge directory) directory (node_with_mark opaque)
   merge_changed fresh stack merge (CopyUp object) = copied_up fresh merge object

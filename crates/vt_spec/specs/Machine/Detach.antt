@@ -11,7 +11,8 @@ use Rattle.vt_spec.specs.Machine.World.{Filesystem, Overlay, World, all_location
 module _ {N : Type 0} where
   abbrev pub upper_points : World N → Filesystem N → Overlay N → N → List (N × N)
   upper_points world filesystem overlay node =
-      option_to_list (then_some overlay.upper (λ layer. option_map (λ object. (layer.filesystem, object)) (upper_object (overlay.real node))))
+      option_to_list (then_some overlay.upper
+      (λ layer. option_map (λ object. (layer.filesystem, object)) (upper_object (overlay.real node))))
 
 module _ {N : Type 0} (eq : N → N → Bool) where
   abbrev pub covers_root : Mount N → Mount N → Bool
@@ -28,13 +29,15 @@ module _ {N : Type 0} (eq : N → N → Bool) where
 
   abbrev pub goes_at : World N → N → Mount N → Option (Mount N)
   goes_at world node receiver =
-      then_some (child_at eq world.mounts (record { mount = receiver.number; node = node })) (λ child. when (may_go world child) child)
+      then_some (child_at eq world.mounts (record { mount = receiver.number; node = node }))
+      (λ child. when (may_go world child) child)
 
   -- The mounts that one unmount event detaches: where the parent is shared, the mount with the same mount point at each
   -- receiver of the parent's group; else the mount alone.
   abbrev pub going_from : World N → Mount N → Location N → Bool → List N
   going_from world mount place true =
-      map (λ gone. gone.number) (filter_map (goes_at world place.node) (receivers_of eq world (mount_at eq world place)))
+      map (λ gone. gone.number) (filter_map (goes_at world place.node)
+      (receivers_of eq world (mount_at eq world place)))
   going_from world mount place false = mount.number ∷ []
 
   abbrev pub going_at : World N → Mount N → Option (Location N) → List N
@@ -49,10 +52,12 @@ module _ {N : Type 0} (eq : N → N → Bool) where
 
   -- The mount point of a mount that stays. Where its parent is detached it takes that one's mount point, and so on.
   abbrev pub mount_point_of_parent : World N → List N → Location N → Option (Location N)
-  mount_point_of_parent world gone place = if is_going gone place.mount then (mount_at eq world place).mount_point else None
+  mount_point_of_parent world gone place =
+      if is_going gone place.mount then (mount_at eq world place).mount_point else None
 
   abbrev pub mount_point_left : World N → List N → Location N → Location N
-  mount_point_left world gone place = last_or place (chain (length world.mounts) (mount_point_of_parent world gone) place)
+  mount_point_left world gone place =
+      last_or place (chain (length world.mounts) (mount_point_of_parent world gone) place)
 
   abbrev pub after_going : World N → List N → Mount N → Mount N
   after_going world gone mount =
@@ -74,7 +79,8 @@ module _ {N : Type 0} (eq : N → N → Bool) where
   abbrev pub insert_deepest : World N → Mount N → List (Mount N) → List (Mount N)
   insert_deepest world mount [] = mount ∷ []
   insert_deepest world mount (other ∷ rest) =
-      if nat_lt (depth_of world mount) (depth_of world other) then other ∷ insert_deepest world mount rest else mount ∷ other ∷ rest
+      if nat_lt (depth_of world mount) (depth_of world other) then other ∷ insert_deepest world mount rest
+      else mount ∷ other ∷ rest
 
   -- mounts ordered by depth, the deepest first; of one depth, the one attached last comes first
   abbrev pub deepest_first : World N → List (Mount N) → List (Mount N)
@@ -88,7 +94,8 @@ module _ {N : Type 0} (eq : N → N → Bool) where
   -- a lazy unmount: one unmount event for each mount of the tree, as the tree is when the call begins
   abbrev pub lazily_unmounted : World N → N → World N
   lazily_unmounted world number =
-      folded unmounted_if_there world (deepest_first world (mount_tree eq world.mounts (mount_numbered eq world number)))
+      folded unmounted_if_there world
+      (deepest_first world (mount_tree eq world.mounts (mount_numbered eq world number)))
 
   -- mounts and their descendants are detached without propagation: at a removed mount point
   abbrev pub trees_taken_away : World N → List (Mount N) → World N
@@ -109,7 +116,8 @@ module _ {N : Type 0} (eq : N → N → Bool) where
   -- EBUSY of mount(2) with MS_REMOUNT and MS_RDONLY: a file is open for writing through the mount
   abbrev pub is_written_through : World N → N → Bool
   is_written_through world mount =
-      list_any (λ task. list_any (λ descriptor. descriptor.writes && eq mount descriptor.location.mount) task.descriptors) world.tasks
+      list_any (λ task. list_any (λ descriptor. descriptor.writes
+      && eq mount descriptor.location.mount) task.descriptors) world.tasks
 
   -- A mount point is a directory, through whatever mount it is seen; on an overlay its upper directory counts too.
   abbrev pub is_point : World N → N → N → Mount N → Bool
@@ -120,7 +128,8 @@ module _ {N : Type 0} (eq : N → N → Bool) where
   abbrev pub points_of : World N → Location N → List (N × N)
   points_of world location =
       ((filesystem_at eq world location).number, location.node)
-      ∷ of_overlay [] (λ overlay. upper_points world (filesystem_at eq world location) overlay location.node) (filesystem_at eq world location)
+      ∷ of_overlay [] (λ overlay. upper_points world (filesystem_at eq world location) overlay location.node)
+      (filesystem_at eq world location)
 
   abbrev pub mounts_on : World N → Location N → List (Mount N)
   mounts_on world location =

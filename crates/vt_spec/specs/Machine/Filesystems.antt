@@ -27,7 +27,8 @@ can_give_owner who attr =
     has_all who.capabilities cap_chown || (who.uid == attr.uid && is_member who attr.gid)
 
 module _ {N : Type 0} where
-  -- the objects that a change of an overlay copies where they lie only below: the object itself, if it is one that is there
+  -- the objects that a change of an overlay copies where they lie only below: the object itself, if it is one that is
+  -- there
   abbrev pub object_copied : Change N → List N
   object_copied (Make directory name number node) = []
   object_copied (AddName directory name object) = object ∷ []
@@ -74,11 +75,21 @@ module _ {N : Type 0} where
 module _ {N : Type 0} (eq : N → N → Bool) where
   abbrev pub stack_of : World N → Overlay N → Layer N → Stack N
   stack_of world overlay upper =
-      record { directory = upper.directory; lowers = map (open_layer eq world) overlay.lowers; mounter = overlay.mounter }
+      record {
+        directory = upper.directory;
+        lowers = map
+            (open_layer eq world) overlay.lowers;
+        mounter = overlay.mounter;
+      }
 
   abbrev pub merge_of : World N → Filesystem N → Overlay N → Layer N → Merge N
   merge_of world filesystem overlay upper =
-      record { files = filesystem.files; real = overlay.real; upper = (filesystem_numbered eq world upper.filesystem).files }
+      record {
+        files = filesystem.files;
+        real = overlay.real;
+        upper =
+            (filesystem_numbered eq world upper.filesystem).files;
+      }
 
   -- the world with a merged tree and its upper layer changed
   abbrev pub with_merge : World N → Filesystem N → Overlay N → Layer N → Merge N → World N
@@ -140,7 +151,8 @@ module _ {N : Type 0} (eq : N → N → Bool) where
   -- the directories whose names, or whose objects' copies, are made, removed or renamed
   abbrev pub directories_asked : Filesystem N → Overlay N → Change N → List N
   directories_asked filesystem overlay change =
-      flat_map (directory_of_name filesystem.files) (objects_copied filesystem overlay change) ++ directories_changed change
+      flat_map (directory_of_name filesystem.files) (objects_copied filesystem overlay change)
+      ++ directories_changed change
 
   -- the directories above, from the nearest one in the upper layer down
   abbrev pub from_nearest_upper : FileTree N → Overlay N → N → List N

@@ -25,7 +25,8 @@ use Rattle.vt_spec.specs.Language.Calls.{TaskName, same_name}
 use Rattle.vt_spec.specs.Machine.World.Real.{Below, Upper}
 
 module _ {N : Type 0} where
-  -- A merged inode and its real object have the same owner, mode, kind, and bytes or text; entries of directories differ.
+  -- A merged inode and its real object have the same owner, mode, kind, and bytes or text; entries of directories
+  -- differ.
   abbrev pub same_content : Content N → Content N → Bool
   same_content (Directory parent entries opaque) (Directory other_parent other_entries other_opaque) = true
   same_content (Regular bytes) (Regular other) = bytes_eq bytes other
@@ -58,8 +59,10 @@ module _ {N : Type 0} where
   abbrev pub is_within_limits : Task N → Bool
   is_within_limits task =
       nat_le (length task.descriptors) most_descriptors && are_ascending_from 0 task.descriptors
-      && list_all (λ descriptor. nat_lt descriptor.number most_descriptors) task.descriptors && nat_le task.forks most_forks
-      && nat_le (length task.name) deepest_name && nat_le (length task.credentials.groups) most_groups && nat_lt task.umask 512
+      && list_all (λ descriptor. nat_lt descriptor.number most_descriptors) task.descriptors
+      && nat_le task.forks most_forks
+      && nat_le (length task.name) deepest_name && nat_le (length task.credentials.groups) most_groups
+      && nat_lt task.umask 512
 
   -- a task has counted its forks: where a task's name goes on from its own, the next number is no more than its count
   -- (profile)
@@ -69,7 +72,8 @@ module _ {N : Type 0} where
       → other.name ≡ task.name ++ (number ∷ rest) → number ≤ task.forks
 
   abbrev pub is_no_larger : FileTree N → N → Bool
-  is_no_larger files number = not (is_kind_in File (files.tree.node number)) || nat_le (length (bytes_in (files.tree.node number))) largest_file
+  is_no_larger files number = not (is_kind_in File (files.tree.node number))
+      || nat_le (length (bytes_in (files.tree.node number))) largest_file
 
   -- a name of a directory, and the text of a symlink, are not empty and not too long: path_resolution(7), symlink(2)
   abbrev pub has_fit_names : FileTree N → N → Bool
@@ -78,11 +82,13 @@ module _ {N : Type 0} where
 
   abbrev pub has_fit_text : FileTree N → N → Bool
   has_fit_text files number =
-      list_all (λ text. not (is_empty text) && nat_le (length text) longest_path) (option_to_list (symlink_text (files.tree.node number)))
+      list_all (λ text. not (is_empty text) && nat_le (length text) longest_path)
+      (option_to_list (symlink_text (files.tree.node number)))
 
   abbrev pub is_fit_filesystem : Filesystem N → Bool
   is_fit_filesystem filesystem =
-      list_all (λ number. is_no_larger filesystem.files number && has_fit_names filesystem.files number && has_fit_text filesystem.files number)
+      list_all (λ number. is_no_larger filesystem.files number && has_fit_names filesystem.files number
+      && has_fit_text filesystem.files number)
       filesystem.files.numbers
 
   -- an overlay has 1 to 128 lower layers, and a work directory just where it has an upper layer: overlayfs
@@ -95,8 +101,8 @@ module _ {N : Type 0} where
   abbrev pub number_at_path : FileTree N → List (List ℕ) → Option N
   number_at_path files path = led files.tree files.tree.root path
 
--- A mount stands: it has no mount point, or its parent is in the same namespace and stands. Mounts are given by numbers; a
--- number that no mount has stands too, and `nowhere` excludes it as a parent.
+-- A mount stands: it has no mount point, or its parent is in the same namespace and stands. Mounts are given by
+-- numbers; a number that no mount has stands too, and `nowhere` excludes it as a parent.
 pub data Stands {N : Type 0} (eq : N → N → Bool) (world : World N) : N → Type 0 where
   at_root : (number : N) → (mount_numbered eq world number).mount_point ≡ None → Stands eq world number
   on_parent : (number : N) (place : Location N) → (mount_numbered eq world number).mount_point ≡ Some place
@@ -117,11 +123,13 @@ module _ {N : Type 0} (eq : N → N → Bool) where
 
   -- as a test: the chain of parents ends at a mount without a mount point, in the same namespace
   abbrev pub last_parent : World N → Mount N → Mount N
-  last_parent world mount = last_or mount (chain (length world.mounts) (λ below. option_map (mount_at eq world) below.mount_point) mount)
+  last_parent world mount = last_or mount
+      (chain (length world.mounts) (λ below. option_map (mount_at eq world) below.mount_point) mount)
 
   abbrev pub stands_in_its_namespace : World N → Mount N → Bool
   stands_in_its_namespace world mount =
-      not (is_some (last_parent world mount).mount_point) && same_option eq mount.namespace (last_parent world mount).namespace
+      not (is_some (last_parent world mount).mount_point)
+      && same_option eq mount.namespace (last_parent world mount).namespace
 
   -- the peer group or master of each mount lives
   abbrev pub HasLivingGroups : World N → Mount N → Type 0
@@ -172,8 +180,8 @@ module _ {N : Type 0} (eq : N → N → Bool) where
   abbrev pub ListsNumbers : FileTree N → Type 0
   ListsNumbers files = (number : N) → is_among eq number files.numbers ≡ is_some (files.tree.node number)
 
-  -- The merged tree of an overlay has at every path what the layers show, and no whiteout and no mark. Two inodes have two
-  -- real objects; the real object of an inode with a name is the one that is shown there.
+  -- The merged tree of an overlay has at every path what the layers show, and no whiteout and no mark. Two inodes have
+  -- two real objects; the real object of an inode with a name is the one that is shown there.
   abbrev pub real_shown : World N → Overlay N → List (List ℕ) → Option (Real N)
   real_shown world overlay path =
       option_map (λ object. real_object (is_some overlay.upper) object.seen.layer object)
@@ -192,15 +200,20 @@ module _ {N : Type 0} (eq : N → N → Bool) where
       then_some (slice_get overlay.lowers layer) (λ lower. node_at_path (open_layer eq world lower) path)
 
   pub record IsMerged (world : World N) (filesystem : Filesystem N) (overlay : Overlay N) : Type 0 where
-    pub shows : (path : List (List ℕ)) → SameObject (then_some (number_at_path filesystem.files path) filesystem.files.tree.node) (node_shown world overlay path)
-    pub names : (path : List (List ℕ)) (number : N) → number_at_path filesystem.files path ≡ Some number → overlay.real number ≡ real_shown world overlay path
+    pub shows : (path : List (List ℕ))
+        → SameObject (then_some (number_at_path filesystem.files path) filesystem.files.tree.node)
+        (node_shown world overlay path)
+    pub names : (path : List (List ℕ)) (number : N) → number_at_path filesystem.files path ≡ Some number
+        → overlay.real number ≡ real_shown world overlay path
     -- each inode, with a name or without one, has a real object of its kind, owner, mode and content
-    pub real_objects : (number : N) → SameObject (filesystem.files.tree.node number) (then_some (overlay.real number) (real_node world overlay))
+    pub real_objects : (number : N)
+        → SameObject (filesystem.files.tree.node number) (then_some (overlay.real number) (real_node world overlay))
     -- and nothing else has one
     pub real_there : (number : N) → filesystem.files.tree.node number ≡ None → overlay.real number ≡ None
     pub no_whiteout : (number : N) → is_kind_in White (filesystem.files.tree.node number) ≡ false
     pub no_mark : (number : N) → is_opaque_in (filesystem.files.tree.node number) ≡ false
-    pub upper_there : (number object : N) → overlay.real number ≡ Some (Upper object) → holds_of (λ layer. is_there world layer.filesystem object) overlay.upper ≡ true
+    pub upper_there : (number object : N) → overlay.real number ≡ Some (Upper object)
+        → holds_of (λ layer. is_there world layer.filesystem object) overlay.upper ≡ true
     pub one_to_one : (a b : N) → is_some (overlay.real a) ≡ true → overlay.real a ≡ overlay.real b → a ≡ b
 
   -- some inode lies or counts under both layers: overlayfs, "sharing and copying layers"
@@ -213,7 +226,8 @@ module _ {N : Type 0} (eq : N → N → Bool) where
   -- a location is a directory, seen through a mount of the namespace, or through one that is in none
   abbrev pub is_directory_seen_in : World N → N → Location N → Bool
   is_directory_seen_in world namespace location =
-      is_directory_at eq world location && list_all (eq namespace) (option_to_list (mount_at eq world location).namespace)
+      is_directory_at eq world location
+      && list_all (eq namespace) (option_to_list (mount_at eq world location).namespace)
 
   abbrev pub stands_on_directories : World N → Task N → Bool
   stands_on_directories world task =
@@ -232,15 +246,20 @@ module _ {N : Type 0} (eq : N → N → Bool) where
     pub fit_filesystems : list_all is_fit_filesystem world.filesystems ≡ true
 
   -- Invariants of overlays: overlayfs. An upper or work directory has no inode in common with another layer of a live
-  -- overlay; so no object of an upper layer lies in one, nor under a lower layer of its own overlay. An upper directory keeps
-  -- its name, since it is locked; the directories above it are not, and may be renamed.
+  -- overlay; so no object of an upper layer lies in one, nor under a lower layer of its own overlay. An upper directory
+  -- keeps its name, since it is locked; the directories above it are not, and may be renamed.
   pub record OverlayInvariants (world : World N) : Type 0 where
-    pub overlays_merge : (number : N) (overlay : Overlay N) → (filesystem_numbered eq world number).overlay ≡ Some overlay → IsMerged world (filesystem_numbered eq world number) overlay
+    pub overlays_merge : (number : N) (overlay : Overlay N)
+        → (filesystem_numbered eq world number).overlay ≡ Some overlay
+        → IsMerged world (filesystem_numbered eq world number) overlay
     pub fit_layers : list_all (of_overlay true has_fit_layers) world.filesystems ≡ true
-    pub plain_layers : list_all (of_overlay true (λ overlay. list_all (is_plain_layer world) (layers_of overlay))) world.filesystems ≡ true
+    pub plain_layers : list_all (of_overlay true
+        (λ overlay. list_all (is_plain_layer world) (layers_of overlay))) world.filesystems ≡ true
     pub changed_apart : any_pair (overlap world) (live_upper_and_work world) ≡ false
     pub lowers_apart : list_any (overlaps_one_of eq world (live_lowers world)) (live_upper_and_work world) ≡ false
-    pub uppers_reached : (number : N) (overlay : Overlay N) (upper : Layer N) → (filesystem_numbered eq world number).overlay ≡ Some overlay → overlay.upper ≡ Some upper → IsReached (filesystem_numbered eq world upper.filesystem).files.tree upper.directory
+    pub uppers_reached : (number : N) (overlay : Overlay N) (upper : Layer N)
+        → (filesystem_numbered eq world number).overlay ≡ Some overlay → overlay.upper ≡ Some upper
+        → IsReached (filesystem_numbered eq world upper.filesystem).files.tree upper.directory
 
   -- Invariants of mounts: mount_namespaces(7), sharedsubtree
   pub record MountInvariants (world : World N) : Type 0 where
@@ -253,7 +272,8 @@ module _ {N : Type 0} (eq : N → N → Bool) where
   -- Invariants of namespaces: mount_namespaces(7)
   pub record NamespaceInvariants (world : World N) : Type 0 where
     pub one_namespace : any_pair (λ a b. eq a.number b.number) world.namespaces ≡ false
-    pub mounts_listed : list_all (λ mount. list_all (is_listed world) (option_to_list mount.namespace)) world.mounts ≡ true
+    pub mounts_listed : list_all (λ mount. list_all (is_listed world) (option_to_list mount.namespace)) world.mounts
+        ≡ true
     pub tasks_listed : list_all (λ task. is_listed world task.namespace) world.tasks ≡ true
     pub root_mounts : list_all (has_one_root world) world.namespaces ≡ true
     pub namespaces_live : list_all (has_tasks eq world) world.namespaces ≡ true

@@ -1,5 +1,5 @@
--- The layers of live overlays: what lies in one is locked against changes from outside, and which directories may not be
--- layers of two overlays (profile; the kernel's overlayfs document, "changes to underlying filesystems").
+-- The layers of live overlays: what lies in one is locked against changes from outside, and which directories may not
+-- be layers of two overlays (profile; the kernel's overlayfs document, "changes to underlying filesystems").
 use Rattle.std.specs.Prelude.{Bool, List, None, Option, Some, [], false, filter, flat_map, option_to_list, ◌&&◌, ◌++◌, ◌||◌}
 use Rattle.std.specs.List.{list_any}
 use Rattle.vt_spec.specs.FileTree.{is_under}
@@ -35,7 +35,8 @@ module _ {N : Type 0} (eq : N → N → Bool) where
   -- an inode is, or lies under, a layer's directory
   abbrev pub lies_in_layer : World N → N → N → Layer N → Bool
   lies_in_layer world filesystem object layer =
-      eq filesystem layer.filesystem && is_under eq (filesystem_numbered eq world filesystem).files layer.directory object
+      eq filesystem layer.filesystem
+      && is_under eq (filesystem_numbered eq world filesystem).files layer.directory object
 
   abbrev pub is_real_upper : Overlay N → N → N → Bool
   is_real_upper overlay object number = holds_of (eq object) (upper_object (overlay.real number))
@@ -46,8 +47,8 @@ module _ {N : Type 0} (eq : N → N → Bool) where
       holds_of (λ layer. eq filesystem layer.filesystem) overlay.upper
       && list_any (is_real_upper overlay object) merged.files.numbers
 
-  -- Such an upper inode of a live overlay counts as under its upper directory, even without a name, and so as under each
-  -- layer in which that directory lies.
+  -- Such an upper inode of a live overlay counts as under its upper directory, even without a name, and so as under
+  -- each layer in which that directory lies.
   abbrev pub counts_in_layer : World N → N → N → Layer N → Filesystem N → Bool
   counts_in_layer world filesystem object layer merged =
       of_overlay false (λ overlay.
@@ -73,7 +74,8 @@ module _ {N : Type 0} (eq : N → N → Bool) where
       && list_any (lies_or_counts_under world layer.filesystem object) others)
       (filesystem_numbered eq world layer.filesystem).files.numbers
 
-  -- O3: the upper or work directory overlaps a layer of a live overlay, or a lower one the upper or work directory of one
+  -- O3: the upper or work directory overlaps a layer of a live overlay, or a lower one the upper or work directory of
+  -- one
   abbrev pub in_use : World N → Overlay N → Bool
   in_use world wanted =
       list_any (overlaps_one_of world (live_layers world)) (upper_and_work wanted)

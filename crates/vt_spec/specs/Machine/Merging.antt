@@ -78,7 +78,8 @@ module _ {N : Type 0} (eq : N → N → Bool) where
   -- a merged directory has an entry for each object shown in it, and no opaque mark
   abbrev pub merged_content : Fresh N → Bool → List (Merged N) → List (List ℕ) → Content N → Content N
   merged_content fresh has_upper objects path (Directory parent entries opaque) =
-      Directory (number_at fresh has_upper objects (front_of path)) (filter_map (entry_below fresh has_upper objects path) objects) false
+      Directory (number_at fresh has_upper objects (front_of path))
+      (filter_map (entry_below fresh has_upper objects path) objects) false
   merged_content fresh has_upper objects path (Regular bytes) = Regular bytes
   merged_content fresh has_upper objects path (Symlink text) = Symlink text
   merged_content fresh has_upper objects path Whiteout = Whiteout

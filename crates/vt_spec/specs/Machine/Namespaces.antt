@@ -10,8 +10,8 @@ module _ {N : Type 0} where
   abbrev pub entered_at : Task N → N → Location N → Task N
   entered_at task namespace root = record task { namespace = namespace; root = root; directory = root }
 
-  -- Copies of a namespace's mounts; `copy` gives the number of a mount's copy. The copy of a shared mount is a peer of it,
-  -- that of a slave has the same master.
+  -- Copies of a namespace's mounts; `copy` gives the number of a mount's copy. The copy of a shared mount is a peer of
+  -- it, that of a slave has the same master.
   abbrev pub location_on_copy : (N → N) → Location N → Location N
   location_on_copy copy location = record location { mount = copy location.mount }
 
@@ -55,7 +55,8 @@ module _ {N : Type 0} (eq : N → N → Bool) where
 
   abbrev pub is_in_ended : World N → Mount N → Bool
   is_in_ended world mount =
-      holds_of (λ number. not (list_any (λ namespace. eq number namespace.number && has_tasks world namespace) world.namespaces)) mount.namespace
+      holds_of (λ number. not (list_any
+      (λ namespace. eq number namespace.number && has_tasks world namespace) world.namespaces)) mount.namespace
 
   abbrev pub namespaces_ended : World N → World N
   namespaces_ended world =
@@ -65,7 +66,8 @@ module _ {N : Type 0} (eq : N → N → Bool) where
 
   -- the root of the topmost mount over the root of a namespace's root mount
   abbrev pub namespace_root : World N → N → Option (Location N)
-  namespace_root world namespace = option_map (λ mount. topmost eq world.mounts (root_of mount)) (root_mount eq world namespace)
+  namespace_root world namespace =
+      option_map (λ mount. topmost eq world.mounts (root_of mount)) (root_mount eq world namespace)
 
   abbrev pub namespace_entered : World N → Task N → N → World N
   namespace_entered world task namespace =

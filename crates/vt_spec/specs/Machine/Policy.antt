@@ -39,7 +39,8 @@ same_bool true b = b
 same_bool false b = not b
 
 abbrev pub same_flags : MountFlags → MountFlags → Bool
-same_flags a b = same_bool a.read_only b.read_only && same_bool a.noexec b.noexec && same_bool a.nosymfollow b.nosymfollow
+same_flags a b = same_bool a.read_only b.read_only && same_bool a.noexec b.noexec
+    && same_bool a.nosymfollow b.nosymfollow
 
 module _ {N : Type 0} where
   -- the master of a mount's group, or of the group whose slave it is
@@ -71,7 +72,8 @@ module _ {N : Type 0} (eq : N → N → Bool) where
   call_outcome fresh world task (Opaque path mark) = opaque_outcome eq fresh world task path mark
   call_outcome fresh world task (OpenFile path access creation) = open_outcome eq fresh world task path access creation
   call_outcome fresh world task (Pread descriptor offset size) = pread_outcome eq world task descriptor offset size
-  call_outcome fresh world task (Pwrite descriptor offset bytes) = pwrite_outcome eq fresh world task descriptor offset bytes
+  call_outcome fresh world task (Pwrite descriptor offset bytes) =
+      pwrite_outcome eq fresh world task descriptor offset bytes
   call_outcome fresh world task (Close descriptor) = close_outcome world task descriptor
   call_outcome fresh world task (Chdir path) = chdir_outcome eq world task path
   call_outcome fresh world task (Chroot path) = chroot_outcome eq world task path
@@ -82,7 +84,8 @@ module _ {N : Type 0} (eq : N → N → Bool) where
   call_outcome fresh world task Unshare = unshare_outcome eq fresh world task
   call_outcome fresh world task (Setns name) = setns_outcome eq world task name
   call_outcome fresh world task (MountPlain path flags) = mount_plain_outcome eq fresh world task path flags
-  call_outcome fresh world task (MountOverlay path options flags) = mount_overlay_outcome eq fresh world task path options flags
+  call_outcome fresh world task (MountOverlay path options flags) =
+      mount_overlay_outcome eq fresh world task path options flags
   call_outcome fresh world task (Bind source path recursive) = bind_outcome eq fresh world task source path recursive
   call_outcome fresh world task (MoveMount source path) = move_outcome eq fresh world task source path
   call_outcome fresh world task (Umount path) = umount_outcome eq world task path
@@ -93,8 +96,8 @@ module _ {N : Type 0} (eq : N → N → Bool) where
   call_outcome fresh world task ListMounts = mounts_outcome eq world task
 
   -- Change numbers (profile). A call that succeeds and does not only look raises the world's and the caller's, that of
-  -- each filesystem that its permit changes, and that of each namespace in which a mount came, went, moved, or has other
-  -- flags, type, group or master. All of them are raised last.
+  -- each filesystem that its permit changes, and that of each namespace in which a mount came, went, moved, or has
+  -- other flags, type, group or master. All of them are raised last.
   abbrev pub filesystems_changed_by : World N → Judgement N → List N
   filesystems_changed_by before (Ok permit) = filesystems_changed eq before permit
   filesystems_changed_by before (Err deny) = []
@@ -109,7 +112,8 @@ module _ {N : Type 0} (eq : N → N → Bool) where
   abbrev pub same_mount : World N → World N → Mount N → Mount N → Bool
   same_mount before after_call a b =
       eq a.number b.number && same_option (same_location eq) a.mount_point b.mount_point && same_flags a.flags b.flags
-      && same_propagation a.propagation b.propagation && same_option eq (master_above before a) (master_above after_call b)
+      && same_propagation a.propagation b.propagation
+      && same_option eq (master_above before a) (master_above after_call b)
 
   abbrev pub same_mounts_in : World N → World N → N → Bool
   same_mounts_in before after_call namespace =

@@ -12,12 +12,13 @@ module _ {N : Type 0} where
   slave_of_heir None = Private
   slave_of_heir (Some master) = Slave master
 
--- The receivers of a group: the least set of mounts with its members, its slaves, and the receivers of every group whose
--- master it is.
+-- The receivers of a group: the least set of mounts with its members, its slaves, and the receivers of every group
+-- whose master it is.
 pub data Receives {N : Type 0} (world : World N) : N → Mount N → Type 0 where
   member : (group : N) (mount : Mount N) → mount.propagation ≡ Shared group → Receives world group mount
   slave : (group : N) (mount : Mount N) → mount.propagation ≡ Slave group → Receives world group mount
-  further_down : (group lower : N) (mount : Mount N) → world.master lower ≡ Some group → Receives world lower mount → Receives world group mount
+  further_down : (group lower : N) (mount : Mount N) → world.master lower ≡ Some group → Receives world lower mount
+      → Receives world group mount
 
 module _ {N : Type 0} where
   -- a group, its master, that one's master, and so on; each group has a member, so there are no more than mounts
@@ -27,7 +28,8 @@ module _ {N : Type 0} where
 module _ {N : Type 0} (eq : N → N → Bool) where
   -- computed: a mount receives from its source group and from all groups up the masters
   abbrev pub receives : World N → N → Mount N → Bool
-  receives world group mount = holds_of (λ source. is_among eq group (groups_up world source)) (source_of mount.propagation)
+  receives world group mount = holds_of (λ source. is_among eq group (groups_up world source))
+      (source_of mount.propagation)
 
   abbrev pub receivers : World N → N → List (Mount N)
   receivers world group = filter (receives world group) world.mounts
@@ -49,8 +51,8 @@ module _ {N : Type 0} (eq : N → N → Bool) where
   inherited world Private = Private
   inherited world Unbindable = Unbindable
 
-  -- The world without groups that have no member. Their slaves get the heir as master; where there is none, a slave that
-  -- is not shared becomes private, and a group loses its master (mount_namespaces(7), "slave").
+  -- The world without groups that have no member. Their slaves get the heir as master; where there is none, a slave
+  -- that is not shared becomes private, and a group loses its master (mount_namespaces(7), "slave").
   abbrev pub inheriting : World N → Mount N → Mount N
   inheriting world mount = record mount { propagation = inherited world mount.propagation }
 

@@ -23,7 +23,11 @@ module _ {N M : Type 0} (there : N → M) (back : M → N) where
 
   abbrev pub renamed_files : FileTree N → FileTree M
   renamed_files files = record {
-    tree = record { root = there files.tree.root; node = λ number. option_map renamed_node (files.tree.node (back number)) };
+    tree = record {
+      root = there files.tree.root;
+      node = λ number.
+          option_map renamed_node (files.tree.node (back number));
+    };
     numbers = map there files.numbers;
   }
 

@@ -91,8 +91,8 @@ module _ {N : Type 0} (eq : N → N → Bool) where
       × (rest : List ℕ) × (text ≡ step_text number (line_step grammar world line (Some fresh)) ++ rest)
       × Tells grammar (step_world world (line_step grammar world line (Some fresh))) (number + 1) lines refused rest
 
--- The opening world has the first four numbers. All others stand in endless rows, one for each line, along the diagonals:
--- Cantor's pairing. So no two lines share a number, however many each takes.
+-- The opening world has the first four numbers. All others stand in endless rows, one for each line, along the
+-- diagonals: Cantor's pairing. So no two lines share a number, however many each takes.
 abbrev pub first_world : World ℕ
 first_world = opening nat_eq (λ place. place)
 
@@ -114,7 +114,8 @@ abbrev pub text_from : Grammar → World ℕ → ℕ → List (List ℕ) → Lis
 text_from grammar world number [] refused = []
 text_from grammar world number (line ∷ lines) refused =
     step_text number (line_step nat_eq grammar world line (handed number refused))
-    ++ text_from grammar (step_world world (line_step nat_eq grammar world line (handed number refused))) (number + 1) lines (later refused)
+    ++ text_from grammar (step_world world (line_step nat_eq grammar world line (handed number refused)))
+    (number + 1) lines (later refused)
 
 -- the world after these lines, none refused
 abbrev pub world_from : Grammar → World ℕ → ℕ → List (List ℕ) → World ℕ

@@ -38,7 +38,8 @@ module _ {N : Type 0} where
 
   abbrev pub change_layers : Filesystem N → List N
   change_layers filesystem =
-      of_overlay [] (λ overlay. map (λ layer. layer.filesystem) (option_to_list overlay.upper ++ option_to_list overlay.work)) filesystem
+      of_overlay [] (λ overlay. map (λ layer. layer.filesystem)
+      (option_to_list overlay.upper ++ option_to_list overlay.work)) filesystem
 
   -- A directive is nobody's call. What it tells changes nothing.
   abbrev pub no_such_task : World N → TaskName → Bool
@@ -64,7 +65,8 @@ module _ {N : Type 0} (eq : N → N → Bool) where
   -- mounts of other namespaces; one that is in none is nobody's
   abbrev pub other_mounts : World N → List TaskName → List (Mount N)
   other_mounts world names =
-      filter (λ mount. holds_of (λ namespace. not (is_own_namespace world names namespace)) mount.namespace) world.mounts
+      filter (λ mount. holds_of (λ namespace.
+      not (is_own_namespace world names namespace)) mount.namespace) world.mounts
 
   abbrev pub holds_all_tasks : World N → List TaskName → Bool
   holds_all_tasks world names =
@@ -80,7 +82,8 @@ module _ {N : Type 0} (eq : N → N → Bool) where
 
   abbrev pub has_no_link : World N → List TaskName → Bool
   has_no_link world names =
-      list_all (λ own. list_all (λ other. not (is_linked world own other)) (other_mounts world names)) (own_mounts world names)
+      list_all (λ own. list_all (λ other. not (is_linked world own other)) (other_mounts world names))
+      (own_mounts world names)
 
   abbrev pub is_on_own_mount : World N → List TaskName → Location N → Bool
   is_on_own_mount world names location = is_own_mount world names (mount_at eq world location)
@@ -104,18 +107,22 @@ module _ {N : Type 0} (eq : N → N → Bool) where
   abbrev pub no_outsider_on : World N → List TaskName → N → Bool
   no_outsider_on world names filesystem =
       not (list_any (λ mount. eq filesystem mount.filesystem) (other_mounts world names))
-      && not (list_any (λ location. eq filesystem (mount_at eq world location).filesystem) (locations (outsiders world names)))
+      && not (list_any (λ location. eq filesystem (mount_at eq world location).filesystem)
+      (locations (outsiders world names)))
 
   -- and so for each overlay with a layer in it, lower ones too; no overlay has a layer on another
   abbrev pub used_alone : World N → List TaskName → N → Bool
   used_alone world names filesystem =
       no_outsider_on world names filesystem
-      && list_all (λ merged. not (has_layer_on eq filesystem merged) || no_outsider_on world names merged.number) (overlays world)
+      && list_all (λ merged. not (has_layer_on eq filesystem merged) || no_outsider_on world names merged.number)
+      (overlays world)
 
-  -- wholly locked for them: its root is a lower layer of an overlay that they alone use, and each other inode has a name
+  -- wholly locked for them: its root is a lower layer of an overlay that they alone use, and each other inode has a
+  -- name
   abbrev pub is_lower_root : N → N → Filesystem N → Bool
   is_lower_root filesystem root merged =
-      of_overlay false (λ overlay. list_any (λ layer. eq filesystem layer.filesystem && eq root layer.directory) overlay.lowers) merged
+      of_overlay false (λ overlay. list_any
+      (λ layer. eq filesystem layer.filesystem && eq root layer.directory) overlay.lowers) merged
 
   abbrev pub all_named : FileTree N → Bool
   all_named files = list_all (λ number. eq number files.tree.root || is_among eq number (named_in files)) files.numbers
@@ -131,15 +138,16 @@ module _ {N : Type 0} (eq : N → N → Bool) where
       holds_all_tasks world names
       && has_no_link world names
       && no_outsider_on_mounts world names
-      && list_all (λ filesystem. used_alone world names filesystem || wholly_locked world names filesystem) (used_filesystems world names)
+      && list_all (λ filesystem. used_alone world names filesystem || wholly_locked world names filesystem)
+      (used_filesystems world names)
 
   abbrev pub directed : World N → Directive → Outcome N
   directed world AskPeers = granted (PeerList (peer_lines eq world)) world
   directed world (AskSealed names) =
       judged world ((list_any (no_such_task world) names, S2) ∷ []) (granted (YesNo (sealed world names)) world)
 
-  -- The part of the world that is theirs: members, their namespaces, and the mounts in them and under members' roots and
-  -- working directories. Of a mount that only a descriptor is on, it has what the descriptor shows.
+  -- The part of the world that is theirs: members, their namespaces, and the mounts in them and under members' roots
+  -- and working directories. Of a mount that only a descriptor is on, it has what the descriptor shows.
   abbrev pub is_at : List (Location N) → Mount N → Bool
   is_at places mount = list_any (λ location. eq location.mount mount.number) places
 
@@ -151,7 +159,8 @@ module _ {N : Type 0} (eq : N → N → Bool) where
   -- the filesystems that they use; of others what lies in a lower layer of their overlays
   abbrev pub own_lowers : World N → List TaskName → List (Layer N)
   own_lowers world names =
-      flat_map (λ number. of_overlay [] (λ overlay. overlay.lowers) (filesystem_numbered eq world number)) (used_directly world names)
+      flat_map (λ number. of_overlay [] (λ overlay. overlay.lowers) (filesystem_numbered eq world number))
+      (used_directly world names)
 
   abbrev pub lies_in_own_lower : World N → List TaskName → N → N → Bool
   lies_in_own_lower world names filesystem object =
@@ -159,14 +168,16 @@ module _ {N : Type 0} (eq : N → N → Bool) where
 
   abbrev pub part_of_lower : World N → List TaskName → Filesystem N → Filesystem N
   part_of_lower world names filesystem = record filesystem {
-    files = only_among eq (filter (lies_in_own_lower world names filesystem.number) filesystem.files.numbers) filesystem.files;
+    files = only_among eq
+        (filter (lies_in_own_lower world names filesystem.number) filesystem.files.numbers) filesystem.files;
     change = 0;
   }
 
   abbrev pub part_of_filesystem : World N → List TaskName → Filesystem N → Option (Filesystem N)
   part_of_filesystem world names filesystem =
       if is_among eq filesystem.number (used_filesystems world names) then Some filesystem
-      else when (list_any (λ layer. eq filesystem.number layer.filesystem) (own_lowers world names)) (part_of_lower world names filesystem)
+      else when (list_any (λ layer. eq filesystem.number layer.filesystem) (own_lowers world names))
+      (part_of_lower world names filesystem)
 
   abbrev pub part_of_master : World N → List TaskName → N → Option N
   part_of_master world names group =

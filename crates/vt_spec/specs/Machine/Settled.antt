@@ -59,7 +59,11 @@ module _ {N : Type 0} (eq : N → N → Bool) where
 
   abbrev pub only_among : List N → FileTree N → FileTree N
   only_among used files = record {
-    tree = record { root = files.tree.root; node = λ number. if is_among eq number used then files.tree.node number else None };
+    tree = record {
+      root = files.tree.root;
+      node = λ number. if is_among eq number used then files.tree.node number
+          else None;
+    };
     numbers = filter (λ number. is_among eq number used) files.numbers;
   }
 
@@ -91,7 +95,10 @@ module _ {N : Type 0} (eq : N → N → Bool) where
 
   abbrev pub without_dead_in : (Filesystem N → Bool) → World N → World N
   without_dead_in chosen world =
-      record world { filesystems = map (λ filesystem. only_used world (chosen filesystem) filesystem) world.filesystems }
+      record world {
+        filesystems = map
+            (λ filesystem. only_used world (chosen filesystem) filesystem) world.filesystems;
+      }
 
   -- first the inodes of overlays are removed, then those of plain trees, in which their layers are
   abbrev pub without_dead_inodes : World N → World N

@@ -45,8 +45,8 @@ pub record Reply : Type 0 where
   pub line : ℕ
   pub answer : Result Answer Deny
 
--- The first call of a task's queue under way: how many words were walked, how often it restarted, and the change numbers
--- that it holds: of its task, of its namespace, and of each filesystem on its way, as first met.
+-- The first call of a task's queue under way: how many words were walked, how often it restarted, and the change
+-- numbers that it holds: of its task, of its namespace, and of each filesystem on its way, as first met.
 pub record Progress (N : Type 0) : Type 0 where
   pub task : TaskName
   pub walked : ℕ
@@ -183,7 +183,8 @@ module _ {N : Type 0} (eq : N → N → Bool) where
   routes world task (Rmdir path) = place_route (old_walk eq world task path) ∷ []
   routes world task (Rename old new) =
       place_route (old_leaf_walk eq world task old)
-      ∷ place_route (rename_new_walk eq world task new (rename_from_directory world (old_leaf_walk eq world task old))) ∷ []
+      ∷ place_route (rename_new_walk eq world task new (rename_from_directory world (old_leaf_walk eq world task old)))
+      ∷ []
   routes world task (Chmod path mode) = here_route (object_walk eq world task path) ∷ []
   routes world task (Chown path uid gid) = here_route (object_walk eq world task path) ∷ []
   routes world task (Opaque path mark) = here_route (directory_walk eq world task path) ∷ []
@@ -209,11 +210,13 @@ module _ {N : Type 0} (eq : N → N → Bool) where
 
   abbrev pub namespace_change_of : World N → N → ℕ
   namespace_change_of world number =
-      unwrap_or (option_map (λ namespace. namespace.change) (find (λ namespace. eq number namespace.number) world.namespaces)) last_number
+      unwrap_or (option_map (λ namespace. namespace.change)
+      (find (λ namespace. eq number namespace.number) world.namespaces)) last_number
 
   abbrev pub filesystem_change_of : World N → N → ℕ
   filesystem_change_of world number =
-      unwrap_or (option_map (λ filesystem. filesystem.change) (find (λ filesystem. eq number filesystem.number) world.filesystems)) last_number
+      unwrap_or (option_map (λ filesystem. filesystem.change)
+      (find (λ filesystem. eq number filesystem.number) world.filesystems)) last_number
 
   -- one of the numbers held is another now, or can rise no more
   abbrev pub is_overtaken : World N → Task N → Progress N → Bool
@@ -224,7 +227,8 @@ module _ {N : Type 0} (eq : N → N → Bool) where
 
   abbrev pub hold_one : World N → List (N × ℕ) → N → List (N × ℕ)
   hold_one world held number =
-      if list_any (λ other. eq number other.0) held then held else held ++ ((number, filesystem_change_of world number) ∷ [])
+      if list_any (λ other. eq number other.0) held then held else held
+      ++ ((number, filesystem_change_of world number) ∷ [])
 
   abbrev pub first_progress : World N → Task N → ℕ → Progress N
   first_progress world task restarts = record {
@@ -316,8 +320,8 @@ module _ {N : Type 0} (eq : N → N → Bool) where
   unfoldable pub turn : Sched N → Who → Option (Fresh N) → Turned N
   turn sched who fresh = queue_turn sched who (queue_of sched.queues who) fresh
 
--- The queues of a script. A line that is not of the grammar stands in the queue of its first token, if that names one and
--- the line is not too long.
+-- The queues of a script. A line that is not of the grammar stands in the queue of its first token, if that names one
+-- and the line is not too long.
 abbrev pub queued : ℕ → Who → Item → Who × Queued
 queued number who item = (who, record { line = number; item = item })
 

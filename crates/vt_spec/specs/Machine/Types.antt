@@ -11,8 +11,8 @@ use Rattle.vt_spec.specs.Machine.Receives.{regrouped}
 use Rattle.vt_spec.specs.Machine.World.{World, mount_numbered}
 
 module _ {N : Type 0} where
-  -- The type after a change, where `new` is the number of a new group. A member that becomes a slave has the group that it
-  -- leaves as its master; where it was the last member, `regrouped` gives it that group's heir.
+  -- The type after a change, where `new` is the number of a new group. A member that becomes a slave has the group that
+  -- it leaves as its master; where it was the last member, `regrouped` gives it that group's heir.
   abbrev pub type_after : N → TypeWord → Propagation N → Propagation N
   type_after new ToShared (Shared group) = Shared group
   type_after new ToShared (Slave master) = Shared new
@@ -61,4 +61,5 @@ module _ {N : Type 0} (eq : N → N → Bool) where
 
   abbrev pub with_type : Fresh N → World N → N → TypeWord → Bool → World N
   with_type fresh world number word recursive =
-      retyped world (numbers_by eq fresh (named_mounts world number recursive)) word (named_mounts world number recursive)
+      retyped world (numbers_by eq fresh (named_mounts world number recursive)) word
+      (named_mounts world number recursive)

@@ -9,8 +9,8 @@ use Rattle.vt_spec.specs.Lists.{folded, front_of, fronts, then_some, when}
 use Rattle.vt_spec.specs.Rights.{is_directory}
 use Rattle.vt_spec.specs.Tree.{Entries, Node, entries_in, is_directory_node, kind_of, with_entry}
 
--- The view of a layer: the inode to which each path leads through entries alone, and each inode. A change of a layer is a
--- change of its view.
+-- The view of a layer: the inode to which each path leads through entries alone, and each inode. A change of a layer is
+-- a change of its view.
 pub record View (N : Type 0) : Type 0 where
   pub leads : List (List ℕ) → Option N
   pub node : N → Option (Node N)

@@ -1,5 +1,5 @@
--- Where a path leads: path_resolution(7). A walk is by recursion on the prefixes of its path, and a symlink that is followed
--- is a walk of its own text.
+-- Where a path leads: path_resolution(7). A walk is by recursion on the prefixes of its path, and a symlink that is
+-- followed is a walk of its own text.
 use Rattle.std.specs.Prelude.{Bool, Err, List, None, Ok, Option, Result, Some, [], codes, false, flat_map, if◌then◌else◌, is_some, length, map, nat_lt, not, ok_or, option_map, option_to_list, reverse, suc, true, unwrap_or, zero, ℕ, ◌&&◌, ◌++◌, ◌+◌, ◌-◌, ◌==◌, ◌||◌, ◌∷◌}
 use Rattle.std.specs.List.{list_any}
 use Rattle.std.specs.Str.{bytes_eq}
@@ -60,8 +60,8 @@ name_of Dot = []
 name_of DotDot = []
 name_of (Named name) = name
 
--- Where a walk stands: the place, the symlinks that it may still follow, and for each word walked, the last one first, the
--- filesystems that it met.
+-- Where a walk stands: the place, the symlinks that it may still follow, and for each word walked, the last one first,
+-- the filesystems that it met.
 pub record Here (N : Type 0) : Type 0 where
   pub location : Location N
   pub left : ℕ
@@ -243,8 +243,8 @@ module _ {N : Type 0} (eq : N → N → Bool) where
       then_walk (word_walked looks task reached (last_word word)) (λ next.
       if_symlink next (symlink_text (looks.node next.location)) (follow reached.location next)))
 
-  -- A symlink is a walk of its text from its directory or the task's root, with what is left of the symlinks. Symlinks stand in
-  -- one another's texts no deeper than there are symlinks to follow.
+  -- A symlink is a walk of its text from its directory or the task's root, with what is left of the symlinks. Symlinks
+  -- stand in one another's texts no deeper than there are symlinks to follow.
   abbrev pub symlink_walked : ℕ → Looks N → Task N → Location N → Here N → List ℕ → Result (Here N) (Stop N)
   symlink_walked zero looks task directory link text = Err (record { deny = denial W7; steps = link.steps })
   symlink_walked (suc depth) looks task directory link text =
@@ -373,7 +373,8 @@ module _ {N : Type 0} (eq : N → N → Bool) where
       then_walk (old_walk looks task path) (λ place.
       walk_unless place.steps ((place.slash && not (is_directory_there looks place), W3) ∷ []) place)
 
-  -- The place of a file that is opened or made: a final symlink is followed, also to a missing name: open(2) with O_CREAT
+  -- The place of a file that is opened or made: a final symlink is followed, also to a missing name: open(2) with
+  -- O_CREAT
   abbrev pub entered_mounts : Looks N → Place N → List (Location N)
   entered_mounts looks place =
       if is_special place.last then [] else flat_map looks.mounts_over (option_to_list place.object)

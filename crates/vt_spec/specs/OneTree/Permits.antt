@@ -8,7 +8,8 @@ use Rattle.vt_spec.specs.Tree.{Node}
 pub data Permit (N : Type 0) : Type 0 where
   -- nothing but to say that it is allowed
   Allowed : Permit N
-  -- the names of a directory; what stat tells of an object; bytes of a file or a symlink from an offset on, at most so many
+  -- the names of a directory; what stat tells of an object; bytes of a file or a symlink from an offset on, at most so
+  -- many
   ToList : (directory : N) → Permit N
   ToTell : (object : N) → Permit N
   ToRead : (file : N) → Permit N

@@ -1,5 +1,5 @@
--- The policy in one tree: what each call is permitted, and what it then does. A call is judged by its walks and its tables of
--- rules, and what it is permitted is then done.
+-- The policy in one tree: what each call is permitted, and what it then does. A call is judged by its walks and its
+-- tables of rules, and what it is permitted is then done.
 use Rattle.std.specs.Prelude.{Bool, Err, List, None, Ok, Option, Result, Some, [], drop, false, not, ok_or, take, true, unwrap_or, ◌+◌, ◌++◌, ◌∷◌, ℕ, map}
 use Rattle.vt_spec.specs.declared.attributes.Attr.{Attr}
 use Rattle.vt_spec.specs.declared.errors.Deny.{Deny}
@@ -82,7 +82,8 @@ module _ {N : Type 0} where
   symlink_permit number tree task text path =
       unless (symlink_text_rules text)
       (and_then (new_leaf_walk tree task.credentials path) (λ place.
-      unless (new_rules tree task.credentials place) (Ok (making place number (record { attr = link_attr task; content = Symlink text })))))
+      unless (new_rules tree task.credentials place)
+      (Ok (making place number (record { attr = link_attr task; content = Symlink text })))))
 
   unfoldable pub hard_link_permit : Tree N → Task N → List ℕ → List ℕ → Result (Permit N) Deny
   hard_link_permit tree task old new =
@@ -96,7 +97,8 @@ module _ {N : Type 0} where
   written number tree task place bytes (Some file) =
       unless (rewrite_rules tree task.credentials file bytes) (Ok (ToChange (SetBytes file bytes)))
   written number tree task place bytes None =
-      unless (write_new_rules tree task.credentials place bytes) (Ok (making place number (new_file task file_mode bytes)))
+      unless (write_new_rules tree task.credentials place bytes)
+      (Ok (making place number (new_file task file_mode bytes)))
 
   unfoldable pub write_permit : N → Tree N → Task N → List ℕ → List ℕ → Result (Permit N) Deny
   write_permit number tree task path bytes =
@@ -126,7 +128,11 @@ module _ {N : Type 0} where
   unfoldable pub chown_permit : Tree N → Task N → List ℕ → Option ℕ → Option ℕ → Result (Permit N) Deny
   chown_permit tree task path uid gid =
       and_then (object_walk tree task.credentials path) (λ here.
-      unless ((not (may_chown task.credentials (attr_at tree here.node) (attr_with_owner (attr_at tree here.node) uid gid)), C2) ∷ [])
+      unless ((
+        not (may_chown task.credentials (attr_at tree here.node)
+            (attr_with_owner (attr_at tree here.node) uid gid)),
+        C2,
+      ) ∷ [])
       (Ok (ToChange (SetAttr here.node (attr_with_owner (attr_at tree here.node) uid gid)))))
 
   -- Descriptors
@@ -195,7 +201,8 @@ module _ {N : Type 0} where
   abbrev pub with_child : World N → TaskName → Task N → Task N → World N
   with_child world name task child =
       record world {
-        tasks = map (changed_if_called name (record task { forks = task.forks + 1 })) world.tasks ++ ((child_name name task, child) ∷ []);
+        tasks = map (changed_if_called name (record task { forks = task.forks + 1 })) world.tasks
+            ++ ((child_name name task, child) ∷ []);
       }
 
   abbrev pub descriptor_on : Task N → N → Access → Descriptor N
@@ -217,7 +224,8 @@ module _ {N : Type 0} (eq : N → N → Bool) where
   rename_permit inodes task old new =
       and_then (old_leaf_walk (tree_of inodes) task.credentials old) (λ from.
       unless ((is_special from.last, P1) ∷ [])
-      (and_then (rename_new_walk (tree_of inodes) task.credentials new (is_directory_there (tree_of inodes) from)) (λ to.
+      (and_then (rename_new_walk (tree_of inodes) task.credentials new (is_directory_there (tree_of inodes) from))
+      (λ to.
       unless ((is_special to.last, P1) ∷ [])
       (renamed_by (is_one_object eq (object_there from) to.object) inodes task from to (object_there from)))))
 
@@ -238,12 +246,15 @@ module _ {N : Type 0} (eq : N → N → Bool) where
   judge number inodes name task (Rename old new) = rename_permit inodes task old new
   judge number inodes name task (Chmod path mode) = chmod_permit (tree_of inodes) task path mode
   judge number inodes name task (Chown path uid gid) = chown_permit (tree_of inodes) task path uid gid
-  judge number inodes name task (OpenFile path access creation) = open_permit number (tree_of inodes) task path access creation
+  judge number inodes name task (OpenFile path access creation) =
+      open_permit number (tree_of inodes) task path access creation
   judge number inodes name task (Pread descriptor offset size) = pread_permit task descriptor offset size
-  judge number inodes name task (Pwrite descriptor offset bytes) = pwrite_permit (tree_of inodes) task descriptor offset bytes
+  judge number inodes name task (Pwrite descriptor offset bytes) =
+      pwrite_permit (tree_of inodes) task descriptor offset bytes
   judge number inodes name task (Close descriptor) = close_permit task descriptor
   judge number inodes name task (Umask mode) = Ok (ToSetUmask (permission_bits mode))
-  judge number inodes name task (Drop which) = Ok (ToSetCredentials (with_dropped task.credentials (capabilities_of which task.credentials)))
+  judge number inodes name task (Drop which) =
+      Ok (ToSetCredentials (with_dropped task.credentials (capabilities_of which task.credentials)))
   judge number inodes name task (Fork words) = fork_permit name task words
   judge number inodes name task Exit = Ok ToExit
   judge number inodes name task call = Err (denial S1)
@@ -256,24 +267,29 @@ module _ {N : Type 0} (eq : N → N → Bool) where
   abbrev pub closed : World N → TaskName → Task N → Option (Descriptor N) → World N
   closed world name task None = world
   closed world name task (Some descriptor) =
-      with_inodes (with_task world name (without_descriptor task descriptor.number)) (unpinned eq world.inodes descriptor.file)
+      with_inodes (with_task world name (without_descriptor task descriptor.number))
+      (unpinned eq world.inodes descriptor.file)
 
   abbrev pub spent : World N → TaskName → Task N → Permit N → Outcome N
   spent world name task Allowed = granted Done world
   spent world name task (ToList directory) = granted (Names (names_in (node_at world directory))) world
   spent world name task (ToTell object) = granted (Told (stat_line (node_at world object))) world
   spent world name task (ToRead file) = granted (Bytes (bytes_in (node_at world file))) world
-  spent world name task (ToReadPart file offset size) = granted (Bytes (take size (drop offset (bytes_in (node_at world file))))) world
+  spent world name task (ToReadPart file offset size) =
+      granted (Bytes (take size (drop offset (bytes_in (node_at world file))))) world
   spent world name task (ToChange change) = granted Done (with_inodes world (changed eq world.inodes change))
   spent world name task (ToOpen file access) =
-      granted (Opened (free_number task)) (with_inodes (with_opened world name task file access) (pinned eq world.inodes file))
+      granted (Opened (free_number task))
+      (with_inodes (with_opened world name task file access) (pinned eq world.inodes file))
   spent world name task (ToOpenNew directory entry number node access) =
       granted (Opened (free_number task)) (with_inodes (with_opened world name task number access)
       (pinned eq (with_new eq world.inodes directory entry number node) number))
   spent world name task (ToClose number) = granted Done (closed world name task (descriptor_numbered task number))
   spent world name task (ToSetUmask umask) = granted Done (with_task world name (record task { umask = umask }))
-  spent world name task (ToSetCredentials credentials) = granted Done (with_task world name (record task { credentials = credentials }))
-  spent world name task (ToFork credentials) = granted (Child (child_name name task)) (with_child world name task (child_of task credentials))
+  spent world name task (ToSetCredentials credentials) =
+      granted Done (with_task world name (record task { credentials = credentials }))
+  spent world name task (ToFork credentials) =
+      granted (Child (child_name name task)) (with_child world name task (child_of task credentials))
   spent world name task ToExit =
       granted Done (with_inodes (without_task world name) (without_uses world.inodes task.descriptors))
 

@@ -154,7 +154,11 @@ module _ {N : Type 0} where
   fork_rules name task child =
       (nat_le most_forks task.forks || nat_le deepest_name (length name), S6)
       ∷ (not (child.uid == task.credentials.uid) && lacks task cap_setuid, K1)
-      ∷ (not (child.gid == task.credentials.gid && bytes_eq child.groups task.credentials.groups) && lacks task cap_setgid, K1)
+      ∷ (
+        not (child.gid == task.credentials.gid && bytes_eq child.groups task.credentials.groups)
+            && lacks task cap_setgid,
+        K1,
+      )
       ∷ (lacks task child.capabilities, K1)
       ∷ []
 
@@ -169,10 +173,18 @@ module _ {N : Type 0} (eq : N → N → Bool) where
   abbrev pub rename_rules : Inodes N → Credentials → Place N → Place N → N → Rules
   rename_rules inodes who from to old =
       (not (is_directory_at (tree_of inodes) old) && holds_of (is_directory_at (tree_of inodes)) to.object, E2)
-      ∷ (is_directory_at (tree_of inodes) old && holds_of (λ new. not (is_directory_at (tree_of inodes) new)) to.object, E3)
+      ∷ (
+        is_directory_at (tree_of inodes) old
+            && holds_of (λ new. not (is_directory_at (tree_of inodes) new)) to.object,
+        E3,
+      )
       ∷ (is_directory_at (tree_of inodes) old && holds_of (is_filled (tree_of inodes)) to.object, E4)
       ∷ (is_directory_at (tree_of inodes) old && is_directory_under eq inodes old to.parent, E5)
       ∷ (may_not (tree_of inodes) who from.parent write_right || may_not (tree_of inodes) who to.parent write_right, C1)
       ∷ (changes_parent (tree_of inodes) from to old && may_not (tree_of inodes) who old write_right, C1)
-      ∷ (is_kept (tree_of inodes) who from.parent old || holds_of (is_kept (tree_of inodes) who to.parent) to.object, C3)
+      ∷ (
+        is_kept (tree_of inodes) who from.parent old
+            || holds_of (is_kept (tree_of inodes) who to.parent) to.object,
+        C3,
+      )
       ∷ []

@@ -43,12 +43,13 @@ module _ {N : Type 0} (eq : N → N → Bool) where
   line_step_by false true world line number = Silent
   line_step_by false false world line number = spoken_step world line number
 
-  -- the step of a line, to which a number is handed in for an object that its call may make, or none where memory was refused
+  -- the step of a line, to which a number is handed in for an object that its call may make, or none where memory was
+  -- refused
   abbrev pub line_step : World N → List ℕ → Option N → Step N
   line_step world line number = line_step_by (nat_lt longest_line (length line)) (is_silent line) world line number
 
-  -- Which text may be written for these lines, of which the refused ones are given from the first line on: each line is handed some
-  -- number that is not in use.
+  -- Which text may be written for these lines, of which the refused ones are given from the first line on: each line is
+  -- handed some number that is not in use.
   abbrev pub Tells : World N → ℕ → List (List ℕ) → List Bool → List ℕ → Type 0
   Tells world number [] refused text = text ≡ []
   Tells world number (line ∷ lines) [] text = ⊥
@@ -75,7 +76,8 @@ abbrev pub text_from : World ℕ → ℕ → List (List ℕ) → List Bool → L
 text_from world number [] refused = []
 text_from world number (line ∷ lines) refused =
     step_text number (line_step nat_eq world line (handed number refused))
-    ++ text_from (step_world world (line_step nat_eq world line (handed number refused))) (number + 1) lines (later refused)
+    ++ text_from (step_world world (line_step nat_eq world line (handed number refused))) (number + 1) lines
+    (later refused)
 
 -- the answers to a script: of its lines, those are refused memory whose place in the list is `true`
 unfoldable pub script_text : List Bool → List ℕ → List ℕ

@@ -1,5 +1,5 @@
--- Where a path leads in one tree: path_resolution(7). A walk is by recursion on the prefixes of its path, and a symlink that is
--- followed is a walk of its own text.
+-- Where a path leads in one tree: path_resolution(7). A walk is by recursion on the prefixes of its path, and a symlink
+-- that is followed is a walk of its own text.
 use Rattle.std.specs.Prelude.{Bool, Err, List, None, Ok, Option, Result, Some, [], false, if◌then◌else◌, is_some, length, nat_lt, not, ok_or, reverse, suc, unwrap_or, zero, ◌&&◌, ◌+◌, ◌-◌, ◌==◌, ◌||◌, ◌∷◌, ℕ}
 use Rattle.std.specs.List.{list_any}
 use Rattle.vt_spec.specs.declared.errors.Deny.{Deny}
@@ -20,8 +20,8 @@ pub record Here (N : Type 0) : Type 0 where
   pub node : N
   pub left : ℕ
 
--- where a parent walk ends: the directory, the last word in it, the object there, if any, and whether a slash follows the
--- word; the slashes of a path without words follow none
+-- where a parent walk ends: the directory, the last word in it, the object there, if any, and whether a slash follows
+-- the word; the slashes of a path without words follow none
 pub record Place (N : Type 0) : Type 0 where
   pub parent : N
   pub last : LastWord
@@ -94,8 +94,8 @@ module _ {N : Type 0} where
       and_then (word_walked tree who reached (last_word word)) (λ next.
       if_symlink next (symlink_text (tree.node next.node)) (follow reached.node next)))
 
-  -- A symlink is a walk of its text from its directory or the root, with what is left of the symlinks. Symlinks stand in one another's
-  -- texts no deeper than there are symlinks to follow.
+  -- A symlink is a walk of its text from its directory or the root, with what is left of the symlinks. Symlinks stand
+  -- in one another's texts no deeper than there are symlinks to follow.
   abbrev pub symlink_walked : ℕ → Tree N → Credentials → N → Here N → List ℕ → Result (Here N) Deny
   symlink_walked zero tree who directory link text = Err (denial W7)
   symlink_walked (suc depth) tree who directory link text =
@@ -189,7 +189,8 @@ module _ {N : Type 0} where
       and_then (new_walk tree who path) (λ place.
       unless ((place.slash && not old_is_directory, W3) ∷ []) (Ok place))
 
-  -- The place of a file that is opened or made: a final symlink is followed, also to a missing name: open(2) with O_CREAT
+  -- The place of a file that is opened or made: a final symlink is followed, also to a missing name: open(2) with
+  -- O_CREAT
   abbrev pub symlink_there : Tree N → Place N → Option (List ℕ)
   symlink_there tree place = then_some place.object (λ object. symlink_text (tree.node object))
 
@@ -207,7 +208,8 @@ module _ {N : Type 0} where
       and_then (placed tree who here.node (final_word (reverse (words text))) (slash || ends_in_slash text)) (λ place.
       file_or_symlink place (symlink_there tree place) (λ inner.
       unless (follow_rules (symlink_of here place) inner)
-      (file_walked depth tree who (symlink_start tree here.node (symlink_of here place) inner) inner (slash || ends_in_slash text)))))
+      (file_walked depth tree who (symlink_start tree here.node (symlink_of here place) inner) inner
+      (slash || ends_in_slash text)))))
 
   abbrev pub file_walk : Tree N → Credentials → List ℕ → Result (Place N) Deny
   file_walk tree who path =

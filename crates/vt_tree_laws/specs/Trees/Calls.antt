@@ -36,9 +36,9 @@ mounts_overlay call = false
 abbrev pub OpeningHasTrees : Type 0
 OpeningHasTrees = (fresh : Fresh ℕ) → IsWorldOfTrees (opening nat_eq fresh) × IsStanding (opening nat_eq fresh)
 
--- Every call but the mount of an overlay leaves trees, whether it is granted or refused: mkdir(2), symlink(2), mknod(2),
--- link(2), unlink(2), rmdir(2), rename(2), chmod(2), chown(2), setxattr(2), open(2), write(2), pwrite(2), and those on
--- tasks, namespaces and mounts.
+-- Every call but the mount of an overlay leaves trees, whether it is granted or refused: mkdir(2), symlink(2),
+-- mknod(2), link(2), unlink(2), rmdir(2), rename(2), chmod(2), chown(2), setxattr(2), open(2), write(2), pwrite(2), and
+-- those on tasks, namespaces and mounts.
 abbrev pub CallsKeepTrees : Type 0
 CallsKeepTrees =
     (world : World ℕ) (fresh : Fresh ℕ) (name : TaskName) (call : Call)

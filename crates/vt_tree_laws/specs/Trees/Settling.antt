@@ -17,7 +17,8 @@ pub record HoldsTree (used : List ℕ) (files : FileTree ℕ) : Type 0 where
 -- A tree without the inodes that are not used is a tree: unlink(2), rmdir(2) of what is in use no more.
 abbrev pub ForgettingKeepsTrees : Type 0
 ForgettingKeepsTrees =
-    (used : List ℕ) (files : FileTree ℕ) → HoldsTree used files → IsFileTree files → IsFileTree (only_among nat_eq used files)
+    (used : List ℕ) (files : FileTree ℕ) → HoldsTree used files → IsFileTree files
+    → IsFileTree (only_among nat_eq used files)
 
 -- What is used stays as it was: its attributes, its bytes and its entries.
 abbrev pub UsedStays : Type 0
@@ -29,7 +30,8 @@ UsedStays =
 -- What has a name, is a root, or is where a task, a mount or a layer is, is used.
 abbrev pub NamedIsUsed : Type 0
 NamedIsUsed =
-    (world : World ℕ) (filesystem : Filesystem ℕ) → IsFileTree filesystem.files → HoldsTree (used_in nat_eq world filesystem) filesystem.files
+    (world : World ℕ) (filesystem : Filesystem ℕ) → IsFileTree filesystem.files
+    → HoldsTree (used_in nat_eq world filesystem) filesystem.files
 
 -- What is not used is gone: an inode without names that no location is at.
 abbrev pub UnusedIsGone : Type 0

@@ -26,7 +26,8 @@ is_fit_node node =
     is_no_larger files 0 && has_fit_names files 0 && has_fit_text files 0
 
 abbrev pub is_fit_tree : FileTree ℕ → Bool
-is_fit_tree files = list_all (λ number. is_no_larger files number && has_fit_names files number && has_fit_text files number) files.numbers
+is_fit_tree files = list_all (λ number. is_no_larger files number && has_fit_names files number
+    && has_fit_text files number) files.numbers
 
 -- what a change gives is within the limits
 abbrev pub IsFitChange : Change ℕ → Type 0
@@ -42,7 +43,8 @@ IsFitChange (CopyUp object) = ⊤
 -- A change keeps a tree within the limits: path_resolution(7), ENAMETOOLONG; write(2), EFBIG; symlink(2).
 abbrev pub ChangesKeepSizes : Type 0
 ChangesKeepSizes =
-    (files : FileTree ℕ) (change : Change ℕ) → is_fit_tree files ≡ true → IsFitChange change → is_fit_tree (changed nat_eq files change) ≡ true
+    (files : FileTree ℕ) (change : Change ℕ) → is_fit_tree files ≡ true → IsFitChange change
+    → is_fit_tree (changed nat_eq files change) ≡ true
 
 -- So does what forgets the inodes that nothing uses.
 abbrev pub SettlingKeepsSizes : Type 0

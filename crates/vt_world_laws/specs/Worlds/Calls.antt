@@ -18,7 +18,8 @@ use Rattle.vt_world_laws.specs.Worlds.Permits.{IsFitPermit}
 -- The opening world has the invariants,
 abbrev pub OpeningIsAWorld : Type 0
 OpeningIsAWorld =
-    (fresh : Fresh ℕ) → ((j k : ℕ) → fresh j ≡ fresh k → j ≡ k) → IsWorld nat_eq (opening nat_eq fresh) × IsPlain (opening nat_eq fresh)
+    (fresh : Fresh ℕ) → ((j k : ℕ) → fresh j ≡ fresh k → j ≡ k)
+    → IsWorld nat_eq (opening nat_eq fresh) × IsPlain (opening nat_eq fresh)
 
 -- what is permitted fits the world, with overlays or without,
 abbrev pub AllPermitsFit : Type 0
@@ -30,7 +31,8 @@ AllPermitsFit =
 -- in a world without overlays,
 abbrev pub PermitsFit : Type 0
 PermitsFit =
-    (world : World ℕ) (fresh : Fresh ℕ) (task : Task ℕ) (call : Call) (permit : Permit ℕ) → IsWorld nat_eq world → IsPlain world
+    (world : World ℕ) (fresh : Fresh ℕ) (task : Task ℕ) (call : Call) (permit : Permit ℕ) → IsWorld nat_eq world
+    → IsPlain world
     → Serves nat_eq world fresh → task_called world task.name ≡ Some task → mounts_overlay call ≡ false
     → judge_in nat_eq fresh world task call ≡ Ok permit → IsFitPermit fresh world task permit
 

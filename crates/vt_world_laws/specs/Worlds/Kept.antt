@@ -1,4 +1,5 @@
--- The invariants of a world while a call is under way: after its permit is applied, and before what nothing uses is gone.
+-- The invariants of a world while a call is under way: after its permit is applied, and before what nothing uses is
+-- gone.
 use Rattle.std.specs.Prelude.{All, Some, false, nat_eq, true, ℕ, ◌≡◌}
 use Rattle.std.specs.List.{list_all}
 use Rattle.vt_spec.specs.Machine.Apply.{apply}
@@ -51,4 +52,5 @@ KeptByAllPermits Invariant =
 
 -- Where all hold they do when what nothing uses is gone.
 abbrev pub SettlingLeavesAWorld : Type 0
-SettlingLeavesAWorld = (world : World ℕ) → IsWorldButForUse world → IsWorld nat_eq (settled nat_eq world) × IsPlain (settled nat_eq world)
+SettlingLeavesAWorld = (world : World ℕ) → IsWorldButForUse world
+    → IsWorld nat_eq (settled nat_eq world) × IsPlain (settled nat_eq world)

@@ -1,5 +1,5 @@
--- What the judgement of a call sees to, but of the mount of an overlay: the places at which a permitted call changes something,
--- and the mounts and namespaces that it names, exist. Of a permit that only looks nothing is said.
+-- What the judgement of a call sees to, but of the mount of an overlay: the places at which a permitted call changes
+-- something, and the mounts and namespaces that it names, exist. Of a permit that only looks nothing is said.
 use Rattle.std.specs.Prelude.{None, Some, false, is_some, nat_eq, option_to_list, true, ℕ, ⊤, ◌&&◌, ◌≡◌}
 use Rattle.std.specs.List.{list_all, list_any}
 use Rattle.vt_spec.specs.declared.attributes.Kind.TheVariants.{File}
@@ -18,7 +18,8 @@ use Rattle.vt_spec.specs.Machine.Rules.Mounting.{is_below_mount, lies_under_plac
 use Rattle.vt_spec.specs.Machine.World.{Task, World, is_directory_at, mount_at, mount_numbered, node_at}
 use Rattle.vt_spec.specs.Machine.Invariants.{is_listed, is_located_well}
 
--- what a walk of a task reaches is there, on a mount of the task's namespace or on one that is in none: path_resolution(7)
+-- what a walk of a task reaches is there, on a mount of the task's namespace or on one that is in none:
+-- path_resolution(7)
 pub record IsReached (world : World ℕ) (task : Task ℕ) (location : Location ℕ) : Type 0 where
   pub there : is_located_well nat_eq world location ≡ true
   pub seen : list_all (nat_eq task.namespace) (option_to_list (mount_at nat_eq world location).namespace) ≡ true
@@ -73,7 +74,8 @@ pub record MayPivot (world : World ℕ) (task : Task ℕ) (new : ℕ) (put : Loc
   pub own_root : IsOwn world task task.root.mount
   pub another : nat_eq new task.root.mount ≡ false
   pub put_elsewhere : nat_eq put.mount task.root.mount ≡ false
-  pub below_root : (node : ℕ) → is_below_mount nat_eq (looks_of nat_eq world) task.root.mount (record { mount = new; node = node }) ≡ true
+  pub below_root : (node : ℕ) → is_below_mount nat_eq (looks_of nat_eq world) task.root.mount
+      (record { mount = new; node = node }) ≡ true
   pub put_under : (node : ℕ) → node ≡ (mount_numbered nat_eq world new).root
       → lies_under_place nat_eq (looks_of nat_eq world) (record { mount = new; node = node }) put ≡ true
 
@@ -84,7 +86,8 @@ NamesWhatIsThere world task (ToList directory) = ⊤
 NamesWhatIsThere world task (ToStat object) = ⊤
 NamesWhatIsThere world task (ToRead file) = ⊤
 NamesWhatIsThere world task (ToReadPart file offset size) = ⊤
-NamesWhatIsThere world task (ToChange location change) = IsReached world task location × SetsBytesOfFiles world location change
+NamesWhatIsThere world task (ToChange location change) =
+    IsReached world task location × SetsBytesOfFiles world location change
 NamesWhatIsThere world task (ToMake directory name node) = IsReachedDirectory world task directory
 NamesWhatIsThere world task (ToRemoveDirectory parent name directory) =
     IsReachedDirectory world task parent × IsReachedDirectory world task directory
@@ -111,7 +114,8 @@ NamesWhatIsThere world task (ToBind source place recursive) =
     × (is_unbindable (mount_at nat_eq world source).propagation ≡ false)
 NamesWhatIsThere world task (ToMove mount place) = MayMoveTo world task mount place
 NamesWhatIsThere world task (ToUnmount mount) =
-    IsOwn world task mount × (is_some (mount_numbered nat_eq world mount).mount_point ≡ true) × (is_busy nat_eq world mount ≡ false)
+    IsOwn world task mount × (is_some (mount_numbered nat_eq world mount).mount_point ≡ true)
+    × (is_busy nat_eq world mount ≡ false)
 NamesWhatIsThere world task (ToUnmountLazily mount) =
     IsOwn world task mount × (is_some (mount_numbered nat_eq world mount).mount_point ≡ true)
 NamesWhatIsThere world task (ToSetFlags mount flags) = IsOwn world task mount

@@ -57,7 +57,8 @@ module _ {N : Type 0} (eq : N → N → Bool) where
   mount_plain_outcome fresh world task path flags =
       judged world (admin_rules task)
       (after world (walk_end (destination_walk world task path)) (λ here.
-      judged world (new_mount_rules world task here.location (mounted (odds fresh) world here.location (plain_filesystem fresh) flags))
+      judged world (new_mount_rules world task here.location
+      (mounted (odds fresh) world here.location (plain_filesystem fresh) flags))
       (granted Done (mounted (odds fresh) world here.location (plain_filesystem fresh) flags))))
 
   abbrev pub each_walked : World N → Task N → List (List ℕ) → Result (List (Location N)) Deny
@@ -102,7 +103,8 @@ module _ {N : Type 0} (eq : N → N → Bool) where
       (judged world (new_mount_rules world task place (overlay_mounted fresh world task place places flags))
       (granted Done (overlay_mounted fresh world task place places flags))))
 
-  unfoldable pub mount_overlay_outcome : Fresh N → World N → Task N → List ℕ → Option OverlayWords → MountFlags → Outcome N
+  unfoldable pub mount_overlay_outcome : Fresh N → World N → Task N → List ℕ → Option OverlayWords → MountFlags
+      → Outcome N
   mount_overlay_outcome fresh world task path options flags =
       judged world (admin_rules task)
       (after world (walk_end (destination_walk world task path)) (λ here.
@@ -120,7 +122,8 @@ module _ {N : Type 0} (eq : N → N → Bool) where
       judged world (admin_rules task)
       (after world (walk_end (source_walk world task source)) (λ from.
       after world (walk_end (destination_walk world task path)) (λ here.
-      judged world (bind_rules world task from.location here.location (bound_at fresh world from.location here.location recursive))
+      judged world (bind_rules world task from.location here.location
+      (bound_at fresh world from.location here.location recursive))
       (granted Done (bound_at fresh world from.location here.location recursive)))))
 
   -- mount(2) with MS_MOVE: EINVAL, ELOOP, ENOSPC
@@ -139,7 +142,8 @@ module _ {N : Type 0} (eq : N → N → Bool) where
       judged world (admin_rules task)
       (after world (walk_end (source_walk world task source)) (λ from.
       after world (walk_end (destination_walk world task path)) (λ here.
-      judged world (move_rules world task from.location here.location (moved_to fresh world from.location here.location))
+      judged world (move_rules world task from.location here.location
+      (moved_to fresh world from.location here.location))
       (granted Done (moved_to fresh world from.location here.location)))))
 
   abbrev pub umount_rules : World N → Task N → Location N → Rules
@@ -166,7 +170,8 @@ module _ {N : Type 0} (eq : N → N → Bool) where
   remount_rules world task = Mounting.remount_rules eq (looks_of eq world) task
 
   abbrev pub with_flags : World N → Location N → MountFlags → World N
-  with_flags world here flags = with_mounts world (with_mount eq world.mounts (record (mount_at eq world here) { flags = flags }))
+  with_flags world here flags = with_mounts world
+      (with_mount eq world.mounts (record (mount_at eq world here) { flags = flags }))
 
   unfoldable pub remount_outcome : World N → Task N → List ℕ → MountFlags → Outcome N
   remount_outcome world task path flags =
@@ -194,4 +199,5 @@ module _ {N : Type 0} (eq : N → N → Bool) where
       (after world (walk_end (source_walk world task new)) (λ root.
       after world (walk_end (destination_walk world task put)) (λ here.
       judged world (pivot_rules world task root.location here.location)
-      (granted Done (pivoted eq world task.namespace (mount_at eq world task.root) (mount_at eq world root.location) here.location)))))
+      (granted Done (pivoted eq world task.namespace (mount_at eq world task.root)
+      (mount_at eq world root.location) here.location)))))

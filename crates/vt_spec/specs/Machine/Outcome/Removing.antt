@@ -37,7 +37,8 @@ module _ {N : Type 0} (eq : N → N → Bool) where
       after world (walk_end (old_walk eq world task path)) (λ place.
       judged world (rmdir_word_rules place)
       (judged world (rmdir_rules world task place (object_there place))
-      (granted Done (with_change eq fresh (without_mounts_on eq world (object_there place)) place.parent (removing place (object_there place))))))
+      (granted Done (with_change eq fresh (without_mounts_on eq world (object_there place)) place.parent
+      (removing place (object_there place))))))
 
   abbrev pub rename_new_walk : World N → Task N → List ℕ → Bool → Result (Place N) (Stop N)
   rename_new_walk world task = Removing.rename_new_walk eq (looks_of eq world) task

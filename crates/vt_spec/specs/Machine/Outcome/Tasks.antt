@@ -51,12 +51,16 @@ module _ {N : Type 0} where
 
   abbrev pub with_child : World N → Task N → Task N → World N
   with_child world task child =
-      record world { tasks = map (replaced_if_called (record task { forks = task.forks + 1 })) world.tasks ++ (child ∷ []) }
+      record world {
+        tasks = map (replaced_if_called (record task { forks = task.forks + 1 })) world.tasks
+            ++ (child ∷ []);
+      }
 
   unfoldable pub fork_outcome : World N → Task N → Option ForkWords → Outcome N
   fork_outcome world task words =
       judged world (fork_rules task (child_credentials task.credentials words))
-      (granted (Child (child_name task)) (with_child world task (child_of task (child_credentials task.credentials words))))
+      (granted (Child (child_name task))
+      (with_child world task (child_of task (child_credentials task.credentials words))))
 
   -- umask(2)
   unfoldable pub umask_outcome : World N → Task N → ℕ → Outcome N

@@ -1,4 +1,4 @@
-//! What is done with a permit. All memory that a change takes is taken before the change.
+//! Applies the change that a permit grants. All memory that a change takes is taken before the change.
 ghost use Rattle.vt_calls.specs.Permitted.{EndsGiven, IsGiven};
 
 use crate::descriptors::change_descriptors;
@@ -13,9 +13,9 @@ use vt_permits::Permit;
 use vt_request::{Answer, TaskName};
 use vt_spec::errors::Deny;
 
-// Does what a permit allows. S5 (ENOMEM): an allocation failed, or a count of uses is full; nothing has changed.
+// Applies the change that a permit grants. S5 (ENOMEM): an allocation failed, or a count of uses is full; nothing has changed.
 #[inline(always)]
-pub(crate) fn spend(world: &mut World, name: &TaskName, permit: Permit) -> Result<Answer, Deny>
+pub(crate) fn apply(world: &mut World, name: &TaskName, permit: Permit) -> Result<Answer, Deny>
     requires { IsGiven world.old name.now permit }
     ensures { EndsGiven world.old name.now permit result world.new }
 {
