@@ -17,9 +17,11 @@ use Rattle.vt_spec.specs.Machine.World.{Task, task_called}
 use Rattle.vt_permits.specs.Allocating.{TakesMemory}
 use Rattle.vt_permits.specs.Memory.{JudgesAlike, JudgesByReceivers}
 use Rattle.vt_permits.specs.PermitValue.{permit_of}
+use Rattle.vt_location.specs.Numbers.{counted}
 use Rattle.vt_permits.specs.declared.permit.Permit as code
+use Rattle.vt_spec.specs.Machine.Permits as permits
 use Rattle.vt_permits.specs.declared.permit.Permit.TheVariants.{ToSetType}
-use Rattle.vt_spec.specs.Language.Script.{is_grouped_type}
+use Rattle.vt_permit_laws.specs.Steps.{makes_shared}
 use Rattle.vt_location.specs.declared.numbers.MountId.{MountId}
 use Rattle.vt_request.specs.Answers.{answer_of}
 use Rattle.vt_request.specs.Requests.{type_word_of}
@@ -32,7 +34,7 @@ use Rattle.vt_detach.specs.Events.{Becomes, Permits, left_by, supply_of}
 use Rattle.vt_detach.specs.Held.{IsHeld}
 use Rattle.vt_detach.specs.WorldValue.{WorldValue, world_of}
 use Rattle.vt_calls.proofs.Finishing.{answers, grants, leaves, refuses}
-use Rattle.vt_calls.proofs.Forms.{frees, is_free, types, ungroups}
+use Rattle.vt_calls.proofs.Forms.{frees, is_free, types}
 use Rattle.vt_calls.proofs.Supplies.{AreVacant, allotted, counts, judged_with, permits}
 use Rattle.vt_calls.specs.Answered.{answered}
 use Rattle.vt_answers.specs.Ends.{MayBeRefusedMemory}
@@ -205,20 +207,27 @@ module _ (old : WorldValue) (name : TaskName) (permit arm : code.Permit) (meant 
   changed new (Err deny) result e vacant told taken becomes memory same =
       subst (λ r. EndsGiven old name permit r new) (sym e) (short new deny memory same taken)
 
--- The type of a mount that the grammar lets a call set: one mount's, and in no group
+  -- or one that allocates in some cases alone
+  pub changed_if : (new : WorldValue) (change : Result ⊤ Deny) (result : Result Answer Deny) → result ≡ answered change
+      → AreVacant old meant
+      → ((task : Task ℕ) → task_called (world_of old) name ≡ Some task
+      → (apply nat_eq (supply_of old meant) (world_of old) task meant).answer ≡ Ok (answer_of Done))
+      → (P : Type 0) → (P → is_free meant ≡ false) → OnErr change P → OnOk change (Becomes old name meant new)
+      → IfErr change (λ deny. deny ≡ denial S5) → OnErr change (new ≡ old) → EndsGiven old name permit result new
+  changed_if new (Ok done) result e vacant told P taken when becomes memory same =
+      subst (λ r. EndsGiven old name permit r new) (sym e) (made new Done vacant told becomes)
+  changed_if new (Err deny) result e vacant told P taken when becomes memory same =
+      subst (λ r. EndsGiven old name permit r new) (sym e) (short new deny memory same (taken when))
 
-both_false : (a b : Bool) → not (a || b) ≡ true → (a ≡ false) × (b ≡ false)
-both_false true b e = absurd cc
-both_false false true e = absurd cc
-both_false false false e = (refl, refl)
+-- The grammar lets no call make a mount shared
 
-pub simple_type : (old : WorldValue) (name : TaskName) (permit : code.Permit) (mount : MountId) (word : TypeWord) (recursive : Bool)
+pub unshared_type : (old : WorldValue) (name : TaskName) (permit : code.Permit) (mount : MountId) (word : TypeWord) (recursive : Bool)
     → permit ≡ ToSetType mount word recursive → IsGiven old name permit
-    → (is_grouped_type (type_word_of word) ≡ false) × (recursive ≡ false)
-simple_type old name permit mount word recursive is given =
+    → makes_shared (permits.Permit.ToSetType (counted mount.count) (type_word_of word) recursive) ≡ false
+unshared_type old name permit mount word recursive is given =
     let asked = given.1 in
     let fresh = counts_from old.next in
-    let fits : ungroups (permit_of asked.task permit) ≡ true =
+    let fits : makes_shared (permit_of asked.task permit) ≡ false =
     types (looks_of nat_eq (world_of old)) (overfills nat_eq fresh (world_of old) asked.task) asked.task given.0
     (permit_of asked.task permit) asked.judged asked.has in
-    both_false (is_grouped_type (type_word_of word)) recursive (ap (λ p. ungroups (permit_of asked.task p)) (sym is) ∙ fits)
+    ap (λ p. makes_shared (permit_of asked.task p)) (sym is) ∙ fits

@@ -15,7 +15,7 @@ use Rattle.vt_spec.specs.Language.Script.Who.{Nobody, Someone}
 use Rattle.vt_line.specs.declared.calls.ReadError.{ReadError}
 use Rattle.vt_line.specs.declared.calls.ReadError.TheVariants.{Grammar, Memory}
 use Rattle.vt_line.specs.declared.names.CallName.{CallName}
-use Rattle.vt_line.specs.declared.names.CallName.TheVariants.{Chmod, Chown, Close, Drop, Exit, Fork, Mkdir, Mount, Mounts, Open, Pair, Path, Pread, Pwrite, Remount, SetType, Setns, Umask, Unshare, Write}
+use Rattle.vt_line.specs.declared.names.CallName.TheVariants.{Chmod, Chown, Close, Drop, Exit, Fork, Mkdir, Mount, Mounts, Open, Pair, Path, Pread, Pwrite, Remount, SetType, SetTypeRecursive, Setns, Umask, Unshare, Write}
 use Rattle.vt_line.specs.declared.names.PairCall.{PairCall}
 use Rattle.vt_line.specs.declared.names.PairCall.TheVariants as pair
 use Rattle.vt_line.specs.declared.names.PathCall.{PathCall}
@@ -232,6 +232,7 @@ name-known Setns = refl
 name-known Mount = refl
 name-known Remount = refl
 name-known SetType = refl
+name-known SetTypeRecursive = refl
 name-known Mounts = refl
 
 call-asked : (task : List ℕ) (name : CallName) (words : List (List ℕ)) →

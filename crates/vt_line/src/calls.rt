@@ -101,7 +101,8 @@ pub fn call(alloc: Global, name: CallName, words: Words<'_>) -> Result<Call, Rea
         CallName::Setns => tasks::setns(alloc, words),
         CallName::Mount => mounting::mount(alloc, words),
         CallName::Remount => mounting::remount(alloc, words),
-        CallName::SetType => mounting::set_type(alloc, words),
+        CallName::SetType => mounting::set_type(alloc, words, false),
+        CallName::SetTypeRecursive => mounting::set_type(alloc, words, true),
         CallName::Mounts => words
             .end()
             .map(|()| Call::ListMounts)

@@ -113,6 +113,7 @@ pub enum CallName {
     Mount,
     Remount,
     SetType,
+    SetTypeRecursive,
     Mounts,
 }
 
@@ -193,6 +194,7 @@ impl CallName {
             b"lazy" => CallName::Path(PathCall::Lazy),
             b"remount" => CallName::Remount,
             b"type" => CallName::SetType,
+            b"rtype" => CallName::SetTypeRecursive,
             b"mounts" => CallName::Mounts,
             b"chdir" => CallName::Path(PathCall::Chdir),
             b"chroot" => CallName::Path(PathCall::Chroot),

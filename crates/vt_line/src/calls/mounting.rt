@@ -1,5 +1,5 @@
 //! The calls on mounts that are given more than paths.
-ghost use Rattle.std.specs.Prelude.{◌≡◌, option_map, false};
+ghost use Rattle.std.specs.Prelude.{◌≡◌, option_map, false, true};
 ghost use Rattle.vt_spec.specs.Language.Calls.Call.{MountPlain, Remount, SetType};
 ghost use Rattle.vt_cred.specs.MountFlags.{flags_of};
 ghost use Rattle.vt_request.specs.Requests.{type_word_of};
@@ -38,17 +38,19 @@ fn remount_words(mut words: Words<'_>) -> Option<(&[u8], MountFlags)>
     Some((path, flags))
 }
 
-/// The words of `type PATH private` and `type PATH unbindable`. The product has no peer groups.
+/// The words of `type PATH TYPE` and `rtype PATH TYPE`. The product has no shared mounts.
 fn type_words(mut words: Words<'_>) -> Option<(&[u8], TypeWord)>
-    ensures { option_map (λ w. SetType w.0.now (type_word_of w.1) false) result
+    ensures one { option_map (λ w. SetType w.0.now (type_word_of w.1) false) result
         ≡ call_named CallName.SetType words.entry }
+    ensures recursive { option_map (λ w. SetType w.0.now (type_word_of w.1) true) result
+        ≡ call_named CallName.SetTypeRecursive words.entry }
 {
     let path = path_word(words.next()?)?;
     let word = type_word(words.next()?)?;
     words.end()?;
     match word {
-        TypeWord::Private | TypeWord::Unbindable => Some((path, word)),
-        TypeWord::Shared | TypeWord::Slave => None,
+        TypeWord::Slave | TypeWord::Private | TypeWord::Unbindable => Some((path, word)),
+        TypeWord::Shared => None,
     }
 }
 
@@ -74,9 +76,10 @@ pub fn remount(alloc: Global, words: Words<'_>) -> Result<Call, ReadError>
     Ok(Call::Remount { path, flags })
 }
 
-/// `type PATH TYPE`.
-pub fn set_type(alloc: Global, words: Words<'_>) -> Result<Call, ReadError>
-    ensures { IsCallRead (call_named CallName.SetType words.entry) result }
+/// `type PATH TYPE`, and `rtype PATH TYPE`, which is recursive.
+pub fn set_type(alloc: Global, words: Words<'_>, recursive: bool) -> Result<Call, ReadError>
+    ensures one { recursive ≡ false → IsCallRead (call_named CallName.SetType words.entry) result }
+    ensures recursive { recursive ≡ true → IsCallRead (call_named CallName.SetTypeRecursive words.entry) result }
 {
     let Some((path, word)) = type_words(words) else {
         return Err(ReadError::Grammar);
@@ -85,6 +88,6 @@ pub fn set_type(alloc: Global, words: Words<'_>) -> Result<Call, ReadError>
     Ok(Call::SetType {
         path,
         word,
-        recursive: false,
+        recursive,
     })
 }

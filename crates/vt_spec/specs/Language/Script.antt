@@ -450,27 +450,27 @@ files = record {
 abbrev pub mounting_call_names : List (List ℕ)
 mounting_call_names =
     codes "mount" ∷ codes "bind" ∷ codes "rbind" ∷ codes "move" ∷ codes "umount" ∷ codes "lazy" ∷ codes "remount"
-    ∷ codes "type" ∷ codes "mounts" ∷ codes "chdir" ∷ codes "chroot" ∷ codes "unshare" ∷ codes "setns" ∷ []
+    ∷ codes "type" ∷ codes "rtype" ∷ codes "mounts" ∷ codes "chdir" ∷ codes "chroot" ∷ codes "unshare" ∷ codes "setns" ∷ []
 
--- a type whose mounts stand in groups
-abbrev pub is_grouped_type : TypeWord → Bool
-is_grouped_type ToShared = true
-is_grouped_type ToSlave = true
-is_grouped_type ToPrivate = false
-is_grouped_type ToUnbindable = false
+-- a type whose mounts are members of groups
+abbrev pub is_shared_type : TypeWord → Bool
+is_shared_type ToShared = true
+is_shared_type ToSlave = false
+is_shared_type ToPrivate = false
+is_shared_type ToUnbindable = false
 
--- Without overlays and groups: a type is one that groups no mounts, and is set for one mount at a time.
-abbrev pub needs_no_layers_or_groups : Call → Bool
-needs_no_layers_or_groups (MountOverlay path options given) = false
-needs_no_layers_or_groups (SetType path word recursive) = not (is_grouped_type word || recursive)
-needs_no_layers_or_groups call = true
+-- without overlays and without shared mounts
+abbrev pub needs_no_layers_or_sharing : Call → Bool
+needs_no_layers_or_sharing (MountOverlay path options given) = false
+needs_no_layers_or_sharing (SetType path word recursive) = not (is_shared_type word)
+needs_no_layers_or_sharing call = true
 
 -- the calls on files, tasks, mounts and namespaces, which the product has today
 abbrev pub namespaces : Grammar
 namespaces = record {
   version = One;
   knows = λ name. list_any (bytes_eq name) (file_call_names ++ mounting_call_names);
-  has = needs_no_layers_or_groups;
+  has = needs_no_layers_or_sharing;
   directs = λ name. false;
 }
 

@@ -1,10 +1,10 @@
-use Rattle.std.proofs.Common.{ap, false, refl}
+use Rattle.std.proofs.Common.{◌≡◌, ap, not, refl, true}
 use Rattle.vt_cred.specs.MountFlags.{flags_of}
 use Rattle.vt_location.specs.Locations.{location_of}
 use Rattle.vt_location.specs.Numbers.{counted}
 use Rattle.vt_request.specs.Requests.{type_word_of}
 use Rattle.vt_spec.specs.Machine.Permits.Permit.{ToBind, ToMountPlain, ToMove, ToSetFlags, ToSetType, ToUnmount, ToUnmountLazily}
-use Rattle.vt_calls.proofs.Endings.{changed, made, permitted, simple_type}
+use Rattle.vt_calls.proofs.Endings.{changed, changed_if, made, permitted, unshared_type}
 use Rattle.vt_calls.proofs.mounting.change_mounts.Goals as goal
 
 pub mount_plain-requires : goal.mount_plain-requires
@@ -70,18 +70,15 @@ returns-in-ToSetFlags c =
 
 pub set_type-requires-clause-permitted : goal.set_type-requires-clause-permitted
 set_type-requires-clause-permitted c =
-    let simple = simple_type c.args.world.now c.args.name.now c.args.permit _ _ _ c.in-ToSetType.is c.requires.given in
-    permitted c.args.world.now c.args.name.now c.args.permit _ _ c.in-ToSetType.is
-    (λ task called. ap (ToSetType (counted c.in-ToSetType.mount.count) (type_word_of c.in-ToSetType.word)) simple.1) tt c.requires.given
+    permitted c.args.world.now c.args.name.now c.args.permit _ _ c.in-ToSetType.is (λ task called. refl) tt c.requires.given
 
-pub set_type-requires-clause-ungrouped : goal.set_type-requires-clause-ungrouped
-set_type-requires-clause-ungrouped c =
-    (simple_type c.args.world.now c.args.name.now c.args.permit _ _ _ c.in-ToSetType.is c.requires.given).0
+pub set_type-requires-clause-unshared : goal.set_type-requires-clause-unshared
+set_type-requires-clause-unshared c =
+    unshared_type c.args.world.now c.args.name.now c.args.permit _ _ _ c.in-ToSetType.is c.requires.given
 
 pub returns-in-ToSetType : goal.returns-in-ToSetType
 returns-in-ToSetType c =
-    let simple = simple_type c.args.world.now c.args.name.now c.args.permit _ _ _ c.in-ToSetType.is c.requires.given in
-    made c.args.world.now c.args.name.now c.args.permit _ (ToSetType (counted c.in-ToSetType.mount.count)
-    (type_word_of c.in-ToSetType.word) false) c.in-ToSetType.is
-    (λ task called. ap (ToSetType (counted c.in-ToSetType.mount.count) (type_word_of c.in-ToSetType.word)) simple.1) _ _ tt
-    (λ task called. refl) c.set_type.ensures
+    changed_if c.args.world.now c.args.name.now c.args.permit _ (ToSetType (counted c.in-ToSetType.mount.count)
+    (type_word_of c.in-ToSetType.word) c.in-ToSetType.recursive) c.in-ToSetType.is (λ task called. refl) _ c.set_type.result
+    c.done-in-ToSetType.result c.done-in-ToSetType.ensures tt (λ task called. refl) (c.in-ToSetType.recursive ≡ true) (ap not)
+    c.set_type.ensures.one c.set_type.ensures.ok c.set_type.ensures.memory c.set_type.ensures.err
