@@ -185,30 +185,35 @@ impl Groups {
         ended
     }
 
-    /// Those of these mounts that are members of a group become slaves of it at once; then the groups without members
-    /// end. It does not allocate.
-    pub fn make_slaves(&mut self, mounts: &[MountId])
-        ensures { Retypes self.old self.new ToSlave (map (λ mount. counted mount.count) mounts.now) }
+    /// Those of these mounts that are members of a group become slaves of it at once; then the groups without members end.
+    /// Tells whether any is a member. It does not allocate.
+    pub fn make_slaves(&mut self, mounts: &[MountId]) -> bool
+        ensures slaves { Retypes self.old self.new ToSlave (map (λ mount. counted mount.count) mounts.now) }
+        ensures same { result ≡ false → self.new ≡ self.old }
     {
+        let mut changed = false;
         for mount in mounts {
-            self.make_slave_of_own(*mount);
+            changed |= self.make_slave_of_own(*mount);
         }
+        changed
     }
 
-    // A mount becomes a slave of the group that it is in, if it is in one.
-    fn make_slave_of_own(&mut self, mount: MountId)
+    // A mount becomes a slave of the group that it is in. Tells whether it is in one.
+    fn make_slave_of_own(&mut self, mount: MountId) -> bool
         ensures member { (group : ℕ) → propagation_in self.old (counted mount.count) ≡ SharedIn group
             → self.new ≡ retyped (counted mount.count) (SlaveOf group) self.old }
         ensures other { group_of (propagation_in self.old (counted mount.count)) ≡ None → self.new ≡ self.old }
+        ensures same { result ≡ false → self.new ≡ self.old }
     {
         let Some(kind) = self.propagation_of(mount) else {
-            return;
+            return false;
         };
         let Some(group) = own_group(kind) else {
-            return;
+            return false;
         };
         // It cannot fail: the mount has a type.
         let _ = self.set(mount, Propagation::Slave(group));
+        true
     }
 
     /// Mounts get the types that they have here, and new groups their masters, in whatever order they come: an

@@ -69,15 +69,15 @@ abbrev told : Grouping → ℕ → Propagation ℕ → Propagation ℕ
 told now number kind = if is_unbindable kind then Unbindable else propagation_in now number
 
 pub slaves_retyped : (numbers : List ℕ) (before now : Grouping) (old new : List MountEntry) → Retypes before now ToSlave numbers
-    → FollowsTypes before now numbers old new → IsRetyped ToSlave numbers before now old new
+    → FollowsTypes before now [] old new → IsRetyped ToSlave numbers before now old new
 slaves_retyped numbers before now old new retypes follows = record {
   seen = λ world group named seen there same lacks.
       slaves_are_seen world group named old new before now seen there lacks
       (subst (Retypes before now ToSlave) (sym same) retypes)
-      (subst (λ some. FollowsTypes before now some old new) (sym same) follows);
+      follows;
   kinds = λ world seen. (
     told now,
-    follows (are_typed world old before seen numbers old (λ mount. mount) (seen.mounts ∙ unchanged world.mounts) (λ mount apart. (refl, refl))),
+    follows (are_typed world old before seen [] old (λ mount. mount) (seen.mounts ∙ unchanged world.mounts) (λ mount apart. (refl, refl))),
   );
 }
   where

@@ -107,3 +107,9 @@ left_typed before now numbers alone entries none typed =
     by entry m false e =
         (λ i. with_kind (if is_unbindable entry.mount.propagation then Unbindable else told_now entry.mount.number false e i) entry)
         ∙ among_from_all (λ (one : MountEntry). is_among nat_eq one.mount.number numbers ≡ false → typed_entry before one ≡ one) entries typed entry m e
+
+-- where each mount has the type that the groups tell, it has it
+pub typed_already : (groups : Grouping) (entries : List MountEntry) → AreTyped groups [] entries → entries ≡ map (typed_entry groups) entries
+typed_already groups entries typed =
+    sym (map_same (typed_entry groups) entries (λ entry m.
+    among_from_all (λ (one : MountEntry). is_among nat_eq one.mount.number [] ≡ false → typed_entry groups one ≡ one) entries typed entry m refl))

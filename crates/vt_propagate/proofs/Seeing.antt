@@ -153,7 +153,7 @@ slaves_are_seen world group named kept after before now seen there lacks retypes
     ∙ sym (map-twice (typed_by now) (retyped_mount nat_eq group ToSlave named) world.mounts))
     (retypes world group named seen.groups seen.living refl lacks)
     (retyped_live world seen.living group ToSlave named there lacks)
-    (follows (are_typed world kept before seen (numbers_of named) kept (λ mount. mount) (seen.mounts ∙ unchanged world.mounts)
+    (follows (are_typed world kept before seen [] kept (λ mount. mount) (seen.mounts ∙ unchanged world.mounts)
     (λ mount apart. (refl, refl))))
   where
     same : (new : ℕ) (kind : Propagation ℕ) → is_unbindable kind ≡ is_unbindable (type_after new ToSlave kind)

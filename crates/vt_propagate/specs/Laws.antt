@@ -1,6 +1,6 @@
 -- What mounts and groups that change together are seen as: where they were a world's, they are the definitions' world
 -- after it.
-use Rattle.std.specs.Prelude.{All, Contains, List, map, nat_eq, ℕ, ◌≡◌}
+use Rattle.std.specs.Prelude.{All, Contains, List, [], map, nat_eq, ℕ, ◌≡◌}
 use Rattle.vt_spec.specs.Language.Calls.{TypeWord}
 use Rattle.vt_spec.specs.Language.Calls.TypeWord.{ToShared, ToSlave}
 use Rattle.vt_spec.specs.Machine.Detach.{taken_away}
@@ -38,7 +38,7 @@ abbrev pub SlavesAreSeen : Type 0
 SlavesAreSeen =
     (world : World ℕ) (group : ℕ → ℕ) (named : List (Mount ℕ)) (kept after : List MountEntry) (before now : Grouping)
     → IsSeen world kept before → All (Contains world.mounts) named → ((number : ℕ) → LacksGroup world (group number))
-    → Retypes before now ToSlave (numbers_of named) → FollowsTypes before now (numbers_of named) kept after
+    → Retypes before now ToSlave (numbers_of named) → FollowsTypes before now [] kept after
     → IsSeen (retyped nat_eq world group ToSlave named) after now
 
 -- Mounts become shared, each that is not shared yet as the first member of a group of its own.

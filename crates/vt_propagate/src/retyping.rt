@@ -3,7 +3,7 @@
 //!
 //! The type of a mount is kept twice, in the mounts and in the groups. These functions change both; where a group ends,
 //! they set the types of the slaves that it leaves.
-ghost use Rattle.std.specs.Prelude.{◌≡◌, if◌then◌else◌, IfErr, OnErr, OnOk, map};
+ghost use Rattle.std.specs.Prelude.{[], ◌≡◌, if◌then◌else◌, IfErr, OnErr, OnOk, map};
 ghost use Rattle.vt_spec.specs.declared.errors.Rule.TheVariants.{S5};
 ghost use Rattle.vt_spec.specs.Errors.{denial};
 ghost use Rattle.vt_spec.specs.Language.Calls.TypeWord.{ToPrivate, ToSlave, ToUnbindable};
@@ -40,10 +40,12 @@ pub fn leave_all(mounts: &mut Mounts, groups: &mut Groups, ids: &[MountId])
 /// It does not allocate.
 pub fn make_slaves(mounts: &mut Mounts, groups: &mut Groups, ids: &[MountId])
     ensures groups { Retypes groups.old groups.new ToSlave (map (λ id. counted id.count) ids.now) }
-    ensures types { FollowsTypes groups.old groups.new (map (λ id. counted id.count) ids.now) mounts.old mounts.new }
+    ensures types { FollowsTypes groups.old groups.new [] mounts.old mounts.new }
 {
-    groups.make_slaves(ids);
-    follow(mounts, groups);
+    // Where none is a member, no mount gets another type.
+    if groups.make_slaves(ids) {
+        follow(mounts, groups);
+    }
 }
 
 /// All these mounts become shared at once, unbindable ones too. One that is not shared yet is the first member of a new

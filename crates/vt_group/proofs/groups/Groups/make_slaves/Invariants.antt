@@ -1,4 +1,4 @@
-use Rattle.std.proofs.Common.{ℕ, map, nat_eq, take}
+use Rattle.std.proofs.Common.{◌≡◌, ℕ, false, map, nat_eq, take}
 use Rattle.vt_spec.specs.Machine.Receives.{regrouped}
 use Rattle.vt_spec.specs.Machine.World.{World}
 use Rattle.vt_location.specs.Numbers.{counted}
@@ -8,6 +8,7 @@ use Rattle.vt_group.proofs.groups.Groups.make_slaves.Given as goal
 
 abbrev pub invariant-loop-mount : goal.invariant-loop-mount
 invariant-loop-mount l =
-    (world : World ℕ) → Has world l.initial.self → GroupsLive world
+    ((world : World ℕ) → Has world l.initial.self → GroupsLive world
     → Has (regrouped nat_eq (with_changed as_slave world (map (λ mount. counted mount.count)
-    (take l.mount-index l.mounts)))) l.self
+    (take l.mount-index l.mounts)))) l.self)
+    × (l.changed ≡ false → l.self ≡ l.initial.self)
