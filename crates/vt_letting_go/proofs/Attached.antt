@@ -31,7 +31,8 @@ swapped_all [] mounts = all_same mounts
     all_same [] = refl
     all_same (x ∷ xs) = ap (λ l. x ∷ l) (all_same xs)
 swapped_all (copy ∷ copied) mounts =
-    swapped_all copied (with_mount nat_eq mounts copy) ∙ map_twice (swapped copied) (replaced_if_same nat_eq copy) mounts
+    swapped_all copied (with_mount nat_eq mounts copy)
+    ∙ map_twice (swapped copied) (replaced_if_same nat_eq copy) mounts
 
 -- a mount is as it was, and none has its number, or it is one of its number
 abbrev Swapped : List (Mount ℕ) → Mount ℕ → Mount ℕ → Type 0
@@ -66,7 +67,8 @@ masters_stay (one ∷ made) master group none =
     ∙ ap (λ b. cond b one.1 (master group)) (none one (inl refl))
 
 module _ (world : World ℕ) (filesystems : List (Filesystem ℕ)) (new : Copies ℕ) (place : Location ℕ) (moves : Bool)
-    (first : Mount ℕ) (rest : List (Mount ℕ)) (in_use : AllInUse world) (stand : MountsStand world) (located_well : LocationsStand world)
+    (first : Mount ℕ) (rest : List (Mount ℕ)) (in_use : AllInUse world) (stand : MountsStand world)
+    (located_well : LocationsStand world)
     (at_attached : is_some (mount_at nat_eq world place).namespace ≡ true)
     (of_world : moves ≡ true → (mount : Mount ℕ) → Among mount (first ∷ rest) → Among mount world.mounts) where
   abbrev base : World ℕ
@@ -128,14 +130,16 @@ module _ (world : World ℕ) (filesystems : List (Filesystem ℕ)) (new : Copies
   old_mounts = ap (map push) went_all ∙ map_twice push went world.mounts
 
   -- each copy is of a mount of the tree
-  copied : (part x : Mount ℕ) → Among x (copies part) → (origin : Mount ℕ) × Among origin origins × (x ≡ copy part origin)
+  copied : (part x : Mount ℕ) → Among x (copies part)
+      → (origin : Mount ℕ) × Among origin origins × (x ≡ copy part origin)
   copied part x m =
       let from = among-from_map (copy_at nat_eq base new tree parts part) tree.twigs x m in
       let origin = among-from_map twig origins from.0 from.1 in
       (origin.0, origin.1, from.2 ∙ ap (copy_at nat_eq base new tree parts part) origin.2)
 
   copy_there : (part origin : Mount ℕ) → Among origin origins → Among (copy part origin) (copies part)
-  copy_there part origin m = among-map (copy_at nat_eq base new tree parts part) tree.twigs (twig origin) (among-map twig origins origin m)
+  copy_there part origin m = among-map (copy_at nat_eq base new tree parts part) tree.twigs (twig origin)
+      (among-map twig origins origin m)
 
   -- mounts afterwards
   abbrev mounts_by : List (Mount ℕ) → List (Mount ℕ)
@@ -144,7 +148,8 @@ module _ (world : World ℕ) (filesystems : List (Filesystem ℕ)) (new : Copies
   old_there : (mount : Mount ℕ) → Among mount world.mounts → Among (last mount) after.mounts
   old_there mount m =
       subst (λ old. Among (last mount) (mounts_by old)) (sym old_mounts)
-      (among-append_left (map last world.mounts ++ added_mounts moves (copies destination)) (flat_map copies (rest_of parts)) (last mount)
+      (among-append_left (map last world.mounts ++ added_mounts moves (copies destination))
+      (flat_map copies (rest_of parts)) (last mount)
       (among-append_left (map last world.mounts) (added_mounts moves (copies destination)) (last mount)
       (among-map last world.mounts mount m)))
 
@@ -158,7 +163,8 @@ module _ (world : World ℕ) (filesystems : List (Filesystem ℕ)) (new : Copies
   -- each is one of before, a copy at the destination, or a copy at a receiver
   data Comes (x : Mount ℕ) : Type 0 where
     was : (mount : Mount ℕ) → Among mount world.mounts → x ≡ last mount → Comes x
-    came : (part origin : Mount ℕ) → is_some part.namespace ≡ true → Among origin origins → x ≡ copy part origin → Comes x
+    came : (part origin : Mount ℕ) → is_some part.namespace ≡ true → Among origin origins → x ≡ copy part origin
+        → Comes x
 
   added_from : (b : Bool) (x : Mount ℕ) → Among x (added_mounts b (copies destination)) → Among x (copies destination)
   added_from true x m = absurd m
@@ -181,7 +187,8 @@ module _ (world : World ℕ) (filesystems : List (Filesystem ℕ)) (new : Copies
       ⊎_elim
       (λ front. ⊎_elim
       (λ before. let from = among-from_map last world.mounts x before in was from.0 from.1 from.2)
-      (λ added. let from = copied destination x (added_from moves x added) in came destination from.0 at_attached from.1 from.2)
+      (λ added. let from = copied destination x
+      (added_from moves x added) in came destination from.0 at_attached from.1 from.2)
       (among-append old (added_mounts moves (copies destination)) x front))
       (λ receiver. let part = among-from_flat_map copies (rest_of parts) x receiver in
       let from = copied part.0 x part.2 in
@@ -198,7 +205,8 @@ module _ (world : World ℕ) (filesystems : List (Filesystem ℕ)) (new : Copies
 
   keeps_number : moves ≡ true → (origin : Mount ℕ) → (copy destination origin).number ≡ origin.number
   keeps_number e origin =
-      ap (λ b. cond (b && is_destination nat_eq tree destination.number) origin.number (new.copy destination.number origin.number)) e
+      ap (λ b. cond (b && is_destination nat_eq tree destination.number) origin.number
+      (new.copy destination.number origin.number)) e
       ∙ ap (λ b. cond b origin.number (new.copy destination.number origin.number)) at_its_number
 
   one_of_its_number : (a b : Mount ℕ) → Among a world.mounts → Among b world.mounts → a.number ≡ b.number → a ≡ b
@@ -217,7 +225,8 @@ module _ (world : World ℕ) (filesystems : List (Filesystem ℕ)) (new : Copies
       by true e =
           ⊎_elim
           (λ none. stayed (same_as e ∙ none.1) (λ f n. true≢false (sym
-          (any_passes (λ x. nat_eq x.number mount.number) (copies destination) (copy destination mount) (copy_there destination mount n)
+          (any_passes (λ x. nat_eq x.number mount.number) (copies destination) (copy destination mount)
+          (copy_there destination mount n)
           (eq-eqb (copy destination mount).number mount.number (keeps_number e mount))) ∙ none.0)))
           (λ some. let from = copied destination some.0 some.1 in
           let same : from.0 ≡ mount = one_of_its_number from.0 mount (of_world e from.0 from.1) m
@@ -243,7 +252,8 @@ module _ (world : World ℕ) (filesystems : List (Filesystem ℕ)) (new : Copies
       stands : (part : Mount ℕ) (at : Option (Location ℕ)) → mount.mount_point ≡ at
           → stands_at nat_eq (record { mount = part.number; node = place.node }) mount ≡ true
           → mount.mount_point ≡ Some (record { mount = part.number; node = place.node })
-      stands part None e h = absurd (true≢false (sym h ∙ ap (holds_of (λ l. nat_eq part.number l.mount && nat_eq place.node l.node)) e))
+      stands part None e h = absurd (true≢false
+          (sym h ∙ ap (holds_of (λ l. nat_eq part.number l.mount && nat_eq place.node l.node)) e))
       stands part (Some at) e h =
           e ∙ ap Some (sym (one_location (record { mount = part.number; node = place.node }) at
           (sym (ap (holds_of (λ l. nat_eq part.number l.mount && nat_eq place.node l.node)) e) ∙ h)))
@@ -253,10 +263,12 @@ module _ (world : World ℕ) (filesystems : List (Filesystem ℕ)) (new : Copies
           ⊎ ((part : Mount ℕ) × Among part (rest_of parts) × (mount.mount_point ≡ Some (record { mount = part.number; node = place.node })))
       by None e = inl (ap (pushed_onto nat_eq base new tree parts mount) e)
       by (Some part) e =
-          let found = found_in (λ x. stands_at nat_eq (record { mount = x.number; node = place.node }) mount) (rest_of parts) part e in
+          let found = found_in (λ x. stands_at nat_eq (record { mount = x.number; node = place.node }) mount)
+          (rest_of parts) part e in
           inr (part, found.0, stands part mount.mount_point refl found.1)
 
-  first_copy : (part : Mount ℕ) → (copy part first).mount_point ≡ Some (record { mount = part.number; node = place.node })
+  first_copy : (part : Mount ℕ) → (copy part first).mount_point
+      ≡ Some (record { mount = part.number; node = place.node })
   first_copy part =
       ap (λ b. Some (cond b (record { mount = part.number; node = place.node })
       (unwrap_or (option_map (place_on_copy nat_eq new tree part.number) first.mount_point) place)))
@@ -293,7 +305,8 @@ module _ (world : World ℕ) (filesystems : List (Filesystem ℕ)) (new : Copies
   -- in use still
   last_lives : (mount : Mount ℕ) → Among mount world.mounts → mount_lives nat_eq after (last mount) ≡ true
   last_lives mount m =
-      ap (λ n. n || is_located nat_eq world (last mount).number) (push_keeps (λ x. is_some x.namespace) (λ x at. refl) (went mount))
+      ap (λ n. n || is_located nat_eq world (last mount).number)
+      (push_keeps (λ x. is_some x.namespace) (λ x at. refl) (went mount))
       ∙ ap (λ n. is_some (went mount).namespace || is_located nat_eq world n) (last_number mount m)
       ∙ by (went_is mount m)
     where
@@ -317,13 +330,15 @@ module _ (world : World ℕ) (filesystems : List (Filesystem ℕ)) (new : Copies
   last_nowhere mount m = by (is_some mount.namespace) refl (went_is mount m)
     where
       at_a_namespace : is_some (went mount).namespace ≡ true → is_nowhere_or_attached (last mount) ≡ true
-      at_a_namespace e = or_first (is_some (last mount).namespace) _ (push_keeps (λ x. is_some x.namespace) (λ x at. refl) (went mount) ∙ e)
+      at_a_namespace e = or_first (is_some (last mount).namespace) _
+          (push_keeps (λ x. is_some x.namespace) (λ x at. refl) (went mount) ∙ e)
 
       by : (b : Bool) → is_some mount.namespace ≡ b → Went mount → is_nowhere_or_attached (last mount) ≡ true
       by b f (moved g n e) = at_a_namespace (ap (λ (x : Mount ℕ). is_some x.namespace) e ∙ at_attached)
       by true f (stayed e none) = at_a_namespace (ap (λ (x : Mount ℕ). is_some x.namespace) e ∙ f)
       by false f (stayed e none) =
-          let was : is_nowhere_or_attached mount ≡ true = passes is_nowhere_or_attached world.mounts stand.nowhere mount m in
+          let was : is_nowhere_or_attached mount ≡ true =
+          passes is_nowhere_or_attached world.mounts stand.nowhere mount m in
           ap (λ x. is_nowhere_or_attached (push x)) e
           ∙ ⊎_elim
           (λ same. ap is_nowhere_or_attached same ∙ was)
@@ -340,19 +355,22 @@ module _ (world : World ℕ) (filesystems : List (Filesystem ℕ)) (new : Copies
   -- Locations show what they showed
 
   -- a mount of the world is found among those that are changed, where each keeps its number
-  found_changed : (mounts others : List (Mount ℕ)) (number : ℕ) → ((mount : Mount ℕ) → Among mount mounts → Among mount world.mounts)
+  found_changed : (mounts others : List (Mount ℕ)) (number : ℕ)
+      → ((mount : Mount ℕ) → Among mount mounts → Among mount world.mounts)
       → is_among nat_eq number (map (λ x. x.number) mounts) ≡ true
       → (mount_in nat_eq (map last mounts ++ others) number).filesystem ≡ (mount_in nat_eq mounts number).filesystem
   found_changed [] others number sub h = absurd (true≢false (sym h))
   found_changed (one ∷ mounts) others number sub h =
-      ap (λ n. (unwrap_or (cond (nat_eq number n) (Some (last one)) (find (λ x. nat_eq number x.number) (map last mounts ++ others)))
+      ap (λ n. (unwrap_or (cond (nat_eq number n) (Some (last one))
+      (find (λ x. nat_eq number x.number) (map last mounts ++ others)))
       (no_mount number)).filesystem)
       (last_number one (sub one (inl refl)))
       ∙ by (nat_eq number one.number) h (found_changed mounts others number (λ x m. sub x (inr m)))
     where
       by : (b : Bool) → (b || is_among nat_eq number (map (λ x. x.number) mounts)) ≡ true
           → (is_among nat_eq number (map (λ x. x.number) mounts) ≡ true
-          → (mount_in nat_eq (map last mounts ++ others) number).filesystem ≡ (mount_in nat_eq mounts number).filesystem)
+          → (mount_in nat_eq (map last mounts ++ others) number).filesystem
+          ≡ (mount_in nat_eq mounts number).filesystem)
           → (unwrap_or (cond b (Some (last one)) (find (λ x. nat_eq number x.number) (map last mounts ++ others)))
           (no_mount number)).filesystem
           ≡ (unwrap_or (cond b (Some one) (find (λ x. nat_eq number x.number) mounts)) (no_mount number)).filesystem
@@ -373,7 +391,8 @@ module _ (world : World ℕ) (filesystems : List (Filesystem ℕ)) (new : Copies
   left_by false = []
 
   first_left : moves ≡ true → (at : Location ℕ) → first.mount_point ≡ Some at → Among at (left_by moves)
-  first_left e at f = subst (λ b. Among at (left_by b)) (sym e) (subst (λ o. Among at (option_to_list o)) (sym f) (inl refl))
+  first_left e at f = subst (λ b. Among at (left_by b)) (sym e)
+      (subst (λ o. Among at (option_to_list o)) (sym f) (inl refl))
 
   -- a mount where it went has its place still, unless it is the first that moves
   place_went : (mount : Mount ℕ) → Among mount world.mounts → (at : Location ℕ) → mount.mount_point ≡ Some at
@@ -383,7 +402,8 @@ module _ (world : World ℕ) (filesystems : List (Filesystem ℕ)) (new : Copies
       by_first : moves ≡ true → Among mount origins → (b : Bool) → nat_eq mount.number first.number ≡ b
           → went mount ≡ copy destination mount → ((went mount).mount_point ≡ Some at) ⊎ Among at (left_by moves)
       by_first g n true f is =
-          let same : mount ≡ first = one_of_its_number mount first m (of_world g first (inl refl)) (eqb-true mount.number first.number f) in
+          let same : mount ≡ first = one_of_its_number mount first m (of_world g first (inl refl))
+          (eqb-true mount.number first.number f) in
           inr (first_left g at (ap (λ (x : Mount ℕ). x.mount_point) (sym same) ∙ e))
       by_first g n false f is =
           inl (ap (λ (x : Mount ℕ). x.mount_point) is
@@ -395,7 +415,11 @@ module _ (world : World ℕ) (filesystems : List (Filesystem ℕ)) (new : Copies
                 (new.copy destination.number at.mount);
             node = at.node;
           })) g
-          ∙ ap (λ b. Some (record { mount = cond b at.mount (new.copy destination.number at.mount); node = at.node })) at_its_number)
+          ∙ ap (λ b. Some (record {
+            mount = cond b at.mount
+                (new.copy destination.number at.mount);
+            node = at.node;
+          })) at_its_number)
 
       by : Went mount → ((went mount).mount_point ≡ Some at) ⊎ Among at (left_by moves)
       by (stayed is none) = inl (ap (λ (x : Mount ℕ). x.mount_point) is ∙ e)
@@ -455,7 +479,8 @@ module _ (world : World ℕ) (filesystems : List (Filesystem ℕ)) (new : Copies
   -- a member of a group stays one
   member_still : (mount : Mount ℕ) → Among mount world.mounts → (group : ℕ) → is_member_of nat_eq group mount ≡ true
       → is_member_of nat_eq group (last mount) ≡ true
-  member_still mount m group h = push_keeps (is_member_of nat_eq group) (λ x at. refl) (went mount) ∙ by (went_is mount m)
+  member_still mount m group h =
+      push_keeps (is_member_of nat_eq group) (λ x at. refl) (went mount) ∙ by (went_is mount m)
     where
       keeps : (kind : Propagation ℕ) (at : Option ℕ) → holds_of (nat_eq group) (group_of kind) ≡ true
           → holds_of (nat_eq group) (group_of (type_at new at (record mount { propagation = kind }))) ≡ true
@@ -478,7 +503,8 @@ module _ (world : World ℕ) (filesystems : List (Filesystem ℕ)) (new : Copies
       → (x : Mount ℕ) × Among x after.mounts × (x.propagation ≡ (copy part origin).propagation)
   copy_stands part origin m n =
       ⊎_elim
-      (λ here. subst (λ p. (x : Mount ℕ) × Among x after.mounts × (x.propagation ≡ (copy p origin).propagation)) (sym here)
+      (λ here. subst (λ p. (x : Mount ℕ) × Among x after.mounts × (x.propagation ≡ (copy p origin).propagation))
+      (sym here)
       (at_destination moves refl))
       (λ there. (copy part origin, copy_at_receiver part (copy part origin) there (copy_there part origin n), refl))
       m
@@ -492,7 +518,8 @@ module _ (world : World ℕ) (filesystems : List (Filesystem ℕ)) (new : Copies
             (flat_map copies (rest_of parts)) (copy destination origin)
             (among-append_right (map push (with_moved_mounts nat_eq moves world.mounts (copies destination)))
             (added_mounts moves (copies destination)) (copy destination origin)
-            (subst (λ b. Among (copy destination origin) (added_mounts b (copies destination))) (sym e) (copy_there destination origin n))),
+            (subst (λ b. Among (copy destination origin) (added_mounts b (copies destination))) (sym e)
+            (copy_there destination origin n))),
         refl,
       )
       at_destination true e = (
@@ -506,15 +533,18 @@ module _ (world : World ℕ) (filesystems : List (Filesystem ℕ)) (new : Copies
           by (moved g l is) = ap (λ (x : Mount ℕ). x.propagation) is
 
   -- a new group has the copy for which it is made
-  made_has_it : (part origin : Mount ℕ) (made : ℕ × Option ℕ) → group_made nat_eq base new tree parts part (twig origin) ≡ Some made
+  made_has_it : (part origin : Mount ℕ) (made : ℕ × Option ℕ)
+      → group_made nat_eq base new tree parts part (twig origin) ≡ Some made
       → group_of (copy part origin).propagation ≡ Some made.0
   made_has_it part origin made e = by (is_destination nat_eq tree part.number) refl
     where
       at_destination : (shared : Bool) (group : Option ℕ)
-          → cond shared None (option_map (λ g. (g, master_after origin.propagation)) group) ≡ Some made → group ≡ Some made.0
+          → cond shared None (option_map (λ g. (g, master_after origin.propagation)) group) ≡ Some made
+          → group ≡ Some made.0
       at_destination true group f = absurd (true≢false (sym (ap is_some f)))
       at_destination false None f = absurd (true≢false (sym (ap is_some f)))
-      at_destination false (Some g) f = ap Some (ap (λ (t : ℕ × Option ℕ). t.0) (same_Some (g, master_after origin.propagation) made f))
+      at_destination false (Some g) f =
+          ap Some (ap (λ (t : ℕ × Option ℕ). t.0) (same_Some (g, master_after origin.propagation) made f))
 
       made_by : (b : Bool) (g : ℕ) (above : Option ℕ) → when b (g, above) ≡ Some made → g ≡ made.0
       made_by true g above f = ap (λ (t : ℕ × Option ℕ). t.0) (same_Some (g, above) made f)
@@ -542,15 +572,19 @@ module _ (world : World ℕ) (filesystems : List (Filesystem ℕ)) (new : Copies
           )))
 
       type_by : Bool → Propagation ℕ
-      type_by b = cond b (twig origin).propagation (copy_type nat_eq base new parts destination (twig origin) part.propagation)
+      type_by b = cond b (twig origin).propagation
+          (copy_type nat_eq base new parts destination (twig origin) part.propagation)
 
-      by : (b : Bool) → is_destination nat_eq tree part.number ≡ b → group_of (copy part origin).propagation ≡ Some made.0
-      by true f = ap (λ b. group_of (type_by b)) f ∙ at_destination (is_shared origin.propagation) (group_of (twig origin).propagation)
+      by : (b : Bool) → is_destination nat_eq tree part.number ≡ b
+          → group_of (copy part origin).propagation ≡ Some made.0
+      by true f = ap (λ b. group_of (type_by b)) f
+          ∙ at_destination (is_shared origin.propagation) (group_of (twig origin).propagation)
           (ap made_at (sym f) ∙ e)
       by false f = ap (λ b. group_of (type_by b)) f ∙ at_receiver part.propagation (ap made_at (sym f) ∙ e)
 
   is_its_member : (x origin part : Mount ℕ) (group made : ℕ) → x.propagation ≡ (copy part origin).propagation
-      → group_of (copy part origin).propagation ≡ Some made → nat_eq group made ≡ true → is_member_of nat_eq group x ≡ true
+      → group_of (copy part origin).propagation ≡ Some made → nat_eq group made ≡ true
+      → is_member_of nat_eq group x ≡ true
   is_its_member x origin part group made e f same = ap (λ kind. holds_of (nat_eq group) (group_of kind)) e
       ∙ ap (holds_of (nat_eq group)) f ∙ same
 
@@ -558,11 +592,13 @@ module _ (world : World ℕ) (filesystems : List (Filesystem ℕ)) (new : Copies
   attached_groups group none =
       masters_stay (all_groups_made nat_eq base new tree parts) world.master group
       (λ made m. false_from_ne_true (nat_eq group made.0) (λ same.
-      let part = among-from_flat_map (λ p. filter_map (group_made nat_eq base new tree parts p) tree.twigs) parts made m in
+      let part = among-from_flat_map
+      (λ p. filter_map (group_made nat_eq base new tree parts p) tree.twigs) parts made m in
       let t = among-from_filter_map (group_made nat_eq base new tree parts part.0) tree.twigs made part.2 in
       let origin = among-from_map twig origins t.0 t.1 in
       let stands = copy_stands part.0 origin.0 part.1 origin.1 in
-      let its = made_has_it part.0 origin.0 made (ap (group_made nat_eq base new tree parts part.0) (sym origin.2) ∙ t.2) in
+      let its = made_has_it part.0 origin.0 made
+      (ap (group_made nat_eq base new tree parts part.0) (sym origin.2) ∙ t.2) in
       true≢false (sym (any_passes (is_member_of nat_eq group) after.mounts stands.0 stands.1
       (is_its_member stands.0 origin.0 part.0 group made.0 stands.2 its same)) ∙ none)))
       ∙ in_use.groups group

@@ -20,7 +20,8 @@ use Rattle.vt_letting_go.proofs.MountingOverlays.{nothing_lost}
 use Rattle.vt_letting_go.proofs.PlacesLeft.{found_is_there}
 
 -- the mounts of a tree are its first and mounts of the list
-tree_among : (depth : ℕ) (mounts : List (Mount ℕ)) (top mount : Mount ℕ) → Among mount (tree_from nat_eq depth mounts top)
+tree_among : (depth : ℕ) (mounts : List (Mount ℕ)) (top mount : Mount ℕ)
+    → Among mount (tree_from nat_eq depth mounts top)
     → (mount ≡ top) ⊎ Among mount mounts
 tree_among zero mounts top mount m = ⊎_elim inl (λ none. absurd none) m
 tree_among (suc depth) mounts top mount m =
@@ -29,7 +30,8 @@ tree_among (suc depth) mounts top mount m =
     let under = among-from_flat_map (tree_from nat_eq depth mounts) (children nat_eq mounts top.number) mount later in
     let child : Among under.0 mounts × (stands_on nat_eq top.number under.0
     ≡ true) = among-from_filter (stands_on nat_eq top.number) mounts under.0 under.1 in
-    inr (⊎_elim (λ e. subst (λ x. Among x mounts) (sym e) child.0) (λ l. l) (tree_among depth mounts under.0 mount under.2)))
+    inr (⊎_elim (λ e. subst (λ x. Among x mounts) (sym e) child.0) (λ l. l)
+    (tree_among depth mounts under.0 mount under.2)))
     m
 
 -- the mounts of the tree of a mount in a namespace are those of the world
@@ -40,7 +42,8 @@ of_tree world number is depth mount m =
     (tree_among depth world.mounts (mount_numbered nat_eq world number) mount m)
 
 -- a tree of copies, of mounts that show filesystems of the world or a new one
-copies_with : (world : World ℕ) (filesystems : List (Filesystem ℕ)) (new : Copies ℕ) (place : Location ℕ) (first : Mount ℕ)
+copies_with : (world : World ℕ) (filesystems : List (Filesystem ℕ)) (new : Copies ℕ) (place : Location ℕ)
+    (first : Mount ℕ)
     (rest : List (Mount ℕ))
     → AllInUse world → MountsStand world → LocationsStand world → is_attached world place.mount ≡ true
     → Comes world (attached_by nat_eq (record world { filesystems = filesystems }) new place false (first ∷ rest))
@@ -48,8 +51,10 @@ copies_with : (world : World ℕ) (filesystems : List (Filesystem ℕ)) (new : C
     ≡ attached_by nat_eq (record world { filesystems = filesystems }) new place false (first ∷ rest)
 copies_with world filesystems new place first rest in_use stand located at_attached come =
     nothing_lost world after.mounts after.master filesystems in_use stand
-    (attached_loses world filesystems new place false first rest in_use stand located at_attached (λ e. absurd (true≢false (sym e))))
-    (attached_groups world filesystems new place false first rest in_use stand located at_attached (λ e. absurd (true≢false (sym e))))
+    (attached_loses world filesystems new place false first rest in_use stand located at_attached
+    (λ e. absurd (true≢false (sym e))))
+    (attached_groups world filesystems new place false first rest in_use stand located at_attached
+    (λ e. absurd (true≢false (sym e))))
     come
   where
     after : World ℕ
@@ -62,11 +67,13 @@ copies_keep_all world new place first rest in_use stand located at_attached =
 
 pub binds_keep_all : BindsKeepAll
 binds_keep_all fresh world task source place false in_use stand located at_attached =
-    copies_keep_all world (copies_from nat_eq fresh (parts_of nat_eq world place) (bind_tree nat_eq world source false)) place
+    copies_keep_all world (copies_from nat_eq fresh (parts_of nat_eq world place)
+    (bind_tree nat_eq world source false)) place
     (bound nat_eq world source) []
     in_use stand located at_attached
 binds_keep_all fresh world task source place true in_use stand located at_attached =
-    copies_keep_all world (copies_from nat_eq fresh (parts_of nat_eq world place) (bind_tree nat_eq world source true)) place
+    copies_keep_all world (copies_from nat_eq fresh (parts_of nat_eq world place)
+    (bind_tree nat_eq world source true)) place
     (bound nat_eq world source)
     (flat_map (bindable_tree nat_eq (length world.mounts) world.mounts)
     (filter (stands_under nat_eq world source) (bindable_children nat_eq world.mounts source.mount)))
@@ -79,8 +86,16 @@ new_filesystems_keep_all fresh world place filesystem flags in_use stand located
       kept = λ f m. among-append_left world.filesystems (filesystem ∷ []) f m;
       new = λ f m. ⊎_elim inl
           (λ last. ⊎_elim
-          (λ same. inr (subst (IsNew after) (sym same)
-          (shown.0, (shown.1.0, (shown.1.1.0, (eq-eqb filesystem.number shown.0.filesystem (sym shown.1.1.1), named))))))
+          (λ same. inr (subst (IsNew after) (sym same) (
+            shown.0,
+            (
+              shown.1.0,
+              (
+                shown.1.1.0,
+                (eq-eqb filesystem.number shown.0.filesystem (sym shown.1.1.1), named),
+              ),
+            ),
+          )))
           (λ none. absurd none) last)
           (among-append world.filesystems (filesystem ∷ []) f m);
     })
@@ -97,13 +112,16 @@ new_filesystems_keep_all fresh world place filesystem flags in_use stand located
     after : World ℕ
     after = attached_by nat_eq base new place false (mount ∷ [])
 
-    shown : (x : Mount ℕ) × (Among x after.mounts × ((mount_lives nat_eq after x ≡ true) × (x.filesystem ≡ filesystem.number)))
-    shown = first_shown world (world.filesystems ++ (filesystem ∷ [])) new place false mount [] in_use stand located at_attached
+    shown : (x : Mount ℕ) × (Among x after.mounts
+        × ((mount_lives nat_eq after x ≡ true) × (x.filesystem ≡ filesystem.number)))
+    shown = first_shown world (world.filesystems
+        ++ (filesystem ∷ [])) new place false mount [] in_use stand located at_attached
         (λ e. absurd (true≢false (sym e))) refl
 
 pub new_mounts_of_trees_keep_all : NewMountsOfTreesKeepAll
 new_mounts_of_trees_keep_all fresh world task place flags in_use stand located at_attached =
-    new_filesystems_keep_all (odds fresh) world place (plain_filesystem nat_eq fresh) flags in_use stand located at_attached
+    new_filesystems_keep_all (odds fresh) world place
+    (plain_filesystem nat_eq fresh) flags in_use stand located at_attached
     (ap (λ b. b && true) (or_first (nat_eq root root) _ (eq-eqb root root refl)))
   where
     root : ℕ
@@ -111,16 +129,19 @@ new_mounts_of_trees_keep_all fresh world task place flags in_use stand located a
 
 pub moved_trees_let_go : MovedTreesLetGo
 moved_trees_let_go world new place first rest settles located at_attached of_world =
-    losers_go world after.mounts after.master world.namespaces world.tasks [] (option_to_list first.mount_point) [] settles
+    losers_go world after.mounts after.master world.namespaces world.tasks []
+    (option_to_list first.mount_point) [] settles
     (attached_loses world world.filesystems new place true first rest settles.in_use settles.mounts located at_attached its)
-    (λ group among none. attached_groups world world.filesystems new place true first rest settles.in_use settles.mounts located
+    (λ group among none.
+    attached_groups world world.filesystems new place true first rest settles.in_use settles.mounts located
     at_attached its group none)
   where
     after : World ℕ
     after = attached_by nat_eq world new place true (first ∷ rest)
 
     its : true ≡ true → (mount : Mount ℕ) → Among mount (first ∷ rest) → Among mount world.mounts
-    its e mount m = among_from_contains world.mounts mount (among_from_all (Contains world.mounts) (first ∷ rest) of_world mount m)
+    its e mount m = among_from_contains world.mounts mount
+        (among_from_all (Contains world.mounts) (first ∷ rest) of_world mount m)
 
 pub moves_let_go : MovesLetGo
 moves_let_go fresh world task number place settles located at_attached is = by (length world.mounts)
@@ -142,5 +163,6 @@ moves_let_go fresh world task number place settles located at_attached is = by (
     by zero = moved_trees_let_go world (new (mount ∷ [])) place mount [] settles located at_attached (all_of_world zero)
     by (suc depth) =
         moved_trees_let_go world (new (tree_from nat_eq (suc depth) world.mounts mount)) place mount
-        (flat_map (tree_from nat_eq depth world.mounts) (children nat_eq world.mounts mount.number)) settles located at_attached
+        (flat_map (tree_from nat_eq depth world.mounts)
+        (children nat_eq world.mounts mount.number)) settles located at_attached
         (all_of_world (suc depth))

@@ -32,7 +32,8 @@ use Rattle.vt_letting_go.proofs.TreesWithOverlays.{all_change, opened_keeps_all,
 
 module _ (world : World ℕ) (location : Location ℕ) (change : Change ℕ) (settles : IsSettled world)
     (one : any_pair (λ (a b : Filesystem ℕ). nat_eq a.number b.number) world.filesystems ≡ false)
-    (is_there : is_among nat_eq (mount_at nat_eq world location).filesystem (map (λ filesystem. filesystem.number) world.filesystems)
+    (is_there : is_among nat_eq (mount_at nat_eq world location).filesystem
+    (map (λ filesystem. filesystem.number) world.filesystems)
     ≡ true)
     (plain : is_overlay (filesystem_at nat_eq world location) ≡ false)
     (after : IsListedTree (changed nat_eq (files_at nat_eq world location) change))
@@ -63,7 +64,8 @@ module _ (world : World ℕ) (location : Location ℕ) (change : Change ℕ) (se
 
   -- the change is one of a plain tree
   plainly : (fresh : Fresh ℕ) (other : World ℕ) → other.filesystems ≡ world.filesystems
-      → (mount_at nat_eq other location).filesystem ≡ number → with_change nat_eq fresh other location change ≡ with_filesystems other swap
+      → (mount_at nat_eq other location).filesystem ≡ number
+      → with_change nat_eq fresh other location change ≡ with_filesystems other swap
   plainly fresh other same shows =
       ap (λ f. filesystem_changed nat_eq fresh other f f.overlay change) found
       ∙ by (filesystem_at nat_eq world location).overlay refl
@@ -73,7 +75,8 @@ module _ (world : World ℕ) (location : Location ℕ) (change : Change ℕ) (se
           ∙ ap (λ fs. filesystem_numbered nat_eq (record other { filesystems = fs }) number) same
 
       by : (o : Option (Overlay ℕ)) → (filesystem_at nat_eq world location).overlay ≡ o
-          → filesystem_changed nat_eq fresh other (filesystem_at nat_eq world location) (filesystem_at nat_eq world location).overlay change
+          → filesystem_changed nat_eq fresh other (filesystem_at nat_eq world location)
+          (filesystem_at nat_eq world location).overlay change
           ≡ with_filesystems other swap
       by None e = ap (λ o. filesystem_changed nat_eq fresh other (filesystem_at nat_eq world location) o change) e
       by (Some overlay) e = absurd (true≢false (sym (ap is_some e) ∙ plain))
@@ -81,7 +84,8 @@ module _ (world : World ℕ) (location : Location ℕ) (change : Change ℕ) (se
   goes_alone : (fresh : Fresh ℕ) → settled nat_eq (with_change nat_eq fresh world location change)
       ≡ let_go_all_inodes (with_change nat_eq fresh world location change) (inodes_lost world location change)
   goes_alone fresh =
-      subst (λ w. settled nat_eq w ≡ let_go_all_inodes w (inodes_lost world location change)) (sym (plainly fresh world refl refl))
+      subst (λ w. settled nat_eq w ≡ let_go_all_inodes w (inodes_lost world location change))
+      (sym (plainly fresh world refl refl))
       (unnamed_go_with_overlays world number then_ (names_lost tree change) settles one is_there plain changes)
 
   goes_with_mounts : (fresh : Fresh ℕ) (gone : List ℕ)
@@ -89,7 +93,8 @@ module _ (world : World ℕ) (location : Location ℕ) (change : Change ℕ) (se
       ≡ let_go_all (with_change nat_eq fresh (taken_away nat_eq world gone) location change)
       (with_lost (used_by_gone_with_layers world gone) (inodes_lost world location change))
   goes_with_mounts fresh gone =
-      subst (λ w. settled nat_eq w ≡ let_go_all w (with_lost (used_by_gone_with_layers world gone) (inodes_lost world location change)))
+      subst (λ w. settled nat_eq w ≡ let_go_all w
+      (with_lost (used_by_gone_with_layers world gone) (inodes_lost world location change)))
       (sym (plainly fresh taken (ap (λ w. w.filesystems) (taken_is world gone))
       (ap (λ w. (mount_at nat_eq w location).filesystem) (taken_is world gone)
       ∙ shows_the_same world gone world.namespaces (hands_on world gone) location.mount)))
@@ -100,7 +105,8 @@ module _ (world : World ℕ) (location : Location ℕ) (change : Change ℕ) (se
       (uppers_after world number then_ (names_lost tree change) settles one is_there plain changes))
       (subst (λ w. RealsAreThere (with_filesystems w swap)) (sym (taken_is world gone))
       (reals_after world number then_ (names_lost tree change) settles one is_there plain changes))
-      (all_change world number then_ (names_lost tree change) settles one is_there plain changes (in_use_of (with_filesystems taken swap))))
+      (all_change world number then_ (names_lost tree change) settles one is_there plain changes
+      (in_use_of (with_filesystems taken swap))))
     where
       taken : World ℕ
       taken = taken_away nat_eq world gone
@@ -126,7 +132,8 @@ replacing_lets_go fresh world task from old to new object replaced settles one t
 -- A change by which no name is lost
 module _ (world : World ℕ) (location : Location ℕ) (change : Change ℕ) (settles : IsSettled world)
     (one : any_pair (λ (a b : Filesystem ℕ). nat_eq a.number b.number) world.filesystems ≡ false)
-    (is_there : is_among nat_eq (mount_at nat_eq world location).filesystem (map (λ filesystem. filesystem.number) world.filesystems)
+    (is_there : is_among nat_eq (mount_at nat_eq world location).filesystem
+    (map (λ filesystem. filesystem.number) world.filesystems)
     ≡ true)
     (plain : is_overlay (filesystem_at nat_eq world location) ≡ false)
     (after : IsListedTree (changed nat_eq (files_at nat_eq world location) change))
@@ -169,7 +176,8 @@ module _ (world : World ℕ) (location : Location ℕ) (change : Change ℕ) (se
 
 pub made_keeps_all : MadeKeepsAll
 made_keeps_all fresh world task directory name node settles one there plain after made free =
-    keeps_all world directory (Make directory.node name (evens fresh 0) node) settles one there plain after made (ap option_to_list free)
+    keeps_all world directory (Make directory.node name (evens fresh 0) node) settles one there plain after made
+    (ap option_to_list free)
     (odds fresh)
 
 -- Tasks of one name are one task
@@ -189,7 +197,8 @@ one_task (first ∷ rest) one a b m n same = by m n (one_task rest parts.1 a b)
         ∙ fails (λ (z : Task ℕ). same_name first.name z.name) rest parts.0 y l))
 
     back : same_name b.name a.name ≡ true
-    back = ap (λ n. same_name n a.name) (sym ((bytes_decides a.name b.name).0 same)) ∙ (bytes_decides a.name a.name).1 refl
+    back = ap (λ n. same_name n a.name) (sym ((bytes_decides a.name b.name).0 same))
+        ∙ (bytes_decides a.name a.name).1 refl
 
     by : Among a (first ∷ rest) → Among b (first ∷ rest)
         → (Among a rest → Among b rest → same_name a.name b.name ≡ true → a ≡ b) → a ≡ b
@@ -199,7 +208,8 @@ one_task (first ∷ rest) one a b m n same = by m n (one_task rest parts.1 a b)
     by (inr k) (inr l) later = later k l same
 
 -- A descriptor more
-inserted_keeps : (new : Descriptor ℕ) (list : List (Descriptor ℕ)) (d : Descriptor ℕ) → Among d list → Among d (inserted new list)
+inserted_keeps : (new : Descriptor ℕ) (list : List (Descriptor ℕ)) (d : Descriptor ℕ) → Among d list
+    → Among d (inserted new list)
 inserted_keeps new [] d m = absurd m
 inserted_keeps new (first ∷ rest) d m = by (nat_lt new.number first.number) m (inserted_keeps new rest d)
   where
@@ -209,17 +219,20 @@ inserted_keeps new (first ∷ rest) d m = by (nat_lt new.number first.number) m 
     by false (inl e) later = inl e
     by false (inr l) later = inr (later l)
 
-with_descriptor_keeps : (task : Task ℕ) (file : Location ℕ) (access : Access) (location : Location ℕ) → Among location (locations_of task)
+with_descriptor_keeps : (task : Task ℕ) (file : Location ℕ) (access : Access) (location : Location ℕ)
+    → Among location (locations_of task)
     → Among location (locations_of (with_descriptor task file access))
 with_descriptor_keeps task file access location (inl e) = inl e
 with_descriptor_keeps task file access location (inr (inl e)) = inr (inl e)
 with_descriptor_keeps task file access location (inr (inr l)) =
     let from = among-from_map (λ (d : Descriptor ℕ). d.location) task.descriptors location l in
-    inr (inr (subst (λ x. Among x (map (λ (d : Descriptor ℕ). d.location) (with_descriptor task file access).descriptors)) (sym from.2)
+    inr (inr (subst (λ x. Among x (map (λ (d : Descriptor ℕ). d.location)
+    (with_descriptor task file access).descriptors)) (sym from.2)
     (among-map (λ (d : Descriptor ℕ). d.location) (with_descriptor task file access).descriptors from.0
     (inserted_keeps _ task.descriptors from.0 from.1))))
 
-location_among : (list : List (Location ℕ)) (location : Location ℕ) → Among location list → is_location_among list location ≡ true
+location_among : (list : List (Location ℕ)) (location : Location ℕ) → Among location list
+    → is_location_among list location ≡ true
 location_among list location m =
     any_passes (same_location nat_eq location) list location m
     (ap (λ b. b && nat_eq location.node location.node) (eq-eqb location.mount location.mount refl)
@@ -227,11 +240,14 @@ location_among list location m =
 
 -- a task that goes to other locations leaves no location of another task
 pub replaced_leaves : (world : World ℕ) (task new : Task ℕ) (left : List (Location ℕ))
-    → any_pair (λ (a b : Task ℕ). same_name a.name b.name) world.tasks ≡ false → Among task world.tasks → new.name ≡ task.name
-    → ((location : Location ℕ) → Among location (locations_of task) → Among location (locations_of new) ⊎ Among location left)
+    → any_pair (λ (a b : Task ℕ). same_name a.name b.name) world.tasks ≡ false → Among task world.tasks
+    → new.name ≡ task.name
+    → ((location : Location ℕ) → Among location (locations_of task)
+    → Among location (locations_of new) ⊎ Among location left)
     → only_these_are_left world (with_task world new).tasks left ≡ true
 replaced_leaves world task new left one there called keeps =
-    all_pass (λ location. is_location_among (flat_map locations_of tasks) location || is_location_among left location) (all_locations world)
+    all_pass (λ location. is_location_among (flat_map locations_of tasks) location || is_location_among left location)
+    (all_locations world)
     (λ location m.
     let from = among-from_flat_map locations_of world.tasks location m in
     ⊎_elim
@@ -250,16 +266,19 @@ replaced_leaves world task new left one there called keeps =
         → Among location (locations_of (replaced_if_called new other)) ⊎ Among location left
     stays other m location n = by (same_name new.name other.name) refl
       where
-        by : (b : Bool) → same_name new.name other.name ≡ b → Among location (locations_of (cond b new other)) ⊎ Among location left
+        by : (b : Bool) → same_name new.name other.name ≡ b
+            → Among location (locations_of (cond b new other)) ⊎ Among location left
         by true e =
             keeps location
             (subst (λ t. Among location (locations_of t))
-            (sym (one_task world.tasks one task other there m (ap (λ name. same_name name other.name) (sym called) ∙ e))) n)
+            (sym (one_task world.tasks one task other there m
+            (ap (λ name. same_name name other.name) (sym called) ∙ e))) n)
         by false e = inl n
 
 pub none_left : (world : World ℕ) (task : Task ℕ) (file : Location ℕ) (access : Access)
     → any_pair (λ (a b : Task ℕ). same_name a.name b.name) world.tasks ≡ false
-    → Among task world.tasks → only_these_are_left world (with_task world (with_descriptor task file access)).tasks [] ≡ true
+    → Among task world.tasks → only_these_are_left world (with_task world (with_descriptor task file access)).tasks []
+    ≡ true
 none_left world task file access one there =
     replaced_leaves world task (with_descriptor task file access) [] one there refl
     (λ location m. inl (with_descriptor_keeps task file access location m))

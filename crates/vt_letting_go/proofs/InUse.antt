@@ -18,11 +18,13 @@ use Rattle.std.proofs.lemmas.List.Folds.{list_any-append}
 -- Where all is in use
 
 used_by_all : (world : World ℕ) (filesystem : Filesystem ℕ) (chosen : Bool)
-    → list_all (is_inode_used world filesystem) filesystem.files.numbers ≡ true → only_used nat_eq world chosen filesystem ≡ filesystem
+    → list_all (is_inode_used world filesystem) filesystem.files.numbers ≡ true
+    → only_used nat_eq world chosen filesystem ≡ filesystem
 used_by_all world filesystem true all = ap (λ b. only_used_by nat_eq b (used_in nat_eq world filesystem) filesystem) all
 used_by_all world filesystem false all = refl
 
-pub inodes_stay : (chosen : Filesystem ℕ → Bool) (world : World ℕ) → InodesInUse world → without_dead_in nat_eq chosen world ≡ world
+pub inodes_stay : (chosen : Filesystem ℕ → Bool) (world : World ℕ) → InodesInUse world
+    → without_dead_in nat_eq chosen world ≡ world
 inodes_stay chosen world all =
     ap (λ filesystems. record world { filesystems = filesystems })
     (map_same (λ filesystem. only_used nat_eq world (chosen filesystem) filesystem) world.filesystems
@@ -32,7 +34,8 @@ inodes_stay chosen world all =
 pub groups_stay : (world : World ℕ) → GroupsInUse world → without_dead_groups nat_eq world ≡ world
 groups_stay world all = λ i. record world { master = λ group. kept group i }
   where
-    by : (group : ℕ) (b : Bool) → has_members nat_eq world.mounts group ≡ b → cond b (world.master group) None ≡ world.master group
+    by : (group : ℕ) (b : Bool) → has_members nat_eq world.mounts group ≡ b
+        → cond b (world.master group) None ≡ world.master group
     by group true e = refl
     by group false e = sym (all group e)
 
@@ -46,11 +49,13 @@ mounts_stay world all = ap (with_mounts world) (filter_all (mount_lives nat_eq w
 pub filesystems_stay : (world : World ℕ) → FilesystemsInUse world → without_dead_filesystems nat_eq world ≡ world
 filesystems_stay world all =
     ap (λ filesystems. record world { filesystems = filesystems })
-    (filter_all (filesystem_lives nat_eq world) world.filesystems (passes (filesystem_lives nat_eq world) world.filesystems all))
+    (filter_all (filesystem_lives nat_eq world) world.filesystems
+    (passes (filesystem_lives nat_eq world) world.filesystems all))
 
 pub nothing_goes : NothingGoes
 nothing_goes world all =
-    ap (λ w. without_dead_groups nat_eq (without_dead_inodes nat_eq (without_dead_filesystems nat_eq w))) (mounts_stay world all.mounts)
+    ap (λ w. without_dead_groups nat_eq (without_dead_inodes nat_eq (without_dead_filesystems nat_eq w)))
+    (mounts_stay world all.mounts)
     ∙ ap (λ w. without_dead_groups nat_eq (without_dead_inodes nat_eq w)) (filesystems_stay world all.filesystems)
     ∙ ap (λ w. without_dead_groups nat_eq (without_dead_in nat_eq (λ filesystem. not (is_overlay filesystem)) w))
     (inodes_stay is_overlay world all.inodes)
@@ -84,7 +89,8 @@ module _ (used : List ℕ) (filesystem : Filesystem ℕ) where
   layers-left true = refl
   layers-left false = by filesystem.overlay
     where
-      by : (o : Option (Overlay ℕ)) → overlay_or [] layers_of (option_map (real_among nat_eq used) o) ≡ overlay_or [] layers_of o
+      by : (o : Option (Overlay ℕ)) → overlay_or [] layers_of (option_map (real_among nat_eq used) o)
+          ≡ overlay_or [] layers_of o
       by None = refl
       by (Some overlay) = refl
 
@@ -101,13 +107,15 @@ module _ (used : List ℕ) (filesystem : Filesystem ℕ) where
 
   -- an inode that is used no more has no entries
   abbrev pub UnusedAreEmpty : Type 0
-  UnusedAreEmpty = (number : ℕ) → is_among nat_eq number used ≡ false → targets_in (filesystem.files.tree.node number) ≡ []
+  UnusedAreEmpty = (number : ℕ) → is_among nat_eq number used ≡ false
+      → targets_in (filesystem.files.tree.node number) ≡ []
 
   -- so the names stay
   pub named-left : UnusedAreEmpty → (all : Bool) → named_in (left_by all).files ≡ named_in filesystem.files
   named-left empty true = refl
   named-left empty false =
-      flat_map_alike (λ directory. targets_in (cond (is_among nat_eq directory used) (filesystem.files.tree.node directory) None))
+      flat_map_alike (λ directory. targets_in
+      (cond (is_among nat_eq directory used) (filesystem.files.tree.node directory) None))
       (λ directory. targets_in (filesystem.files.tree.node directory))
       (filter (λ number. is_among nat_eq number used) filesystem.files.numbers)
       (λ directory m. by directory (is_among nat_eq directory used) refl)
@@ -115,7 +123,8 @@ module _ (used : List ℕ) (filesystem : Filesystem ℕ) where
       (λ directory. targets_in (filesystem.files.tree.node directory)) filesystem.files.numbers empty
     where
       by : (directory : ℕ) (b : Bool) → is_among nat_eq directory used ≡ b
-          → targets_in (cond b (filesystem.files.tree.node directory) None) ≡ targets_in (filesystem.files.tree.node directory)
+          → targets_in (cond b (filesystem.files.tree.node directory) None)
+          ≡ targets_in (filesystem.files.tree.node directory)
       by directory true e = refl
       by directory false e = sym (empty directory e)
 
@@ -124,7 +133,8 @@ module _ (used : List ℕ) (filesystem : Filesystem ℕ) where
       → list_all (λ number. is_among nat_eq number used) (left_by all).files.numbers ≡ true
   numbers-left true e = e
   numbers-left false e =
-      all_pass (λ number. is_among nat_eq number used) (filter (λ number. is_among nat_eq number used) filesystem.files.numbers)
+      all_pass (λ number. is_among nat_eq number used)
+      (filter (λ number. is_among nat_eq number used) filesystem.files.numbers)
       (λ x m. (among-from_filter (λ number. is_among nat_eq number used) filesystem.files.numbers x m).1)
 
 -- In a tree, what a world uses is empty if it is unused
@@ -149,7 +159,8 @@ unused_are_empty world filesystem conditions number unused =
 -- a place that is there is in use
 pub used_at : (world : World ℕ) (filesystem : Filesystem ℕ) (location : Location ℕ)
     → Among location (all_locations world ++ map root_of world.mounts ++ filter_map (λ mount. mount.mount_point) world.mounts)
-    → filesystem.number ≡ (mount_at nat_eq world location).filesystem → is_inode_used world filesystem location.node ≡ true
+    → filesystem.number ≡ (mount_at nat_eq world location).filesystem
+    → is_inode_used world filesystem location.node ≡ true
 used_at world filesystem location m e =
     or_second (nat_eq location.node filesystem.files.tree.root) _
     (is_among_left location.node (named_in filesystem.files ++ located_in nat_eq world filesystem.number
@@ -159,7 +170,8 @@ used_at world filesystem location m e =
     (layers_in nat_eq world filesystem.number)
     (is_among_right location.node (named_in filesystem.files) (located_in nat_eq world filesystem.number)
     (is_among_numbers location.node (located_in nat_eq world filesystem.number)
-    (among-map (λ l. l.node) (filter (λ l. nat_eq filesystem.number (mount_at nat_eq world l).filesystem) places) location
+    (among-map (λ l. l.node) (filter
+    (λ l. nat_eq filesystem.number (mount_at nat_eq world l).filesystem) places) location
     (among-filter (λ l. nat_eq filesystem.number (mount_at nat_eq world l).filesystem) places location m
     (eq-eqb filesystem.number (mount_at nat_eq world location).filesystem e)))))))
   where
@@ -170,14 +182,16 @@ used_at world filesystem location m e =
 pub layers_stay : (before after : World ℕ)
     → ((f : Filesystem ℕ) → Among f before.filesystems → (g : Filesystem ℕ) × Among g after.filesystems
     × (of_overlay [] layers_of g ≡ of_overlay [] layers_of f))
-    → (filesystem number : ℕ) → Among number (layers_in nat_eq before filesystem) → Among number (layers_in nat_eq after filesystem)
+    → (filesystem number : ℕ) → Among number (layers_in nat_eq before filesystem)
+    → Among number (layers_in nat_eq after filesystem)
 layers_stay before after still filesystem number m =
     let one = among-from_map (λ (layer : Layer ℕ). layer.directory)
     (filter is_in (flat_map (of_overlay [] layers_of) before.filesystems)) number m in
     let two = among-from_filter is_in (flat_map (of_overlay [] layers_of) before.filesystems) one.0 one.1 in
     let three = among-from_flat_map (of_overlay [] layers_of) before.filesystems one.0 two.0 in
     subst (λ n. Among n (layers_in nat_eq after filesystem)) (sym one.2)
-    (among-map (λ (layer : Layer ℕ). layer.directory) (filter is_in (flat_map (of_overlay [] layers_of) after.filesystems)) one.0
+    (among-map (λ (layer : Layer ℕ). layer.directory)
+    (filter is_in (flat_map (of_overlay [] layers_of) after.filesystems)) one.0
     (among-filter is_in (flat_map (of_overlay [] layers_of) after.filesystems) one.0
     (is_layer three.0 one.0 three.2 (still three.0 three.1)) two.1))
   where
@@ -185,7 +199,8 @@ layers_stay before after still filesystem number m =
         → ((g : Filesystem ℕ) × Among g after.filesystems × (of_overlay [] layers_of g ≡ of_overlay [] layers_of f))
         → Among layer (flat_map (of_overlay [] layers_of) after.filesystems)
     is_layer f layer among same =
-        among-flat_map (of_overlay [] layers_of) after.filesystems same.0 layer same.1 (subst (Among layer) (sym same.2) among)
+        among-flat_map (of_overlay [] layers_of) after.filesystems same.0 layer same.1
+        (subst (Among layer) (sym same.2) among)
 
     is_in : Layer ℕ → Bool
     is_in layer = nat_eq filesystem layer.filesystem
@@ -221,17 +236,21 @@ module _ (world : World ℕ) where
       by true = number-left (used_in nat_eq first filesystem) filesystem _
       by false = refl
 
-  pub layers-first : (filesystem : Filesystem ℕ) → of_overlay [] layers_of (after_first filesystem) ≡ of_overlay [] layers_of filesystem
+  pub layers-first : (filesystem : Filesystem ℕ)
+      → of_overlay [] layers_of (after_first filesystem) ≡ of_overlay [] layers_of filesystem
   layers-first filesystem = by (is_overlay filesystem)
     where
-      by : (b : Bool) → of_overlay [] layers_of (only_used nat_eq living b filesystem) ≡ of_overlay [] layers_of filesystem
+      by : (b : Bool) → of_overlay [] layers_of (only_used nat_eq living b filesystem)
+          ≡ of_overlay [] layers_of filesystem
       by true = layers-left (used_in nat_eq living filesystem) filesystem _
       by false = refl
 
-  pub layers-second : (filesystem : Filesystem ℕ) → of_overlay [] layers_of (after_second filesystem) ≡ of_overlay [] layers_of filesystem
+  pub layers-second : (filesystem : Filesystem ℕ)
+      → of_overlay [] layers_of (after_second filesystem) ≡ of_overlay [] layers_of filesystem
   layers-second filesystem = by (not (is_overlay filesystem))
     where
-      by : (b : Bool) → of_overlay [] layers_of (only_used nat_eq first b filesystem) ≡ of_overlay [] layers_of filesystem
+      by : (b : Bool) → of_overlay [] layers_of (only_used nat_eq first b filesystem)
+          ≡ of_overlay [] layers_of filesystem
       by true = layers-left (used_in nat_eq first filesystem) filesystem _
       by false = refl
 
@@ -267,14 +286,16 @@ module _ (world : World ℕ) where
       ⊎_elim
       (λ e. ap (objects_of_overlay nat_eq number) (second_leaves filesystem e))
       (λ e. no_objects number (after_second filesystem)
-      (ap (λ b. is_overlay (only_used nat_eq first (not b) filesystem)) e ∙ overlay-left (used_in nat_eq first filesystem) filesystem _ ∙ e)
+      (ap (λ b. is_overlay (only_used nat_eq first (not b) filesystem)) e
+      ∙ overlay-left (used_in nat_eq first filesystem) filesystem _ ∙ e)
       ∙ sym (no_objects number filesystem e))
       (decided (is_overlay filesystem))
 
   same_objects : (number : ℕ)
       → flat_map (objects_of_overlay nat_eq number) (settled nat_eq world).filesystems
       ≡ flat_map (objects_of_overlay nat_eq number) first.filesystems
-  same_objects number = flat_map-map after_second (objects_of_overlay nat_eq number) first.filesystems (objects_after_second number)
+  same_objects number = flat_map-map after_second (objects_of_overlay nat_eq number) first.filesystems
+      (objects_after_second number)
 
   abbrev used_of : ℕ → List ℕ → List ℕ → List ℕ → List ℕ → List ℕ
   used_of root named located layers objects = root ∷ (named ++ located ++ layers ++ objects)
@@ -301,7 +322,8 @@ module _ (world : World ℕ) where
       same all = λ i. used_of (root-left used filesystem all i)
           (named-left used filesystem (unused_are_empty living filesystem conditions) all i)
           (located_in nat_eq living (number-left used filesystem all i))
-          ((same_layers (left_by used filesystem all).number ∙ ap (layers_in nat_eq living) (number-left used filesystem all)) i)
+          ((same_layers (left_by used filesystem all).number
+          ∙ ap (layers_in nat_eq living) (number-left used filesystem all)) i)
           (flat_map (objects_of_overlay nat_eq (left_by used filesystem all).number) (settled nat_eq world).filesystems)
 
       still : (all : Bool) (number : ℕ) → is_among nat_eq number used ≡ true
@@ -311,7 +333,8 @@ module _ (world : World ℕ) where
           ∙ more (filesystem.files.tree.root ∷ (named_in filesystem.files ++ located_in nat_eq living filesystem.number
           ++ layers_in nat_eq living filesystem.number))
           (flat_map (objects_of_overlay nat_eq filesystem.number) living.filesystems)
-          (flat_map (objects_of_overlay nat_eq (left_by used filesystem all).number) (settled nat_eq world).filesystems) plain is
+          (flat_map (objects_of_overlay nat_eq (left_by used filesystem all).number)
+          (settled nat_eq world).filesystems) plain is
         where
           more : (front before after : List ℕ) → before ≡ [] → is_among nat_eq number (front ++ before) ≡ true
               → is_among nat_eq number (front ++ after) ≡ true
@@ -322,11 +345,14 @@ module _ (world : World ℕ) where
               (sym (list_any-append (nat_eq number) front before) ∙ h))
 
       by : (all : Bool) → list_all (λ number. is_among nat_eq number used) filesystem.files.numbers ≡ all
-          → list_all (is_inode_used (settled nat_eq world) (left_by used filesystem all)) (left_by used filesystem all).files.numbers ≡ true
+          → list_all (is_inode_used (settled nat_eq world) (left_by used filesystem all))
+          (left_by used filesystem all).files.numbers ≡ true
       by all f =
-          all_pass (is_inode_used (settled nat_eq world) (left_by used filesystem all)) (left_by used filesystem all).files.numbers
+          all_pass (is_inode_used (settled nat_eq world) (left_by used filesystem all))
+          (left_by used filesystem all).files.numbers
           (λ number m. still all number
-          (passes (λ n. is_among nat_eq n used) (left_by used filesystem all).files.numbers (numbers-left used filesystem all f) number m))
+          (passes (λ n. is_among nat_eq n used) (left_by used filesystem all).files.numbers
+          (numbers-left used filesystem all f) number m))
 
   -- Plain trees
   plain_used : (filesystem : Filesystem ℕ) → IsListedTree filesystem.files → is_overlay filesystem ≡ false
@@ -334,7 +360,8 @@ module _ (world : World ℕ) where
       (after_second (after_first filesystem)).files.numbers ≡ true
   plain_used filesystem conditions e =
       ap (λ f. list_all (is_inode_used (settled nat_eq world) f) f.files.numbers)
-      (ap after_second (ap (λ b. only_used nat_eq living b filesystem) e) ∙ ap (λ b. only_used nat_eq first (not b) filesystem) e)
+      (ap after_second (ap (λ b. only_used nat_eq living b filesystem) e)
+      ∙ ap (λ b. only_used nat_eq first (not b) filesystem) e)
       ∙ by (list_all (λ number. is_among nat_eq number used) filesystem.files.numbers) refl
     where
       used : List ℕ
@@ -350,14 +377,16 @@ module _ (world : World ℕ) where
           ∙ ap (λ n. flat_map (objects_of_overlay nat_eq n) first.filesystems) (number-left used filesystem all)) i)
 
       by : (all : Bool) → list_all (λ number. is_among nat_eq number used) filesystem.files.numbers ≡ all
-          → list_all (is_inode_used (settled nat_eq world) (left_by used filesystem all)) (left_by used filesystem all).files.numbers ≡ true
+          → list_all (is_inode_used (settled nat_eq world) (left_by used filesystem all))
+          (left_by used filesystem all).files.numbers ≡ true
       by all f =
           ap (λ u. list_all (λ number. is_among nat_eq number u) (left_by used filesystem all).files.numbers) (same all)
           ∙ numbers-left used filesystem all f
 
   -- a filesystem that is left was there, and lived
   was_there : (last : Filesystem ℕ) → Among last (settled nat_eq world).filesystems
-      → (filesystem : Filesystem ℕ) × Among filesystem world.filesystems × (filesystem_lives nat_eq mounted filesystem ≡ true)
+      → (filesystem : Filesystem ℕ) × Among filesystem world.filesystems
+      × (filesystem_lives nat_eq mounted filesystem ≡ true)
       × (last ≡ after_second (after_first filesystem))
   was_there last m =
       let second = among-from_map after_second first.filesystems last m in
@@ -366,10 +395,12 @@ module _ (world : World ℕ) where
       (one.0, was.0, was.1, second.2 ∙ ap after_second one.2)
 
   pub layers_on : (number : ℕ) (filesystem : Filesystem ℕ)
-      → has_layer_on nat_eq number filesystem ≡ list_any (λ layer. nat_eq number layer.filesystem) (of_overlay [] layers_of filesystem)
+      → has_layer_on nat_eq number filesystem
+      ≡ list_any (λ layer. nat_eq number layer.filesystem) (of_overlay [] layers_of filesystem)
   layers_on number filesystem = by filesystem.overlay
     where
-      by : (o : Option (Overlay ℕ)) → overlay_or false (λ overlay. list_any (λ layer. nat_eq number layer.filesystem) (layers_of overlay)) o
+      by : (o : Option (Overlay ℕ)) → overlay_or false
+          (λ overlay. list_any (λ layer. nat_eq number layer.filesystem) (layers_of overlay)) o
           ≡ list_any (λ layer. nat_eq number layer.filesystem) (overlay_or [] layers_of o)
       by None = refl
       by (Some overlay) = refl
@@ -392,7 +423,8 @@ module _ (world : World ℕ) where
       by_overlay layered =
           let t = one_passes (λ merged. has_layer_on nat_eq filesystem.number merged
           && is_mounted nat_eq mounted merged.number) world.filesystems layered in
-          let parts = and_parts (has_layer_on nat_eq filesystem.number t.0) (is_mounted nat_eq mounted t.0.number) t.2 in
+          let parts = and_parts (has_layer_on nat_eq filesystem.number t.0)
+          (is_mounted nat_eq mounted t.0.number) t.2 in
           any_passes (λ merged. has_layer_on nat_eq filesystem.number merged && is_mounted nat_eq mounted merged.number)
           (settled nat_eq world).filesystems
           (after_second (after_first t.0))
@@ -402,7 +434,8 @@ module _ (world : World ℕ) where
           (or_first (is_mounted nat_eq mounted t.0.number) _ parts.1))))
           (ap (λ b. b && is_mounted nat_eq mounted (after_second (after_first t.0)).number)
           (layers_on filesystem.number (after_second (after_first t.0))
-          ∙ ap (list_any (λ layer. nat_eq filesystem.number layer.filesystem)) (layers-second (after_first t.0) ∙ layers-first t.0)
+          ∙ ap (list_any (λ layer. nat_eq filesystem.number layer.filesystem))
+          (layers-second (after_first t.0) ∙ layers-first t.0)
           ∙ sym (layers_on filesystem.number t.0) ∙ parts.0)
           ∙ ap (is_mounted nat_eq mounted) (number-second (after_first t.0) ∙ number-first t.0) ∙ parts.1)
 
@@ -411,19 +444,22 @@ module _ (world : World ℕ) where
       → objects_of_overlay nat_eq number merged ≡ []
   no_upper_objects number merged e = by merged.overlay e
     where
-      by : (o : Option (Overlay ℕ)) → overlay_or false (λ overlay. holds_of (λ layer. nat_eq number layer.filesystem) overlay.upper) o
+      by : (o : Option (Overlay ℕ)) → overlay_or false
+          (λ overlay. holds_of (λ layer. nat_eq number layer.filesystem) overlay.upper) o
           ≡ false
           → overlay_or [] (λ overlay. cond (holds_of (λ layer. nat_eq number layer.filesystem) overlay.upper)
           (filter_map (λ object. upper_object (overlay.real object)) merged.files.numbers) []) o ≡ []
       by None f = refl
-      by (Some overlay) f = ap (λ b. cond b (filter_map (λ object. upper_object (overlay.real object)) merged.files.numbers) []) f
+      by (Some overlay) f = ap (λ b.
+          cond b (filter_map (λ object. upper_object (overlay.real object)) merged.files.numbers) []) f
 
   pub left_in_use : HasTrees world → UppersArePlain world → AllInUse (settled nat_eq world)
   left_in_use trees plain = record {
     mounts = all_pass (mount_lives nat_eq world) mounted.mounts
         (λ mount m. (among-from_filter (mount_lives nat_eq world) world.mounts mount m).1);
     filesystems = all_pass (filesystem_lives nat_eq (settled nat_eq world)) (settled nat_eq world).filesystems
-        (λ last m. let was = was_there last m in ap (filesystem_lives nat_eq (settled nat_eq world)) was.3 ∙ still_lives was.0 was.2);
+        (λ last m. let was = was_there last m in ap (filesystem_lives nat_eq (settled nat_eq world)) was.3
+        ∙ still_lives was.0 was.2);
     inodes = all_from_among (λ f. list_all (is_inode_used (settled nat_eq world) f) f.files.numbers ≡ true)
         (settled nat_eq world).filesystems
         (λ last m. let was = was_there last m in

@@ -22,7 +22,11 @@ use Rattle.vt_letting_go.proofs.OneByOne.{filesystems_go_one_by_one, groups_go_o
 abbrev pub without_those : (ℕ → Bool) → Filesystem ℕ → Filesystem ℕ
 without_those gone filesystem = record filesystem {
   files = record {
-    tree = record { root = filesystem.files.tree.root; node = λ number. cond (gone number) None (filesystem.files.tree.node number) };
+    tree = record {
+      root = filesystem.files.tree.root;
+      node = λ number.
+          cond (gone number) None (filesystem.files.tree.node number);
+    };
     numbers = filter (λ number. not (gone number)) filesystem.files.numbers;
   };
 }
@@ -49,7 +53,8 @@ one_step world inode filesystem = by (nat_eq filesystem.number inode.0 && not (i
     by false = sym (without_none filesystem)
 
 abbrev pub goes_of : List ℕ → List Inode → Filesystem ℕ → ℕ → Bool
-goes_of used losers filesystem number = is_inode_among filesystem.number number losers && not (is_among nat_eq number used)
+goes_of used losers filesystem number =
+    is_inode_among filesystem.number number losers && not (is_among nat_eq number used)
 
 -- it goes here, or later
 pub goes_on : (used : List ℕ) (inode : Inode) (rest : List Inode) (filesystem : Filesystem ℕ) (number : ℕ)
@@ -58,9 +63,11 @@ pub goes_on : (used : List ℕ) (inode : Inode) (rest : List Inode) (filesystem 
     || goes_of used rest filesystem number)
 goes_on used inode rest filesystem number =
     by (nat_eq filesystem.number inode.0) (nat_eq number inode.1) refl (is_inode_among filesystem.number number rest)
-    (is_among nat_eq number used) (is_among nat_eq inode.1 used) (λ e. ap (λ n. is_among nat_eq n used) (eqb-true number inode.1 e))
+    (is_among nat_eq number used) (is_among nat_eq inode.1 used)
+    (λ e. ap (λ n. is_among nat_eq n used) (eqb-true number inode.1 e))
   where
-    by : (here same : Bool) → nat_eq number inode.1 ≡ same → (later mine its : Bool) → (nat_eq number inode.1 ≡ true → mine ≡ its)
+    by : (here same : Bool) → nat_eq number inode.1 ≡ same → (later mine its : Bool)
+        → (nat_eq number inode.1 ≡ true → mine ≡ its)
         → (((here && same) || later) && not mine) ≡ (((here && not its) && same) || (later && not mine))
     by true true e later mine its h =
         ap not (h e) ∙ both later its ∙ ap (λ u. ((true && not its) && true) || (later && not u)) (sym (h e))
@@ -92,13 +99,15 @@ two_steps world inode rest filesystem used same = λ i. record filesystem {
     here : ℕ → Bool
     here = goes_here world inode filesystem
 
-    here_or_later : (number : ℕ) → goes_of used (inode ∷ rest) filesystem number ≡ (here number || goes_of used rest filesystem number)
+    here_or_later : (number : ℕ) → goes_of used (inode ∷ rest) filesystem number
+        ≡ (here number || goes_of used rest filesystem number)
     here_or_later number =
         goes_on used inode rest filesystem number
         ∙ ap (λ u. ((nat_eq filesystem.number inode.0 && not (is_among nat_eq inode.1 u)) && nat_eq number inode.1)
         || goes_of used rest filesystem number) same
 
-    node : (number : ℕ) → cond (goes_of used rest filesystem number) None (cond (here number) None (filesystem.files.tree.node number))
+    node : (number : ℕ) → cond (goes_of used rest filesystem number) None
+        (cond (here number) None (filesystem.files.tree.node number))
         ≡ cond (goes_of used (inode ∷ rest) filesystem number) None (filesystem.files.tree.node number)
     node number =
         by (here number) (goes_of used rest filesystem number)
@@ -110,12 +119,14 @@ two_steps world inode rest filesystem used same = λ i. record filesystem {
         by true false = refl
         by false b = refl
 
-    numbers : filter (λ number. not (goes_of used rest filesystem number)) (filter (λ number. not (here number)) filesystem.files.numbers)
+    numbers : filter (λ number. not (goes_of used rest filesystem number))
+        (filter (λ number. not (here number)) filesystem.files.numbers)
         ≡ filter (λ number. not (goes_of used (inode ∷ rest) filesystem number)) filesystem.files.numbers
     numbers =
         filter_twice (λ number. not (goes_of used rest filesystem number)) (λ number. not (here number))
         (λ number. not (goes_of used (inode ∷ rest) filesystem number))
-        (λ number. ap not (here_or_later number) ∙ by (here number) (goes_of used rest filesystem number)) filesystem.files.numbers
+        (λ number. ap not (here_or_later number)
+        ∙ by (here number) (goes_of used rest filesystem number)) filesystem.files.numbers
       where
         by : (a b : Bool) → not (a || b) ≡ (not a && not b)
         by true b = refl
@@ -154,16 +165,19 @@ module _ (world : World ℕ) (inode : Inode) (plain : IsPlain world) where
       is_unused number e =
           let parts = and_parts (nat_eq filesystem.number inode.0 && not (is_inode_used world filesystem inode.1))
           (nat_eq number inode.1) e in
-          let unused = and_parts (nat_eq filesystem.number inode.0) (not (is_inode_used world filesystem inode.1)) parts.0 in
+          let unused = and_parts (nat_eq filesystem.number inode.0)
+          (not (is_inode_used world filesystem inode.1)) parts.0 in
           ap (λ n. is_among nat_eq n (used_in nat_eq world filesystem)) (eqb-true number inode.1 parts.1)
           ∙ not-true (is_inode_used world filesystem inode.1) unused.1
 
   layers-step : (number : ℕ) → layers_in nat_eq next number ≡ layers_in nat_eq world number
   layers-step number =
       ap (λ layers. map (λ layer. layer.directory) (filter (λ layer. nat_eq number layer.filesystem) layers))
-      (flat_map-map step (of_overlay [] layers_of) world.filesystems (λ filesystem. ap (overlay_or [] layers_of) (overlay-step filesystem)))
+      (flat_map-map step (of_overlay [] layers_of) world.filesystems
+      (λ filesystem. ap (overlay_or [] layers_of) (overlay-step filesystem)))
 
-  no_objects_in : (other : World ℕ) → IsPlain other → (number : ℕ) → flat_map (objects_of_overlay nat_eq number) other.filesystems ≡ []
+  no_objects_in : (other : World ℕ) → IsPlain other → (number : ℕ)
+      → flat_map (objects_of_overlay nat_eq number) other.filesystems ≡ []
   no_objects_in other is number =
       flat_map_none (objects_of_overlay nat_eq number) other.filesystems
       (λ filesystem m. no_objects other number filesystem (fails is_overlay other.filesystems is filesystem m))
@@ -204,7 +218,8 @@ inodes_folded : (world : World ℕ) (losers : List Inode) → IsPlain world → 
 unfolding AllUnusedAreEmpty
 inodes_folded world [] plain empty =
     ap (λ filesystems. record world { filesystems = filesystems })
-    (sym (map_same (λ filesystem. without_those (λ number. false) filesystem) world.filesystems (λ filesystem m. without_none filesystem)))
+    (sym (map_same (λ filesystem. without_those (λ number. false) filesystem) world.filesystems
+    (λ filesystem m. without_none filesystem)))
 inodes_folded world (inode ∷ rest) plain empty =
     inodes_folded (let_go_inode world inode) rest (plain-step world inode plain)
     (λ filesystem m.
@@ -234,9 +249,11 @@ no_real used (Some overlay) e = absurd (true≢false e)
 node_kept : (used : List ℕ) (files : FileTree ℕ) → ListsNumbers nat_eq files
     → list_all (λ number. is_among nat_eq number used) files.numbers ≡ true
     → (number : ℕ) → files.tree.node number ≡ cond (is_among nat_eq number used) (files.tree.node number) None
-node_kept used files numbers all number = by (is_among nat_eq number used) refl (files.tree.node number) (numbers number)
+node_kept used files numbers all number =
+    by (is_among nat_eq number used) refl (files.tree.node number) (numbers number)
   where
-    by : (u : Bool) → is_among nat_eq number used ≡ u → (o : Option (Node ℕ)) → is_among nat_eq number files.numbers ≡ is_some o
+    by : (u : Bool) → is_among nat_eq number used ≡ u → (o : Option (Node ℕ))
+        → is_among nat_eq number files.numbers ≡ is_some o
         → o ≡ cond u o None
     by true f o there = refl
     by false f None there = refl
@@ -244,11 +261,14 @@ node_kept used files numbers all number = by (is_among nat_eq number used) refl 
         absurd (true≢false (sym (passes (λ n. is_among nat_eq n used) files.numbers all number
         (among_numbers number files.numbers there)) ∙ f))
 
-pub left_of_plain : (used : List ℕ) (filesystem : Filesystem ℕ) → ListsNumbers nat_eq filesystem.files → is_overlay filesystem ≡ false
+pub left_of_plain : (used : List ℕ) (filesystem : Filesystem ℕ) → ListsNumbers nat_eq filesystem.files
+    → is_overlay filesystem ≡ false
     → only_used_of nat_eq used filesystem ≡ without_those (λ number. not (is_among nat_eq number used)) filesystem
-left_of_plain used filesystem numbers plain = by (list_all (λ number. is_among nat_eq number used) filesystem.files.numbers) refl
+left_of_plain used filesystem numbers plain =
+    by (list_all (λ number. is_among nat_eq number used) filesystem.files.numbers) refl
   where
-    node : (number : ℕ) (u : Bool) → cond u (filesystem.files.tree.node number) None ≡ cond (not u) None (filesystem.files.tree.node number)
+    node : (number : ℕ) (u : Bool)
+        → cond u (filesystem.files.tree.node number) None ≡ cond (not u) None (filesystem.files.tree.node number)
     node number true = refl
     node number false = refl
 
@@ -263,12 +283,14 @@ left_of_plain used filesystem numbers plain = by (list_all (λ number. is_among 
         not_not false = refl
 
     by : (all : Bool) → list_all (λ number. is_among nat_eq number used) filesystem.files.numbers ≡ all
-        → only_used_by nat_eq all used filesystem ≡ without_those (λ number. not (is_among nat_eq number used)) filesystem
+        → only_used_by nat_eq all used filesystem
+        ≡ without_those (λ number. not (is_among nat_eq number used)) filesystem
     by true e = λ i. record filesystem {
       files = record {
         tree = record {
           root = filesystem.files.tree.root;
-          node = λ number. (node_kept used filesystem.files numbers e number ∙ node number (is_among nat_eq number used)) i;
+          node = λ number. (node_kept used filesystem.files numbers e number
+              ∙ node number (is_among nat_eq number used)) i;
         };
         numbers = (sym (filter_all (λ number. is_among nat_eq number used) filesystem.files.numbers
             (passes (λ number. is_among nat_eq number used) filesystem.files.numbers e)) ∙ twice) i;
@@ -276,7 +298,11 @@ left_of_plain used filesystem numbers plain = by (list_all (λ number. is_among 
     }
     by false e = λ i. record filesystem {
       files = record {
-        tree = record { root = filesystem.files.tree.root; node = λ number. node number (is_among nat_eq number used) i };
+        tree = record {
+          root = filesystem.files.tree.root;
+          node = λ number.
+              node number (is_among nat_eq number used) i;
+        };
         numbers = twice i;
       };
       overlay = no_real used filesystem.overlay plain i;
@@ -287,7 +313,8 @@ pub numbers_without : (gone : ℕ → Bool) (filesystem : Filesystem ℕ) → Li
     → ListsNumbers nat_eq (without_those gone filesystem).files
 numbers_without gone filesystem numbers number = by (gone number) refl
   where
-    missing : (b : Bool) → is_among nat_eq number (filter (λ n. not (gone n)) filesystem.files.numbers) ≡ b → gone number ≡ true → b ≡ false
+    missing : (b : Bool) → is_among nat_eq number (filter (λ n. not (gone n)) filesystem.files.numbers) ≡ b
+        → gone number ≡ true → b ≡ false
     missing false e f = refl
     missing true e f =
         absurd (true≢false
@@ -304,7 +331,8 @@ numbers_without gone filesystem numbers number = by (gone number) refl
       where
         differs : (n : ℕ) (b : Bool) → nat_eq number n ≡ b → not (gone n) ≡ false → b ≡ false
         differs n false e skipped = refl
-        differs n true e skipped = absurd (true≢false (sym (ap not f) ∙ ap (λ k. not (gone k)) (eqb-true number n e) ∙ skipped))
+        differs n true e skipped = absurd
+            (true≢false (sym (ap not f) ∙ ap (λ k. not (gone k)) (eqb-true number n e) ∙ skipped))
 
 -- the sweep of a world of plain filesystems
 pub plain_sweep : (world : World ℕ) → IsPlain world
@@ -316,18 +344,23 @@ plain_sweep world plain =
     ap (without_dead_in nat_eq (λ filesystem. not (is_overlay filesystem)))
     (ap (λ filesystems. record world { filesystems = filesystems })
     (map_same (λ filesystem. only_used nat_eq world (is_overlay filesystem) filesystem) world.filesystems
-    (λ filesystem m. ap (λ b. only_used nat_eq world b filesystem) (fails is_overlay world.filesystems plain filesystem m))))
+    (λ filesystem m. ap (λ b. only_used nat_eq world b filesystem)
+    (fails is_overlay world.filesystems plain filesystem m))))
     ∙ ap (λ filesystems. record world { filesystems = filesystems })
     (map_alike (λ filesystem. only_used nat_eq world (not (is_overlay filesystem)) filesystem)
     (λ filesystem. only_used_of nat_eq (used_in nat_eq world filesystem) filesystem) world.filesystems
-    (λ filesystem m. ap (λ b. only_used nat_eq world (not b) filesystem) (fails is_overlay world.filesystems plain filesystem m)))
+    (λ filesystem m. ap (λ b. only_used nat_eq world (not b) filesystem)
+    (fails is_overlay world.filesystems plain filesystem m)))
 
 -- What the sweep leaves of a plain tree, where all other inodes are used
-module _ (used : List ℕ) (losers : List Inode) (filesystem : Filesystem ℕ) (numbers : ListsNumbers nat_eq filesystem.files)
-    (others : list_all (λ number. is_inode_among filesystem.number number losers || is_among nat_eq number used) filesystem.files.numbers
+module _ (used : List ℕ) (losers : List Inode) (filesystem : Filesystem ℕ)
+    (numbers : ListsNumbers nat_eq filesystem.files)
+    (others : list_all (λ number. is_inode_among filesystem.number number losers
+    || is_among nat_eq number used) filesystem.files.numbers
     ≡ true) where
   -- an inode that is not used, and none of these, is not there
-  not_there : (number : ℕ) → is_among nat_eq number used ≡ false → is_inode_among filesystem.number number losers ≡ false
+  not_there : (number : ℕ) → is_among nat_eq number used ≡ false
+      → is_inode_among filesystem.number number losers ≡ false
       → filesystem.files.tree.node number ≡ None
   not_there number unused other = none (filesystem.files.tree.node number)
       (sym (numbers number) ∙ missing (is_among nat_eq number filesystem.files.numbers) refl)
@@ -336,11 +369,13 @@ module _ (used : List ℕ) (losers : List Inode) (filesystem : Filesystem ℕ) (
       none None e = refl
       none (Some node) e = absurd (true≢false e)
 
-      missing : (b : Bool) → is_among nat_eq number filesystem.files.numbers ≡ b → is_among nat_eq number filesystem.files.numbers ≡ false
+      missing : (b : Bool) → is_among nat_eq number filesystem.files.numbers ≡ b
+          → is_among nat_eq number filesystem.files.numbers ≡ false
       missing false e = e
       missing true e =
           absurd (true≢false
-          (sym (passes (λ n. is_inode_among filesystem.number n losers || is_among nat_eq n used) filesystem.files.numbers others number
+          (sym (passes (λ n. is_inode_among filesystem.number n losers
+          || is_among nat_eq n used) filesystem.files.numbers others number
           (among_numbers number filesystem.files.numbers e))
           ∙ ap (λ b. b || is_among nat_eq number used) other ∙ unused))
 
@@ -348,11 +383,13 @@ module _ (used : List ℕ) (losers : List Inode) (filesystem : Filesystem ℕ) (
   goes = goes_of used losers filesystem
 
   -- so what is not used, of those that are there, is among these
-  unused_goes : (number : ℕ) → Among number filesystem.files.numbers → not (not (is_among nat_eq number used)) ≡ not (goes number)
+  unused_goes : (number : ℕ) → Among number filesystem.files.numbers
+      → not (not (is_among nat_eq number used)) ≡ not (goes number)
   unfolding goes
   unused_goes number m =
       by (is_inode_among filesystem.number number losers) (is_among nat_eq number used)
-      (passes (λ n. is_inode_among filesystem.number n losers || is_among nat_eq n used) filesystem.files.numbers others number m)
+      (passes (λ n. is_inode_among filesystem.number n losers
+      || is_among nat_eq n used) filesystem.files.numbers others number m)
     where
       by : (a u : Bool) → (a || u) ≡ true → not (not u) ≡ not (a && not u)
       by true true e = refl
@@ -365,8 +402,10 @@ module _ (used : List ℕ) (losers : List Inode) (filesystem : Filesystem ℕ) (
   unfolding goes
   node_swept number = by (is_inode_among filesystem.number number losers) refl (is_among nat_eq number used) refl
     where
-      by : (a : Bool) → is_inode_among filesystem.number number losers ≡ a → (u : Bool) → is_among nat_eq number used ≡ u
-          → cond (not u) None (filesystem.files.tree.node number) ≡ cond (a && not u) None (filesystem.files.tree.node number)
+      by : (a : Bool) → is_inode_among filesystem.number number losers ≡ a → (u : Bool)
+          → is_among nat_eq number used ≡ u
+          → cond (not u) None (filesystem.files.tree.node number)
+          ≡ cond (a && not u) None (filesystem.files.tree.node number)
       by true e true f = refl
       by true e false f = refl
       by false e true f = refl
@@ -389,14 +428,17 @@ inodes_go_one_by_one world losers plain trees others =
     plain_sweep world plain
     ∙ ap (λ filesystems. record world { filesystems = filesystems })
     (map_alike (λ filesystem. only_used_of nat_eq (used_in nat_eq world filesystem) filesystem)
-    (λ filesystem. without_those (goes_of (used_in nat_eq world filesystem) losers filesystem) filesystem) world.filesystems
+    (λ filesystem. without_those (goes_of
+    (used_in nat_eq world filesystem) losers filesystem) filesystem) world.filesystems
     (λ filesystem m.
     let tree = among_from_all (λ f. IsListedTree f.files) world.filesystems trees filesystem m in
     swept (used_in nat_eq world filesystem) losers filesystem tree.numbers
-    (among_from_all (λ f. list_all (is_used_or_among losers world f) f.files.numbers ≡ true) world.filesystems others filesystem m)
+    (among_from_all (λ f. list_all (is_used_or_among losers world f) f.files.numbers
+    ≡ true) world.filesystems others filesystem m)
     (fails is_overlay world.filesystems plain filesystem m)))
     ∙ sym (inodes_folded world losers plain
-    (λ filesystem m. unused_are_empty world filesystem (among_from_all (λ f. IsListedTree f.files) world.filesystems trees filesystem m)))
+    (λ filesystem m. unused_are_empty world filesystem
+    (among_from_all (λ f. IsListedTree f.files) world.filesystems trees filesystem m)))
 
 -- The whole sweep
 pub all_goes_one_by_one : AllGoesOneByOne
@@ -413,7 +455,8 @@ all_goes_one_by_one world losers plain trees others =
     ap (without_dead_groups nat_eq) inodes
     ∙ groups_go_one_by_one (let_go_inodes living losers.inodes) losers.groups
     (λ group among none. let same = sym inodes in
-    ap (λ w. w.master group) same ∙ others.groups group among (ap (λ w. has_members nat_eq w.mounts group) inodes ∙ none))
+    ap (λ w. w.master group) same ∙ others.groups group among
+    (ap (λ w. has_members nat_eq w.mounts group) inodes ∙ none))
     ∙ ap (λ w. let_go_groups (let_go_inodes w losers.inodes) losers.groups)
     (filesystems_go_one_by_one mounted losers.filesystems others.filesystems
     ∙ ap (λ w. let_go_filesystems w losers.filesystems) (mounts_go_one_by_one world losers.mounts others.mounts))

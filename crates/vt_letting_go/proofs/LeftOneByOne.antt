@@ -28,16 +28,19 @@ follows false true h = refl
 follows false false h = refl
 
 -- the real objects of an overlay without fewer inodes
-objects_more : (some more : ℕ → Bool) (number : ℕ) (g : Filesystem ℕ) → ((k : ℕ) → some k ≡ true → more k ≡ true) → (object : ℕ)
+objects_more : (some more : ℕ → Bool) (number : ℕ) (g : Filesystem ℕ) → ((k : ℕ) → some k ≡ true → more k ≡ true)
+    → (object : ℕ)
     → Among object (objects_of_overlay nat_eq number (without_all more g))
     → Among object (objects_of_overlay nat_eq number (without_all some g))
 objects_more some more number g within object = over g.overlay
   where
     over : (o : Option (Overlay ℕ))
-        → Among object (overlay_or [] (λ overlay. cond (holds_of (λ layer. nat_eq number layer.filesystem) overlay.upper)
+        → Among object (overlay_or [] (λ overlay.
+        cond (holds_of (λ layer. nat_eq number layer.filesystem) overlay.upper)
         (filter_map (λ k. upper_object (overlay.real k)) (filter (λ k. not (more k)) g.files.numbers)) [])
         (option_map (reals_without more) o))
-        → Among object (overlay_or [] (λ overlay. cond (holds_of (λ layer. nat_eq number layer.filesystem) overlay.upper)
+        → Among object (overlay_or [] (λ overlay.
+        cond (holds_of (λ layer. nat_eq number layer.filesystem) overlay.upper)
         (filter_map (λ k. upper_object (overlay.real k)) (filter (λ k. not (some k)) g.files.numbers)) [])
         (option_map (reals_without some) o))
     over None m = absurd m
@@ -61,9 +64,11 @@ objects_more some more number g within object = over g.overlay
             (filter (λ k. not (some k)) g.files.numbers) from.0 object
             (among-filter (λ k. not (some k)) g.files.numbers from.0 listed.0 (ap not stays))
             (ap (λ b. upper_object (cond b None (overlay.real from.0))) stays
-            ∙ sym (ap (λ b. upper_object (cond b None (overlay.real from.0))) (not-true (more from.0) listed.1)) ∙ from.2)
+            ∙ sym (ap (λ b. upper_object (cond b None (overlay.real from.0))) (not-true (more from.0) listed.1))
+            ∙ from.2)
 
-module _ (world : World ℕ) (tasks : List (Task ℕ)) (trees : HasTrees world) (uppers : UppersArePlain world) (reals : RealsAreThere world)
+module _ (world : World ℕ) (tasks : List (Task ℕ)) (trees : HasTrees world) (uppers : UppersArePlain world)
+    (reals : RealsAreThere world)
     (stand : MountsStand world) (nowhere_new : comes_nowhere world tasks ≡ true) where
   abbrev once : World ℕ
   once = with_tasks world tasks
@@ -80,7 +85,8 @@ module _ (world : World ℕ) (tasks : List (Task ℕ)) (trees : HasTrees world) 
   -- Mounts
   was_located : (location : Location ℕ) → Among location (all_locations once) → Among location (all_locations world)
   was_located location m =
-      is_it (all_locations world) location (passes (is_location_among (all_locations world)) (all_locations once) nowhere_new location m)
+      is_it (all_locations world) location
+      (passes (is_location_among (all_locations world)) (all_locations once) nowhere_new location m)
 
   lived : (mount : Mount ℕ) → mount_lives nat_eq once mount ≡ true → mount_lives nat_eq world mount ≡ true
   lived mount lives =
@@ -101,7 +107,8 @@ module _ (world : World ℕ) (tasks : List (Task ℕ)) (trees : HasTrees world) 
       among-filter (mount_lives nat_eq world) world.mounts mount from.0 (lived mount from.1)
 
   -- Groups
-  members_were : (group : ℕ) → has_members nat_eq last_mounts group ≡ true → has_members nat_eq first_mounts group ≡ true
+  members_were : (group : ℕ) → has_members nat_eq last_mounts group ≡ true
+      → has_members nat_eq first_mounts group ≡ true
   members_were group has =
       let t = one_passes (is_member_of nat_eq group) last_mounts has in
       any_passes (is_member_of nat_eq group) first_mounts t.0 (last_was_first t.0 t.1) t.2
@@ -116,7 +123,8 @@ module _ (world : World ℕ) (tasks : List (Task ℕ)) (trees : HasTrees world) 
       ∙ by (has_members nat_eq last_mounts group) refl
     where
       by : (b : Bool) → has_members nat_eq last_mounts group ≡ b
-          → cond b (cond (has_members nat_eq first_mounts group) (world.master group) None) None ≡ cond b (world.master group) None
+          → cond b (cond (has_members nat_eq first_mounts group) (world.master group) None) None
+          ≡ cond b (world.master group) None
       by true e = ap (λ c. cond c (world.master group) None) (members_were group e)
       by false e = refl
 
@@ -143,18 +151,22 @@ module _ (world : World ℕ) (tasks : List (Task ℕ)) (trees : HasTrees world) 
   lives_last f = filesystem_lives nat_eq (without_dead_mounts nat_eq once) f
 
   abbrev layered_by : ℕ → Filesystem ℕ → Bool
-  layered_by number merged = has_layer_on nat_eq number merged && is_mounted nat_eq (without_dead_mounts nat_eq once) merged.number
+  layered_by number merged = has_layer_on nat_eq number merged
+      && is_mounted nat_eq (without_dead_mounts nat_eq once) merged.number
 
   lived_first : (f : Filesystem ℕ) → lives_last f ≡ true → lives_first f ≡ true
   lived_first f lives =
-      ⊎_elim (λ here. or_first (is_mounted nat_eq (without_dead_mounts nat_eq world) f.number) _ (last_mounted_was f.number here))
+      ⊎_elim (λ here. or_first (is_mounted nat_eq (without_dead_mounts nat_eq world) f.number) _
+      (last_mounted_was f.number here))
       (λ layered.
       let t = one_passes (layered_by f.number) world.filesystems layered in
-      let parts = and_parts (has_layer_on nat_eq f.number t.0) (is_mounted nat_eq (without_dead_mounts nat_eq once) t.0.number) t.2 in
+      let parts = and_parts (has_layer_on nat_eq f.number t.0)
+      (is_mounted nat_eq (without_dead_mounts nat_eq once) t.0.number) t.2 in
       or_second (is_mounted nat_eq (without_dead_mounts nat_eq world) f.number) _
       (any_passes (λ merged. has_layer_on nat_eq f.number merged && is_mounted nat_eq
       (without_dead_mounts nat_eq world) merged.number) world.filesystems t.0 t.1
-      (ap (λ b. b && is_mounted nat_eq (without_dead_mounts nat_eq world) t.0.number) parts.0 ∙ last_mounted_was t.0.number parts.1)))
+      (ap (λ b. b && is_mounted nat_eq (without_dead_mounts nat_eq world) t.0.number) parts.0
+      ∙ last_mounted_was t.0.number parts.1)))
       (or_cases (is_mounted nat_eq (without_dead_mounts nat_eq once) f.number) _ lives)
 
   -- what the first sweep leaves of a filesystem
@@ -175,7 +187,8 @@ module _ (world : World ℕ) (tasks : List (Task ℕ)) (trees : HasTrees world) 
   same_mounted number = ap (list_any (λ mount. nat_eq number mount.filesystem)) same_mounts
 
   same_layered : (number : ℕ)
-      → list_any (λ merged. has_layer_on nat_eq number merged && is_mounted nat_eq (without_dead_mounts nat_eq again) merged.number)
+      → list_any (λ merged. has_layer_on nat_eq number merged
+      && is_mounted nat_eq (without_dead_mounts nat_eq again) merged.number)
       (settled nat_eq world).filesystems
       ≡ list_any (layered_by number) world.filesystems
   same_layered number =
@@ -189,19 +202,24 @@ module _ (world : World ℕ) (tasks : List (Task ℕ)) (trees : HasTrees world) 
       ∙ sym (layers_on world number g))
       ∙ ap (λ b. has_layer_on nat_eq number g && b) (same_mounted (swept g).number
       ∙ ap (is_mounted nat_eq (without_dead_mounts nat_eq once)) (number-swept g)))
-      ∙ any-filter (layered_by number) lives_first world.filesystems (λ g m dead. none g (layered_by number g) refl dead)
+      ∙ any-filter (layered_by number) lives_first world.filesystems
+      (λ g m dead. none g (layered_by number g) refl dead)
     where
-      none : (g : Filesystem ℕ) (b : Bool) → layered_by number g ≡ b → lives_first g ≡ false → layered_by number g ≡ false
+      none : (g : Filesystem ℕ) (b : Bool) → layered_by number g ≡ b → lives_first g ≡ false
+          → layered_by number g ≡ false
       none g false e dead = e
       none g true e dead =
-          let parts = and_parts (has_layer_on nat_eq number g) (is_mounted nat_eq (without_dead_mounts nat_eq once) g.number) e in
+          let parts = and_parts (has_layer_on nat_eq number g)
+          (is_mounted nat_eq (without_dead_mounts nat_eq once) g.number) e in
           absurd (true≢false
-          (sym (or_first (is_mounted nat_eq (without_dead_mounts nat_eq world) g.number) _ (last_mounted_was g.number parts.1)) ∙ dead))
+          (sym (or_first (is_mounted nat_eq (without_dead_mounts nat_eq world) g.number) _
+          (last_mounted_was g.number parts.1)) ∙ dead))
 
   same_lives : (f : Filesystem ℕ) → filesystem_lives nat_eq (without_dead_mounts nat_eq again) (swept f) ≡ lives_last f
   same_lives f =
       ap (λ n. is_mounted nat_eq (without_dead_mounts nat_eq again) n
-      || list_any (λ merged. has_layer_on nat_eq n merged && is_mounted nat_eq (without_dead_mounts nat_eq again) merged.number)
+      || list_any (λ merged. has_layer_on nat_eq n merged
+      && is_mounted nat_eq (without_dead_mounts nat_eq again) merged.number)
       (settled nat_eq world).filesystems)
       (number-swept f)
       ∙ ap (λ b. b || list_any (λ merged. has_layer_on nat_eq f.number merged
@@ -212,9 +230,11 @@ module _ (world : World ℕ) (tasks : List (Task ℕ)) (trees : HasTrees world) 
   same_filesystems : again_living.filesystems ≡ map swept once_living.filesystems
   same_filesystems =
       ap (filter (filesystem_lives nat_eq (without_dead_mounts nat_eq again))) first_sweep
-      ∙ filter-map (filesystem_lives nat_eq (without_dead_mounts nat_eq again)) {q = lives_last} swept first_living.filesystems same_lives
+      ∙ filter-map (filesystem_lives nat_eq
+      (without_dead_mounts nat_eq again)) {q = lives_last} swept first_living.filesystems same_lives
       ∙ ap (map swept)
-      (filter_twice lives_last lives_first lives_last (λ f. follows (lives_last f) (lives_first f) (lived_first f)) world.filesystems)
+      (filter_twice lives_last lives_first lives_last
+      (λ f. follows (lives_last f) (lives_first f) (lived_first f)) world.filesystems)
 
   -- what lives in the end lived before
   was_living : (f : Filesystem ℕ) → Among f once_living.filesystems → Among f first_living.filesystems
@@ -226,14 +246,17 @@ module _ (world : World ℕ) (tasks : List (Task ℕ)) (trees : HasTrees world) 
   of_world f m = (among-from_filter lives_last world.filesystems f m).0
 
   -- Inodes: what is at a place in the end was at one before
-  found_alike : (number : ℕ) → ((mount : Mount ℕ) → Among mount world.mounts → mount.number ≡ number → mount_lives nat_eq once mount ≡ true)
+  found_alike : (number : ℕ) → ((mount : Mount ℕ) → Among mount world.mounts → mount.number ≡ number
+      → mount_lives nat_eq once mount ≡ true)
       → mount_in nat_eq last_mounts number ≡ mount_in nat_eq first_mounts number
   found_alike number stays =
       found_in_filter (mount_lives nat_eq once) world.mounts number stays
-      ∙ sym (found_in_filter (mount_lives nat_eq world) world.mounts number (λ mount m e. lived mount (stays mount m e)))
+      ∙ sym (found_in_filter (mount_lives nat_eq world) world.mounts number
+      (λ mount m e. lived mount (stays mount m e)))
 
   the_only : (mount : Mount ℕ) → Among mount world.mounts → mount_lives nat_eq once mount ≡ true
-      → (other : Mount ℕ) → Among other world.mounts → other.number ≡ mount.number → mount_lives nat_eq once other ≡ true
+      → (other : Mount ℕ) → Among other world.mounts → other.number ≡ mount.number
+      → mount_lives nat_eq once other ≡ true
   the_only mount m lives other n e =
       ap (mount_lives nat_eq once)
       (sym (found_itself world.mounts stand.one_number other n) ∙ ap (mount_in nat_eq world.mounts) e
@@ -244,17 +267,20 @@ module _ (world : World ℕ) (tasks : List (Task ℕ)) (trees : HasTrees world) 
   places_in other mounts = all_locations other ++ map root_of mounts ++ filter_map (λ mount. mount.mount_point) mounts
 
   was_at : (f : Filesystem ℕ) (location : Location ℕ) → Among location (places_in world first_mounts)
-      → f.number ≡ (mount_in nat_eq first_mounts location.mount).filesystem → Among location.node (located_in nat_eq first_living f.number)
+      → f.number ≡ (mount_in nat_eq first_mounts location.mount).filesystem
+      → Among location.node (located_in nat_eq first_living f.number)
   was_at f location m e =
       among-map (λ l. l.node) (filter (λ l. nat_eq f.number (mount_in nat_eq first_mounts l.mount).filesystem)
       (places_in world first_mounts)) location
-      (among-filter (λ l. nat_eq f.number (mount_in nat_eq first_mounts l.mount).filesystem) (places_in world first_mounts) location m
+      (among-filter (λ l. nat_eq f.number (mount_in nat_eq first_mounts l.mount).filesystem)
+      (places_in world first_mounts) location m
       (eq-eqb f.number (mount_in nat_eq first_mounts location.mount).filesystem e))
 
   was_located_in : (f : Filesystem ℕ) (number : ℕ) → Among number (located_in nat_eq once_living f.number)
       → Among number (located_in nat_eq first_living f.number)
   was_located_in f number m =
-      let from = among-from_map (λ l. l.node) (filter (λ l. nat_eq f.number (mount_in nat_eq last_mounts l.mount).filesystem)
+      let from = among-from_map (λ l. l.node)
+      (filter (λ l. nat_eq f.number (mount_in nat_eq last_mounts l.mount).filesystem)
       (places_in once last_mounts)) number m in
       let here = among-from_filter (λ l. nat_eq f.number (mount_in nat_eq last_mounts l.mount).filesystem)
       (places_in once last_mounts) from.0 from.1 in
@@ -268,12 +294,14 @@ module _ (world : World ℕ) (tasks : List (Task ℕ)) (trees : HasTrees world) 
       (among-append_left (all_locations world) (map root_of first_mounts) from.0 (was_located from.0 at)))
       (e ∙ ap (λ x. x.filesystem) (found_alike from.0.mount (λ mount n same.
       or_second (is_some mount.namespace) (is_located nat_eq once mount.number)
-      (any_passes (λ l. nat_eq mount.number l.mount) (all_locations once) from.0 at (eq-eqb mount.number from.0.mount same))))))
+      (any_passes (λ l. nat_eq mount.number l.mount) (all_locations once) from.0 at
+      (eq-eqb mount.number from.0.mount same))))))
       (λ root.
       let mount = among-from_map root_of last_mounts from.0 root in
       let was = among-from_filter (mount_lives nat_eq once) world.mounts mount.0 mount.1 in
       was_at f from.0
-      (among-append_left (all_locations world ++ map root_of first_mounts) (filter_map (λ x. x.mount_point) first_mounts) from.0
+      (among-append_left (all_locations world ++ map root_of first_mounts)
+      (filter_map (λ x. x.mount_point) first_mounts) from.0
       (among-append_right (all_locations world) (map root_of first_mounts) from.0
       (subst (λ l. Among l (map root_of first_mounts)) (sym mount.2)
       (among-map root_of first_mounts mount.0 (last_was_first mount.0 mount.1)))))
@@ -285,11 +313,13 @@ module _ (world : World ℕ) (tasks : List (Task ℕ)) (trees : HasTrees world) 
       let was = among-from_filter (mount_lives nat_eq once) world.mounts mount.0 mount.1 in
       let attached = place_attached world stand mount.0 was.0 from.0 mount.2 in
       was_at f from.0
-      (among-append_right (all_locations world ++ map root_of first_mounts) (filter_map (λ x. x.mount_point) first_mounts) from.0
+      (among-append_right (all_locations world ++ map root_of first_mounts)
+      (filter_map (λ x. x.mount_point) first_mounts) from.0
       (among-filter_map (λ x. x.mount_point) first_mounts mount.0 from.0 (last_was_first mount.0 mount.1) mount.2))
       (e ∙ ap (λ x. x.filesystem) (found_alike from.0.mount (λ other n same.
       the_only (mount_at nat_eq world from.0) (found_is_there world.mounts from.0.mount attached)
-      (or_first (is_some (mount_at nat_eq world from.0).namespace) (is_located nat_eq once (mount_at nat_eq world from.0).number) attached)
+      (or_first (is_some (mount_at nat_eq world from.0).namespace)
+      (is_located nat_eq once (mount_at nat_eq world from.0).number) attached)
       other n (same ∙ sym (number_found world.mounts from.0.mount))))))
       (among-append (all_locations once ++ map root_of last_mounts) (filter_map (λ mount. mount.mount_point) last_mounts) from.0 here.0))
 
@@ -298,7 +328,8 @@ module _ (world : World ℕ) (tasks : List (Task ℕ)) (trees : HasTrees world) 
   was_layer = layers_stay once_living first_living (λ f m. (f, was_living f m, refl))
 
   -- what is used in the end is the same, with a sweep in between and without
-  same_uses : (with_sweep without : List (Filesystem ℕ)) (used : List ℕ) (f : Filesystem ℕ) → UnusedAreEmpty used f → (all : Bool)
+  same_uses : (with_sweep without : List (Filesystem ℕ)) (used : List ℕ) (f : Filesystem ℕ) → UnusedAreEmpty used f
+      → (all : Bool)
       → ((number : ℕ) → layers_in nat_eq (record again_living { filesystems = with_sweep }) number
       ≡ layers_in nat_eq (record once_living { filesystems = without }) number)
       → flat_map (objects_of_overlay nat_eq f.number) with_sweep ≡ flat_map (objects_of_overlay nat_eq f.number) without
@@ -318,7 +349,8 @@ module _ (world : World ℕ) (tasks : List (Task ℕ)) (trees : HasTrees world) 
   swept_twice used later f m within =
       ap (only_used_of nat_eq later) (left_of used f numbers has)
       ∙ left_of later (without_all went f) (numbers_without went f numbers) reals_left
-      ∙ without_both went goes goes (λ number. by number (is_among nat_eq number later) refl (is_among nat_eq number used) refl) f
+      ∙ without_both went goes goes (λ number.
+      by number (is_among nat_eq number later) refl (is_among nat_eq number used) refl) f
       ∙ sym (left_of later f numbers has)
     where
       numbers : ListsNumbers nat_eq f.files
@@ -336,7 +368,8 @@ module _ (world : World ℕ) (tasks : List (Task ℕ)) (trees : HasTrees world) 
       reals_left : HasReals (without_all went f)
       reals_left number none = over f.overlay (has number) (went number) refl none
         where
-          over : (o : Option (Overlay ℕ)) → (f.files.tree.node number ≡ None → overlay_or None (λ overlay. overlay.real number) o ≡ None)
+          over : (o : Option (Overlay ℕ))
+              → (f.files.tree.node number ≡ None → overlay_or None (λ overlay. overlay.real number) o ≡ None)
               → (b : Bool) → went number ≡ b → cond b None (f.files.tree.node number) ≡ None
               → overlay_or None (λ overlay. overlay.real number) (option_map (reals_without went) o) ≡ None
           over None h b e n = refl
@@ -344,15 +377,18 @@ module _ (world : World ℕ) (tasks : List (Task ℕ)) (trees : HasTrees world) 
           over (Some overlay) h false e n = ap (λ b. cond b None (overlay.real number)) e ∙ h n
 
       by : (number : ℕ) (b : Bool) → is_among nat_eq number later ≡ b → (c : Bool) → is_among nat_eq number used ≡ c
-          → not (is_among nat_eq number later) ≡ (not (is_among nat_eq number used) || not (is_among nat_eq number later))
+          → not (is_among nat_eq number later)
+          ≡ (not (is_among nat_eq number used) || not (is_among nat_eq number later))
       by number b e true f = ap (λ c. not c || not (is_among nat_eq number later)) (sym f)
       by number false e false f = ap not e ∙ ap (λ c. not c || not (is_among nat_eq number later)) (sym f)
       by number true e false f = absurd (true≢false (sym (within number e) ∙ f))
 
   -- what is used in the end was used before
   used_before : (with_sweep without : World ℕ) (f : Filesystem ℕ)
-      → ((number : ℕ) → Among number (located_in nat_eq without f.number) → Among number (located_in nat_eq with_sweep f.number))
-      → ((number : ℕ) → Among number (layers_in nat_eq without f.number) → Among number (layers_in nat_eq with_sweep f.number))
+      → ((number : ℕ) → Among number (located_in nat_eq without f.number)
+      → Among number (located_in nat_eq with_sweep f.number))
+      → ((number : ℕ) → Among number (layers_in nat_eq without f.number)
+      → Among number (layers_in nat_eq with_sweep f.number))
       → ((number : ℕ) → Among number (flat_map (objects_of_overlay nat_eq f.number) without.filesystems)
       → Among number (flat_map (objects_of_overlay nat_eq f.number) with_sweep.filesystems))
       → (number : ℕ) → is_inode_used without f number ≡ true → is_inode_used with_sweep f number ≡ true
@@ -362,17 +398,20 @@ module _ (world : World ℕ) (tasks : List (Task ℕ)) (trees : HasTrees world) 
       (λ front. among-append_left (names ++ located_in nat_eq with_sweep f.number
       ++ layers_in nat_eq with_sweep f.number) objects_then number
       (⊎_elim
-      (λ first. among-append_left (names ++ located_in nat_eq with_sweep f.number) (layers_in nat_eq with_sweep f.number) number
+      (λ first. among-append_left (names ++ located_in nat_eq with_sweep f.number)
+      (layers_in nat_eq with_sweep f.number) number
       (⊎_elim (λ named. among-append_left names (located_in nat_eq with_sweep f.number) number named)
       (λ at. among-append_right names (located_in nat_eq with_sweep f.number) number (located number at))
       (among-append names (located_in nat_eq without f.number) number first)))
-      (λ layer. among-append_right (names ++ located_in nat_eq with_sweep f.number) (layers_in nat_eq with_sweep f.number) number
+      (λ layer. among-append_right (names ++ located_in nat_eq with_sweep f.number)
+      (layers_in nat_eq with_sweep f.number) number
       (layers number layer))
       (among-append (names ++ located_in nat_eq without f.number) (layers_in nat_eq without f.number) number front)))
       (λ object. among-append_right (names ++ located_in nat_eq with_sweep f.number
       ++ layers_in nat_eq with_sweep f.number) objects_then number (objects number object))
       (among-append (names ++ located_in nat_eq without f.number ++ layers_in nat_eq without f.number)
-      (flat_map (objects_of_overlay nat_eq f.number) without.filesystems) number (among_numbers number (used_in nat_eq without f) is)))
+      (flat_map (objects_of_overlay nat_eq f.number) without.filesystems) number
+      (among_numbers number (used_in nat_eq without f) is)))
     where
       names : List ℕ
       names = f.files.tree.root ∷ named_in f.files
@@ -417,7 +456,8 @@ module _ (world : World ℕ) (tasks : List (Task ℕ)) (trees : HasTrees world) 
       ap (λ x. only_used nat_eq again_living (is_overlay x) x) is_left
       ∙ ap (λ b. only_used nat_eq again_living b left) (overlay-left used f all ∙ is)
       ∙ ap (λ u. only_used_of nat_eq u left)
-      (same_uses again_living.filesystems once_living.filesystems used f (unused_are_empty first_living f (tree_of f m)) all again_layers
+      (same_uses again_living.filesystems once_living.filesystems used f
+      (unused_are_empty first_living f (tree_of f m)) all again_layers
       (no_objects_again ∙ sym no_objects_once))
       ∙ swept_twice used (used_in nat_eq once_living f) f (of_world f m)
       (used_before first_living once_living f (λ n at. was_located_in f n at) (was_layer f.number)
@@ -461,7 +501,8 @@ module _ (world : World ℕ) (tasks : List (Task ℕ)) (trees : HasTrees world) 
 
   -- objects that overlays have in a tree
   same_objects_of : (number : ℕ) (g : Filesystem ℕ) → Among g once_living.filesystems
-      → objects_of_overlay nat_eq number (after_first again (swept g)) ≡ objects_of_overlay nat_eq number (after_first once g)
+      → objects_of_overlay nat_eq number (after_first again (swept g))
+      ≡ objects_of_overlay nat_eq number (after_first once g)
   same_objects_of number g m =
       ⊎_elim
       (λ is. ap (objects_of_overlay nat_eq number) (overlay_alike g m is))
@@ -469,10 +510,12 @@ module _ (world : World ℕ) (tasks : List (Task ℕ)) (trees : HasTrees world) 
       ∙ overlay-left (used_in nat_eq (without_dead_in nat_eq is_overlay first_living) g) g _ ∙ isnt in
       ap (λ b. objects_of_overlay nat_eq number (only_used nat_eq again_living b (swept g))) left
       ∙ no_objects world number (swept g) left
-      ∙ sym (ap (λ b. objects_of_overlay nat_eq number (only_used nat_eq once_living b g)) isnt ∙ no_objects world number g isnt))
+      ∙ sym (ap (λ b. objects_of_overlay nat_eq number (only_used nat_eq once_living b g)) isnt
+      ∙ no_objects world number g isnt))
       (decided (is_overlay g))
 
-  same_objects_in : (number : ℕ) → flat_map (objects_of_overlay nat_eq number) (without_dead_in nat_eq is_overlay again_living).filesystems
+  same_objects_in : (number : ℕ)
+      → flat_map (objects_of_overlay nat_eq number) (without_dead_in nat_eq is_overlay again_living).filesystems
       ≡ flat_map (objects_of_overlay nat_eq number) (without_dead_in nat_eq is_overlay once_living).filesystems
   same_objects_in number =
       ap (λ fs. flat_map (objects_of_overlay nat_eq number) (map (after_first again) fs)) same_filesystems
@@ -496,7 +539,8 @@ module _ (world : World ℕ) (tasks : List (Task ℕ)) (trees : HasTrees world) 
       (λ k went. by k (is_among nat_eq k (used_in nat_eq once_living g)) refl is went) object
       (subst (λ x. Among object (objects_of_overlay nat_eq number x))
       (ap (λ b. only_used nat_eq once_living b g) is ∙ left_of (used_in nat_eq once_living g) g numbers has) n)))
-      (λ isnt. absurd (subst (Among object) (ap (λ b. objects_of_overlay nat_eq number (only_used nat_eq once_living b g)) isnt
+      (λ isnt. absurd (subst (Among object)
+      (ap (λ b. objects_of_overlay nat_eq number (only_used nat_eq once_living b g)) isnt
       ∙ no_objects world number g isnt) n))
       (decided (is_overlay g))
     where
@@ -507,10 +551,12 @@ module _ (world : World ℕ) (tasks : List (Task ℕ)) (trees : HasTrees world) 
       has = among_from_all HasReals world.filesystems reals g (of_world g m)
 
       by : (k : ℕ) (b : Bool) → is_among nat_eq k (used_in nat_eq once_living g) ≡ b → is_overlay g ≡ true
-          → not (is_among nat_eq k (used_in nat_eq first_living g)) ≡ true → not (is_among nat_eq k (used_in nat_eq once_living g)) ≡ true
+          → not (is_among nat_eq k (used_in nat_eq first_living g)) ≡ true
+          → not (is_among nat_eq k (used_in nat_eq once_living g)) ≡ true
       by k false e is went = ap not e
       by k true e is went =
-          absurd (true≢false (sym went ∙ ap not (used_before first_living once_living g (λ x at. was_located_in g x at) (was_layer g.number)
+          absurd (true≢false (sym went ∙ ap not
+          (used_before first_living once_living g (λ x at. was_located_in g x at) (was_layer g.number)
           (λ x o. absurd (subst (Among x)
           (flat_map_none (objects_of_overlay nat_eq g.number) once_living.filesystems
           (λ h l. no_upper_objects world g.number h (no_upper_in g m is h l))) o)) k e)))
@@ -537,7 +583,8 @@ module _ (world : World ℕ) (tasks : List (Task ℕ)) (trees : HasTrees world) 
       among-flat_map (objects_of_overlay nat_eq f.number) (without_dead_in nat_eq is_overlay first_living).filesystems
       (after_first world one.0) n
       (among-map (after_first world) first_living.filesystems one.0 (was_living one.0 one.1))
-      (object_before f.number n one.0 one.1 (subst (λ x. Among n (objects_of_overlay nat_eq f.number x)) one.2 from.2))))
+      (object_before f.number n one.0 one.1
+      (subst (λ x. Among n (objects_of_overlay nat_eq f.number x)) one.2 from.2))))
       ∙ sym (ap (λ b. after_second once (only_used nat_eq once_living b f)) isnt
       ∙ ap (λ b. only_used nat_eq (without_dead_in nat_eq is_overlay once_living) (not b) f) isnt)
     where
@@ -561,7 +608,8 @@ module _ (world : World ℕ) (tasks : List (Task ℕ)) (trees : HasTrees world) 
       ∙ sym (second_leaves once (after_first once f) over)
     where
       over : is_overlay (after_first once f) ≡ true
-      over = ap (λ b. is_overlay (only_used nat_eq once_living b f)) is ∙ overlay-left (used_in nat_eq once_living f) f _ ∙ is
+      over = ap (λ b. is_overlay (only_used nat_eq once_living b f)) is
+          ∙ overlay-left (used_in nat_eq once_living f) f _ ∙ is
 
   same_swept : (settled nat_eq again).filesystems ≡ (settled nat_eq once).filesystems
   same_swept =
@@ -584,7 +632,9 @@ one_sweep_with_overlays world tasks trees uppers reals stand nowhere_new = λ i.
 pub one_sweep_for_several : OneSweepForSeveral
 one_sweep_for_several world tasks plain trees stand nowhere_new =
     one_sweep_with_overlays world tasks trees
-    (all_from_among (λ f. is_overlay f ≡ true → All (λ g. has_upper_in f.number g ≡ false) world.filesystems) world.filesystems
+    (all_from_among (λ f. is_overlay f ≡ true
+    → All (λ g. has_upper_in f.number g ≡ false) world.filesystems) world.filesystems
     (λ f m is. absurd (true≢false (sym is ∙ fails is_overlay world.filesystems plain f m))))
-    (all_from_among HasReals world.filesystems (λ f m number none. no_real f (fails is_overlay world.filesystems plain f m) number))
+    (all_from_among HasReals world.filesystems
+    (λ f m number none. no_real f (fails is_overlay world.filesystems plain f m) number))
     stand nowhere_new

@@ -19,21 +19,26 @@ use Rattle.vt_letting_go.proofs.PlacesLeft.{after, by_located, dead_was_left, fi
 use Rattle.vt_letting_go.proofs.WithOverlays.{with_overlays_all_goes}
 
 -- the filesystem of a layer is among those of its overlay
-pub in_layers : (world : World ℕ) (number : ℕ) (merged : Filesystem ℕ) → Among merged world.filesystems → (filesystem : ℕ)
+pub in_layers : (world : World ℕ) (number : ℕ) (merged : Filesystem ℕ) → Among merged world.filesystems
+    → (filesystem : ℕ)
     → merged.number ≡ filesystem
     → has_layer_on nat_eq number merged ≡ true → Among number (filesystems_of_layers world filesystem)
 in_layers world number merged m filesystem e has =
     let t = one_passes (λ layer. nat_eq number layer.filesystem) layers (sym (layers_on world number merged) ∙ has) in
-    among-flat_map (λ f. cond (nat_eq f.number filesystem) (map (λ (layer : Layer ℕ). layer.filesystem) (of_overlay [] layers_of f)) [])
+    among-flat_map (λ f. cond (nat_eq f.number filesystem)
+    (map (λ (layer : Layer ℕ). layer.filesystem) (of_overlay [] layers_of f)) [])
     world.filesystems merged number m
-    (subst (λ b. Among number (cond b (map (λ (layer : Layer ℕ). layer.filesystem) layers) [])) (sym (eq-eqb merged.number filesystem e))
-    (subst (λ n. Among n (map (λ (layer : Layer ℕ). layer.filesystem) layers)) (sym (eqb-true number t.0.filesystem t.2))
+    (subst (λ b. Among number (cond b (map (λ (layer : Layer ℕ). layer.filesystem) layers) []))
+    (sym (eq-eqb merged.number filesystem e))
+    (subst (λ n. Among n (map (λ (layer : Layer ℕ). layer.filesystem) layers))
+    (sym (eqb-true number t.0.filesystem t.2))
     (among-map (λ (layer : Layer ℕ). layer.filesystem) layers t.0 t.1)))
   where
     layers : List (Layer ℕ)
     layers = of_overlay [] layers_of merged
 
-module _ (world : World ℕ) (tasks : List (Task ℕ)) (left : List (Location ℕ)) (in_use : AllInUse world) (stand : MountsStand world)
+module _ (world : World ℕ) (tasks : List (Task ℕ)) (left : List (Location ℕ)) (in_use : AllInUse world)
+    (stand : MountsStand world)
     (only : only_these_are_left world tasks left ≡ true) where
   abbrev now : World ℕ
   now = after world tasks left in_use stand only
@@ -61,7 +66,8 @@ module _ (world : World ℕ) (tasks : List (Task ℕ)) (left : List (Location �
         gone.0,
         gone.1,
         eqb-true number t.0.filesystem t.2
-            ∙ ap (λ x. x.filesystem) (sym (filesystem_left world tasks left in_use stand only t.0 t.1 gone.0 gone.1 gone.2)),
+            ∙ ap (λ x. x.filesystem)
+            (sym (filesystem_left world tasks left in_use stand only t.0 t.1 gone.0 gone.1 gone.2)),
       ))
       (decided (mount_lives nat_eq now t.0))
 
@@ -73,7 +79,8 @@ module _ (world : World ℕ) (tasks : List (Task ℕ)) (left : List (Location �
       (λ lives. or_second (is_among nat_eq f.number losing) (filesystem_lives nat_eq swept f)
       (or_first (is_mounted nat_eq swept f.number) _ lives))
       (λ gone. or_first (is_among nat_eq f.number losing) (filesystem_lives nat_eq swept f)
-      (is_among_numbers f.number losing (among-flat_map (filesystems_of_location world) left gone.0 f.number gone.1 (inl gone.2))))
+      (is_among_numbers f.number losing
+      (among-flat_map (filesystems_of_location world) left gone.0 f.number gone.1 (inl gone.2))))
       (still_mounted f.number here))
       (λ layered. let t = one_passes (λ merged. has_layer_on nat_eq f.number merged
       && is_mounted nat_eq world merged.number) world.filesystems layered in
@@ -81,16 +88,19 @@ module _ (world : World ℕ) (tasks : List (Task ℕ)) (left : List (Location �
       ⊎_elim
       (λ lives. or_second (is_among nat_eq f.number losing) (filesystem_lives nat_eq swept f)
       (or_second (is_mounted nat_eq swept f.number) _
-      (any_passes (λ merged. has_layer_on nat_eq f.number merged && is_mounted nat_eq swept merged.number) world.filesystems t.0 t.1
+      (any_passes (λ merged. has_layer_on nat_eq f.number merged
+      && is_mounted nat_eq swept merged.number) world.filesystems t.0 t.1
       (ap (λ b. b && is_mounted nat_eq swept t.0.number) parts.0 ∙ lives))))
       (λ gone. or_first (is_among nat_eq f.number losing) (filesystem_lives nat_eq swept f)
       (is_among_numbers f.number losing (among-flat_map (filesystems_of_location world) left gone.0 f.number gone.1
       (inr (in_layers world f.number t.0 t.1 (mount_at nat_eq world gone.0).filesystem gone.2 parts.0)))))
       (still_mounted t.0.number parts.1))
-      (or_cases (is_mounted nat_eq world f.number) _ (passes (filesystem_lives nat_eq world) world.filesystems in_use.filesystems f m)))
+      (or_cases (is_mounted nat_eq world f.number) _
+      (passes (filesystem_lives nat_eq world) world.filesystems in_use.filesystems f m)))
 
   -- what the world used is used where mounts have gone, or may go
-  use_left : (f : Filesystem ℕ) (number : ℕ) → is_inode_used world f number ≡ true → is_used_or_among inodes swept f number ≡ true
+  use_left : (f : Filesystem ℕ) (number : ℕ) → is_inode_used world f number ≡ true
+      → is_used_or_among inodes swept f number ≡ true
   use_left f number is =
       ⊎_elim
       (λ front. ⊎_elim
@@ -107,7 +117,8 @@ module _ (world : World ℕ) (tasks : List (Task ℕ)) (left : List (Location �
       (or_cases (is_among nat_eq number (names ++ located_in nat_eq world f.number)) (is_among nat_eq number layers)
       (sym (list_any-append (nat_eq number) (names ++ located_in nat_eq world f.number) layers) ∙ front)))
       (λ object. used (is_among_right number (names ++ located_in nat_eq swept f.number ++ layers) objects object))
-      (or_cases (is_among nat_eq number (names ++ located_in nat_eq world f.number ++ layers)) (is_among nat_eq number objects)
+      (or_cases (is_among nat_eq number (names ++ located_in nat_eq world f.number ++ layers))
+      (is_among nat_eq number objects)
       (sym (list_any-append (nat_eq number) (names ++ located_in nat_eq world f.number ++ layers) objects) ∙ is))
     where
       names : List ℕ
@@ -128,15 +139,18 @@ module _ (world : World ℕ) (tasks : List (Task ℕ)) (left : List (Location �
       (λ f m. all_pass (is_used_or_among inodes swept f) f.files.numbers
       (λ number n. use_left f number
       (passes (is_inode_used world f) f.files.numbers
-      (among_from_all (λ x. list_all (is_inode_used world x) x.files.numbers ≡ true) world.filesystems in_use.inodes f m) number n)))
+      (among_from_all (λ x. list_all (is_inode_used world x) x.files.numbers
+      ≡ true) world.filesystems in_use.inodes f m) number n)))
 
 -- all but what the locations that were left used is in use
-pub leaving_but : (world : World ℕ) (tasks : List (Task ℕ)) (left : List (Location ℕ)) → AllInUse world → MountsStand world
+pub leaving_but : (world : World ℕ) (tasks : List (Task ℕ)) (left : List (Location ℕ)) → AllInUse world
+    → MountsStand world
     → only_these_are_left world tasks left ≡ true → AllInUseBut (used_with_layers world left) (with_tasks world tasks)
 leaving_but world tasks left in_use stand only = record {
   mounts = mounts_but world tasks left in_use stand only;
   filesystems = all_filesystems_but world tasks left in_use stand only;
-  inodes = filesystems_take_their_uses (mounted world tasks left in_use stand only) (flat_map (filesystems_of_location world) left)
+  inodes = filesystems_take_their_uses (mounted world tasks left in_use stand only)
+      (flat_map (filesystems_of_location world) left)
       (flat_map (inodes_of_location world) left) (all_filesystems_but world tasks left in_use stand only)
       (all_inodes_but world tasks left in_use stand only);
   groups = groups_but world tasks left in_use stand only;

@@ -16,17 +16,20 @@ decided false = inr refl
 
 module _ {A : Type 0} where
   -- what is found is there and passes
-  pub found_in : (test : A → Bool) (xs : List A) (found : A) → find test xs ≡ Some found → Among found xs × (test found ≡ true)
+  pub found_in : (test : A → Bool) (xs : List A) (found : A) → find test xs ≡ Some found
+      → Among found xs × (test found ≡ true)
   found_in test [] found e = absurd (true≢false (sym (ap is_some e)))
   found_in test (first ∷ rest) found e = by (test first) refl e (found_in test rest found)
     where
       by : (b : Bool) → test first ≡ b → cond b (Some first) (find test rest) ≡ Some found
-          → (find test rest ≡ Some found → Among found rest × (test found ≡ true)) → Among found (first ∷ rest) × (test found ≡ true)
+          → (find test rest ≡ Some found → Among found rest × (test found ≡ true))
+          → Among found (first ∷ rest) × (test found ≡ true)
       by true f h later = let same : first ≡ found = same_Some first found h in (inl (sym same), ap test (sym same) ∙ f)
       by false f h later = let t : Among found rest × (test found ≡ true) = later h in (inr t.0, t.1)
 
   -- what is there is found by its number
-  pub found_by : (number : A → ℕ) (default : A) (xs : List A) → any_pair (λ (a b : A). nat_eq (number a) (number b)) xs ≡ false
+  pub found_by : (number : A → ℕ) (default : A) (xs : List A)
+      → any_pair (λ (a b : A). nat_eq (number a) (number b)) xs ≡ false
       → (x : A) → Among x xs → unwrap_or (find (λ y. nat_eq (number x) (number y)) xs) default ≡ x
   found_by number default [] one x m = absurd m
   found_by number default (first ∷ rest) one x m =
@@ -34,7 +37,8 @@ module _ {A : Type 0} where
       (any_pair (λ (a b : A). nat_eq (number a) (number b)) rest) one in
       by parts.0 (nat_eq (number x) (number first)) refl m (λ n. found_by number default rest parts.1 x n)
     where
-      by : list_any (λ b. nat_eq (number first) (number b)) rest ≡ false → (b : Bool) → nat_eq (number x) (number first) ≡ b
+      by : list_any (λ b. nat_eq (number first) (number b)) rest ≡ false → (b : Bool)
+          → nat_eq (number x) (number first) ≡ b
           → Among x (first ∷ rest)
           → (Among x rest → unwrap_or (find (λ y. nat_eq (number x) (number y)) rest) default ≡ x)
           → unwrap_or (cond b (Some first) (find (λ y. nat_eq (number x) (number y)) rest)) default ≡ x
@@ -49,7 +53,8 @@ module _ {A : Type 0} where
   -- a filter that all pass takes nothing
   pub filter_all : (p : A → Bool) (xs : List A) → ((x : A) → Among x xs → p x ≡ true) → filter p xs ≡ xs
   filter_all p [] h = refl
-  filter_all p (y ∷ ys) h = filter_here p y ys (h y (inl refl)) ∙ ap (λ rest. y ∷ rest) (filter_all p ys (λ x m. h x (inr m)))
+  filter_all p (y ∷ ys) h = filter_here p y ys (h y (inl refl))
+      ∙ ap (λ rest. y ∷ rest) (filter_all p ys (λ x m. h x (inr m)))
 
   -- a filter that none passes leaves nothing
   pub nothing_passes : (p : A → Bool) (xs : List A) → ((x : A) → Among x xs → p x ≡ false) → filter p xs ≡ []
@@ -63,7 +68,8 @@ module _ {A : Type 0} where
       ap (λ b. cond b (y ∷ filter p ys) (filter p ys)) (h y (inl refl))
       ∙ ap (λ rest. cond (q y) (y ∷ rest) rest) (filter_alike p q ys (λ x m. h x (inr m)))
 
-  pub filter_twice : (p q r : A → Bool) → ((x : A) → r x ≡ (q x && p x)) → (xs : List A) → filter p (filter q xs) ≡ filter r xs
+  pub filter_twice : (p q r : A → Bool) → ((x : A) → r x ≡ (q x && p x)) → (xs : List A)
+      → filter p (filter q xs) ≡ filter r xs
   filter_twice p q r h [] = refl
   filter_twice p q r h (y ∷ ys) = by (q y) refl (h y) (filter_twice p q r h ys)
     where
@@ -72,7 +78,8 @@ module _ {A : Type 0} where
       by true e f later =
           ap (filter p) (filter_here q y ys e) ∙ ap (λ rest. cond (p y) (y ∷ rest) rest) later
           ∙ ap (λ b. cond b (y ∷ filter r ys) (filter r ys)) (sym (f ∙ ap (λ b. b && p y) e))
-      by false e f later = ap (filter p) (filter_skip q y ys e) ∙ later ∙ sym (filter_skip r y ys (f ∙ ap (λ b. b && p y) e))
+      by false e f later = ap (filter p) (filter_skip q y ys e) ∙ later
+          ∙ sym (filter_skip r y ys (f ∙ ap (λ b. b && p y) e))
 
   -- what does not pass is not missed
   pub any-filter : (t q : A → Bool) (xs : List A) → ((x : A) → Among x xs → q x ≡ false → t x ≡ false)
@@ -80,9 +87,11 @@ module _ {A : Type 0} where
   any-filter t q [] h = refl
   any-filter t q (y ∷ ys) h = by (q y) refl (any-filter t q ys (λ x m. h x (inr m)))
     where
-      by : (b : Bool) → q y ≡ b → list_any t (filter q ys) ≡ list_any t ys → list_any t (filter q (y ∷ ys)) ≡ (t y || list_any t ys)
+      by : (b : Bool) → q y ≡ b → list_any t (filter q ys) ≡ list_any t ys
+          → list_any t (filter q (y ∷ ys)) ≡ (t y || list_any t ys)
       by true e later = ap (list_any t) (filter_here q y ys e) ∙ ap (λ b. t y || b) later
-      by false e later = ap (list_any t) (filter_skip q y ys e) ∙ later ∙ ap (λ b. b || list_any t ys) (sym (h y (inl refl) e))
+      by false e later = ap (list_any t) (filter_skip q y ys e) ∙ later
+          ∙ ap (λ b. b || list_any t ys) (sym (h y (inl refl) e))
 
 module _ {A B : Type 0} where
   pub map_alike : (f g : A → B) (xs : List A) → ((x : A) → Among x xs → f x ≡ g x) → map f xs ≡ map g xs
@@ -90,7 +99,8 @@ module _ {A B : Type 0} where
   map_alike f g (y ∷ ys) h =
       ap (λ x. x ∷ map f ys) (h y (inl refl)) ∙ ap (λ rest. g y ∷ rest) (map_alike f g ys (λ x m. h x (inr m)))
 
-  pub any-map : (p : B → Bool) {q : A → Bool} (f : A → B) (xs : List A) → ((x : A) → p (f x) ≡ q x) → list_any p (map f xs) ≡ list_any q xs
+  pub any-map : (p : B → Bool) {q : A → Bool} (f : A → B) (xs : List A) → ((x : A) → p (f x) ≡ q x)
+      → list_any p (map f xs) ≡ list_any q xs
   any-map p f [] h = refl
   any-map p {q = q} f (y ∷ ys) h = ap (λ b. b || list_any p (map f ys)) (h y) ∙ ap (λ b. q y || b) (any-map p f ys h)
 
@@ -102,7 +112,8 @@ module _ {A B : Type 0} where
       ∙ ap (λ rest. cond (q y) (f y ∷ rest) rest) (filter-map p f ys h)
       ∙ by (q y)
     where
-      by : (b : Bool) → cond b (f y ∷ map f (filter q ys)) (map f (filter q ys)) ≡ map f (cond b (y ∷ filter q ys) (filter q ys))
+      by : (b : Bool) → cond b (f y ∷ map f (filter q ys)) (map f (filter q ys))
+          ≡ map f (cond b (y ∷ filter q ys) (filter q ys))
       by true = refl
       by false = refl
 
@@ -111,9 +122,11 @@ module _ {A B : Type 0} where
       → flat_map g (map f xs) ≡ flat_map g xs
   flat_map-step f g [] h = refl
   flat_map-step f g (y ∷ ys) h =
-      ap (λ l. l ++ flat_map g (map f ys)) (h y (inl refl)) ∙ ap (λ l. g y ++ l) (flat_map-step f g ys (λ x m. h x (inr m)))
+      ap (λ l. l ++ flat_map g (map f ys)) (h y (inl refl))
+      ∙ ap (λ l. g y ++ l) (flat_map-step f g ys (λ x m. h x (inr m)))
 
-  pub flat_map-map : (f : A → A) (g : A → List B) (xs : List A) → ((x : A) → g (f x) ≡ g x) → flat_map g (map f xs) ≡ flat_map g xs
+  pub flat_map-map : (f : A → A) (g : A → List B) (xs : List A) → ((x : A) → g (f x) ≡ g x)
+      → flat_map g (map f xs) ≡ flat_map g xs
   flat_map-map f g xs h = flat_map-step f g xs (λ x m. h x)
 
   pub flat_map_none : (g : A → List B) (xs : List A) → ((x : A) → Among x xs → g x ≡ []) → flat_map g xs ≡ []
@@ -131,7 +144,8 @@ module _ {A B : Type 0} where
       by true e later = ap (λ l. g y ++ l) later
       by false e later = later ∙ ap (λ l. l ++ flat_map g ys) (sym (h y e))
 
-  pub flat_map_alike : (f g : A → List B) (xs : List A) → ((x : A) → Among x xs → f x ≡ g x) → flat_map f xs ≡ flat_map g xs
+  pub flat_map_alike : (f g : A → List B) (xs : List A) → ((x : A) → Among x xs → f x ≡ g x)
+      → flat_map f xs ≡ flat_map g xs
   flat_map_alike f g [] h = refl
   flat_map_alike f g (y ∷ ys) h =
       ap (λ l. l ++ flat_map f ys) (h y (inl refl)) ∙ ap (λ l. g y ++ l) (flat_map_alike f g ys (λ x m. h x (inr m)))
@@ -155,7 +169,9 @@ pub is_among_numbers : (number : ℕ) (numbers : List ℕ) → Among number numb
 is_among_numbers number numbers m = any_passes (nat_eq number) numbers number m (eq-eqb number number refl)
 
 pub is_among_left : (x : ℕ) (xs ys : List ℕ) → is_among nat_eq x xs ≡ true → is_among nat_eq x (xs ++ ys) ≡ true
-is_among_left x xs ys h = list_any-append (nat_eq x) xs ys ∙ or_first (list_any (nat_eq x) xs) (list_any (nat_eq x) ys) h
+is_among_left x xs ys h = list_any-append (nat_eq x) xs ys
+    ∙ or_first (list_any (nat_eq x) xs) (list_any (nat_eq x) ys) h
 
 pub is_among_right : (x : ℕ) (xs ys : List ℕ) → is_among nat_eq x ys ≡ true → is_among nat_eq x (xs ++ ys) ≡ true
-is_among_right x xs ys h = list_any-append (nat_eq x) xs ys ∙ or_second (list_any (nat_eq x) xs) (list_any (nat_eq x) ys) h
+is_among_right x xs ys h = list_any-append (nat_eq x) xs ys
+    ∙ or_second (list_any (nat_eq x) xs) (list_any (nat_eq x) ys) h

@@ -22,16 +22,21 @@ mount_is_looked_up world number one = by (is_mount_used world number) refl
         → mount_lives nat_eq world mount ≡ is_mount_used world number
     its_use mount m e =
         let it : mount_numbered nat_eq world number ≡ mount =
-        ap (mount_in nat_eq world.mounts) (sym (eqb-true mount.number number e)) ∙ found_itself world.mounts one mount m in
+        ap (mount_in nat_eq world.mounts) (sym (eqb-true mount.number number e))
+        ∙ found_itself world.mounts one mount m in
         (λ i. is_some (sym it i).namespace || is_located nat_eq world (eqb-true mount.number number e i))
 
-    by : (b : Bool) → is_mount_used world number ≡ b → let_go_mount world number ≡ cond b world (without_mount world number)
+    by : (b : Bool) → is_mount_used world number ≡ b
+        → let_go_mount world number ≡ cond b world (without_mount world number)
     by true e = ap (with_mounts world) (filter_all (λ mount. not (nat_eq mount.number number)
         || mount_lives nat_eq world mount) world.mounts
-        (λ mount m. kept_used (nat_eq mount.number number) (mount_lives nat_eq world mount) (λ same. its_use mount m same ∙ e)))
-    by false e = ap (with_mounts world) (filter_alike (λ mount. not (nat_eq mount.number number) || mount_lives nat_eq world mount)
+        (λ mount m. kept_used (nat_eq mount.number number) (mount_lives nat_eq world mount)
+        (λ same. its_use mount m same ∙ e)))
+    by false e = ap (with_mounts world)
+        (filter_alike (λ mount. not (nat_eq mount.number number) || mount_lives nat_eq world mount)
         (λ mount. not (nat_eq mount.number number)) world.mounts
-        (λ mount m. gone_unused (nat_eq mount.number number) (mount_lives nat_eq world mount) (λ same. its_use mount m same ∙ e)))
+        (λ mount m. gone_unused (nat_eq mount.number number) (mount_lives nat_eq world mount)
+        (λ same. its_use mount m same ∙ e)))
 
 pub filesystem_is_looked_up : FilesystemIsLookedUp
 filesystem_is_looked_up world number = by (is_filesystem_used world number) refl
@@ -40,9 +45,11 @@ filesystem_is_looked_up world number = by (is_filesystem_used world number) refl
         → filesystem_lives nat_eq world filesystem ≡ is_filesystem_used world number
     its_use filesystem e = ap (is_filesystem_used world) (eqb-true filesystem.number number e)
 
-    by : (b : Bool) → is_filesystem_used world number ≡ b → let_go_filesystem world number ≡ cond b world (without_filesystem world number)
+    by : (b : Bool) → is_filesystem_used world number ≡ b
+        → let_go_filesystem world number ≡ cond b world (without_filesystem world number)
     by true e = ap (λ filesystems. record world { filesystems = filesystems })
-        (filter_all (λ filesystem. not (nat_eq filesystem.number number) || filesystem_lives nat_eq world filesystem) world.filesystems
+        (filter_all (λ filesystem. not (nat_eq filesystem.number number)
+        || filesystem_lives nat_eq world filesystem) world.filesystems
         (λ filesystem m. kept_used (nat_eq filesystem.number number) (filesystem_lives nat_eq world filesystem)
         (λ same. its_use filesystem same ∙ e)))
     by false e = ap (λ filesystems. record world { filesystems = filesystems })

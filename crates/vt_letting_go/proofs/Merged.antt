@@ -19,7 +19,11 @@ reals_without gone overlay = record overlay { real = λ number. cond (gone numbe
 abbrev pub without_all : (ℕ → Bool) → Filesystem ℕ → Filesystem ℕ
 without_all gone filesystem = record filesystem {
   files = record {
-    tree = record { root = filesystem.files.tree.root; node = λ number. cond (gone number) None (filesystem.files.tree.node number) };
+    tree = record {
+      root = filesystem.files.tree.root;
+      node = λ number.
+          cond (gone number) None (filesystem.files.tree.node number);
+    };
     numbers = filter (λ number. not (gone number)) filesystem.files.numbers;
   };
   overlay = option_map (reals_without gone) filesystem.overlay;
@@ -27,7 +31,10 @@ without_all gone filesystem = record filesystem {
 
 pub without_nothing : (filesystem : Filesystem ℕ) → without_all (λ number. false) filesystem ≡ filesystem
 without_nothing filesystem = λ i. record filesystem {
-  files = record filesystem.files { numbers = filter_all (λ number. true) filesystem.files.numbers (λ number m. refl) i };
+  files = record filesystem.files {
+    numbers = filter_all (λ number. true) filesystem.files.numbers
+        (λ number m. refl) i;
+  };
   overlay = by filesystem.overlay i;
 }
   where
@@ -41,7 +48,11 @@ pub without_both : (some others both : ℕ → Bool) → ((number : ℕ) → bot
     → without_all others (without_all some filesystem) ≡ without_all both filesystem
 without_both some others both h filesystem = λ i. record filesystem {
   files = record {
-    tree = record { root = filesystem.files.tree.root; node = λ number. twice (filesystem.files.tree.node number) number i };
+    tree = record {
+      root = filesystem.files.tree.root;
+      node = λ number.
+          twice (filesystem.files.tree.node number) number i;
+    };
     numbers = filter_twice (λ number. not (others number)) (λ number. not (some number)) (λ number. not (both number))
         (λ number. ap not (h number) ∙ nots (some number) (others number)) filesystem.files.numbers i;
   };
@@ -52,7 +63,8 @@ without_both some others both h filesystem = λ i. record filesystem {
     nots true b = refl
     nots false b = refl
 
-    twice : {A : Type 0} (o : Option A) (number : ℕ) → cond (others number) None (cond (some number) None o) ≡ cond (both number) None o
+    twice : {A : Type 0} (o : Option A) (number : ℕ)
+        → cond (others number) None (cond (some number) None o) ≡ cond (both number) None o
     twice o number = by (some number) (others number) ∙ ap (λ b. cond b None o) (sym (h number))
       where
         by : (a b : Bool) → cond b None (cond a None o) ≡ cond (a || b) None o
@@ -71,18 +83,21 @@ pub named_without : (gone : ℕ → Bool) (filesystem : Filesystem ℕ)
     → named_in (without_all gone filesystem).files ≡ named_in filesystem.files
 named_without gone filesystem empty =
     flat_map_alike (λ directory. targets_in (cond (gone directory) None (filesystem.files.tree.node directory)))
-    (λ directory. targets_in (filesystem.files.tree.node directory)) (filter (λ number. not (gone number)) filesystem.files.numbers)
+    (λ directory. targets_in (filesystem.files.tree.node directory))
+    (filter (λ number. not (gone number)) filesystem.files.numbers)
     (λ directory m. by directory (gone directory) refl)
     ∙ flat_map-filter (λ number. not (gone number))
     (λ directory. targets_in (filesystem.files.tree.node directory)) filesystem.files.numbers
     (λ number skipped. nothing number (gone number) refl skipped)
   where
     by : (directory : ℕ) (b : Bool) → gone directory ≡ b
-        → targets_in (cond b None (filesystem.files.tree.node directory)) ≡ targets_in (filesystem.files.tree.node directory)
+        → targets_in (cond b None (filesystem.files.tree.node directory))
+        ≡ targets_in (filesystem.files.tree.node directory)
     by directory true e = sym (empty directory e)
     by directory false e = refl
 
-    nothing : (number : ℕ) (b : Bool) → gone number ≡ b → not b ≡ false → targets_in (filesystem.files.tree.node number) ≡ []
+    nothing : (number : ℕ) (b : Bool) → gone number ≡ b → not b ≡ false
+        → targets_in (filesystem.files.tree.node number) ≡ []
     nothing number true e f = empty number e
     nothing number false e f = absurd (true≢false f)
 
@@ -91,7 +106,8 @@ abbrev pub HasReals : Filesystem ℕ → Type 0
 HasReals filesystem = (number : ℕ) → filesystem.files.tree.node number ≡ None → real_in filesystem number ≡ None
 
 -- What is not there may be named, or not.
-pub same_without : (a b : ℕ → Bool) (filesystem : Filesystem ℕ) → ListsNumbers nat_eq filesystem.files → HasReals filesystem
+pub same_without : (a b : ℕ → Bool) (filesystem : Filesystem ℕ) → ListsNumbers nat_eq filesystem.files
+    → HasReals filesystem
     → ((number : ℕ) → is_among nat_eq number filesystem.files.numbers ≡ true → a number ≡ b number)
     → without_all a filesystem ≡ without_all b filesystem
 same_without a b filesystem numbers has h = λ i. record filesystem {
@@ -107,7 +123,8 @@ same_without a b filesystem numbers has h = λ i. record filesystem {
   overlay = reals filesystem.overlay has i;
 }
   where
-    no_node : (number : ℕ) → is_among nat_eq number filesystem.files.numbers ≡ false → filesystem.files.tree.node number ≡ None
+    no_node : (number : ℕ) → is_among nat_eq number filesystem.files.numbers ≡ false
+        → filesystem.files.tree.node number ≡ None
     no_node number absent = none (filesystem.files.tree.node number) (sym (numbers number) ∙ absent)
       where
         none : (o : Option (Node ℕ)) → is_some o ≡ false → o ≡ None
@@ -118,19 +135,23 @@ same_without a b filesystem numbers has h = λ i. record filesystem {
     nothing o true e = refl
     nothing o false e = e
 
-    both : {A : Type 0} (o : Option A) (number : ℕ) → (is_among nat_eq number filesystem.files.numbers ≡ false → o ≡ None)
-        → (is_among nat_eq number filesystem.files.numbers ≡ true) ⊎ (is_among nat_eq number filesystem.files.numbers ≡ false)
+    both : {A : Type 0} (o : Option A) (number : ℕ)
+        → (is_among nat_eq number filesystem.files.numbers ≡ false → o ≡ None)
+        → (is_among nat_eq number filesystem.files.numbers ≡ true)
+        ⊎ (is_among nat_eq number filesystem.files.numbers ≡ false)
         → cond (a number) None o ≡ cond (b number) None o
     both o number absent (inl there) = ap (λ x. cond x None o) (h number there)
     both o number absent (inr gone) = nothing o (a number) (absent gone) ∙ sym (nothing o (b number) (absent gone))
 
     node : (number : ℕ) → (is_among nat_eq number filesystem.files.numbers ≡ true)
         ⊎ (is_among nat_eq number filesystem.files.numbers ≡ false)
-        → cond (a number) None (filesystem.files.tree.node number) ≡ cond (b number) None (filesystem.files.tree.node number)
+        → cond (a number) None (filesystem.files.tree.node number)
+        ≡ cond (b number) None (filesystem.files.tree.node number)
     node number one = both (filesystem.files.tree.node number) number (no_node number) one
 
     reals : (o : Option (Overlay ℕ))
-        → ((number : ℕ) → filesystem.files.tree.node number ≡ None → overlay_or None (λ overlay. overlay.real number) o ≡ None)
+        → ((number : ℕ) → filesystem.files.tree.node number ≡ None
+        → overlay_or None (λ overlay. overlay.real number) o ≡ None)
         → option_map (reals_without a) o ≡ option_map (reals_without b) o
     reals None each = refl
     reals (Some overlay) each = λ i. Some (record overlay {
@@ -141,7 +162,8 @@ same_without a b filesystem numbers has h = λ i. record filesystem {
 -- What the sweep leaves is what is used.
 pub left_of : (used : List ℕ) (filesystem : Filesystem ℕ) → ListsNumbers nat_eq filesystem.files → HasReals filesystem
     → only_used_of nat_eq used filesystem ≡ without_all (λ number. not (is_among nat_eq number used)) filesystem
-left_of used filesystem numbers has = by (list_all (λ number. is_among nat_eq number used) filesystem.files.numbers) refl
+left_of used filesystem numbers has =
+    by (list_all (λ number. is_among nat_eq number used) filesystem.files.numbers) refl
   where
     flipped : {A : Type 0} (o : Option A) (u : Bool) → cond u o None ≡ cond (not u) None o
     flipped o true = refl
@@ -152,18 +174,22 @@ left_of used filesystem numbers has = by (list_all (λ number. is_among nat_eq n
     not_not false = refl
 
     reals : (o : Option (Overlay ℕ))
-        → option_map (real_among nat_eq used) o ≡ option_map (reals_without (λ number. not (is_among nat_eq number used))) o
+        → option_map (real_among nat_eq used) o
+        ≡ option_map (reals_without (λ number. not (is_among nat_eq number used))) o
     reals None = refl
-    reals (Some overlay) = λ i. Some (record overlay { real = λ number. flipped (overlay.real number) (is_among nat_eq number used) i })
+    reals (Some overlay) = λ i. Some
+        (record overlay { real = λ number. flipped (overlay.real number) (is_among nat_eq number used) i })
 
     by : (all : Bool) → list_all (λ number. is_among nat_eq number used) filesystem.files.numbers ≡ all
         → only_used_by nat_eq all used filesystem ≡ without_all (λ number. not (is_among nat_eq number used)) filesystem
     by true e =
         sym (without_nothing filesystem)
         ∙ same_without (λ number. false) (λ number. not (is_among nat_eq number used)) filesystem numbers has
-        (λ number there. ap not (sym (passes (λ n. is_among nat_eq n used) filesystem.files.numbers e number (among_it number there))))
+        (λ number there. ap not (sym (passes (λ n. is_among nat_eq n used) filesystem.files.numbers e number
+        (among_it number there))))
       where
-        among_it : (number : ℕ) → is_among nat_eq number filesystem.files.numbers ≡ true → Among number filesystem.files.numbers
+        among_it : (number : ℕ) → is_among nat_eq number filesystem.files.numbers ≡ true
+            → Among number filesystem.files.numbers
         among_it number there = among_numbers number filesystem.files.numbers there
     by false e = λ i. record filesystem {
       files = record {

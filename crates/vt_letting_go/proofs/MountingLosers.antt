@@ -24,7 +24,8 @@ abbrev pub places_of : World ℕ → List (Location ℕ)
 places_of world = all_locations world ++ map root_of world.mounts ++ filter_map (λ mount. mount.mount_point) world.mounts
 
 -- where locations stand, each of these is on a mount that is there
-pub places_stand : (world : World ℕ) → MountsStand world → LocationsStand world → (location : Location ℕ) → Among location (places_of world)
+pub places_stand : (world : World ℕ) → MountsStand world → LocationsStand world → (location : Location ℕ)
+    → Among location (places_of world)
     → is_among nat_eq location.mount (map (λ mount. mount.number) world.mounts) ≡ true
 places_stand world stand located_well location m =
     ⊎_elim
@@ -44,16 +45,19 @@ places_stand world stand located_well location m =
     numbers = map (λ (mount : Mount ℕ). mount.number) world.mounts
 
     numbered : (mount : Mount ℕ) → Among mount world.mounts → is_among nat_eq mount.number numbers ≡ true
-    numbered mount n = is_among_numbers mount.number numbers (among-map (λ (x : Mount ℕ). x.number) world.mounts mount n)
+    numbered mount n = is_among_numbers mount.number numbers
+        (among-map (λ (x : Mount ℕ). x.number) world.mounts mount n)
 
 -- what a mount is afterwards: another record of its number, with what it shows
 abbrev pub Image : List (Mount ℕ) → Mount ℕ → Type 0
-Image mounts mount = (image : Mount ℕ) × (Among image mounts × ((root_of image ≡ root_of mount) × (image.filesystem ≡ mount.filesystem)))
+Image mounts mount = (image : Mount ℕ)
+    × (Among image mounts × ((root_of image ≡ root_of mount) × (image.filesystem ≡ mount.filesystem)))
 
 -- the mounts of a number are none of those that may go, or in a namespace
 abbrev pub Stays : List (Mount ℕ) → List ℕ → ℕ → Type 0
 Stays mounts gone number =
-    (is_among nat_eq number gone ≡ false) ⊎ ((mount : Mount ℕ) → Among mount mounts → mount.number ≡ number → is_some mount.namespace
+    (is_among nat_eq number gone ≡ false)
+    ⊎ ((mount : Mount ℕ) → Among mount mounts → mount.number ≡ number → is_some mount.namespace
     ≡ true)
 
 -- a place that a mount in use has still, on a mount that stays
@@ -61,7 +65,8 @@ abbrev pub StillAPlace : List (Mount ℕ) → List ℕ → Location ℕ → Type
 StillAPlace mounts gone place = (mount : Mount ℕ)
     × (Among mount mounts × ((mount.mount_point ≡ Some place) × Stays mounts gone place.mount))
 
-abbrev pub changed_with : World ℕ → List (Mount ℕ) → (ℕ → Option ℕ) → List (Filesystem ℕ) → List (Namespace ℕ) → List (Task ℕ) → World ℕ
+abbrev pub changed_with : World ℕ → List (Mount ℕ) → (ℕ → Option ℕ) → List (Filesystem ℕ) → List (Namespace ℕ)
+    → List (Task ℕ) → World ℕ
 changed_with world mounts master filesystems namespaces tasks =
     record world { mounts = mounts; master = master; filesystems = filesystems; namespaces = namespaces; tasks = tasks }
 
@@ -86,7 +91,8 @@ IsNew after filesystem =
 -- what was there is there, and what is new is shown
 pub record Comes (world after : World ℕ) : Type 0 where
   pub kept : (filesystem : Filesystem ℕ) → Among filesystem world.filesystems → Among filesystem after.filesystems
-  pub new : (filesystem : Filesystem ℕ) → Among filesystem after.filesystems → Among filesystem world.filesystems ⊎ IsNew after filesystem
+  pub new : (filesystem : Filesystem ℕ) → Among filesystem after.filesystems
+      → Among filesystem world.filesystems ⊎ IsNew after filesystem
 
 pub record Loses (world after : World ℕ) (gone : List ℕ) (left : List (Location ℕ)) : Type 0 where
   pub images : (mount : Mount ℕ) → Among mount world.mounts → Image after.mounts mount
@@ -94,13 +100,15 @@ pub record Loses (world after : World ℕ) (gone : List ℕ) (left : List (Locat
       → (mount_at nat_eq after location).filesystem ≡ (mount_at nat_eq world location).filesystem
   pub live : (mount : Mount ℕ) → Among mount after.mounts → is_among nat_eq mount.number gone ≡ false
       → mount_lives nat_eq after mount ≡ true
-  pub locations : (location : Location ℕ) → Among location (all_locations world) → StillALocation after gone location ⊎ Among location left
+  pub locations : (location : Location ℕ) → Among location (all_locations world)
+      → StillALocation after gone location ⊎ Among location left
   pub places : (mount : Mount ℕ) → Among mount world.mounts → (place : Location ℕ) → mount.mount_point ≡ Some place
       → StillAPlace after.mounts gone place ⊎ Among place left
   pub nowhere : list_all is_nowhere_or_attached after.mounts ≡ true
 
 module _ (world : World ℕ) (mounts : List (Mount ℕ)) (master : ℕ → Option ℕ) (filesystems : List (Filesystem ℕ))
-    (namespaces : List (Namespace ℕ)) (tasks : List (Task ℕ)) (gone : List ℕ) (left : List (Location ℕ)) (groups : List ℕ)
+    (namespaces : List (Namespace ℕ)) (tasks : List (Task ℕ)) (gone : List ℕ) (left : List (Location ℕ))
+    (groups : List ℕ)
     (in_use : AllInUse world) (stand : MountsStand world)
     (loses : Loses world (changed_with world mounts master filesystems namespaces tasks) gone left)
     (hears : GroupsInUseBut groups (changed_with world mounts master filesystems namespaces tasks))
@@ -140,11 +148,13 @@ module _ (world : World ℕ) (mounts : List (Mount ℕ)) (master : ℕ → Optio
   pub shown_is_mounted : (number : ℕ) (mount : Mount ℕ) → Among mount mounts → mount_lives nat_eq after mount ≡ true
       → nat_eq number mount.filesystem ≡ true → is_mounted nat_eq mounted number ≡ true
   shown_is_mounted number mount m lives shows =
-      any_passes (λ x. nat_eq number x.filesystem) mounted.mounts mount (among-filter (mount_lives nat_eq after) mounts mount m lives) shows
+      any_passes (λ x. nat_eq number x.filesystem) mounted.mounts mount
+      (among-filter (mount_lives nat_eq after) mounts mount m lives) shows
 
   -- one that was mounted is, or a mount of it may go
   pub still_mounted : (number : ℕ) → is_mounted nat_eq world number ≡ true
-      → (is_mounted nat_eq mounted number ≡ true) ⊎ ((one : ℕ) × Among one gone × (number ≡ (mount_numbered nat_eq world one).filesystem))
+      → (is_mounted nat_eq mounted number ≡ true)
+      ⊎ ((one : ℕ) × Among one gone × (number ≡ (mount_numbered nat_eq world one).filesystem))
   still_mounted number was =
       let t = one_passes (λ mount. nat_eq number mount.filesystem) world.mounts was in
       ⊎_elim
@@ -154,7 +164,8 @@ module _ (world : World ℕ) (mounts : List (Mount ℕ)) (master : ℕ → Optio
         eqb-true number t.0.filesystem t.2 ∙ ap (λ x. x.filesystem) (sym (found_mount t.0 t.1)),
       ))
       (λ isnt. let image = loses.images t.0 t.1 in
-      inl (shown_is_mounted number image.0 image.1.0 (image_lives t.0 isnt image) (ap (nat_eq number) image.1.1.1 ∙ t.2)))
+      inl (shown_is_mounted number image.0 image.1.0 (image_lives t.0 isnt image)
+      (ap (nat_eq number) image.1.1.1 ∙ t.2)))
       (decided (is_among nat_eq t.0.number gone))
 
   pub groups_but : GroupsInUseBut groups mounted
@@ -171,9 +182,11 @@ module _ (world : World ℕ) (mounts : List (Mount ℕ)) (master : ℕ → Optio
       → ((mount : Mount ℕ) → Among mount mounts → mount.number ≡ location.mount → mount_lives nat_eq after mount ≡ true)
       → (mount_at nat_eq mounted location).filesystem ≡ (mount_at nat_eq world location).filesystem
   found_still location m stays =
-      ap (λ x. x.filesystem) (found_in_filter (mount_lives nat_eq after) mounts location.mount stays) ∙ loses.shown location m
+      ap (λ x. x.filesystem) (found_in_filter (mount_lives nat_eq after) mounts location.mount stays)
+      ∙ loses.shown location m
 
-  stays_there : (number : ℕ) → is_among nat_eq number gone ≡ false → (mount : Mount ℕ) → Among mount mounts → mount.number ≡ number
+  stays_there : (number : ℕ) → is_among nat_eq number gone ≡ false → (mount : Mount ℕ) → Among mount mounts
+      → mount.number ≡ number
       → mount_lives nat_eq after mount ≡ true
   stays_there number isnt mount m e = loses.live mount m (ap (λ n. is_among nat_eq n gone) e ∙ isnt)
 
@@ -184,7 +197,8 @@ module _ (world : World ℕ) (mounts : List (Mount ℕ)) (master : ℕ → Optio
 
     -- what is at a place that is used still
     used_still : (location : Location ℕ) → Among location (places_of mounted)
-        → filesystem.number ≡ (mount_at nat_eq mounted location).filesystem → is_inode_used swept filesystem location.node ≡ true
+        → filesystem.number ≡ (mount_at nat_eq mounted location).filesystem
+        → is_inode_used swept filesystem location.node ≡ true
     used_still location m e = used_at swept filesystem location m e
 
     -- an inode among the losers may go
@@ -195,7 +209,8 @@ module _ (world : World ℕ) (mounts : List (Mount ℕ)) (master : ℕ → Optio
         (any_passes (λ i. nat_eq filesystem.number i.0 && nat_eq number i.1) inodes inode m
         (ap (λ t. t && nat_eq number inode.1) (eq-eqb filesystem.number inode.0 e) ∙ eq-eqb number inode.1 same))
 
-    left_may_go : (location : Location ℕ) → Among location left → filesystem.number ≡ (mount_at nat_eq world location).filesystem
+    left_may_go : (location : Location ℕ) → Among location left
+        → filesystem.number ≡ (mount_at nat_eq world location).filesystem
         → is_used_or_among inodes swept filesystem location.node ≡ true
     left_may_go location m e =
         may_go (inode_at world location)
@@ -218,7 +233,8 @@ module _ (world : World ℕ) (mounts : List (Mount ℕ)) (master : ℕ → Optio
         (among-append_left (all_locations after) (map root_of mounted.mounts) location stays))
         (e ∙ sym (found_still location (was_a_place location m)
         (λ mount n same. or_second (is_some mount.namespace) (is_located nat_eq after mount.number)
-        (any_passes (λ l. nat_eq mount.number l.mount) (all_locations after) location stays (eq-eqb mount.number location.mount same)))))
+        (any_passes (λ l. nat_eq mount.number l.mount) (all_locations after) location stays
+        (eq-eqb mount.number location.mount same)))))
 
     root_still : (location : Location ℕ) → Among location (all_locations world)
         → filesystem.number ≡ (mount_at nat_eq world location).filesystem
@@ -226,10 +242,12 @@ module _ (world : World ℕ) (mounts : List (Mount ℕ)) (master : ℕ → Optio
         → is_inode_used swept filesystem location.node ≡ true
     root_still location m e mount n is isnt =
         used_still location
-        (among-append_left (all_locations after ++ map root_of mounted.mounts) (filter_map (λ x. x.mount_point) mounted.mounts) location
+        (among-append_left (all_locations after ++ map root_of mounted.mounts)
+        (filter_map (λ x. x.mount_point) mounted.mounts) location
         (among-append_right (all_locations after) (map root_of mounted.mounts) location
         (subst (λ l. Among l (map root_of mounted.mounts)) is
-        (among-map root_of mounted.mounts mount (among-filter (mount_lives nat_eq after) mounts mount n (loses.live mount n isnt))))))
+        (among-map root_of mounted.mounts mount
+        (among-filter (mount_lives nat_eq after) mounts mount n (loses.live mount n isnt))))))
         (e ∙ sym (found_still location (was_a_place location m)
         (stays_there location.mount (ap (λ (l : Location ℕ). is_among nat_eq l.mount gone) (sym is) ∙ isnt))))
 
@@ -239,11 +257,13 @@ module _ (world : World ℕ) (mounts : List (Mount ℕ)) (master : ℕ → Optio
     by_location location m e =
         ⊎_elim
         (λ stays. or_second (is_inode_among filesystem.number location.node inodes) _
-        (⊎_elim (located_still location m e) (λ root. root_still location m e root.0 root.1.0 root.1.1.0 root.1.1.1) stays))
+        (⊎_elim (located_still location m e)
+        (λ root. root_still location m e root.0 root.1.0 root.1.1.0 root.1.1.1) stays))
         (λ gone_from. left_may_go location gone_from e)
         (loses.locations location m)
 
-    by_root : (mount : Mount ℕ) → Among mount world.mounts → filesystem.number ≡ (mount_at nat_eq world (root_of mount)).filesystem
+    by_root : (mount : Mount ℕ) → Among mount world.mounts
+        → filesystem.number ≡ (mount_at nat_eq world (root_of mount)).filesystem
         → is_used_or_among inodes swept filesystem mount.root ≡ true
     by_root mount m e =
         ⊎_elim
@@ -254,32 +274,38 @@ module _ (world : World ℕ) (mounts : List (Mount ℕ)) (master : ℕ → Optio
         (λ isnt. let image = loses.images mount m in
         or_second (is_inode_among filesystem.number mount.root inodes) _
         (used_still (root_of mount)
-        (among-append_left (all_locations after ++ map root_of mounted.mounts) (filter_map (λ x. x.mount_point) mounted.mounts)
+        (among-append_left (all_locations after ++ map root_of mounted.mounts)
+        (filter_map (λ x. x.mount_point) mounted.mounts)
         (root_of mount)
         (among-append_right (all_locations after) (map root_of mounted.mounts) (root_of mount)
         (subst (λ l. Among l (map root_of mounted.mounts)) image.1.1.0
         (among-map root_of mounted.mounts image.0 (among-filter (mount_lives nat_eq after) mounts image.0 image.1.0
         (image_lives mount isnt image))))))
         (e ∙ sym (found_still (root_of mount)
-        (among-append_left (all_locations world ++ map root_of world.mounts) (filter_map (λ x. x.mount_point) world.mounts) (root_of mount)
-        (among-append_right (all_locations world) (map root_of world.mounts) (root_of mount) (among-map root_of world.mounts mount m)))
+        (among-append_left (all_locations world ++ map root_of world.mounts)
+        (filter_map (λ x. x.mount_point) world.mounts) (root_of mount)
+        (among-append_right (all_locations world) (map root_of world.mounts) (root_of mount)
+        (among-map root_of world.mounts mount m)))
         (stays_there mount.number isnt)))))
         (decided (is_among nat_eq mount.number gone))
 
     by_place : (mount : Mount ℕ) → Among mount world.mounts → (place : Location ℕ) → mount.mount_point ≡ Some place
-        → filesystem.number ≡ (mount_at nat_eq world place).filesystem → is_used_or_among inodes swept filesystem place.node ≡ true
+        → filesystem.number ≡ (mount_at nat_eq world place).filesystem
+        → is_used_or_among inodes swept filesystem place.node ≡ true
     by_place mount m place p e =
         ⊎_elim
         (λ still. or_second (is_inode_among filesystem.number place.node inodes) _
         (used_still place
-        (among-append_right (all_locations after ++ map root_of mounted.mounts) (filter_map (λ x. x.mount_point) mounted.mounts) place
+        (among-append_right (all_locations after ++ map root_of mounted.mounts)
+        (filter_map (λ x. x.mount_point) mounted.mounts) place
         (among-filter_map (λ x. x.mount_point) mounted.mounts still.0 place
         (among-filter (mount_lives nat_eq after) mounts still.0 still.1.0
         (or_first (is_some still.0.namespace) (is_located nat_eq after still.0.number)
         (is_attached still.0 still.1.0 still.1.1.0 (is_some still.0.namespace) refl)))
         still.1.1.0))
         (e ∙ sym (found_still place
-        (among-append_right (all_locations world ++ map root_of world.mounts) (filter_map (λ x. x.mount_point) world.mounts) place
+        (among-append_right (all_locations world ++ map root_of world.mounts)
+        (filter_map (λ x. x.mount_point) world.mounts) place
         (among-filter_map (λ x. x.mount_point) world.mounts mount place m p))
         (⊎_elim (stays_there place.mount)
         (λ in_one other n same. or_first (is_some other.namespace) (is_located nat_eq after other.number)
@@ -287,18 +313,22 @@ module _ (world : World ℕ) (mounts : List (Mount ℕ)) (master : ℕ → Optio
         (λ gone_from. left_may_go place gone_from e)
         (loses.places mount m place p)
       where
-        is_attached : (on : Mount ℕ) → Among on mounts → on.mount_point ≡ Some place → (b : Bool) → is_some on.namespace ≡ b
+        is_attached : (on : Mount ℕ) → Among on mounts → on.mount_point ≡ Some place → (b : Bool)
+            → is_some on.namespace ≡ b
             → is_some on.namespace ≡ true
         is_attached on n q true f = f
         is_attached on n q false f =
-            absurd (true≢false (sym (ap is_some q) ∙ (nowhere_parts on (passes is_nowhere_or_attached mounts loses.nowhere on n) f).0))
+            absurd (true≢false (sym (ap is_some q)
+            ∙ (nowhere_parts on (passes is_nowhere_or_attached mounts loses.nowhere on n) f).0))
 
     pub by_located : (inode : ℕ) → Among inode (located_in nat_eq world filesystem.number)
         → is_used_or_among inodes swept filesystem inode ≡ true
     by_located inode m =
-        let from = among-from_map (λ l. l.node) (filter (λ l. nat_eq filesystem.number (mount_at nat_eq world l).filesystem)
+        let from = among-from_map (λ l. l.node)
+        (filter (λ l. nat_eq filesystem.number (mount_at nat_eq world l).filesystem)
         (places_of world)) inode m in
-        let here = among-from_filter (λ l. nat_eq filesystem.number (mount_at nat_eq world l).filesystem) (places_of world) from.0 from.1 in
+        let here = among-from_filter (λ l. nat_eq filesystem.number (mount_at nat_eq world l).filesystem)
+        (places_of world) from.0 from.1 in
         let e : filesystem.number ≡ (mount_at nat_eq world from.0).filesystem = eqb-true filesystem.number
         (mount_at nat_eq world from.0).filesystem here.1 in
         ap (is_used_or_among inodes swept filesystem) from.2
@@ -315,7 +345,8 @@ module _ (world : World ℕ) (mounts : List (Mount ℕ)) (master : ℕ → Optio
         (filter_map (λ mount. mount.mount_point) world.mounts) from.0 here.0)
 
     -- an inode of a new filesystem is its root, or has a name
-    pub by_a_name : (inode : ℕ) → (nat_eq inode filesystem.files.tree.root || is_among nat_eq inode (named_in filesystem.files)) ≡ true
+    pub by_a_name : (inode : ℕ) → (nat_eq inode filesystem.files.tree.root
+        || is_among nat_eq inode (named_in filesystem.files)) ≡ true
         → is_used_or_among inodes swept filesystem inode ≡ true
     by_a_name inode is =
         or_second (is_inode_among filesystem.number inode inodes) _
@@ -332,9 +363,11 @@ module _ (world : World ℕ) (mounts : List (Mount ℕ)) (master : ℕ → Optio
 
   -- Worlds of plain filesystems
   module _ (plain : IsPlain world) where
-    was_mounted : (filesystem : Filesystem ℕ) → Among filesystem world.filesystems → is_mounted nat_eq world filesystem.number ≡ true
+    was_mounted : (filesystem : Filesystem ℕ) → Among filesystem world.filesystems
+        → is_mounted nat_eq world filesystem.number ≡ true
     was_mounted filesystem m =
-        ⊎_elim (λ e. e) (λ layered. absurd (true≢false (sym layered ∙ no_layers filesystem.number world world.filesystems plain)))
+        ⊎_elim (λ e. e) (λ layered. absurd
+        (true≢false (sym layered ∙ no_layers filesystem.number world world.filesystems plain)))
         (or_cases (is_mounted nat_eq world filesystem.number) _
         (passes (filesystem_lives nat_eq world) world.filesystems in_use.filesystems filesystem m))
 
@@ -348,7 +381,8 @@ module _ (world : World ℕ) (mounts : List (Mount ℕ)) (master : ℕ → Optio
         (or_first (is_mounted nat_eq mounted filesystem.number) _ e) in
         ⊎_elim
         (λ was. ⊎_elim lives
-        (λ gone_with. or_first (is_among nat_eq filesystem.number losers.filesystems) (filesystem_lives nat_eq mounted filesystem)
+        (λ gone_with. or_first (is_among nat_eq filesystem.number losers.filesystems)
+        (filesystem_lives nat_eq mounted filesystem)
         (is_among_numbers filesystem.number losers.filesystems
         (subst (λ n. Among n losers.filesystems) (sym gone_with.2)
         (among-map (λ n. (mount_numbered nat_eq world n).filesystem) gone gone_with.0 gone_with.1))))
@@ -402,6 +436,7 @@ pub losers_go : (world : World ℕ) (mounts : List (Mount ℕ)) (master : ℕ �
     → settled nat_eq (changed world mounts master namespaces tasks)
     ≡ let_go (changed world mounts master namespaces tasks) (used_by_mounts world gone left groups)
 losers_go world mounts master namespaces tasks gone left groups settles loses hears =
-    all_goes_one_by_one (changed world mounts master namespaces tasks) (used_by_mounts world gone left groups) settles.plain settles.trees
+    all_goes_one_by_one (changed world mounts master namespaces tasks)
+    (used_by_mounts world gone left groups) settles.plain settles.trees
     (all_but_losers world mounts master world.filesystems namespaces tasks gone left groups settles.in_use settles.mounts loses hears
     (record { kept = λ f m. m; new = λ f m. inl m }) settles.plain)

@@ -69,7 +69,8 @@ module _ (world : World ℕ) (gone : List ℕ) (namespaces : List (Namespace ℕ
       ≡ (mount_in nat_eq world.mounts number).filesystem
   shows_the_same b number =
       ⊎_elim (λ e. e)
-      (λ found. ap (λ x. x.filesystem) (found-map (change b) (same_number b) world.mounts number found.0 found.1 found.2 found.3)
+      (λ found. ap (λ x. x.filesystem)
+      (found-map (change b) (same_number b) world.mounts number found.0 found.1 found.2 found.3)
       ∙ same_filesystem b (mount_in nat_eq world.mounts number))
       (not_found-map (change b) (same_number b) world.mounts number)
 
@@ -87,7 +88,8 @@ module _ (world : World ℕ) (gone : List ℕ) (namespaces : List (Namespace ℕ
   same_namespace true mount isnt = ap (λ m. m.namespace) (stays mount isnt)
   same_namespace false mount isnt = ap (λ m. m.namespace) (stays mount isnt)
 
-  stays_at : (place : Location ℕ) → is_going nat_eq gone place.mount ≡ false → mount_point_left nat_eq world gone place ≡ place
+  stays_at : (place : Location ℕ) → is_going nat_eq gone place.mount ≡ false
+      → mount_point_left nat_eq world gone place ≡ place
   stays_at place isnt = by (length world.mounts)
     where
       ends : mount_point_of_parent nat_eq world gone place ≡ None
@@ -103,25 +105,31 @@ module _ (world : World ℕ) (gone : List ℕ) (namespaces : List (Namespace ℕ
       → is_going nat_eq gone mount.number ≡ false
       → is_going nat_eq gone place.mount ≡ false → (change b mount).mount_point ≡ Some place
   same_place true mount place p isnt on =
-      ap (λ m. m.mount_point) (stays mount isnt) ∙ ap (option_map (mount_point_left nat_eq world gone)) p ∙ ap Some (stays_at place on)
+      ap (λ m. m.mount_point) (stays mount isnt) ∙ ap (option_map (mount_point_left nat_eq world gone)) p
+      ∙ ap Some (stays_at place on)
   same_place false mount place p isnt on =
-      ap (λ m. m.mount_point) (stays mount isnt) ∙ ap (option_map (mount_point_left nat_eq world gone)) p ∙ ap Some (stays_at place on)
+      ap (λ m. m.mount_point) (stays mount isnt) ∙ ap (option_map (mount_point_left nat_eq world gone)) p
+      ∙ ap Some (stays_at place on)
 
   -- one outside every namespace has no place and is private
-  private_still : (propagation : Propagation ℕ) → is_private propagation ≡ true → is_private (inherited nat_eq without propagation) ≡ true
+  private_still : (propagation : Propagation ℕ) → is_private propagation ≡ true
+      → is_private (inherited nat_eq without propagation) ≡ true
   private_still (Shared group) h = h
   private_still (Slave master) h = absurd (true≢false (sym h))
   private_still Private h = h
   private_still Unbindable h = h
 
-  pub nowhere_after : (b : Bool) (mount : Mount ℕ) → is_nowhere_or_attached mount ≡ true → is_nowhere_or_attached (change b mount) ≡ true
+  pub nowhere_after : (b : Bool) (mount : Mount ℕ) → is_nowhere_or_attached mount ≡ true
+      → is_nowhere_or_attached (change b mount) ≡ true
   nowhere_after b mount h = by b (is_going nat_eq gone mount.number) refl
     where
-      no_place : (o : Option (Location ℕ)) → is_some o ≡ false → not (is_some (option_map (mount_point_left nat_eq world gone) o)) ≡ true
+      no_place : (o : Option (Location ℕ)) → is_some o ≡ false
+          → not (is_some (option_map (mount_point_left nat_eq world gone) o)) ≡ true
       no_place None e = refl
       no_place (Some place) e = absurd (true≢false e)
 
-      whole : (propagation : Propagation ℕ) → (is_private mount.propagation ≡ true → is_private propagation ≡ true) → (n : Bool)
+      whole : (propagation : Propagation ℕ) → (is_private mount.propagation ≡ true → is_private propagation ≡ true)
+          → (n : Bool)
           → is_some mount.namespace ≡ n
           → (n || (not (is_some (option_map (mount_point_left nat_eq world gone) mount.mount_point)) && is_private propagation)) ≡ true
       whole propagation same true e = refl
@@ -136,13 +144,18 @@ module _ (world : World ℕ) (gone : List ℕ) (namespaces : List (Namespace ℕ
           (record mount { mount_point = option_map (mount_point_left nat_eq world gone) mount.mount_point }))) e
       by true false e =
           ap (λ m. is_nowhere_or_attached (inheriting nat_eq without m)) (stays mount e)
-          ∙ whole (inherited nat_eq without mount.propagation) (private_still mount.propagation) (is_some mount.namespace) refl
-      by false false e = ap is_nowhere_or_attached (stays mount e) ∙ whole mount.propagation (λ p. p) (is_some mount.namespace) refl
+          ∙ whole (inherited nat_eq without mount.propagation) (private_still mount.propagation)
+          (is_some mount.namespace) refl
+      by false false e = ap is_nowhere_or_attached (stays mount e)
+          ∙ whole mount.propagation (λ p. p) (is_some mount.namespace) refl
 
   module _ (in_use : AllInUse world) (stand : MountsStand world) where
     pub loses : (b : Bool) → Loses world (after b) gone (places_lost world gone)
     loses b = record {
-      images = λ mount m. (change b mount, (among-map (change b) world.mounts mount m, (same_root b mount, same_filesystem b mount)));
+      images = λ mount m. (
+        change b mount,
+        (among-map (change b) world.mounts mount m, (same_root b mount, same_filesystem b mount)),
+      );
       shown = λ location m. shows_the_same b location.mount;
       live = λ last m isnt. let from = among-from_map (change b) world.mounts last m in
           let other : is_going nat_eq gone from.0.number ≡ false = ap (λ n. is_among nat_eq n gone)
@@ -156,8 +169,15 @@ module _ (world : World ℕ) (gone : List ℕ) (namespaces : List (Namespace ℕ
           (among-filter (loses_its_place gone) world.mounts mount m is) p))
           (λ isnt. let parts = or_parts (is_going nat_eq gone mount.number)
           (holds_of (λ l. is_going nat_eq gone l.mount) mount.mount_point) isnt in
-          let on : is_going nat_eq gone place.mount ≡ false = sym (ap (holds_of (λ l. is_going nat_eq gone l.mount)) p) ∙ parts.1 in
-          inl (change b mount, (among-map (change b) world.mounts mount m, (same_place b mount place p parts.0 on, inl on))))
+          let on : is_going nat_eq gone place.mount ≡ false =
+          sym (ap (holds_of (λ l. is_going nat_eq gone l.mount)) p) ∙ parts.1 in
+          inl (
+            change b mount,
+            (
+              among-map (change b) world.mounts mount m,
+              (same_place b mount place p parts.0 on, inl on),
+            ),
+          ))
           (decided (loses_its_place gone mount));
       nowhere = all_pass is_nowhere_or_attached (map (change b) world.mounts) (λ last m.
           let from = among-from_map (change b) world.mounts last m in
@@ -166,10 +186,12 @@ module _ (world : World ℕ) (gone : List ℕ) (namespaces : List (Namespace ℕ
     }
 
 -- the world without mounts, with other namespaces
-taken_with_namespaces : (world : World ℕ) (gone groups : List ℕ) (namespaces : List (Namespace ℕ)) → IsSettledPlain world
+taken_with_namespaces : (world : World ℕ) (gone groups : List ℕ) (namespaces : List (Namespace ℕ))
+    → IsSettledPlain world
     → GroupsInUseBut groups (record (taken_away nat_eq world gone) { namespaces = namespaces })
     → settled nat_eq (record (taken_away nat_eq world gone) { namespaces = namespaces })
-    ≡ let_go (record (taken_away nat_eq world gone) { namespaces = namespaces }) (used_by_mounts world gone (places_lost world gone) groups)
+    ≡ let_go (record (taken_away nat_eq world gone) { namespaces = namespaces })
+    (used_by_mounts world gone (places_lost world gone) groups)
 taken_with_namespaces world gone groups namespaces settles hears =
     by (list_any (lost_a_group nat_eq (without world gone namespaces)) (without world gone namespaces).mounts) hears
   where
@@ -181,20 +203,24 @@ taken_with_namespaces world gone groups namespaces settles hears =
     by b h =
         subst (λ w. settled nat_eq w ≡ let_go w (used_by_mounts world gone (places_lost world gone) groups))
         (sym (is_changed world gone namespaces b))
-        (losers_go world (map (change world gone namespaces b) world.mounts) (masters world gone namespaces b) namespaces world.tasks gone
+        (losers_go world (map (change world gone namespaces b) world.mounts)
+        (masters world gone namespaces b) namespaces world.tasks gone
         (places_lost world gone) groups settles (loses world gone namespaces settles.in_use settles.mounts b)
         (subst (GroupsInUseBut groups) (is_changed world gone namespaces b) h))
 
-pub same_namespaces : (world : World ℕ) (b : Bool) → record (regrouped_by nat_eq b world) { namespaces = world.namespaces }
+pub same_namespaces : (world : World ℕ) (b : Bool)
+    → record (regrouped_by nat_eq b world) { namespaces = world.namespaces }
     ≡ regrouped_by nat_eq b world
 same_namespaces world true = refl
 same_namespaces world false = refl
 
 -- the event in which mounts are taken away is a change of each mount
 abbrev pub hands_on : World ℕ → List ℕ → Bool
-hands_on world gone = list_any (lost_a_group nat_eq (without world gone world.namespaces)) (without world gone world.namespaces).mounts
+hands_on world gone = list_any (lost_a_group nat_eq (without world gone world.namespaces))
+    (without world gone world.namespaces).mounts
 
-pub taken_is : (world : World ℕ) (gone : List ℕ) → taken_away nat_eq world gone ≡ after world gone world.namespaces (hands_on world gone)
+pub taken_is : (world : World ℕ) (gone : List ℕ)
+    → taken_away nat_eq world gone ≡ after world gone world.namespaces (hands_on world gone)
 taken_is world gone =
     sym (same_namespaces (without world gone world.namespaces) (hands_on world gone))
     ∙ is_changed world gone world.namespaces (hands_on world gone)
@@ -206,8 +232,10 @@ taking_away_lets_go world gone groups settles hears =
   where
     same : record (taken_away nat_eq world gone) { namespaces = world.namespaces } ≡ taken_away nat_eq world gone
     same = same_namespaces (without world gone world.namespaces)
-        (list_any (lost_a_group nat_eq (without world gone world.namespaces)) (without world gone world.namespaces).mounts)
+        (list_any (lost_a_group nat_eq (without world gone world.namespaces))
+        (without world gone world.namespaces).mounts)
 
 pub ending_lets_go : EndingLetsGo
 ending_lets_go world groups settles hears =
-    taken_with_namespaces world (ended_mounts world) groups (filter (has_tasks nat_eq world) world.namespaces) settles hears
+    taken_with_namespaces world (ended_mounts world) groups
+    (filter (has_tasks nat_eq world) world.namespaces) settles hears

@@ -38,9 +38,11 @@ taken_with_namespaces world gone groups namespaces settles hears =
     taken b = record (regrouped_by nat_eq b (without world gone namespaces)) { namespaces = namespaces }
 
     by : (b : Bool) → GroupsInUseBut groups (taken b)
-        → settled nat_eq (taken b) ≡ let_go_all (taken b) (used_by_mounts_with_layers world gone (places_lost world gone) groups)
+        → settled nat_eq (taken b) ≡ let_go_all (taken b)
+        (used_by_mounts_with_layers world gone (places_lost world gone) groups)
     by b h =
-        subst (λ w. settled nat_eq w ≡ let_go_all w (used_by_mounts_with_layers world gone (places_lost world gone) groups))
+        subst (λ w. settled nat_eq w ≡ let_go_all w
+        (used_by_mounts_with_layers world gone (places_lost world gone) groups))
         (sym (is_changed world gone namespaces b))
         (all_losers_go world (map (change world gone namespaces b) world.mounts)
         (masters world gone namespaces b) namespaces world.tasks gone
@@ -49,26 +51,32 @@ taken_with_namespaces world gone groups namespaces settles hears =
 
 pub taking_away_with_overlays_lets_go : TakingAwayWithOverlaysLetsGo
 taking_away_with_overlays_lets_go world gone groups settles hears =
-    subst (λ w. settled nat_eq w ≡ let_go_all w (used_by_mounts_with_layers world gone (places_lost world gone) groups)) same
+    subst (λ w. settled nat_eq w ≡ let_go_all w
+    (used_by_mounts_with_layers world gone (places_lost world gone) groups)) same
     (taken_with_namespaces world gone groups world.namespaces settles hears)
   where
     same : record (taken_away nat_eq world gone) { namespaces = world.namespaces } ≡ taken_away nat_eq world gone
     same = same_namespaces (without world gone world.namespaces)
-        (list_any (lost_a_group nat_eq (without world gone world.namespaces)) (without world gone world.namespaces).mounts)
+        (list_any (lost_a_group nat_eq (without world gone world.namespaces))
+        (without world gone world.namespaces).mounts)
 
 pub ending_with_overlays_lets_go : EndingWithOverlaysLetsGo
 ending_with_overlays_lets_go world groups settles hears =
-    taken_with_namespaces world (ended_mounts world) groups (filter (has_tasks nat_eq world) world.namespaces) settles hears
+    taken_with_namespaces world (ended_mounts world) groups
+    (filter (has_tasks nat_eq world) world.namespaces) settles hears
 
 pub moving_with_overlays_lets_go : MovingWithOverlaysLetsGo
 moving_with_overlays_lets_go world moved groups change master settles moves nowhere hears =
-    all_losers_go world (map change world.mounts) master world.namespaces world.tasks [] (places_moved world moved) groups settles
+    all_losers_go world (map change world.mounts) master world.namespaces world.tasks []
+    (places_moved world moved) groups settles
     (MountingMoved.loses world moved change master settles.in_use moves nowhere) hears
 
 one_event : (world : World ℕ) (gone : List ℕ) → IsSettled world
-    → settled nat_eq (taken_away nat_eq world gone) ≡ let_go_all (taken_away nat_eq world gone) (used_by_gone_with_layers world gone)
+    → settled nat_eq (taken_away nat_eq world gone)
+    ≡ let_go_all (taken_away nat_eq world gone) (used_by_gone_with_layers world gone)
 one_event world gone settles =
-    taking_away_with_overlays_lets_go world gone (groups_of_mounts world gone) settles (event_groups world gone settles.in_use.groups)
+    taking_away_with_overlays_lets_go world gone (groups_of_mounts world gone) settles
+    (event_groups world gone settles.in_use.groups)
 
 pub unmounts_with_overlays_let_go : UnmountsWithOverlaysLetGo
 unmounts_with_overlays_let_go fresh world task mount settles = one_event world
@@ -81,7 +89,8 @@ mounts_on_directories_with_overlays_let_go world directory settles =
 pub lazy_unmounts_with_overlays_let_go : LazyUnmountsWithOverlaysLetGo
 lazy_unmounts_with_overlays_let_go fresh world task number settles =
     subst (λ w. settled nat_eq w ≡ let_go_all w (used_by_gone_with_layers world gone)) (sym faded.is)
-    (all_losers_go world (map faded.change world.mounts) now.master world.namespaces world.tasks gone (places_lost world gone)
+    (all_losers_go world (map faded.change world.mounts) now.master world.namespaces world.tasks gone
+    (places_lost world gone)
     (groups_of_mounts world gone)
     settles (Unmounted.loses world now settles.in_use settles.mounts faded)
     (Unmounted.groups world now settles.in_use settles.mounts faded))
@@ -112,7 +121,8 @@ moves_with_overlays_let_go fresh world task number place settles located at_atta
     moves rest there =
         all_losers_go world after.mounts after.master world.namespaces world.tasks [] (option_to_list mount.mount_point) [] settles
         (attached_loses world world.filesystems new place true mount rest settles.in_use settles.mounts located at_attached (λ e. there))
-        (λ group among none. attached_groups world world.filesystems new place true mount rest settles.in_use settles.mounts located
+        (λ group among none.
+        attached_groups world world.filesystems new place true mount rest settles.in_use settles.mounts located
         at_attached (λ e. there) group none)
         ∙ ap (let_go_all_inodes after) (no_more (inodes_of_mount_point world mount))
       where
@@ -134,7 +144,8 @@ pivots_with_overlays_let_go fresh world task new put settles old_attached new_at
     all_losers_go world after.mounts world.master world.namespaces after.tasks []
     (option_to_list (mount_numbered nat_eq world new).mount_point) [] settles
     (Pivoted.loses world task.namespace task.root.mount new put settles.in_use settles.mounts old_attached new_attached)
-    (λ group among none. Pivoted.groups world task.namespace task.root.mount new put settles.in_use settles.mounts old_attached
+    (λ group among none.
+    Pivoted.groups world task.namespace task.root.mount new put settles.in_use settles.mounts old_attached
     new_attached group none)
     ∙ ap (let_go_all_inodes after) (no_more (inodes_of_mount_point world (mount_numbered nat_eq world new)))
   where

@@ -14,7 +14,8 @@ use Rattle.vt_letting_go.proofs.MountingOverlays.{nothing_lost}
 use Rattle.vt_letting_go.proofs.Lists.{Among, one_passes, all_pass, among-append, among-append_left, or_first, passes}
 
 -- a mount that is there is found, whatever follows
-pub found_before : (mounts added : List (Mount ℕ)) (number : ℕ) → is_among nat_eq number (map (λ mount. mount.number) mounts) ≡ true
+pub found_before : (mounts added : List (Mount ℕ)) (number : ℕ)
+    → is_among nat_eq number (map (λ mount. mount.number) mounts) ≡ true
     → mount_in nat_eq (mounts ++ added) number ≡ mount_in nat_eq mounts number
 found_before [] added number h = absurd (true≢false (sym h))
 found_before (first ∷ rest) added number h = by (nat_eq number first.number) h (found_before rest added number)

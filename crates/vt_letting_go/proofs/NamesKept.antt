@@ -32,7 +32,8 @@ Entry = List ℕ × ℕ
 
 -- Entries in the order of their names
 
-below_each : (name : List ℕ) (entries : Entries ℕ) → below_all name_cmp name entries ≡ true → (e : Entry) → Among e entries
+below_each : (name : List ℕ) (entries : Entries ℕ) → below_all name_cmp name entries ≡ true → (e : Entry)
+    → Among e entries
     → is_lt (name_cmp name e.0) ≡ true
 below_each name [] h e m = absurd m
 below_each name (x ∷ xs) h e m =
@@ -49,13 +50,15 @@ found_entry (x ∷ xs) sorted e m =
     (λ same. ap (λ (y : Entry). entry_named y.0 (x ∷ xs)) same
     ∙ ap (λ o. cond (is_eq o) (Some x.1) (entry_named x.0 xs)) (tied_itself nat_list_cmp_total x.0)
     ∙ ap (λ (y : Entry). Some y.1) (sym same))
-    (λ later. ap (λ b. cond b (Some x.1) (entry_named e.0 xs)) (apart (below_each x.0 xs parts.0 e later)) ∙ found_entry xs parts.1 e later)
+    (λ later. ap (λ b. cond b (Some x.1) (entry_named e.0 xs)) (apart (below_each x.0 xs parts.0 e later))
+    ∙ found_entry xs parts.1 e later)
     m
   where
     apart : is_lt (name_cmp x.0 e.0) ≡ true → eq_by_cmp name_cmp e.0 x.0 ≡ false
     apart below =
         false_from_ne_true (eq_by_cmp name_cmp e.0 x.0) (λ tie.
-        true≢false (sym below ∙ ap (λ n. is_lt (name_cmp x.0 n)) (same_name e.0 x.0 tie) ∙ ap is_lt (tied_itself nat_list_cmp_total x.0)))
+        true≢false (sym below ∙ ap (λ n. is_lt (name_cmp x.0 n)) (same_name e.0 x.0 tie)
+        ∙ ap is_lt (tied_itself nat_list_cmp_total x.0)))
 
 -- an entry stays where a name is given, but for the one that had it
 put_keeps : (name : List ℕ) (number : ℕ) (entries : Entries ℕ) (e : Entry) → Among e entries
@@ -63,25 +66,30 @@ put_keeps : (name : List ℕ) (number : ℕ) (entries : Entries ℕ) (e : Entry)
 put_keeps name number [] e m = absurd m
 put_keeps name number (x ∷ xs) e m = by (name_cmp name x.0) refl m (put_keeps name number xs e)
   where
-    by : (o : Ordering) → name_cmp name x.0 ≡ o → Among e (x ∷ xs) → (Among e xs → Among e (with_entry name number xs) ⊎ (e.0 ≡ name))
-        → Among e (by_order o ((name, number) ∷ x ∷ xs) ((x.0, number) ∷ xs) (x ∷ with_entry name number xs)) ⊎ (e.0 ≡ name)
+    by : (o : Ordering) → name_cmp name x.0 ≡ o → Among e (x ∷ xs)
+        → (Among e xs → Among e (with_entry name number xs) ⊎ (e.0 ≡ name))
+        → Among e (by_order o ((name, number) ∷ x ∷ xs) ((x.0, number) ∷ xs) (x ∷ with_entry name number xs))
+        ⊎ (e.0 ≡ name)
     by Less tie n later = inl (inr n)
     by Equal tie (inl same) later = inr (ap (λ (y : Entry). y.0) same ∙ sym (same_name name x.0 (ap is_eq tie)))
     by Equal tie (inr n) later = inl (inr n)
     by Greater tie (inl same) later = inl (inl same)
     by Greater tie (inr n) later = ⊎_elim (λ l. inl (inr l)) inr (later n)
 
-put_has : (name : List ℕ) (number : ℕ) (entries : Entries ℕ) → (e : Entry) × Among e (with_entry name number entries) × (e.1 ≡ number)
+put_has : (name : List ℕ) (number : ℕ) (entries : Entries ℕ)
+    → (e : Entry) × Among e (with_entry name number entries) × (e.1 ≡ number)
 put_has name number [] = ((name, number), inl refl, refl)
 put_has name number (x ∷ xs) = by (name_cmp name x.0) (put_has name number xs)
   where
     by : (o : Ordering) → (e : Entry) × Among e (with_entry name number xs) × (e.1 ≡ number)
-        → (e : Entry) × Among e (by_order o ((name, number) ∷ x ∷ xs) ((x.0, number) ∷ xs) (x ∷ with_entry name number xs)) × (e.1 ≡ number)
+        → (e : Entry) × Among e (by_order o ((name, number) ∷ x ∷ xs) ((x.0, number) ∷ xs)
+        (x ∷ with_entry name number xs)) × (e.1 ≡ number)
     by Less later = ((name, number), inl refl, refl)
     by Equal later = ((x.0, number), inl refl, refl)
     by Greater later = (later.0, inr later.1, later.2)
 
-filter_keeps : (name : List ℕ) (entries : Entries ℕ) (e : Entry) → Among e entries → Among e (without_entry name entries) ⊎ (e.0 ≡ name)
+filter_keeps : (name : List ℕ) (entries : Entries ℕ) (e : Entry) → Among e entries
+    → Among e (without_entry name entries) ⊎ (e.0 ≡ name)
 filter_keeps name entries e m =
     ⊎_elim
     (λ same. inr ((bytes_decides e.0 name).0 same))
@@ -96,7 +104,8 @@ node_keeps_given name number None e m = absurd m
 node_keeps_given name number (Some node) e m = by node.content m
   where
     by : (content : Content ℕ) → Among e (entries_in (Some (record { attr = node.attr; content = content })))
-        → Among e (entries_in (node_with_entry name number (Some (record { attr = node.attr; content = content })))) ⊎ (e.0 ≡ name)
+        → Among e (entries_in (node_with_entry name number (Some (record { attr = node.attr; content = content }))))
+        ⊎ (e.0 ≡ name)
     by (Directory parent entries opaque) n = put_keeps name number entries e n
     by (Regular bytes) n = absurd n
     by (Symlink text) n = absurd n
@@ -108,7 +117,8 @@ node_keeps_taken name None e m = absurd m
 node_keeps_taken name (Some node) e m = by node.content m
   where
     by : (content : Content ℕ) → Among e (entries_in (Some (record { attr = node.attr; content = content })))
-        → Among e (entries_in (node_without_entry name (Some (record { attr = node.attr; content = content })))) ⊎ (e.0 ≡ name)
+        → Among e (entries_in (node_without_entry name (Some (record { attr = node.attr; content = content }))))
+        ⊎ (e.0 ≡ name)
     by (Directory parent entries opaque) n = filter_keeps name entries e n
     by (Regular bytes) n = absurd n
     by (Symlink text) n = absurd n
@@ -120,29 +130,34 @@ node_has name number None is = absurd (true≢false (sym is))
 node_has name number (Some node) is = by node.content is
   where
     by : (content : Content ℕ) → is_directory_node (Some (record { attr = node.attr; content = content })) ≡ true
-        → (e : Entry) × Among e (entries_in (node_with_entry name number (Some (record { attr = node.attr; content = content }))))
+        → (e : Entry) × Among e (entries_in
+        (node_with_entry name number (Some (record { attr = node.attr; content = content }))))
         × (e.1 ≡ number)
     by (Directory parent entries opaque) n = put_has name number entries
     by (Regular bytes) n = absurd (true≢false (sym n))
     by (Symlink text) n = absurd (true≢false (sym n))
     by Whiteout n = absurd (true≢false (sym n))
 
-kind_with_parent : (parent : ℕ) (o : Option (Node ℕ)) → is_directory_node (node_with_parent parent o) ≡ is_directory_node o
+kind_with_parent : (parent : ℕ) (o : Option (Node ℕ))
+    → is_directory_node (node_with_parent parent o) ≡ is_directory_node o
 kind_with_parent parent None = refl
 kind_with_parent parent (Some node) = by node.content
   where
-    by : (content : Content ℕ) → is_directory_node (node_with_parent parent (Some (record { attr = node.attr; content = content })))
+    by : (content : Content ℕ) → is_directory_node
+        (node_with_parent parent (Some (record { attr = node.attr; content = content })))
         ≡ is_directory_node (Some (record { attr = node.attr; content = content }))
     by (Directory old entries opaque) = refl
     by (Regular bytes) = refl
     by (Symlink text) = refl
     by Whiteout = refl
 
-kind_without : (name : List ℕ) (o : Option (Node ℕ)) → is_directory_node (node_without_entry name o) ≡ is_directory_node o
+kind_without : (name : List ℕ) (o : Option (Node ℕ))
+    → is_directory_node (node_without_entry name o) ≡ is_directory_node o
 kind_without name None = refl
 kind_without name (Some node) = by node.content
   where
-    by : (content : Content ℕ) → is_directory_node (node_without_entry name (Some (record { attr = node.attr; content = content })))
+    by : (content : Content ℕ) → is_directory_node
+        (node_without_entry name (Some (record { attr = node.attr; content = content })))
         ≡ is_directory_node (Some (record { attr = node.attr; content = content }))
     by (Directory old entries opaque) = refl
     by (Regular bytes) = refl
@@ -154,9 +169,12 @@ sorted_without : (name : List ℕ) (o : Option (Node ℕ)) → is_sorted name_cm
 sorted_without name None e = e
 sorted_without name (Some node) e = by node.content e
   where
-    by : (content : Content ℕ) → is_sorted name_cmp (entries_in (Some (record { attr = node.attr; content = content }))) ≡ true
-        → is_sorted name_cmp (entries_in (node_without_entry name (Some (record { attr = node.attr; content = content })))) ≡ true
-    by (Directory old entries opaque) h = passes _ (is_sorted-where_key name_cmp (λ x. not (bytes_eq x name)) entries (T_from_true _ h))
+    by : (content : Content ℕ) → is_sorted name_cmp
+        (entries_in (Some (record { attr = node.attr; content = content }))) ≡ true
+        → is_sorted name_cmp (entries_in
+        (node_without_entry name (Some (record { attr = node.attr; content = content })))) ≡ true
+    by (Directory old entries opaque) h =
+        passes _ (is_sorted-where_key name_cmp (λ x. not (bytes_eq x name)) entries (T_from_true _ h))
     by (Regular bytes) h = refl
     by (Symlink text) h = refl
     by Whiteout h = refl
@@ -176,7 +194,8 @@ named_before old name (Some node) number e = by node.content e
     by : (content : Content ℕ) → entry_named name
         (entries_in (node_without_entry old (Some (record { attr = node.attr; content = content })))) ≡ Some number
         → entry_named name (entries_in (Some (record { attr = node.attr; content = content }))) ≡ Some number
-    by (Directory parent entries opaque) h = of_name entries (bytes_eq name old) (sym (entry_named-without_entry name old entries) ∙ h)
+    by (Directory parent entries opaque) h =
+        of_name entries (bytes_eq name old) (sym (entry_named-without_entry name old entries) ∙ h)
     by (Regular bytes) h = h
     by (Symlink text) h = h
     by Whiteout h = h
@@ -185,7 +204,8 @@ pub same_entries_parent : (parent : ℕ) (o : Option (Node ℕ)) → entries_in 
 same_entries_parent parent None = refl
 same_entries_parent parent (Some node) = by node.content
   where
-    by : (content : Content ℕ) → entries_in (node_with_parent parent (Some (record { attr = node.attr; content = content })))
+    by : (content : Content ℕ) → entries_in
+        (node_with_parent parent (Some (record { attr = node.attr; content = content })))
         ≡ entries_in (Some (record { attr = node.attr; content = content }))
     by (Directory old entries opaque) = refl
     by (Regular bytes) = refl
@@ -196,7 +216,8 @@ pub same_entries_bytes : (bytes : List ℕ) (o : Option (Node ℕ)) → entries_
 same_entries_bytes bytes None = refl
 same_entries_bytes bytes (Some node) = by node.content
   where
-    by : (content : Content ℕ) → entries_in (node_with_bytes bytes (Some (record { attr = node.attr; content = content })))
+    by : (content : Content ℕ) → entries_in
+        (node_with_bytes bytes (Some (record { attr = node.attr; content = content })))
         ≡ entries_in (Some (record { attr = node.attr; content = content }))
     by (Directory old entries opaque) = refl
     by (Regular old) = refl
@@ -207,7 +228,8 @@ pub same_entries_mark : (opaque : Bool) (o : Option (Node ℕ)) → entries_in (
 same_entries_mark opaque None = refl
 same_entries_mark opaque (Some node) = by node.content
   where
-    by : (content : Content ℕ) → entries_in (node_with_mark opaque (Some (record { attr = node.attr; content = content })))
+    by : (content : Content ℕ) → entries_in
+        (node_with_mark opaque (Some (record { attr = node.attr; content = content })))
         ≡ entries_in (Some (record { attr = node.attr; content = content }))
     by (Directory old entries was) = refl
     by (Regular bytes) = refl
@@ -237,7 +259,8 @@ same_entries_unparented files (Some object) directory = same_entries files objec
 
 -- an entry stays, or it was the one of the name
 one_changed : (files : FileTree ℕ) (directory : ℕ) (name : List ℕ) (change : Option (Node ℕ) → Option (Node ℕ))
-    → ((e : Entry) → Among e (entries_at files directory) → Among e (entries_in (change (files.tree.node directory))) ⊎ (e.0 ≡ name))
+    → ((e : Entry) → Among e (entries_at files directory)
+    → Among e (entries_in (change (files.tree.node directory))) ⊎ (e.0 ≡ name))
     → is_sorted name_cmp (entries_at files directory) ≡ true
     → (d : ℕ) (e : Entry) → Among e (entries_at files d)
     → Among e (entries_at (changed_node nat_eq files directory change) d)
@@ -263,7 +286,8 @@ one_changed files directory name change keeps sorted d e m =
 
 -- what an entry led to is named, or lost
 abbrev Left : FileTree ℕ → List ℕ → Entry → Type 0
-Left after lost e = ((d : ℕ) × (f : Entry) × Among d after.numbers × Among f (entries_at after d) × (f.1 ≡ e.1)) ⊎ Among e.1 lost
+Left after lost e = ((d : ℕ) × (f : Entry) × Among d after.numbers × Among f (entries_at after d) × (f.1 ≡ e.1))
+    ⊎ Among e.1 lost
 
 named_by : (after : FileTree ℕ) (d : ℕ) (e : Entry) → Among d after.numbers → Among e (entries_at after d)
     → is_among nat_eq e.1 (named_in after) ≡ true
@@ -272,36 +296,44 @@ named_by after d e m n =
     (among-flat_map (λ directory. targets_in (after.tree.node directory)) after.numbers d e.1 m
     (among-map (λ (x : Entry). x.1) (entries_at after d) e n))
 
-all_names : (files after : FileTree ℕ) (lost : List ℕ) → ((d : ℕ) → Among d files.numbers → (e : Entry) → Among e (entries_at files d)
+all_names : (files after : FileTree ℕ) (lost : List ℕ)
+    → ((d : ℕ) → Among d files.numbers → (e : Entry) → Among e (entries_at files d)
     → Left after lost e)
-    → list_all (λ number. is_among nat_eq number (named_in after) || is_among nat_eq number lost) (named_in files) ≡ true
+    → list_all (λ number. is_among nat_eq number (named_in after) || is_among nat_eq number lost) (named_in files)
+    ≡ true
 all_names files after lost left =
-    all_pass (λ number. is_among nat_eq number (named_in after) || is_among nat_eq number lost) (named_in files) (λ number m.
+    all_pass (λ number. is_among nat_eq number (named_in after) || is_among nat_eq number lost) (named_in files)
+    (λ number m.
     let d = among-from_flat_map (λ directory. targets_in (files.tree.node directory)) files.numbers number m in
     let e = among-from_map (λ (x : Entry). x.1) (entries_at files d.0) number d.2 in
     ap (λ n. is_among nat_eq n (named_in after) || is_among nat_eq n lost) e.2
     ∙ ⊎_elim
     (λ still. or_first (is_among nat_eq e.0.1 (named_in after)) (is_among nat_eq e.0.1 lost)
     (ap (λ n. is_among nat_eq n (named_in after)) (sym still.4) ∙ named_by after still.0 still.1 still.2 still.3))
-    (λ gone. or_second (is_among nat_eq e.0.1 (named_in after)) (is_among nat_eq e.0.1 lost) (is_among_numbers e.0.1 lost gone))
+    (λ gone. or_second (is_among nat_eq e.0.1 (named_in after)) (is_among nat_eq e.0.1 lost)
+    (is_among_numbers e.0.1 lost gone))
     (left d.0 d.1 e.0 e.1))
 
 -- inodes that were there
 same_numbers : (files after : FileTree ℕ) → after.numbers ≡ files.numbers
-    → list_all (λ number. is_among nat_eq number files.numbers || is_among nat_eq number (named_in after)) after.numbers ≡ true
+    → list_all (λ number. is_among nat_eq number files.numbers
+    || is_among nat_eq number (named_in after)) after.numbers ≡ true
 same_numbers files after same =
-    all_pass (λ number. is_among nat_eq number files.numbers || is_among nat_eq number (named_in after)) after.numbers (λ number m.
+    all_pass (λ number. is_among nat_eq number files.numbers || is_among nat_eq number (named_in after)) after.numbers
+    (λ number m.
     or_first (is_among nat_eq number files.numbers) (is_among nat_eq number (named_in after))
     (is_among_numbers number files.numbers (subst (Among number) same m)))
 
 -- a change by which all entries stay
-all_stay : (files after : FileTree ℕ) → IsListedTree after → after.tree.root ≡ files.tree.root → after.numbers ≡ files.numbers
+all_stay : (files after : FileTree ℕ) → IsListedTree after → after.tree.root ≡ files.tree.root
+    → after.numbers ≡ files.numbers
     → ((d : ℕ) → entries_at after d ≡ entries_at files d) → ChangesTree files after []
 all_stay files after listed root numbers same = record {
   tree = listed;
   root = root;
   inodes = same_numbers files after numbers;
-  names = all_names files after [] (λ d m e n. inl (d, e, subst (Among d) (sym numbers) m, subst (Among e) (sym (same d)) n, refl));
+  names = all_names files after []
+      (λ d m e n. inl (d, e, subst (Among d) (sym numbers) m, subst (Among e) (sym (same d)) n, refl));
 }
 
 some_lost : (o : Option ℕ) (number : ℕ) → o ≡ Some number → Among number (option_to_list o)
@@ -316,31 +348,39 @@ module _ (files : FileTree ℕ) (listed : IsListedTree files) where
   there d is = among_numbers d files.numbers (listed.numbers d ∙ directory_used files.tree d is)
 
   given : (directory : ℕ) (name : List ℕ) (object : ℕ) → IsListedTree (with_name nat_eq files directory name object)
-      → ChangesTree files (with_name nat_eq files directory name object) (option_to_list (entry_at files.tree directory name))
+      → ChangesTree files (with_name nat_eq files directory name object)
+      (option_to_list (entry_at files.tree directory name))
   given directory name object after = record {
     tree = after;
     root = refl;
     inodes = same_numbers files (with_name nat_eq files directory name object) refl;
-    names = all_names files (with_name nat_eq files directory name object) (option_to_list (entry_at files.tree directory name)) (λ d m e n.
-        ⊎_elim (λ still. inl (d, e, m, still, refl)) (λ lost. inr (some_lost (entry_at files.tree directory name) e.1 lost.1))
-        (one_changed files directory name (node_with_entry name object) (node_keeps_given name object (files.tree.node directory))
+    names = all_names files (with_name nat_eq files directory name object)
+        (option_to_list (entry_at files.tree directory name)) (λ d m e n.
+        ⊎_elim (λ still. inl (d, e, m, still, refl))
+        (λ lost. inr (some_lost (entry_at files.tree directory name) e.1 lost.1))
+        (one_changed files directory name (node_with_entry name object)
+        (node_keeps_given name object (files.tree.node directory))
         (sorted directory) d e n));
   }
 
-  taken : (directory : ℕ) (name : List ℕ) (object : ℕ) → IsListedTree (changed nat_eq files (Remove directory name object))
-      → ChangesTree files (changed nat_eq files (Remove directory name object)) (option_to_list (entry_at files.tree directory name))
+  taken : (directory : ℕ) (name : List ℕ) (object : ℕ)
+      → IsListedTree (changed nat_eq files (Remove directory name object))
+      → ChangesTree files (changed nat_eq files (Remove directory name object))
+      (option_to_list (entry_at files.tree directory name))
   taken directory name object after = record {
     tree = after;
     root = refl;
     inodes = same_numbers files (changed nat_eq files (Remove directory name object)) refl;
-    names = all_names files (changed nat_eq files (Remove directory name object)) (option_to_list (entry_at files.tree directory name))
+    names = all_names files (changed nat_eq files (Remove directory name object))
+        (option_to_list (entry_at files.tree directory name))
         (λ d m e n.
         ⊎_elim
         (λ still. inl (
           d,
           e,
           m,
-          subst (Among e) (sym (same_entries_unparented (without_name nat_eq files directory name) (Some object) d)) still,
+          subst (Among e) (sym (same_entries_unparented (without_name nat_eq files directory name)
+              (Some object) d)) still,
           refl,
         ))
         (λ lost. inr (some_lost (entry_at files.tree directory name) e.1 lost.1))
@@ -370,7 +410,8 @@ module _ (files : FileTree ℕ) (listed : IsListedTree files) where
 
     new_is_named : is_among nat_eq number (named_in named) ≡ true
     new_is_named =
-        let has = node_has name number (with_it.tree.node directory) (ap is_directory_node of_directory ∙ made.in_directory) in
+        let has = node_has name number (with_it.tree.node directory)
+        (ap is_directory_node of_directory ∙ made.in_directory) in
         ap (λ n. is_among nat_eq n (named_in named)) (sym has.2)
         ∙ named_by named directory has.0 (inr (there directory made.in_directory))
         (subst (λ o. Among has.0 (entries_in o))
@@ -380,23 +421,27 @@ module _ (files : FileTree ℕ) (listed : IsListedTree files) where
     makes after = record {
       tree = after;
       root = refl;
-      inodes = all_pass (λ k. is_among nat_eq k files.numbers || is_among nat_eq k (named_in named)) named.numbers (λ k m.
+      inodes = all_pass (λ k. is_among nat_eq k files.numbers || is_among nat_eq k (named_in named)) named.numbers
+          (λ k m.
           ⊎_elim
           (λ new. or_second (is_among nat_eq k files.numbers) (is_among nat_eq k (named_in named))
           (ap (λ n. is_among nat_eq n (named_in named)) new ∙ new_is_named))
-          (λ old. or_first (is_among nat_eq k files.numbers) (is_among nat_eq k (named_in named)) (is_among_numbers k files.numbers old))
+          (λ old. or_first (is_among nat_eq k files.numbers) (is_among nat_eq k (named_in named))
+          (is_among_numbers k files.numbers old))
           m);
       names = all_names files named (option_to_list (entry_at files.tree directory name)) (λ d m e n.
           ⊎_elim (λ still. inl (d, e, inr m, still, refl))
           (λ lost. inr (some_lost (entry_at files.tree directory name) e.1
           (ap (λ o. entry_named name (entries_in o)) (sym of_directory) ∙ lost.1)))
-          (one_changed with_it directory name (node_with_entry name number) (node_keeps_given name number (with_it.tree.node directory))
+          (one_changed with_it directory name (node_with_entry name number)
+          (node_keeps_given name number (with_it.tree.node directory))
           (ap (λ o. is_sorted name_cmp (entries_in o)) of_directory ∙ sorted directory) d e
           (subst (λ o. Among e (entries_in o)) (sym (others d (has_some (files.tree.node d) e n))) n)));
     }
 
   -- A name for another
-  module _ (from : ℕ) (old : List ℕ) (to : ℕ) (new : List ℕ) (object : ℕ) (moves : IsMoved files from old to object) where
+  module _ (from : ℕ) (old : List ℕ) (to : ℕ) (new : List ℕ) (object : ℕ)
+      (moves : IsMoved files from old to object) where
     abbrev replaced : Option ℕ
     replaced = entry_at files.tree to new
 
@@ -481,14 +526,17 @@ module _ (files : FileTree ℕ) (listed : IsListedTree files) where
           has.2 ∙ sym same,
         )
 
-    left_so : (d : ℕ) → Among d files.numbers → (e : Entry) → Among e (entries_at files d) → Left last (option_to_list replaced) e
+    left_so : (d : ℕ) → Among d files.numbers → (e : Entry) → Among e (entries_at files d)
+        → Left last (option_to_list replaced) e
     left_so d m e n =
         ⊎_elim
         (λ still. ⊎_elim
         (λ there_still. inl (d, e, subst (Among d) (sym numbers_last) m, to_last d e there_still, refl))
         (λ lost. inr (some_lost replaced e.1 (was_there e.1 lost.1)))
-        (one_changed left to new (node_with_entry new object) (node_keeps_given new object (left.tree.node to)) sorted_left d e still))
-        (λ gone. object_named e.1 (same_Some e.1 object (sym gone.1 ∙ ap (entry_named old) (same_apart from) ∙ moves.named)))
+        (one_changed left to new (node_with_entry new object)
+        (node_keeps_given new object (left.tree.node to)) sorted_left d e still))
+        (λ gone. object_named e.1 (same_Some e.1 object
+        (sym gone.1 ∙ ap (entry_named old) (same_apart from) ∙ moves.named)))
         (one_changed apart from old (node_without_entry old) (node_keeps_taken old (apart.tree.node from))
         (ap (is_sorted name_cmp) (same_apart from) ∙ sorted from) d e (subst (Among e) (sym (same_apart d)) n))
 
@@ -501,10 +549,14 @@ module _ (files : FileTree ℕ) (listed : IsListedTree files) where
     }
 
 pub changes_keep_names : ChangesKeepNames
-changes_keep_names files (Make directory name number node) listed after may = makes files listed directory name number node may after
-changes_keep_names files (AddName directory name object) listed after may = given files listed directory name object after
-changes_keep_names files (Remove directory name object) listed after may = taken files listed directory name object after
-changes_keep_names files (Move from old to new object) listed after may = moves_so files listed from old to new object may after
+changes_keep_names files (Make directory name number node) listed after may =
+    makes files listed directory name number node may after
+changes_keep_names files (AddName directory name object) listed after may =
+    given files listed directory name object after
+changes_keep_names files (Remove directory name object) listed after may =
+    taken files listed directory name object after
+changes_keep_names files (Move from old to new object) listed after may =
+    moves_so files listed from old to new object may after
 changes_keep_names files (SetBytes file bytes) listed after may =
     all_stay files (changed nat_eq files (SetBytes file bytes)) after refl refl
     (same_entries files file (node_with_bytes bytes) (same_entries_bytes bytes))

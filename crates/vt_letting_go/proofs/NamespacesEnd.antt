@@ -41,7 +41,8 @@ module _ (world : World ℕ) where
       (among_numbers number (map (λ n. n.number) world.namespaces) e)
 
   abbrev lives_on : ℕ → Bool
-  lives_on number = list_any (λ namespace. nat_eq number namespace.number && has_tasks nat_eq world namespace) world.namespaces
+  lives_on number = list_any (λ namespace. nat_eq number namespace.number
+      && has_tasks nat_eq world namespace) world.namespaces
 
   its_tasks : (number : ℕ) (namespace : Namespace ℕ) → Among namespace world.namespaces → number ≡ namespace.number
       → has_tasks nat_eq world namespace ≡ true
@@ -50,7 +51,8 @@ module _ (world : World ℕ) where
       any_passes (λ n. nat_eq number n.number && has_tasks nat_eq world n) world.namespaces namespace m
       (ap (λ b. b && has_tasks nat_eq world namespace) (eq-eqb number namespace.number same) ∙ has)
 
-  listed_of : MountsAreListed world → (mount : Mount ℕ) → Among mount world.mounts → (number : ℕ) → mount.namespace ≡ Some number
+  listed_of : MountsAreListed world → (mount : Mount ℕ) → Among mount world.mounts → (number : ℕ)
+      → mount.namespace ≡ Some number
       → is_listed nat_eq world number ≡ true
   listed_of listed mount m number e =
       (and_parts (is_listed nat_eq world number) true
@@ -68,7 +70,8 @@ namespaces-regrouped world = by (list_any (lost_a_group nat_eq world) world.moun
 pub no_namespace_ends : NoNamespaceEnds
 no_namespace_ends world listed all =
     (λ i. record (taken_away nat_eq world (ap (map (λ (mount : Mount ℕ). mount.number)) none i)) {
-      namespaces = filter_all (has_tasks nat_eq world) world.namespaces (passes (has_tasks nat_eq world) world.namespaces all) i;
+      namespaces = filter_all (has_tasks nat_eq world) world.namespaces
+          (passes (has_tasks nat_eq world) world.namespaces all) i;
     })
     ∙ (λ i. record (nothing_taken world i) { namespaces = same_namespaces i })
   where
@@ -88,12 +91,15 @@ no_namespace_ends world listed all =
 pub one_namespace_ends : OneNamespaceEnds
 one_namespace_ends world number listed empty others = λ i. record (taken_away nat_eq world
     (map (λ (mount : Mount ℕ). mount.number) (same_mounts i))) {
-      namespaces = filter_alike (has_tasks nat_eq world) (λ namespace. not (nat_eq number namespace.number)) world.namespaces
+      namespaces = filter_alike (has_tasks nat_eq world)
+          (λ namespace. not (nat_eq number namespace.number)) world.namespaces
           (λ namespace m. has_or_is namespace m (nat_eq number namespace.number) refl) i;
     }
   where
-    no_tasks : (namespace : Namespace ℕ) → nat_eq number namespace.number ≡ true → has_tasks nat_eq world namespace ≡ false
-    no_tasks namespace e = ap (λ n. list_any (λ task. nat_eq n task.namespace) world.tasks) (sym (eqb-true number namespace.number e))
+    no_tasks : (namespace : Namespace ℕ) → nat_eq number namespace.number ≡ true
+        → has_tasks nat_eq world namespace ≡ false
+    no_tasks namespace e = ap (λ n. list_any (λ task. nat_eq n task.namespace) world.tasks)
+        (sym (eqb-true number namespace.number e))
         ∙ empty
 
     its_others : (namespace : Namespace ℕ) → Among namespace world.namespaces → nat_eq number namespace.number ≡ false
@@ -102,7 +108,8 @@ one_namespace_ends world number listed empty others = λ i. record (taken_away n
         sym (ap (λ b. b || has_tasks nat_eq world namespace) e)
         ∙ passes (λ n. nat_eq number n.number || has_tasks nat_eq world n) world.namespaces others namespace m
 
-    has_or_is : (namespace : Namespace ℕ) → Among namespace world.namespaces → (b : Bool) → nat_eq number namespace.number ≡ b
+    has_or_is : (namespace : Namespace ℕ) → Among namespace world.namespaces → (b : Bool)
+        → nat_eq number namespace.number ≡ b
         → has_tasks nat_eq world namespace ≡ not b
     has_or_is namespace m true e = no_tasks namespace e
     has_or_is namespace m false e = its_others namespace m e
@@ -114,10 +121,12 @@ one_namespace_ends world number listed empty others = λ i. record (taken_away n
       where
         by : (b : Bool) → nat_eq number n ≡ b → not (lives_on world n) ≡ b
         by true f =
-            ap not (none_passes (λ namespace. nat_eq n namespace.number && has_tasks nat_eq world namespace) world.namespaces
+            ap not (none_passes (λ namespace. nat_eq n namespace.number
+            && has_tasks nat_eq world namespace) world.namespaces
             (λ namespace k. none namespace (nat_eq n namespace.number) refl))
           where
-            none : (namespace : Namespace ℕ) (b : Bool) → nat_eq n namespace.number ≡ b → (b && has_tasks nat_eq world namespace) ≡ false
+            none : (namespace : Namespace ℕ) (b : Bool) → nat_eq n namespace.number ≡ b
+                → (b && has_tasks nat_eq world namespace) ≡ false
             none namespace true g = no_tasks namespace (ap (λ k. nat_eq k namespace.number) (eqb-true number n f) ∙ g)
             none namespace false g = refl
         by false f =
@@ -125,7 +134,8 @@ one_namespace_ends world number listed empty others = λ i. record (taken_away n
             ap not (its_tasks world n t.0 t.1 t.2 (its_others t.0 t.1 (ap (nat_eq number) (sym t.2) ∙ f)))
 
     same_mounts : filter (is_in_ended nat_eq world) world.mounts ≡ mounts_of nat_eq world number
-    same_mounts = filter_alike (is_in_ended nat_eq world) (λ mount. holds_of (nat_eq number) mount.namespace) world.mounts
+    same_mounts = filter_alike (is_in_ended nat_eq world)
+        (λ mount. holds_of (nat_eq number) mount.namespace) world.mounts
         (λ mount m. ends mount m mount.namespace refl)
 
 -- How many mounts
@@ -141,7 +151,8 @@ count_added p (mount ∷ before) added all = by (p mount) (count_added p before 
     by false e = e
 
 pub added_mounts_count : AddedMountsCount
-added_mounts_count world added namespace all = count_added (λ mount. holds_of (nat_eq namespace) mount.namespace) world.mounts added all
+added_mounts_count world added namespace all =
+    count_added (λ mount. holds_of (nat_eq namespace) mount.namespace) world.mounts added all
 
 no_more : (most few some : ℕ) → nat_lt most few ≡ false → some ≤ few → nat_lt most some ≡ false
 no_more most few some e h = grind (arith, nat_tests)

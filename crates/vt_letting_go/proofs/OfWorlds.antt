@@ -33,8 +33,10 @@ found_or_none [] number = inr refl
 found_or_none (first ∷ rest) number = by (nat_eq number first.number) (found_or_none rest number)
   where
     by : (b : Bool) → Among (mount_in nat_eq rest number) rest ⊎ (mount_in nat_eq rest number ≡ no_mount number)
-        → Among (unwrap_or (cond b (Some first) (find (λ x. nat_eq number x.number) rest)) (no_mount number)) (first ∷ rest)
-        ⊎ (unwrap_or (cond b (Some first) (find (λ x. nat_eq number x.number) rest)) (no_mount number) ≡ no_mount number)
+        → Among (unwrap_or (cond b (Some first) (find (λ x. nat_eq number x.number) rest)) (no_mount number))
+        (first ∷ rest)
+        ⊎ (unwrap_or (cond b (Some first) (find (λ x. nat_eq number x.number) rest)) (no_mount number)
+        ≡ no_mount number)
     by true later = inl (inl refl)
     by false later = ⊎_elim (λ m. inl (inr m)) inr later
 
@@ -47,7 +49,8 @@ module _ (world : World ℕ) (is : IsWorld nat_eq world) where
       by true e = e
       by false e =
           absurd (true≢false
-          (sym placed ∙ (nowhere_parts mount (passes is_nowhere_or_attached world.mounts is.mounts.nowhere mount m) e).0))
+          (sym placed ∙ (nowhere_parts mount
+          (passes is_nowhere_or_attached world.mounts is.mounts.nowhere mount m) e).0))
 
   on_attached : (mount : Mount ℕ) → Among mount world.mounts → (place : Location ℕ) → mount.mount_point ≡ Some place
       → is_some (mount_at nat_eq world place).namespace ≡ true
@@ -58,7 +61,8 @@ module _ (world : World ℕ) (is : IsWorld nat_eq world) where
       by : Stands nat_eq world mount.number → mount_numbered nat_eq world mount.number ≡ mount
           → is_some (mount_at nat_eq world place).namespace ≡ true
       by (at_root number e) itself =
-          absurd (true≢false (sym (ap is_some p) ∙ sym (ap (λ (x : Mount ℕ). is_some x.mount_point) itself) ∙ ap is_some e))
+          absurd (true≢false (sym (ap is_some p) ∙ sym (ap (λ (x : Mount ℕ). is_some x.mount_point) itself)
+          ∙ ap is_some e))
       by (on_parent number at e same stands) itself =
           let it : at ≡ place = same_Some at place (sym e ∙ ap (λ (x : Mount ℕ). x.mount_point) itself ∙ p) in
           ap (λ l. is_some (mount_at nat_eq world l).namespace) (sym it)
@@ -78,13 +82,17 @@ mounts_of_worlds_stand world is = record {
     by mount m (Some place) e = ap (λ b. b && true) (on_attached world is mount m place e)
 
 -- Filesystems by their numbers
-pub found_filesystem : (filesystems : List (Filesystem ℕ)) → any_pair (λ (a b : Filesystem ℕ). nat_eq a.number b.number) filesystems ≡ false
-    → (f : Filesystem ℕ) → Among f filesystems → unwrap_or (find (λ x. nat_eq f.number x.number) filesystems) (no_filesystem f.number) ≡ f
-found_filesystem filesystems one f m = found_by (λ (x : Filesystem ℕ). x.number) (no_filesystem f.number) filesystems one f m
+pub found_filesystem : (filesystems : List (Filesystem ℕ))
+    → any_pair (λ (a b : Filesystem ℕ). nat_eq a.number b.number) filesystems ≡ false
+    → (f : Filesystem ℕ) → Among f filesystems
+    → unwrap_or (find (λ x. nat_eq f.number x.number) filesystems) (no_filesystem f.number) ≡ f
+found_filesystem filesystems one f m =
+    found_by (λ (x : Filesystem ℕ). x.number) (no_filesystem f.number) filesystems one f m
 
 pub uppers_of_worlds_are_plain : UppersOfWorldsArePlain
 uppers_of_worlds_are_plain world is =
-    all_from_among (λ f. is_overlay f ≡ true → All (λ merged. has_upper_in f.number merged ≡ false) world.filesystems) world.filesystems
+    all_from_among (λ f. is_overlay f ≡ true
+    → All (λ merged. has_upper_in f.number merged ≡ false) world.filesystems) world.filesystems
     (λ f m overlay. all_from_among (λ merged. has_upper_in f.number merged ≡ false) world.filesystems
     (λ merged n. by f m overlay merged.overlay
     (passes (of_overlay true (λ o. list_all (is_plain_layer nat_eq world)
@@ -106,7 +114,8 @@ uppers_of_worlds_are_plain world is =
             (subst (λ o. Among layer (option_to_list o)) (sym e) (inl refl))))) in
             not-true (is_overlay (filesystem_numbered nat_eq world layer.filesystem)) parts.0
 
-        upper : (o : Option (Layer ℕ)) → overlay.upper ≡ o → holds_of (λ layer. nat_eq f.number layer.filesystem) o ≡ false
+        upper : (o : Option (Layer ℕ)) → overlay.upper ≡ o
+            → holds_of (λ layer. nat_eq f.number layer.filesystem) o ≡ false
         upper None e = refl
         upper (Some layer) e = same (nat_eq f.number layer.filesystem) refl
           where
@@ -122,26 +131,31 @@ uppers_of_worlds_are_plain world is =
 -- An inode of an overlay that is not there has no real object.
 pub reals_of_worlds_are_there : RealsOfWorldsAreThere
 reals_of_worlds_are_there world is =
-    all_from_among (λ f. (number : ℕ) → f.files.tree.node number ≡ None → real_in f number ≡ None) world.filesystems (λ f m.
+    all_from_among (λ f. (number : ℕ) → f.files.tree.node number ≡ None → real_in f number ≡ None) world.filesystems
+    (λ f m.
     by f f.overlay refl (found_filesystem world.filesystems is.files.one_filesystem f m))
   where
     by : (f : Filesystem ℕ) (o : Option (Overlay ℕ)) → f.overlay ≡ o → filesystem_numbered nat_eq world f.number ≡ f
-        → (number : ℕ) → f.files.tree.node number ≡ None → overlay_or None (λ overlay. overlay.real number) f.overlay ≡ None
+        → (number : ℕ) → f.files.tree.node number ≡ None
+        → overlay_or None (λ overlay. overlay.real number) f.overlay ≡ None
     by f None e found number none = ap (overlay_or None (λ overlay. overlay.real number)) e
     by f (Some overlay) e found number none =
         ap (overlay_or None (λ overlay. overlay.real number)) e
-        ∙ (is.overlays.overlays_merge f.number overlay (ap (λ (x : Filesystem ℕ). x.overlay) found ∙ e)).real_there number
+        ∙ (is.overlays.overlays_merge f.number overlay
+        (ap (λ (x : Filesystem ℕ). x.overlay) found ∙ e)).real_there number
         (ap (λ (x : Filesystem ℕ). x.files.tree.node number) found ∙ none)
 
 pub locations_of_worlds_stand : LocationsOfWorldsStand
 locations_of_worlds_stand world is =
-    all_pass (λ location. is_among nat_eq location.mount (map (λ mount. mount.number) world.mounts)) (all_locations world) (λ location m.
+    all_pass (λ location. is_among nat_eq location.mount (map (λ mount. mount.number) world.mounts))
+    (all_locations world) (λ location m.
     (and_parts (is_among nat_eq location.mount (map (λ (mount : Mount ℕ). mount.number) world.mounts)) _
     (passes (is_located_well nat_eq world) (all_locations world) is.tasks.locations_live location m)).0)
 
 pub all_in_use : (world : World ℕ) → IsWorld nat_eq world → AllInUse world
 all_in_use world is =
-    subst AllInUse is.nothing_unused (what_is_left_is_in_use world (worlds_have_trees world is) (uppers_of_worlds_are_plain world is))
+    subst AllInUse is.nothing_unused
+    (what_is_left_is_in_use world (worlds_have_trees world is) (uppers_of_worlds_are_plain world is))
 
 pub worlds_are_settled : WorldsAreSettled
 worlds_are_settled world is = record {

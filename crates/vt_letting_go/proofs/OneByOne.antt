@@ -9,7 +9,8 @@ use Rattle.vt_letting_go.specs.OneByOne.{FilesystemsGoOneByOne, GroupsGoOneByOne
 use Rattle.vt_letting_go.proofs.Lists.{any-filter, filter_alike, filter_all, filter_twice, passes}
 
 -- one after the other: looked at here, or looked at later
-pub looked_at : (here later lives : Bool) → (not (here || later) || lives) ≡ ((not here || lives) && (not later || lives))
+pub looked_at : (here later lives : Bool)
+    → (not (here || later) || lives) ≡ ((not here || lives) && (not later || lives))
 looked_at true true true = refl
 looked_at true true false = refl
 looked_at true false true = refl
@@ -29,7 +30,8 @@ kept_alike false false e = absurd (true≢false (sym e))
 -- Mounts
 mounts_folded : (world : World ℕ) (losers : List ℕ)
     → let_go_mounts world losers
-    ≡ with_mounts world (filter (λ mount. not (is_among nat_eq mount.number losers) || mount_lives nat_eq world mount) world.mounts)
+    ≡ with_mounts world (filter (λ mount. not (is_among nat_eq mount.number losers)
+    || mount_lives nat_eq world mount) world.mounts)
 mounts_folded world [] = ap (with_mounts world) (sym (filter_all (λ mount. true) world.mounts (λ mount m. refl)))
 mounts_folded world (number ∷ rest) =
     mounts_folded (let_go_mount world number) rest
@@ -37,7 +39,8 @@ mounts_folded world (number ∷ rest) =
     (filter_twice (λ mount. not (is_among nat_eq mount.number rest) || mount_lives nat_eq world mount)
     (λ mount. not (nat_eq mount.number number) || mount_lives nat_eq world mount)
     (λ mount. not (is_among nat_eq mount.number (number ∷ rest)) || mount_lives nat_eq world mount)
-    (λ mount. looked_at (nat_eq mount.number number) (is_among nat_eq mount.number rest) (mount_lives nat_eq world mount)) world.mounts)
+    (λ mount. looked_at (nat_eq mount.number number) (is_among nat_eq mount.number rest)
+    (mount_lives nat_eq world mount)) world.mounts)
 
 pub mounts_go_one_by_one : MountsGoOneByOne
 mounts_go_one_by_one world losers others =
@@ -80,8 +83,10 @@ filesystems_folded world (number ∷ rest) =
     || filesystem_lives nat_eq (let_go_filesystem world number) filesystem)
     (λ filesystem. not (is_among nat_eq filesystem.number rest) || filesystem_lives nat_eq world filesystem)
     (let_go_filesystem world number).filesystems
-    (λ filesystem m. ap (λ b. not (is_among nat_eq filesystem.number rest) || b) (filesystem_by_others world number filesystem))
-    ∙ filter_twice (λ filesystem. not (is_among nat_eq filesystem.number rest) || filesystem_lives nat_eq world filesystem)
+    (λ filesystem m. ap (λ b. not (is_among nat_eq filesystem.number rest) || b)
+    (filesystem_by_others world number filesystem))
+    ∙ filter_twice (λ filesystem. not (is_among nat_eq filesystem.number rest)
+    || filesystem_lives nat_eq world filesystem)
     (λ filesystem. not (nat_eq filesystem.number number) || filesystem_lives nat_eq world filesystem)
     (λ filesystem. not (is_among nat_eq filesystem.number (number ∷ rest)) || filesystem_lives nat_eq world filesystem)
     (λ filesystem. looked_at (nat_eq filesystem.number number) (is_among nat_eq filesystem.number rest)
@@ -93,7 +98,8 @@ filesystems_go_one_by_one world losers others =
     (filter_alike (filesystem_lives nat_eq world) (λ filesystem. not (is_among nat_eq filesystem.number losers)
     || filesystem_lives nat_eq world filesystem) world.filesystems
     (λ filesystem m. kept_alike (is_among nat_eq filesystem.number losers) (filesystem_lives nat_eq world filesystem)
-    (passes (λ x. is_among nat_eq x.number losers || filesystem_lives nat_eq world x) world.filesystems others filesystem m)))
+    (passes (λ x. is_among nat_eq x.number losers
+    || filesystem_lives nat_eq world x) world.filesystems others filesystem m)))
     ∙ sym (filesystems_folded world losers)
 
 -- Groups
@@ -124,10 +130,14 @@ groups_folded world (group ∷ rest) =
 
 pub groups_go_one_by_one : GroupsGoOneByOne
 groups_go_one_by_one world losers others =
-    (λ i. record world { master = λ group. by group (is_among nat_eq group losers) refl (has_members nat_eq world.mounts group) refl i })
+    (λ i. record world {
+      master = λ group.
+          by group (is_among nat_eq group losers) refl (has_members nat_eq world.mounts group) refl i;
+    })
     ∙ sym (groups_folded world losers)
   where
-    by : (group : ℕ) (among : Bool) → is_among nat_eq group losers ≡ among → (has : Bool) → has_members nat_eq world.mounts group ≡ has
+    by : (group : ℕ) (among : Bool) → is_among nat_eq group losers ≡ among → (has : Bool)
+        → has_members nat_eq world.mounts group ≡ has
         → cond has (world.master group) None ≡ cond (among && not has) None (world.master group)
     by group true e true f = refl
     by group true e false f = refl

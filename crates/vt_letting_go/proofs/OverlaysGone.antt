@@ -28,8 +28,10 @@ module _ (world : World ℕ) (losers : List ℕ) (others : FilesystemsInUseBut l
       (or_cases (is_among nat_eq g.number losers) (filesystem_lives nat_eq world g)
       (passes (λ x. is_among nat_eq x.number losers || filesystem_lives nat_eq world x) world.filesystems others g m))
 
-  named_use : (g : Filesystem ℕ) → Among g world.filesystems → is_among nat_eq g.number losers ≡ true → (filesystem number target : ℕ)
-      → nat_eq filesystem target ≡ true → Among (target, number) (used_by_filesystem g) → is_inode_among filesystem number taken ≡ true
+  named_use : (g : Filesystem ℕ) → Among g world.filesystems → is_among nat_eq g.number losers ≡ true
+      → (filesystem number target : ℕ)
+      → nat_eq filesystem target ≡ true → Among (target, number) (used_by_filesystem g)
+      → is_inode_among filesystem number taken ≡ true
   named_use g m loses filesystem number target same used =
       let t = one_passes (nat_eq g.number) losers loses in
       any_passes (λ inode. nat_eq filesystem inode.0 && nat_eq number inode.1) taken (target, number)
@@ -46,7 +48,8 @@ module _ (world : World ℕ) (losers : List ℕ) (others : FilesystemsInUseBut l
   layer_left filesystem number m =
       let one = among-from_map (λ (layer : Layer ℕ). layer.directory)
       (filter (is_on filesystem) (flat_map (of_overlay [] layers_of) world.filesystems)) number m in
-      let two = among-from_filter (is_on filesystem) (flat_map (of_overlay [] layers_of) world.filesystems) one.0 one.1 in
+      let two = among-from_filter (is_on filesystem)
+      (flat_map (of_overlay [] layers_of) world.filesystems) one.0 one.1 in
       let three = among-from_flat_map (of_overlay [] layers_of) world.filesystems one.0 two.0 in
       ⊎_elim
       (λ lives. inl (subst (λ n. Among n (layers_in nat_eq living filesystem)) (sym one.2)
@@ -56,15 +59,19 @@ module _ (world : World ℕ) (losers : List ℕ) (others : FilesystemsInUseBut l
       (among-flat_map (of_overlay [] layers_of) living.filesystems three.0 one.0
       (among-filter (filesystem_lives nat_eq world) world.filesystems three.0 three.1 lives) three.2) two.1))))
       (λ loses. inr (named_use three.0 three.1 loses filesystem number one.0.filesystem two.1
-      (among-append_left (map (λ (layer : Layer ℕ). (layer.filesystem, layer.directory)) (of_overlay [] layers_of three.0))
+      (among-append_left (map (λ (layer : Layer ℕ). (layer.filesystem, layer.directory))
+      (of_overlay [] layers_of three.0))
       (flat_map (λ k. of_overlay [] (uppers_in k) three.0) three.0.files.numbers) (one.0.filesystem, number)
       (subst (λ n. Among {A = Inode} (one.0.filesystem, n)
       (map (λ (layer : Layer ℕ). (layer.filesystem, layer.directory)) (of_overlay [] layers_of three.0))) (sym one.2)
-      (among-map (λ (layer : Layer ℕ). (layer.filesystem, layer.directory)) (of_overlay [] layers_of three.0) one.0 three.2)))))
+      (among-map (λ (layer : Layer ℕ). (layer.filesystem, layer.directory))
+      (of_overlay [] layers_of three.0) one.0 three.2)))))
       (lives_or_named three.0 three.1)
 
-  object_left : (filesystem number : ℕ) → Among number (flat_map (objects_of_overlay nat_eq filesystem) world.filesystems)
-      → Among number (flat_map (objects_of_overlay nat_eq filesystem) living.filesystems) ⊎ (is_inode_among filesystem number taken ≡ true)
+  object_left : (filesystem number : ℕ)
+      → Among number (flat_map (objects_of_overlay nat_eq filesystem) world.filesystems)
+      → Among number (flat_map (objects_of_overlay nat_eq filesystem) living.filesystems)
+      ⊎ (is_inode_among filesystem number taken ≡ true)
   object_left filesystem number m =
       let t = among-from_flat_map (objects_of_overlay nat_eq filesystem) world.filesystems number m in
       let p = object_parts filesystem number t.0 t.2 in
@@ -91,13 +98,16 @@ module _ (world : World ℕ) (losers : List ℕ) (others : FilesystemsInUseBut l
       (is_among_left number front (layers_in nat_eq living f.number) a)))
       (λ a. ⊎_elim
       (λ there. inl (is_among_left number (front ++ layers_in nat_eq living f.number) objects
-      (is_among_right number front (layers_in nat_eq living f.number) (is_among_numbers number (layers_in nat_eq living f.number) there))))
+      (is_among_right number front (layers_in nat_eq living f.number)
+      (is_among_numbers number (layers_in nat_eq living f.number) there))))
       inr (layer_left f.number number (among_numbers number (layers_in nat_eq world f.number) a)))
       (or_cases (is_among nat_eq number front) (is_among nat_eq number (layers_in nat_eq world f.number))
       (sym (list_any-append (nat_eq number) front (layers_in nat_eq world f.number)) ∙ before)))
       (λ a. ⊎_elim
-      (λ there. inl (is_among_right number (front ++ layers_in nat_eq living f.number) objects (is_among_numbers number objects there)))
-      inr (object_left f.number number (among_numbers number (flat_map (objects_of_overlay nat_eq f.number) world.filesystems) a)))
+      (λ there. inl (is_among_right number (front ++ layers_in nat_eq living f.number) objects
+      (is_among_numbers number objects there)))
+      inr (object_left f.number number
+      (among_numbers number (flat_map (objects_of_overlay nat_eq f.number) world.filesystems) a)))
       (or_cases (is_among nat_eq number (front ++ layers_in nat_eq world f.number))
       (is_among nat_eq number (flat_map (objects_of_overlay nat_eq f.number) world.filesystems))
       (sym (list_any-append (nat_eq number) (front ++ layers_in nat_eq world f.number)
@@ -128,10 +138,12 @@ filesystems_take_their_uses world losers inodes others used =
         (used_by_filesystems world losers) ∙ h
 
     each : (f : Filesystem ℕ) (number : ℕ) → is_used_or_among inodes world f number ≡ true
-        → is_used_or_among (inodes ++ used_by_filesystems world losers) (without_dead_filesystems nat_eq world) f number ≡ true
+        → is_used_or_among (inodes ++ used_by_filesystems world losers)
+        (without_dead_filesystems nat_eq world) f number ≡ true
     each f number h =
         ⊎_elim
-        (λ a. or_first _ (is_inode_used (without_dead_filesystems nat_eq world) f number) (more f number (or_first _ _ a)))
+        (λ a. or_first _ (is_inode_used (without_dead_filesystems nat_eq world) f number)
+        (more f number (or_first _ _ a)))
         (λ u. ⊎_elim
         (λ there. or_second (is_inode_among f.number number (inodes ++ used_by_filesystems world losers)) _ there)
         (λ named. or_first _ (is_inode_used (without_dead_filesystems nat_eq world) f number)

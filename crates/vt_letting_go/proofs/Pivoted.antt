@@ -16,7 +16,8 @@ use Rattle.vt_letting_go.proofs.Lists.{Among, all_pass, among-flat_map, among-fr
 use Rattle.vt_letting_go.proofs.MountingLosers.{Loses, StillALocation, StillAPlace, losers_go}
 use Rattle.vt_letting_go.proofs.PlacesLeft.{found_is_there, found_itself, one_location}
 
-module _ (world : World ℕ) (namespace old new : ℕ) (put : Location ℕ) (in_use : AllInUse world) (stand : MountsStand world)
+module _ (world : World ℕ) (namespace old new : ℕ) (put : Location ℕ) (in_use : AllInUse world)
+    (stand : MountsStand world)
     (old_attached : is_attached world old ≡ true) (new_attached : is_attached world new ≡ true) where
   abbrev root : Mount ℕ
   root = mount_numbered nat_eq world old
@@ -38,7 +39,8 @@ module _ (world : World ℕ) (namespace old new : ℕ) (put : Location ℕ) (in_
 
   itself : (a b : Mount ℕ) → Among a world.mounts → Among b world.mounts → nat_eq a.number b.number ≡ true → a ≡ b
   itself a b m n e =
-      sym (found_itself world.mounts stand.one_number a m) ∙ ap (mount_in nat_eq world.mounts) (eqb-true a.number b.number e)
+      sym (found_itself world.mounts stand.one_number a m)
+      ∙ ap (mount_in nat_eq world.mounts) (eqb-true a.number b.number e)
       ∙ found_itself world.mounts stand.one_number b n
 
   -- a mount keeps all but its place
@@ -48,7 +50,8 @@ module _ (world : World ℕ) (namespace old new : ℕ) (put : Location ℕ) (in_
   keeps part same mount = by (nat_eq mount.number target.number) (nat_eq mount.number root.number)
     where
       by : (a b : Bool)
-          → part (cond a (record mount { mount_point = root.mount_point }) (cond b (record mount { mount_point = Some put }) mount))
+          → part (cond a (record mount { mount_point = root.mount_point })
+          (cond b (record mount { mount_point = Some put }) mount))
           ≡ part mount
       by true b = same mount root.mount_point
       by false true = same mount (Some put)
@@ -72,7 +75,8 @@ module _ (world : World ℕ) (namespace old new : ℕ) (put : Location ℕ) (in_
   which : (mount : Mount ℕ) → Among mount world.mounts → Is mount
   which mount m = by (nat_eq mount.number target.number) refl (nat_eq mount.number root.number) refl
     where
-      by : (a : Bool) → nat_eq mount.number target.number ≡ a → (b : Bool) → nat_eq mount.number root.number ≡ b → Is mount
+      by : (a : Bool) → nat_eq mount.number target.number ≡ a → (b : Bool) → nat_eq mount.number root.number ≡ b
+          → Is mount
       by true e b f = is_target (itself mount target m target_there e)
       by false e true f = is_root (itself mount root m root_there f)
       by false e false f =
@@ -81,11 +85,13 @@ module _ (world : World ℕ) (namespace old new : ℕ) (put : Location ℕ) (in_
           ∙ ap (λ b. cond b (record mount { mount_point = Some put }) mount) f)
 
   -- a location is one still, or it was the root of the old root mount
-  left_or_same : (location : Location ℕ) → (location ≡ pivoted_location nat_eq root target location) ⊎ (location ≡ root_of root)
+  left_or_same : (location : Location ℕ)
+      → (location ≡ pivoted_location nat_eq root target location) ⊎ (location ≡ root_of root)
   left_or_same location = by (same_location nat_eq location (root_of root)) refl
     where
       by : (b : Bool) → same_location nat_eq location (root_of root) ≡ b
-          → (location ≡ cond (same_location nat_eq location (root_of root)) (root_of target) location) ⊎ (location ≡ root_of root)
+          → (location ≡ cond (same_location nat_eq location (root_of root)) (root_of target) location)
+          ⊎ (location ≡ root_of root)
       by true e = inr (one_location location (root_of root) e)
       by false e = inl (ap (λ b. cond b (root_of target) location) (sym e))
 
@@ -101,7 +107,8 @@ module _ (world : World ℕ) (namespace old new : ℕ) (put : Location ℕ) (in_
           }))
           ⊎ (location ≡ root_of root)
       moves (inl e) = ⊎_elim (λ same. inl (inl (e ∙ same))) (λ was. inr (e ∙ was)) (left_or_same task.root)
-      moves (inr (inl e)) = ⊎_elim (λ same. inl (inr (inl (e ∙ same)))) (λ was. inr (e ∙ was)) (left_or_same task.directory)
+      moves (inr (inl e)) = ⊎_elim (λ same. inl (inr (inl (e ∙ same)))) (λ was. inr (e ∙ was))
+          (left_or_same task.directory)
       moves (inr (inr l)) = inl (inr (inr l))
 
       by : (b : Bool)
@@ -115,7 +122,8 @@ module _ (world : World ℕ) (namespace old new : ℕ) (put : Location ℕ) (in_
       by true = moves m
       by false = inl m
 
-  still : (location : Location ℕ) → Among location (all_locations world) → Among location (all_locations after) ⊎ (location ≡ root_of root)
+  still : (location : Location ℕ) → Among location (all_locations world)
+      → Among location (all_locations after) ⊎ (location ≡ root_of root)
   still location m =
       let from = among-from_flat_map locations_of world.tasks location m in
       ⊎_elim
@@ -127,12 +135,19 @@ module _ (world : World ℕ) (namespace old new : ℕ) (put : Location ℕ) (in_
   still_used : (location : Location ℕ) → Among location (all_locations world) → StillALocation after [] location
   still_used location m =
       ⊎_elim inl
-      (λ was. inr (change root, (among-map change world.mounts root root_there, (keeps root_of (λ x at. refl) root ∙ sym was, refl))))
+      (λ was. inr (
+        change root,
+        (
+          among-map change world.mounts root root_there,
+          (keeps root_of (λ x at. refl) root ∙ sym was, refl),
+        ),
+      ))
       (still location m)
 
   lives : (mount : Mount ℕ) → Among mount world.mounts → mount_lives nat_eq after (change mount) ≡ true
   lives mount m =
-      ap (λ b. b || is_located nat_eq after (change mount).number) (keeps (λ x. is_some x.namespace) (λ x at. refl) mount)
+      ap (λ b. b || is_located nat_eq after (change mount).number)
+      (keeps (λ x. is_some x.namespace) (λ x at. refl) mount)
       ∙ ap (λ n. is_some mount.namespace || is_located nat_eq after n) (number_kept mount)
       ∙ ⊎_elim
       (or_first (is_some mount.namespace) (is_located nat_eq after mount.number))
@@ -152,7 +167,8 @@ module _ (world : World ℕ) (namespace old new : ℕ) (put : Location ℕ) (in_
   nowhere mount m = by (which mount m)
     where
       in_one : is_some mount.namespace ≡ true → is_nowhere_or_attached (change mount) ≡ true
-      in_one e = or_first (is_some (change mount).namespace) _ (keeps (λ x. is_some x.namespace) (λ x at. refl) mount ∙ e)
+      in_one e = or_first (is_some (change mount).namespace) _
+          (keeps (λ x. is_some x.namespace) (λ x at. refl) mount ∙ e)
 
       by : Is mount → is_nowhere_or_attached (change mount) ≡ true
       by (is_target e) = in_one (ap (λ (x : Mount ℕ). is_some x.namespace) e ∙ new_attached)
@@ -174,16 +190,23 @@ module _ (world : World ℕ) (namespace old new : ℕ) (put : Location ℕ) (in_
               (target_gets ∙ ap (λ (x : Mount ℕ). x.mount_point) (sym e) ∙ p, inl refl),
             ),
           )
-      by (is_other e) = inl (change mount, (among-map change world.mounts mount m, (ap (λ (x : Mount ℕ). x.mount_point) e ∙ p, inl refl)))
+      by (is_other e) = inl (
+        change mount,
+        (among-map change world.mounts mount m, (ap (λ (x : Mount ℕ). x.mount_point) e ∙ p, inl refl)),
+      )
 
   pub loses : Loses world after [] (option_to_list target.mount_point)
   loses = record {
     images = λ mount m. (
       change mount,
-      (among-map change world.mounts mount m, (keeps root_of (λ x at. refl) mount, keeps (λ x. x.filesystem) (λ x at. refl) mount)),
+      (
+        among-map change world.mounts mount m,
+        (keeps root_of (λ x at. refl) mount, keeps (λ x. x.filesystem) (λ x at. refl) mount),
+      ),
     );
     shown = λ location m. ⊎_elim (λ e. e)
-        (λ found. ap (λ x. x.filesystem) (found-map change number_kept world.mounts location.mount found.0 found.1 found.2 found.3)
+        (λ found. ap (λ x. x.filesystem)
+        (found-map change number_kept world.mounts location.mount found.0 found.1 found.2 found.3)
         ∙ keeps (λ x. x.filesystem) (λ x at. refl) (mount_in nat_eq world.mounts location.mount))
         (not_found-map change number_kept world.mounts location.mount);
     live = λ last m isnt. let from = among-from_map change world.mounts last m in ap (mount_lives nat_eq after) from.2
@@ -191,13 +214,15 @@ module _ (world : World ℕ) (namespace old new : ℕ) (put : Location ℕ) (in_
     locations = λ location m. inl (still_used location m);
     places = place_still;
     nowhere = all_pass is_nowhere_or_attached after.mounts (λ last m.
-        let from = among-from_map change world.mounts last m in ap is_nowhere_or_attached from.2 ∙ nowhere from.0 from.1);
+        let from = among-from_map change world.mounts last m in
+        ap is_nowhere_or_attached from.2 ∙ nowhere from.0 from.1);
   }
 
   pub groups : GroupsInUse after
   groups group none =
       in_use.groups group
-      (sym (any-map (is_member_of nat_eq group) change world.mounts (λ mount. keeps (is_member_of nat_eq group) (λ x at. refl) mount))
+      (sym (any-map (is_member_of nat_eq group) change world.mounts
+      (λ mount. keeps (is_member_of nat_eq group) (λ x at. refl) mount))
       ∙ none)
 
 pub pivoted_lets_go : PivotedLetsGo
@@ -205,7 +230,8 @@ pivoted_lets_go world namespace old new put settles old_attached new_attached =
     losers_go world last.mounts world.master world.namespaces last.tasks []
     (option_to_list (mount_numbered nat_eq world new).mount_point) [] settles
     (loses world namespace old new put settles.in_use settles.mounts old_attached new_attached)
-    (λ group among none. groups world namespace old new put settles.in_use settles.mounts old_attached new_attached group none)
+    (λ group among none.
+    groups world namespace old new put settles.in_use settles.mounts old_attached new_attached group none)
   where
     last : World ℕ
     last = pivoted nat_eq world namespace (mount_numbered nat_eq world old) (mount_numbered nat_eq world new) put

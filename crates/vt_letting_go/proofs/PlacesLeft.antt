@@ -24,7 +24,8 @@ pub found_itself : (mounts : List (Mount ℕ)) → any_pair (λ (a b : Mount ℕ
 found_itself mounts one mount m = found_by (λ (x : Mount ℕ). x.number) (no_mount mount.number) mounts one mount m
 
 -- a mount point is on a mount in a namespace
-pub place_attached : (world : World ℕ) → MountsStand world → (mount : Mount ℕ) → Among mount world.mounts → (place : Location ℕ)
+pub place_attached : (world : World ℕ) → MountsStand world → (mount : Mount ℕ) → Among mount world.mounts
+    → (place : Location ℕ)
     → mount.mount_point ≡ Some place → is_some (mount_at nat_eq world place).namespace ≡ true
 place_attached world stand mount m place p =
     (and_parts (is_some (mount_at nat_eq world place).namespace) true
@@ -37,16 +38,19 @@ pub found_in_filter : (stays : Mount ℕ → Bool) (mounts : List (Mount ℕ)) (
     → mount_in nat_eq (filter stays mounts) number ≡ mount_in nat_eq mounts number
 found_in_filter stays [] number h = refl
 found_in_filter stays (first ∷ rest) number h =
-    by (nat_eq number first.number) refl (stays first) refl (found_in_filter stays rest number (λ mount m e. h mount (inr m) e))
+    by (nat_eq number first.number) refl (stays first) refl
+    (found_in_filter stays rest number (λ mount m e. h mount (inr m) e))
   where
     by : (b : Bool) → nat_eq number first.number ≡ b → (c : Bool) → stays first ≡ c
         → mount_in nat_eq (filter stays rest) number ≡ mount_in nat_eq rest number
         → mount_in nat_eq (cond c (first ∷ filter stays rest) (filter stays rest)) number
         ≡ unwrap_or (cond b (Some first) (find (λ x. nat_eq number x.number) rest)) (no_mount number)
-    by true e true f later = ap (λ b. unwrap_or (cond b (Some first) (find (λ x. nat_eq number x.number) (filter stays rest)))
+    by true e true f later = ap (λ b.
+        unwrap_or (cond b (Some first) (find (λ x. nat_eq number x.number) (filter stays rest)))
         (no_mount number)) e
     by true e false f later = absurd (true≢false (sym (h first (inl refl) (sym (eqb-true number first.number e))) ∙ f))
-    by false e true f later = ap (λ b. unwrap_or (cond b (Some first) (find (λ x. nat_eq number x.number) (filter stays rest)))
+    by false e true f later = ap (λ b.
+        unwrap_or (cond b (Some first) (find (λ x. nat_eq number x.number) (filter stays rest)))
         (no_mount number)) e ∙ later
     by false e false f later = later
 
@@ -59,7 +63,8 @@ found_is_there (first ∷ rest) number e = by (nat_eq number first.number) refl 
     by : (b : Bool) → nat_eq number first.number ≡ b
         → (is_some (mount_in nat_eq rest number).namespace ≡ true → Among (mount_in nat_eq rest number) rest)
         → Among (mount_in nat_eq (first ∷ rest) number) (first ∷ rest)
-    by true f next = inl (ap (λ b. unwrap_or (cond b (Some first) (find (λ x. nat_eq number x.number) rest)) (no_mount number)) f)
+    by true f next = inl (ap (λ b.
+        unwrap_or (cond b (Some first) (find (λ x. nat_eq number x.number) rest)) (no_mount number)) f)
     by false f next =
         let skipped : mount_in nat_eq (first ∷ rest) number ≡ mount_in nat_eq rest number =
         ap (λ b. unwrap_or (cond b (Some first) (find (λ x. nat_eq number x.number) rest)) (no_mount number)) f in
@@ -85,7 +90,8 @@ nowhere_parts mount h e = by (is_some mount.namespace) e (is_some mount.mount_po
     by false f true k g = absurd (true≢false (sym g))
     by false f false k g = (refl, g)
 
-pub private_is_no_member : (group : ℕ) (mount : Mount ℕ) → is_private mount.propagation ≡ true → is_member_of nat_eq group mount ≡ false
+pub private_is_no_member : (group : ℕ) (mount : Mount ℕ) → is_private mount.propagation ≡ true
+    → is_member_of nat_eq group mount ≡ false
 private_is_no_member group mount e = by mount.propagation e
   where
     by : (kind : Propagation ℕ) → is_private kind ≡ true → holds_of (nat_eq group) (group_of kind) ≡ false
@@ -100,14 +106,17 @@ one_location a b e =
     let parts = and_parts (nat_eq a.mount b.mount) (nat_eq a.node b.node) e in
     λ i. record { mount = eqb-true a.mount b.mount parts.0 i; node = eqb-true a.node b.node parts.1 i }
 
-pub is_it : (list : List (Location ℕ)) (location : Location ℕ) → is_location_among list location ≡ true → Among location list
+pub is_it : (list : List (Location ℕ)) (location : Location ℕ) → is_location_among list location ≡ true
+    → Among location list
 is_it list location e =
     let t = one_passes (same_location nat_eq location) list e in
     subst (λ l. Among l list) (sym (one_location location t.0 t.2)) t.1
 
 -- no plain filesystem keeps another
-pub no_layers : (number : ℕ) (other : World ℕ) (filesystems : List (Filesystem ℕ)) → list_any is_overlay filesystems ≡ false
-    → list_any (λ merged. has_layer_on nat_eq number merged && is_mounted nat_eq other merged.number) filesystems ≡ false
+pub no_layers : (number : ℕ) (other : World ℕ) (filesystems : List (Filesystem ℕ))
+    → list_any is_overlay filesystems ≡ false
+    → list_any (λ merged. has_layer_on nat_eq number merged && is_mounted nat_eq other merged.number) filesystems
+    ≡ false
 no_layers number other filesystems plain =
     none_passes (λ merged. has_layer_on nat_eq number merged && is_mounted nat_eq other merged.number) filesystems
     (λ merged m. by merged (fails is_overlay filesystems plain merged m))
@@ -117,12 +126,14 @@ no_layers number other filesystems plain =
     by merged e = ap (λ b. b && is_mounted nat_eq other merged.number) (none merged.overlay e)
       where
         none : (o : Option (Overlay ℕ)) → is_some o ≡ false
-            → overlay_or false (λ overlay. list_any (λ layer. nat_eq number layer.filesystem) (layers_of overlay)) o ≡ false
+            → overlay_or false (λ overlay. list_any (λ layer. nat_eq number layer.filesystem) (layers_of overlay)) o
+            ≡ false
         none None f = refl
         none (Some overlay) f = absurd (true≢false f)
 
 -- nor has it layers or objects
-pub no_objects_of : (world : World ℕ) → IsPlain world → (number : ℕ) → flat_map (objects_of_overlay nat_eq number) world.filesystems ≡ []
+pub no_objects_of : (world : World ℕ) → IsPlain world → (number : ℕ)
+    → flat_map (objects_of_overlay nat_eq number) world.filesystems ≡ []
 no_objects_of world plain number =
     flat_map_none (objects_of_overlay nat_eq number) world.filesystems
     (λ f m. no_objects world number f (fails is_overlay world.filesystems plain f m))
@@ -130,14 +141,16 @@ no_objects_of world plain number =
 pub no_layers_of : (world : World ℕ) → IsPlain world → (number : ℕ) → layers_in nat_eq world number ≡ []
 no_layers_of world plain number =
     ap (λ layers. map (λ layer. layer.directory) (filter (λ layer. nat_eq number layer.filesystem) layers))
-    (flat_map_none (of_overlay [] layers_of) world.filesystems (λ f m. none f.overlay (fails is_overlay world.filesystems plain f m)))
+    (flat_map_none (of_overlay [] layers_of) world.filesystems
+    (λ f m. none f.overlay (fails is_overlay world.filesystems plain f m)))
   where
     none : (o : Option (Overlay ℕ)) → is_some o ≡ false → overlay_or [] layers_of o ≡ []
     none None e = refl
     none (Some overlay) e = absurd (true≢false e)
 
 -- In a world of plain filesystems an inode is used as the root, by a name, or at a place.
-pub plain_uses : (world : World ℕ) → IsPlain world → (filesystem : Filesystem ℕ) (number : ℕ) → is_inode_used world filesystem number ≡ true
+pub plain_uses : (world : World ℕ) → IsPlain world → (filesystem : Filesystem ℕ) (number : ℕ)
+    → is_inode_used world filesystem number ≡ true
     → (number ≡ filesystem.files.tree.root) ⊎ ((is_among nat_eq number (named_in filesystem.files) ≡ true)
     ⊎ Among number (located_in nat_eq world filesystem.number))
 plain_uses world plain filesystem number is_used =
@@ -150,11 +163,13 @@ plain_uses world plain filesystem number is_used =
     (among-append (named_in filesystem.files ++ located_in nat_eq world filesystem.number)
     (layers_in nat_eq world filesystem.number) number front))
     (λ object. absurd (subst (Among number) (no_objects_of world plain filesystem.number) object))
-    (among-append (named_in filesystem.files ++ located_in nat_eq world filesystem.number ++ layers_in nat_eq world filesystem.number)
+    (among-append (named_in filesystem.files ++ located_in nat_eq world filesystem.number
+    ++ layers_in nat_eq world filesystem.number)
     (flat_map (objects_of_overlay nat_eq filesystem.number) world.filesystems) number (among_numbers number _ rest))))
     (or_cases (nat_eq number filesystem.files.tree.root) _ is_used)
 
-module _ (world : World ℕ) (tasks : List (Task ℕ)) (left : List (Location ℕ)) (in_use : AllInUse world) (stand : MountsStand world)
+module _ (world : World ℕ) (tasks : List (Task ℕ)) (left : List (Location ℕ)) (in_use : AllInUse world)
+    (stand : MountsStand world)
     (only : only_these_are_left world tasks left ≡ true) where
   abbrev pub after : World ℕ
   after = with_tasks world tasks
@@ -174,13 +189,16 @@ module _ (world : World ℕ) (tasks : List (Task ℕ)) (left : List (Location �
   stays_or_left location m =
       ⊎_elim (λ e. inl (is_it (all_locations after) location e)) (λ e. inr (is_it left location e))
       (or_cases (is_location_among (all_locations after) location) (is_location_among left location)
-      (passes (λ l. is_location_among (all_locations after) l || is_location_among left l) (all_locations world) only location m))
+      (passes (λ l. is_location_among (all_locations after) l || is_location_among left l)
+      (all_locations world) only location m))
 
-  located_lives : (mount : Mount ℕ) (location : Location ℕ) → Among location (all_locations after) → mount.number ≡ location.mount
+  located_lives : (mount : Mount ℕ) (location : Location ℕ) → Among location (all_locations after)
+      → mount.number ≡ location.mount
       → mount_lives nat_eq after mount ≡ true
   located_lives mount location m e =
       or_second (is_some mount.namespace) (is_located nat_eq after mount.number)
-      (any_passes (λ l. nat_eq mount.number l.mount) (all_locations after) location m (eq-eqb mount.number location.mount e))
+      (any_passes (λ l. nat_eq mount.number l.mount) (all_locations after) location m
+      (eq-eqb mount.number location.mount e))
 
   attached_lives : (mount : Mount ℕ) → is_some mount.namespace ≡ true → mount_lives nat_eq after mount ≡ true
   attached_lives mount e = or_first (is_some mount.namespace) (is_located nat_eq after mount.number) e
@@ -209,9 +227,11 @@ module _ (world : World ℕ) (tasks : List (Task ℕ)) (left : List (Location �
   found_still number stays = found_in_filter (mount_lives nat_eq after) world.mounts number stays
 
   only_one : (mount : Mount ℕ) → Among mount world.mounts → mount_lives nat_eq after mount ≡ true
-      → (other : Mount ℕ) → Among other world.mounts → other.number ≡ mount.number → mount_lives nat_eq after other ≡ true
+      → (other : Mount ℕ) → Among other world.mounts → other.number ≡ mount.number
+      → mount_lives nat_eq after other ≡ true
   only_one mount m lives other n e =
-      ap (mount_lives nat_eq after) (sym (found_mount other n) ∙ ap (mount_in nat_eq world.mounts) e ∙ found_mount mount m) ∙ lives
+      ap (mount_lives nat_eq after) (sym (found_mount other n) ∙ ap (mount_in nat_eq world.mounts) e
+      ∙ found_mount mount m) ∙ lives
 
   -- the filesystem of a mount that went was left
   pub filesystem_left : (mount : Mount ℕ) → Among mount world.mounts → (location : Location ℕ) → Among location left
@@ -222,7 +242,8 @@ module _ (world : World ℕ) (tasks : List (Task ℕ)) (left : List (Location �
   pub mounts_but : MountsInUseBut losers.mounts after
   mounts_but =
       all_pass (λ mount. is_among nat_eq mount.number losers.mounts || mount_lives nat_eq after mount) world.mounts
-      (λ mount m. ⊎_elim (λ lives. or_second (is_among nat_eq mount.number losers.mounts) (mount_lives nat_eq after mount) lives)
+      (λ mount m. ⊎_elim (λ lives. or_second (is_among nat_eq mount.number losers.mounts)
+      (mount_lives nat_eq after mount) lives)
       (λ dead. let gone = dead_was_left mount m dead in
       or_first (is_among nat_eq mount.number losers.mounts) (mount_lives nat_eq after mount)
       (ap (λ n. is_among nat_eq n losers.mounts) gone.2
@@ -235,18 +256,21 @@ module _ (world : World ℕ) (tasks : List (Task ℕ)) (left : List (Location �
       || filesystem_lives nat_eq mounted filesystem) world.filesystems
       (λ filesystem m.
       let lived = passes (filesystem_lives nat_eq world) world.filesystems in_use.filesystems filesystem m in
-      let was = ⊎_elim (λ e. e) (λ layered. absurd (true≢false (sym layered ∙ no_layers filesystem.number world world.filesystems plain)))
+      let was = ⊎_elim (λ e. e) (λ layered.
+      absurd (true≢false (sym layered ∙ no_layers filesystem.number world world.filesystems plain)))
       (or_cases (is_mounted nat_eq world filesystem.number) _ lived) in
       let t = one_passes (λ mount. nat_eq filesystem.number mount.filesystem) world.mounts was in
       ⊎_elim
-      (λ lives. or_second (is_among nat_eq filesystem.number losers.filesystems) (filesystem_lives nat_eq mounted filesystem)
+      (λ lives. or_second (is_among nat_eq filesystem.number losers.filesystems)
+      (filesystem_lives nat_eq mounted filesystem)
       (or_first (is_mounted nat_eq mounted filesystem.number) _
       (any_passes (λ mount. nat_eq filesystem.number mount.filesystem) mounted.mounts t.0
       (among-filter (mount_lives nat_eq after) world.mounts t.0 t.1 lives) t.2)))
       (λ dead. let gone = dead_was_left t.0 t.1 dead in
       or_first (is_among nat_eq filesystem.number losers.filesystems) (filesystem_lives nat_eq mounted filesystem)
       (ap (λ n. is_among nat_eq n losers.filesystems)
-      (eqb-true filesystem.number t.0.filesystem t.2 ∙ ap (λ x. x.filesystem) (sym (filesystem_left t.0 t.1 gone.0 gone.1 gone.2)))
+      (eqb-true filesystem.number t.0.filesystem t.2
+      ∙ ap (λ x. x.filesystem) (sym (filesystem_left t.0 t.1 gone.0 gone.1 gone.2)))
       ∙ is_among_numbers (mount_at nat_eq world gone.0).filesystem losers.filesystems
       (among-map (λ l. (mount_at nat_eq world l).filesystem) left gone.0 gone.1)))
       (decided (mount_lives nat_eq after t.0)))
@@ -268,11 +292,13 @@ module _ (world : World ℕ) (tasks : List (Task ℕ)) (left : List (Location �
     -- what is at a place that is used still
     used_still : (location : Location ℕ)
         → Among location (all_locations after ++ map root_of mounted.mounts ++ filter_map (λ mount. mount.mount_point) mounted.mounts)
-        → filesystem.number ≡ (mount_at nat_eq mounted location).filesystem → is_inode_used swept filesystem location.node ≡ true
+        → filesystem.number ≡ (mount_at nat_eq mounted location).filesystem
+        → is_inode_used swept filesystem location.node ≡ true
     used_still location m e = used_at swept filesystem location m e
 
     -- what was left may go
-    may_go : (location : Location ℕ) → Among location left → filesystem.number ≡ (mount_at nat_eq world location).filesystem
+    may_go : (location : Location ℕ) → Among location left
+        → filesystem.number ≡ (mount_at nat_eq world location).filesystem
         → (number : ℕ) → (number ≡ location.node) ⊎ (number ≡ (mount_at nat_eq world location).root)
         → is_used_or_among losers.inodes swept filesystem number ≡ true
     may_go location m e number at =
@@ -280,7 +306,8 @@ module _ (world : World ℕ) (tasks : List (Task ℕ)) (left : List (Location �
         (⊎_elim
         (λ node. any_passes (λ inode. nat_eq filesystem.number inode.0 && nat_eq number inode.1) losers.inodes
         ((mount_at nat_eq world location).filesystem, location.node)
-        (among-flat_map (inodes_of_location world) left location ((mount_at nat_eq world location).filesystem, location.node) m (inl refl))
+        (among-flat_map (inodes_of_location world) left location
+        ((mount_at nat_eq world location).filesystem, location.node) m (inl refl))
         (both number location.node node))
         (λ root. any_passes (λ inode. nat_eq filesystem.number inode.0 && nat_eq number inode.1) losers.inodes
         ((mount_at nat_eq world location).filesystem, (mount_at nat_eq world location).root)
@@ -289,8 +316,10 @@ module _ (world : World ℕ) (tasks : List (Task ℕ)) (left : List (Location �
         (both number (mount_at nat_eq world location).root root))
         at)
       where
-        both : (a b : ℕ) → a ≡ b → (nat_eq filesystem.number (mount_at nat_eq world location).filesystem && nat_eq a b) ≡ true
-        both a b same = ap (λ t. t && nat_eq a b) (eq-eqb filesystem.number (mount_at nat_eq world location).filesystem e) ∙ eq-eqb a b same
+        both : (a b : ℕ) → a ≡ b → (nat_eq filesystem.number (mount_at nat_eq world location).filesystem && nat_eq a b)
+            ≡ true
+        both a b same = ap (λ t. t && nat_eq a b)
+            (eq-eqb filesystem.number (mount_at nat_eq world location).filesystem e) ∙ eq-eqb a b same
 
     -- each location, root of a mount and place
     by_location : (location : Location ℕ) → Among location (all_locations world)
@@ -302,17 +331,20 @@ module _ (world : World ℕ) (tasks : List (Task ℕ)) (left : List (Location �
         (used_still location (among-append_left (all_locations after ++ map root_of mounted.mounts)
         (filter_map (λ mount. mount.mount_point) mounted.mounts) location
         (among-append_left (all_locations after) (map root_of mounted.mounts) location stays))
-        (e ∙ ap (λ x. x.filesystem) (sym (found_still location.mount (λ mount n same. located_lives mount location stays same))))))
+        (e ∙ ap (λ x. x.filesystem) (sym
+        (found_still location.mount (λ mount n same. located_lives mount location stays same))))))
         (λ gone. may_go location gone e location.node (inl refl))
         (stays_or_left location m)
 
-    by_root : (mount : Mount ℕ) → Among mount world.mounts → filesystem.number ≡ (mount_at nat_eq world (root_of mount)).filesystem
+    by_root : (mount : Mount ℕ) → Among mount world.mounts
+        → filesystem.number ≡ (mount_at nat_eq world (root_of mount)).filesystem
         → is_used_or_among losers.inodes swept filesystem mount.root ≡ true
     by_root mount m e =
         ⊎_elim
         (λ lives. or_second (is_inode_among filesystem.number mount.root losers.inodes) _
         (used_still (root_of mount)
-        (among-append_left (all_locations after ++ map root_of mounted.mounts) (filter_map (λ x. x.mount_point) mounted.mounts)
+        (among-append_left (all_locations after ++ map root_of mounted.mounts)
+        (filter_map (λ x. x.mount_point) mounted.mounts)
         (root_of mount)
         (among-append_right (all_locations after) (map root_of mounted.mounts) (root_of mount)
         (among-map root_of mounted.mounts mount (among-filter (mount_lives nat_eq after) world.mounts mount m lives))))
@@ -323,16 +355,19 @@ module _ (world : World ℕ) (tasks : List (Task ℕ)) (left : List (Location �
         (decided (mount_lives nat_eq after mount))
 
     by_place : (mount : Mount ℕ) → Among mount world.mounts → (place : Location ℕ) → mount.mount_point ≡ Some place
-        → filesystem.number ≡ (mount_at nat_eq world place).filesystem → is_used_or_among losers.inodes swept filesystem place.node ≡ true
+        → filesystem.number ≡ (mount_at nat_eq world place).filesystem
+        → is_used_or_among losers.inodes swept filesystem place.node ≡ true
     by_place mount m place p e =
         or_second (is_inode_among filesystem.number place.node losers.inodes) _
         (used_still place
-        (among-append_right (all_locations after ++ map root_of mounted.mounts) (filter_map (λ x. x.mount_point) mounted.mounts) place
+        (among-append_right (all_locations after ++ map root_of mounted.mounts)
+        (filter_map (λ x. x.mount_point) mounted.mounts) place
         (among-filter_map (λ x. x.mount_point) mounted.mounts mount place
         (among-filter (mount_lives nat_eq after) world.mounts mount m
         (attached_lives mount (is_attached (is_some mount.namespace) refl))) p))
         (e ∙ ap (λ x. x.filesystem) (sym (found_still place.mount (λ other n same.
-        only_one on there (attached_lives on on_attached) other n (same ∙ sym (number_found world.mounts place.mount)))))))
+        only_one on there (attached_lives on on_attached) other n
+        (same ∙ sym (number_found world.mounts place.mount)))))))
       where
         on : Mount ℕ
         on = mount_at nat_eq world place
@@ -353,7 +388,8 @@ module _ (world : World ℕ) (tasks : List (Task ℕ)) (left : List (Location �
     pub by_located : (number : ℕ) → Among number (located_in nat_eq world filesystem.number)
         → is_used_or_among losers.inodes swept filesystem number ≡ true
     by_located number m =
-        let from = among-from_map (λ l. l.node) (filter (λ l. nat_eq filesystem.number (mount_at nat_eq world l).filesystem)
+        let from = among-from_map (λ l. l.node)
+        (filter (λ l. nat_eq filesystem.number (mount_at nat_eq world l).filesystem)
         (all_locations world ++ map root_of world.mounts ++ filter_map (λ mount. mount.mount_point) world.mounts)) number m in
         let here = among-from_filter (λ l. nat_eq filesystem.number (mount_at nat_eq world l).filesystem)
         (all_locations world ++ map root_of world.mounts ++ filter_map (λ mount. mount.mount_point) world.mounts) from.0 from.1 in

@@ -32,22 +32,26 @@ old_masters : (group : ℕ → ℕ) (mounts : List (Mount ℕ)) (master : ℕ �
     → with_new_groups nat_eq group master mounts one ≡ master one
 old_masters group [] master one none = refl
 old_masters group (mount ∷ rest) master one none =
-    old_masters group rest (with_master nat_eq master (group mount.number) (master_after mount.propagation)) one (λ x m. none x (inr m))
+    old_masters group rest (with_master nat_eq master (group mount.number) (master_after mount.propagation)) one
+    (λ x m. none x (inr m))
     ∙ ap (λ b. cond b (master_after mount.propagation) (master one)) (none mount (inl refl))
 
 -- each mount of a tree whose top is in a namespace is in one
 tree_attached : (world : World ℕ) → MountsStand world → (depth : ℕ) (top : Mount ℕ) → is_some top.namespace ≡ true
     → (mount : Mount ℕ) → Among mount (tree_from nat_eq depth world.mounts top) → is_some mount.namespace ≡ true
-tree_attached world stand zero top is mount m = ⊎_elim (λ e. ap (λ (x : Mount ℕ). is_some x.namespace) e ∙ is) (λ none. absurd none) m
+tree_attached world stand zero top is mount m =
+    ⊎_elim (λ e. ap (λ (x : Mount ℕ). is_some x.namespace) e ∙ is) (λ none. absurd none) m
 tree_attached world stand (suc depth) top is mount m =
     ⊎_elim (λ e. ap (λ (x : Mount ℕ). is_some x.namespace) e ∙ is)
     (λ later.
-    let under = among-from_flat_map (tree_from nat_eq depth world.mounts) (children nat_eq world.mounts top.number) mount later in
+    let under = among-from_flat_map (tree_from nat_eq depth world.mounts)
+    (children nat_eq world.mounts top.number) mount later in
     let child = among-from_filter (stands_on nat_eq top.number) world.mounts under.0 under.1 in
     tree_attached world stand depth under.0 (placed under.0 child.0 child.1) mount under.2)
     m
   where
-    placed : (child : Mount ℕ) → Among child world.mounts → stands_on nat_eq top.number child ≡ true → is_some child.namespace ≡ true
+    placed : (child : Mount ℕ) → Among child world.mounts → stands_on nat_eq top.number child ≡ true
+        → is_some child.namespace ≡ true
     placed child n on =
         ⊎_elim (λ in_one. in_one)
         (λ out. absurd (true≢false
@@ -55,7 +59,8 @@ tree_attached world stand (suc depth) top is mount m =
         (passes is_nowhere_or_attached world.mounts stand.nowhere child n) out).0)))
         (decided (is_some child.namespace))
       where
-        has_place : (place : Option (Location ℕ)) → holds_of (λ l. nat_eq top.number l.mount) place ≡ true → is_some place ≡ true
+        has_place : (place : Option (Location ℕ)) → holds_of (λ l. nat_eq top.number l.mount) place ≡ true
+            → is_some place ≡ true
         has_place None e = absurd (true≢false (sym e))
         has_place (Some place) e = refl
 
@@ -96,7 +101,8 @@ module _ (fresh : Fresh ℕ) (world : World ℕ) (number : ℕ) (word : TypeWord
       → (b : Bool) (mount : Mount ℕ) → part (change b mount) ≡ part mount
   keeps part same b mount = by b
     where
-      retyped : (c : Bool) → part (cond c (record mount { propagation = type_after (group mount.number) word mount.propagation }) mount)
+      retyped : (c : Bool) → part (cond c
+          (record mount { propagation = type_after (group mount.number) word mount.propagation }) mount)
           ≡ part mount
       retyped true = same mount (type_after (group mount.number) word mount.propagation)
       retyped false = refl
@@ -139,15 +145,18 @@ module _ (fresh : Fresh ℕ) (world : World ℕ) (number : ℕ) (word : TypeWord
       let t = one_passes (λ other. nat_eq mount.number other.number) named is in
       let other = named_of_world t.0 t.1 in
       let same : mount ≡ t.0 =
-      sym (found_itself world.mounts stand.one_number mount m) ∙ ap (mount_in nat_eq world.mounts) (eqb-true mount.number t.0.number t.2)
+      sym (found_itself world.mounts stand.one_number mount m)
+      ∙ ap (mount_in nat_eq world.mounts) (eqb-true mount.number t.0.number t.2)
       ∙ found_itself world.mounts stand.one_number t.0 other.0 in
       ap (λ (x : Mount ℕ). is_some x.namespace) same ∙ other.1
 
   nowhere : (b : Bool) (mount : Mount ℕ) → Among mount world.mounts → is_nowhere_or_attached (change b mount) ≡ true
   nowhere b mount m =
       ⊎_elim
-      (λ in_one. or_first (is_some (change b mount).namespace) _ (keeps (λ x. is_some x.namespace) (λ x kind. refl) b mount ∙ in_one))
-      (λ out. outside b out (false_from_ne_true (is_named mount) (λ is. true≢false (sym (named_attached mount m is) ∙ out))))
+      (λ in_one. or_first (is_some (change b mount).namespace) _
+      (keeps (λ x. is_some x.namespace) (λ x kind. refl) b mount ∙ in_one))
+      (λ out. outside b out (false_from_ne_true (is_named mount)
+      (λ is. true≢false (sym (named_attached mount m is) ∙ out))))
       (decided (is_some mount.namespace))
     where
       was : is_nowhere_or_attached mount ≡ true
@@ -159,7 +168,8 @@ module _ (fresh : Fresh ℕ) (world : World ℕ) (number : ℕ) (word : TypeWord
       private_stays Private e = refl
       private_stays Unbindable e = refl
 
-      outside : (c : Bool) → is_some mount.namespace ≡ false → is_named mount ≡ false → is_nowhere_or_attached (change c mount) ≡ true
+      outside : (c : Bool) → is_some mount.namespace ≡ false → is_named mount ≡ false
+          → is_nowhere_or_attached (change c mount) ≡ true
       outside true out isnt =
           ap (λ x. is_nowhere_or_attached (inheriting nat_eq base x)) (unnamed_stays mount isnt)
           ∙ ap (λ kind. is_nowhere_or_attached (record mount { propagation = kind }))
@@ -181,7 +191,8 @@ module _ (fresh : Fresh ℕ) (world : World ℕ) (number : ℕ) (word : TypeWord
     );
     shown = λ location m. ⊎_elim (λ e. e)
         (λ found. ap (λ x. x.filesystem)
-        (found-map (change b) (keeps (λ x. x.number) (λ x kind. refl) b) world.mounts location.mount found.0 found.1 found.2 found.3)
+        (found-map (change b) (keeps (λ x. x.number)
+        (λ x kind. refl) b) world.mounts location.mount found.0 found.1 found.2 found.3)
         ∙ keeps (λ x. x.filesystem) (λ x kind. refl) b (mount_in nat_eq world.mounts location.mount))
         (not_found-map (change b) (keeps (λ x. x.number) (λ x kind. refl) b) world.mounts location.mount);
     live = λ x m isnt. let from = among-from_map (change b) world.mounts x m in
@@ -198,7 +209,8 @@ module _ (fresh : Fresh ℕ) (world : World ℕ) (number : ℕ) (word : TypeWord
           ),
         );
     nowhere = all_pass is_nowhere_or_attached (last b).mounts (λ x m.
-        let from = among-from_map (change b) world.mounts x m in ap is_nowhere_or_attached from.2 ∙ nowhere b from.0 from.1);
+        let from = among-from_map (change b) world.mounts x m in
+        ap is_nowhere_or_attached from.2 ∙ nowhere b from.0 from.1);
   }
 
   abbrev numbers : List ℕ
@@ -229,13 +241,15 @@ module _ (fresh : Fresh ℕ) (world : World ℕ) (number : ℕ) (word : TypeWord
           ∙ shared mount.propagation is
       by false = ap (is_member_of nat_eq one) same ∙ is
 
-  no_master : (b : Bool) (one : ℕ) → is_among nat_eq one (map (λ mount. group mount.number) named) ≡ false → world.master one ≡ None
+  no_master : (b : Bool) (one : ℕ) → is_among nat_eq one (map (λ mount. group mount.number) named) ≡ false
+      → world.master one ≡ None
       → masters b one ≡ None
   no_master b one old e = by b
     where
       before : base.master one ≡ None
       before =
-          old_masters group named world.master one (λ mount m. false_from_ne_true (nat_eq one (group mount.number)) (λ same.
+          old_masters group named world.master one
+          (λ mount m. false_from_ne_true (nat_eq one (group mount.number)) (λ same.
           true≢false (sym (any_passes (nat_eq one) (map (λ x. group x.number) named) (group mount.number)
           (among-map (λ x. group x.number) named mount m) same) ∙ old)))
           ∙ e
@@ -248,7 +262,8 @@ module _ (fresh : Fresh ℕ) (world : World ℕ) (number : ℕ) (word : TypeWord
   hears b one among none =
       let parts = or_parts (is_among nat_eq one (groups_of_mounts world numbers))
       (is_among nat_eq one (map (λ mount. group mount.number) named))
-      (sym (list_any-append (nat_eq one) (groups_of_mounts world numbers) (map (λ mount. group mount.number) named)) ∙ among) in
+      (sym (list_any-append (nat_eq one) (groups_of_mounts world numbers) (map (λ mount. group mount.number) named))
+      ∙ among) in
       no_master b one parts.1
       (no_members world (last b) numbers in_use.groups
       (λ mount m isnt other is. any_passes (is_member_of nat_eq other) (last b).mounts (change b mount)
@@ -259,8 +274,10 @@ pub set_types_let_go : SetTypesLetGo
 set_types_let_go fresh world task number word recursive in_use stand attached =
     subst (λ w. settled nat_eq w ≡ let_go_groups w (groups_of_types fresh world number recursive))
     (sym (retyped_so fresh world number word recursive in_use stand attached b))
-    (only_groups_go world now.mounts now.master world.filesystems (groups_of_types fresh world number recursive) in_use stand
-    (loses fresh world number word recursive in_use stand attached b) (hears fresh world number word recursive in_use stand attached b)
+    (only_groups_go world now.mounts now.master world.filesystems
+    (groups_of_types fresh world number recursive) in_use stand
+    (loses fresh world number word recursive in_use stand attached b)
+    (hears fresh world number word recursive in_use stand attached b)
     (record { kept = λ f m. m; new = λ f m. inl m }))
   where
     b : Bool

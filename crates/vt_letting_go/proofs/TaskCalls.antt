@@ -23,9 +23,11 @@ closed_or_still task number location (inr (inr m)) =
     let from = among-from_map (λ (d : Descriptor ℕ). d.location) task.descriptors location m in
     ⊎_elim
     (λ is. inr (subst (λ l. Among l (locations_closed task number)) (sym from.2)
-    (among-map (λ (d : Descriptor ℕ). d.location) (filter (λ (d : Descriptor ℕ). number == d.number) task.descriptors) from.0
+    (among-map (λ (d : Descriptor ℕ). d.location)
+    (filter (λ (d : Descriptor ℕ). number == d.number) task.descriptors) from.0
     (among-filter (λ (d : Descriptor ℕ). number == d.number) task.descriptors from.0 from.1 is))))
-    (λ isnt. inl (inr (inr (subst (λ l. Among l (map (λ (d : Descriptor ℕ). d.location) (without_descriptor task number).descriptors))
+    (λ isnt. inl (inr (inr (subst (λ l.
+    Among l (map (λ (d : Descriptor ℕ). d.location) (without_descriptor task number).descriptors))
     (sym from.2)
     (among-map (λ (d : Descriptor ℕ). d.location) (without_descriptor task number).descriptors from.0
     (among-filter (λ (d : Descriptor ℕ). not (number == d.number)) task.descriptors from.0 from.1 (ap not isnt)))))))
@@ -33,7 +35,8 @@ closed_or_still task number location (inr (inr m)) =
 
 pub closes_let_go : ClosesLetGo
 closes_let_go number fresh world task settles one there =
-    leaving_overlays_lets_go world (with_task world (without_descriptor task number)).tasks (locations_closed task number) settles
+    leaving_overlays_lets_go world (with_task world (without_descriptor task number)).tasks
+    (locations_closed task number) settles
     (replaced_leaves world task (without_descriptor task number) (locations_closed task number) one
     (among_from_contains world.tasks task there) refl
     (closed_or_still task number))
@@ -60,7 +63,8 @@ changed_roots_let_go root fresh world task settles one there =
     new : Task ℕ
     new = record task { root = root }
 
-    by : (location : Location ℕ) → Among location (locations_of task) → Among location (locations_of new) ⊎ Among location (task.root ∷ [])
+    by : (location : Location ℕ) → Among location (locations_of task)
+        → Among location (locations_of new) ⊎ Among location (task.root ∷ [])
     by location (inl e) = inr (inl e)
     by location (inr m) = inl (inr m)
 
@@ -73,7 +77,8 @@ new_umasks_keep_all umask fresh world task settles one there =
 pub new_credentials_keep_all : NewCredentialsKeepAll
 new_credentials_keep_all credentials fresh world task settles one there =
     staying_keeps_overlays world (with_task world (record task { credentials = credentials })).tasks settles
-    (replaced_leaves world task (record task { credentials = credentials }) [] one (among_from_contains world.tasks task there) refl
+    (replaced_leaves world task (record task { credentials = credentials }) [] one
+    (among_from_contains world.tasks task there) refl
     (λ location m. inl m))
 
 pub opened_files_keep_all : OpenedFilesKeepAll
@@ -87,12 +92,15 @@ opened_files_keep_all fresh world task file access settles one there not_copied 
 more_tasks : (world : World ℕ) (tasks more : List (Task ℕ)) → only_these_are_left world tasks [] ≡ true
     → only_these_are_left world (tasks ++ more) [] ≡ true
 more_tasks world tasks more only =
-    all_pass (λ location. is_location_among (flat_map locations_of (tasks ++ more)) location || is_location_among [] location)
+    all_pass (λ location. is_location_among (flat_map locations_of (tasks ++ more)) location
+    || is_location_among [] location)
     (all_locations world)
-    (λ location m. by location (passes (λ l. is_location_among (flat_map locations_of tasks) l || is_location_among [] l)
+    (λ location m. by location (passes
+    (λ l. is_location_among (flat_map locations_of tasks) l || is_location_among [] l)
     (all_locations world) only location m))
   where
-    spread : (list : List (Task ℕ)) → flat_map locations_of (list ++ more) ≡ flat_map locations_of list ++ flat_map locations_of more
+    spread : (list : List (Task ℕ))
+        → flat_map locations_of (list ++ more) ≡ flat_map locations_of list ++ flat_map locations_of more
     spread [] = refl
     spread (first ∷ rest) = ap (λ l. locations_of first ++ l) (spread rest)
         ∙ sym (append_assoc (locations_of first) (flat_map locations_of rest) (flat_map locations_of more))
@@ -107,7 +115,8 @@ more_tasks world tasks more only =
         ap (λ b. b || false)
         (ap (λ l. is_location_among l location) (spread tasks)
         ∙ list_any-append (same_location nat_eq location) (flat_map locations_of tasks) (flat_map locations_of more))
-        ∙ either (is_location_among (flat_map locations_of tasks) location) (is_location_among (flat_map locations_of more) location) e
+        ∙ either (is_location_among (flat_map locations_of tasks) location)
+        (is_location_among (flat_map locations_of more) location) e
 
 pub forks_keep_all : ForksKeepAll
 forks_keep_all credentials fresh world task settles one there =

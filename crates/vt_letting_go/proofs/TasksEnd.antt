@@ -32,7 +32,8 @@ use Rattle.vt_letting_go.proofs.MountsAdded.{found_before}
 use Rattle.vt_letting_go.proofs.PlacesLeft.{found_itself, is_it, place_attached}
 
 -- A world with more mounts, other tasks and other namespaces, in which namespaces end
-module _ (world : World ℕ) (all : List (Mount ℕ)) (tasks : List (Task ℕ)) (namespaces : List (Namespace ℕ)) (left : List (Location ℕ))
+module _ (world : World ℕ) (all : List (Mount ℕ)) (tasks : List (Task ℕ)) (namespaces : List (Namespace ℕ))
+    (left : List (Location ℕ))
     (in_use : AllInUse world) (stand : MountsStand world)
     (kept : (mount : Mount ℕ) → Among mount world.mounts → Among mount all)
     (new : (mount : Mount ℕ) → Among mount all → Among mount world.mounts ⊎ (is_some mount.namespace ≡ true))
@@ -53,7 +54,8 @@ module _ (world : World ℕ) (all : List (Mount ℕ)) (tasks : List (Task ℕ)) 
   lasting = filter (has_tasks nat_eq base) namespaces
 
   abbrev b : Bool
-  b = list_any (lost_a_group nat_eq (MountingTaken.without base ended lasting)) (MountingTaken.without base ended lasting).mounts
+  b = list_any (lost_a_group nat_eq (MountingTaken.without base ended lasting))
+      (MountingTaken.without base ended lasting).mounts
 
   abbrev change : Mount ℕ → Mount ℕ
   change = MountingTaken.change base ended lasting b
@@ -72,7 +74,8 @@ module _ (world : World ℕ) (all : List (Mount ℕ)) (tasks : List (Task ℕ)) 
       (or_parts (is_among nat_eq number (map (λ location. location.mount) left)) (is_among nat_eq number ended)
       (sym (list_any-append (nat_eq number) (map (λ location. location.mount) left) ended) ∙ isnt)).1
 
-  not_left : (number : ℕ) → is_among nat_eq number gone ≡ false → is_among nat_eq number (map (λ location. location.mount) left) ≡ false
+  not_left : (number : ℕ) → is_among nat_eq number gone ≡ false
+      → is_among nat_eq number (map (λ location. location.mount) left) ≡ false
   not_left number isnt =
       (or_parts (is_among nat_eq number (map (λ location. location.mount) left)) (is_among nat_eq number ended)
       (sym (list_any-append (nat_eq number) (map (λ location. location.mount) left) ended) ∙ isnt)).0
@@ -101,7 +104,8 @@ module _ (world : World ℕ) (all : List (Mount ℕ)) (tasks : List (Task ℕ)) 
       (or_cases (is_some mount.namespace) (is_located nat_eq world mount.number)
       (passes (mount_lives nat_eq world) world.mounts in_use.mounts mount m))
 
-  lives : (mount : Mount ℕ) → Among mount all → is_among nat_eq mount.number gone ≡ false → mount_lives nat_eq last (change mount) ≡ true
+  lives : (mount : Mount ℕ) → Among mount all → is_among nat_eq mount.number gone ≡ false
+      → mount_lives nat_eq last (change mount) ≡ true
   lives mount m isnt =
       ⊎_elim
       (λ was. old_lives mount was isnt)
@@ -112,7 +116,8 @@ module _ (world : World ℕ) (all : List (Mount ℕ)) (tasks : List (Task ℕ)) 
   nowhere : (mount : Mount ℕ) → Among mount all → is_nowhere_or_attached (change mount) ≡ true
   nowhere mount m =
       nowhere_after base ended lasting b mount
-      (⊎_elim (passes is_nowhere_or_attached world.mounts stand.nowhere mount) (λ in_one. or_first (is_some mount.namespace) _ in_one)
+      (⊎_elim (passes is_nowhere_or_attached world.mounts stand.nowhere mount)
+      (λ in_one. or_first (is_some mount.namespace) _ in_one)
       (new mount m))
 
   -- what a mount stands on is in a namespace
@@ -120,7 +125,8 @@ module _ (world : World ℕ) (all : List (Mount ℕ)) (tasks : List (Task ℕ)) 
       → is_some (mount_at nat_eq world at).namespace ≡ true
   stands_in_one = place_attached world stand
 
-  on_attached : (number : ℕ) → is_some (mount_numbered nat_eq world number).namespace ≡ true → is_going nat_eq ended number ≡ false
+  on_attached : (number : ℕ) → is_some (mount_numbered nat_eq world number).namespace ≡ true
+      → is_going nat_eq ended number ≡ false
       → (other : Mount ℕ) → Among other last.mounts → other.number ≡ number → is_some other.namespace ≡ true
   on_attached number in_one isnt other m e =
       let from = among-from_map change all other m in
@@ -142,12 +148,17 @@ module _ (world : World ℕ) (all : List (Mount ℕ)) (tasks : List (Task ℕ)) 
       (among-filter (loses_its_place ended) world.mounts mount m is) p)))
       (λ isnt. let parts = or_parts (is_going nat_eq ended mount.number)
       (holds_of (λ l. is_going nat_eq ended l.mount) mount.mount_point) isnt in
-      let on : is_going nat_eq ended at.mount ≡ false = sym (ap (holds_of (λ l. is_going nat_eq ended l.mount)) p) ∙ parts.1 in
+      let on : is_going nat_eq ended at.mount ≡ false =
+      sym (ap (holds_of (λ l. is_going nat_eq ended l.mount)) p) ∙ parts.1 in
       inl (
         change mount,
         (
           among-map change all mount (kept mount m),
-          (same_place base ended lasting b mount at p parts.0 on, inr (on_attached at.mount (stands_in_one mount m at p) on)),
+          (
+            same_place base ended lasting b mount at p parts.0 on,
+            inr
+                (on_attached at.mount (stands_in_one mount m at p) on),
+          ),
         ),
       ))
       (decided (loses_its_place ended mount))
@@ -173,7 +184,8 @@ module _ (world : World ℕ) (all : List (Mount ℕ)) (tasks : List (Task ℕ)) 
     shown = shows_the_same;
     live = λ other m isnt. let from = among-from_map change all other m in
         ap (mount_lives nat_eq last) from.2
-        ∙ lives from.0 from.1 (ap (λ n. is_among nat_eq n gone) (sym (number_kept from.0) ∙ ap (λ (x : Mount ℕ). x.number) (sym from.2))
+        ∙ lives from.0 from.1 (ap (λ n. is_among nat_eq n gone)
+        (sym (number_kept from.0) ∙ ap (λ (x : Mount ℕ). x.number) (sym from.2))
         ∙ isnt);
     locations = λ location m. ⊎_elim (λ there. inl (inl there))
         (λ gone_from. inr (among-append_right (places_lost world ended) left location gone_from))
@@ -198,7 +210,8 @@ module _ (world : World ℕ) (all : List (Mount ℕ)) (tasks : List (Task ℕ)) 
   pub ends_hearing : GroupsInUseBut (groups_of_mounts base ended) last
   ends_hearing = subst (GroupsInUseBut (groups_of_mounts base ended)) ends_so (event_groups base ended groups_of_base)
 
-module _ (world : World ℕ) (all : List (Mount ℕ)) (tasks : List (Task ℕ)) (namespaces : List (Namespace ℕ)) (left : List (Location ℕ)) where
+module _ (world : World ℕ) (all : List (Mount ℕ)) (tasks : List (Task ℕ)) (namespaces : List (Namespace ℕ))
+    (left : List (Location ℕ)) where
   abbrev ending : World ℕ
   ending = record world { mounts = all; tasks = tasks; namespaces = namespaces }
 
@@ -209,11 +222,13 @@ module _ (world : World ℕ) (all : List (Mount ℕ)) (tasks : List (Task ℕ)) 
       ≡ mount_in nat_eq world.mounts location.mount)
       → ((location : Location ℕ) → Among location (all_locations world) → Among location (flat_map locations_of tasks)
       ⊎ Among location left)
-      → settled nat_eq (namespaces_ended nat_eq ending) ≡ let_go (namespaces_ended nat_eq ending) (used_by_ended world left ending)
+      → settled nat_eq (namespaces_ended nat_eq ending)
+      ≡ let_go (namespaces_ended nat_eq ending) (used_by_ended world left ending)
   ended_lets_go settles kept new found stay =
       subst (λ w. settled nat_eq w ≡ let_go w (used_by_ended world left ending))
       (sym (ends_so world all tasks namespaces left settles.in_use settles.mounts kept new found stay))
-      (losers_go world now.mounts now.master now.namespaces tasks (gone_with left ending) (places_lost world (ended_mounts ending) ++ left)
+      (losers_go world now.mounts now.master now.namespaces tasks (gone_with left ending)
+      (places_lost world (ended_mounts ending) ++ left)
       (groups_of_mounts ending (ended_mounts ending)) settles
       (ends_losing world all tasks namespaces left settles.in_use settles.mounts kept new found stay)
       (ends_hearing world all tasks namespaces left settles.in_use settles.mounts kept new found stay))
@@ -243,21 +258,27 @@ module _ (world : World ℕ) (all : List (Mount ℕ)) (tasks : List (Task ℕ)) 
       now = last world all tasks namespaces left settles.in_use settles.mounts kept new found stay
 
 -- each location is one still, or was left
-left_or_still : (world : World ℕ) (tasks : List (Task ℕ)) (left : List (Location ℕ)) → only_these_are_left world tasks left ≡ true
-    → (location : Location ℕ) → Among location (all_locations world) → Among location (flat_map locations_of tasks) ⊎ Among location left
+left_or_still : (world : World ℕ) (tasks : List (Task ℕ)) (left : List (Location ℕ))
+    → only_these_are_left world tasks left ≡ true
+    → (location : Location ℕ) → Among location (all_locations world)
+    → Among location (flat_map locations_of tasks) ⊎ Among location left
 left_or_still world tasks left only location m =
-    ⊎_elim (λ there. inl (is_it (flat_map locations_of tasks) location there)) (λ gone_from. inr (is_it left location gone_from))
+    ⊎_elim (λ there. inl (is_it (flat_map locations_of tasks) location there))
+    (λ gone_from. inr (is_it left location gone_from))
     (or_cases (is_location_among (flat_map locations_of tasks) location) (is_location_among left location)
-    (passes (λ l. is_location_among (flat_map locations_of tasks) l || is_location_among left l) (all_locations world) only location m))
+    (passes (λ l. is_location_among (flat_map locations_of tasks) l || is_location_among left l)
+    (all_locations world) only location m))
 
 pub leaving_namespaces_lets_go : LeavingNamespacesLetsGo
 leaving_namespaces_lets_go world tasks left settles only =
-    ended_lets_go world world.mounts tasks world.namespaces left settles (λ mount m. m) (λ mount m. inl m) (λ location m. refl)
+    ended_lets_go world world.mounts tasks world.namespaces left settles (λ mount m. m) (λ mount m. inl m)
+    (λ location m. refl)
     (left_or_still world tasks left only)
 
 pub leaving_namespaces_with_overlays_lets_go : LeavingNamespacesWithOverlaysLetsGo
 leaving_namespaces_with_overlays_lets_go world tasks left settles only =
-    all_ended_lets_go world world.mounts tasks world.namespaces left settles (λ mount m. m) (λ mount m. inl m) (λ location m. refl)
+    all_ended_lets_go world world.mounts tasks world.namespaces left settles (λ mount m. m) (λ mount m. inl m)
+    (λ location m. refl)
     (left_or_still world tasks left only)
 
 -- One task that goes, or is another
@@ -270,7 +291,8 @@ module _ (world : World ℕ) (name : TaskName) where
       (among-filter (λ other. same_name name other.name) world.tasks task m is) n
 
   without_it : (location : Location ℕ) → Among location (all_locations world)
-      → Among location (flat_map locations_of (without_task world name).tasks) ⊎ Among location (locations_of_named world name)
+      → Among location (flat_map locations_of (without_task world name).tasks)
+      ⊎ Among location (locations_of_named world name)
   without_it location m =
       let from = among-from_flat_map locations_of world.tasks location m in
       ⊎_elim
@@ -280,7 +302,8 @@ module _ (world : World ℕ) (name : TaskName) where
       (decided (same_name name from.0.name))
 
   with_another : (task : Task ℕ) → task.name ≡ name → (location : Location ℕ) → Among location (all_locations world)
-      → Among location (flat_map locations_of (map (replaced_if_called task) world.tasks)) ⊎ Among location (locations_of_named world name)
+      → Among location (flat_map locations_of (map (replaced_if_called task) world.tasks))
+      ⊎ Among location (locations_of_named world name)
   with_another task called location m =
       let from = among-from_flat_map locations_of world.tasks location m in
       ⊎_elim
@@ -293,12 +316,14 @@ module _ (world : World ℕ) (name : TaskName) where
 
 pub exits_let_go : ExitsLetGo
 exits_let_go fresh world task settles =
-    ended_lets_go world world.mounts (without_task world task.name).tasks world.namespaces (locations_of_named world task.name) settles
+    ended_lets_go world world.mounts (without_task world task.name).tasks world.namespaces
+    (locations_of_named world task.name) settles
     (λ mount m. m) (λ mount m. inl m) (λ location m. refl) (without_it world task.name)
 
 pub exits_with_overlays_let_go : ExitsWithOverlaysLetGo
 exits_with_overlays_let_go fresh world task settles =
-    all_ended_lets_go world world.mounts (without_task world task.name).tasks world.namespaces (locations_of_named world task.name) settles
+    all_ended_lets_go world world.mounts (without_task world task.name).tasks world.namespaces
+    (locations_of_named world task.name) settles
     (λ mount m. m) (λ mount m. inl m) (λ location m. refl) (without_it world task.name)
 
 pub enters_let_go : EntersLetGo
@@ -319,29 +344,37 @@ module _ (world : World ℕ) (fresh : Fresh ℕ) (task : Task ℕ) where
   copies = map (copied_mount (numbers_by nat_eq (odds fresh) (mounts_of nat_eq world task.namespace)) (evens fresh 0))
       (mounts_of nat_eq world task.namespace)
 
-  was_or_copy : (mount : Mount ℕ) → Among mount (world.mounts ++ copies) → Among mount world.mounts ⊎ (is_some mount.namespace ≡ true)
+  was_or_copy : (mount : Mount ℕ) → Among mount (world.mounts ++ copies)
+      → Among mount world.mounts ⊎ (is_some mount.namespace ≡ true)
   was_or_copy mount m =
       ⊎_elim inl
-      (λ copy. let from = among-from_map (copied_mount (numbers_by nat_eq (odds fresh) (mounts_of nat_eq world task.namespace))
+      (λ copy. let from = among-from_map
+      (copied_mount (numbers_by nat_eq (odds fresh) (mounts_of nat_eq world task.namespace))
       (evens fresh 0))
       (mounts_of nat_eq world task.namespace) mount copy in
       inr (ap (λ (x : Mount ℕ). is_some x.namespace) from.2))
       (among-append world.mounts copies mount m)
 
-  found_with_copies : MountsStand world → LocationsStand world → (location : Location ℕ) → Among location (places_of world)
+  found_with_copies : MountsStand world → LocationsStand world → (location : Location ℕ)
+      → Among location (places_of world)
       → mount_in nat_eq (world.mounts ++ copies) location.mount ≡ mount_in nat_eq world.mounts location.mount
-  found_with_copies stand located location m = found_before world.mounts copies location.mount (places_stand world stand located location m)
+  found_with_copies stand located location m =
+      found_before world.mounts copies location.mount (places_stand world stand located location m)
 
 pub unshares_let_go : UnsharesLetGo
 unshares_let_go fresh world task settles located =
     ended_lets_go world (world.mounts ++ copies world fresh task) (unshared nat_eq world fresh task).tasks
     (unshared nat_eq world fresh task).namespaces
-    (locations_of_named world task.name) settles (λ mount m. among-append_left world.mounts (copies world fresh task) mount m)
-    (was_or_copy world fresh task) (found_with_copies world fresh task settles.mounts located) (with_another world task.name _ refl)
+    (locations_of_named world task.name) settles
+    (λ mount m. among-append_left world.mounts (copies world fresh task) mount m)
+    (was_or_copy world fresh task) (found_with_copies world fresh task settles.mounts located)
+    (with_another world task.name _ refl)
 
 pub unshares_with_overlays_let_go : UnsharesWithOverlaysLetGo
 unshares_with_overlays_let_go fresh world task settles located =
     all_ended_lets_go world (world.mounts ++ copies world fresh task) (unshared nat_eq world fresh task).tasks
     (unshared nat_eq world fresh task).namespaces
-    (locations_of_named world task.name) settles (λ mount m. among-append_left world.mounts (copies world fresh task) mount m)
-    (was_or_copy world fresh task) (found_with_copies world fresh task settles.mounts located) (with_another world task.name _ refl)
+    (locations_of_named world task.name) settles
+    (λ mount m. among-append_left world.mounts (copies world fresh task) mount m)
+    (was_or_copy world fresh task) (found_with_copies world fresh task settles.mounts located)
+    (with_another world task.name _ refl)

@@ -16,7 +16,8 @@ use Rattle.vt_letting_go.proofs.Lists.{among-flat_map, among_numbers, decided, i
 pub among_targets : (name : List ℕ) (entries : Entries ℕ) (number : ℕ) → entry_named name entries ≡ Some number
     → is_among nat_eq number (map (λ e. e.1) entries) ≡ true
 among_targets name [] number e = none_is_not None number refl e
-among_targets name (entry ∷ entries) number e = by (eq_by_cmp name_cmp name entry.0) (among_targets name entries number) e
+among_targets name (entry ∷ entries) number e =
+    by (eq_by_cmp name_cmp name entry.0) (among_targets name entries number) e
   where
     by : (b : Bool) → (entry_named name entries ≡ Some number → is_among nat_eq number (map (λ e. e.1) entries) ≡ true)
         → cond b (Some entry.1) (entry_named name entries) ≡ Some number
@@ -26,7 +27,8 @@ among_targets name (entry ∷ entries) number e = by (eq_by_cmp name_cmp name en
     by false rest is = or_second (nat_eq number entry.1) _ (rest is)
 
 -- what has an entry is there
-there_with_entry : (name : List ℕ) (number : ℕ) (o : Option (Node ℕ)) → entry_named name (entries_in o) ≡ Some number → is_some o ≡ true
+there_with_entry : (name : List ℕ) (number : ℕ) (o : Option (Node ℕ)) → entry_named name (entries_in o) ≡ Some number
+    → is_some o ≡ true
 there_with_entry name number None e = none_is_not None number refl e
 there_with_entry name number (Some node) e = refl
 

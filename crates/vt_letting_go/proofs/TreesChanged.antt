@@ -17,7 +17,8 @@ use Rattle.vt_letting_go.proofs.Lists.{Among, all_from_among, all_pass, among-fr
 use Rattle.vt_letting_go.proofs.PlacesLeft.{no_layers, plain_uses}
 
 -- a filesystem that is there is found
-found_filesystem : (filesystems : List (Filesystem ℕ)) (number : ℕ) → is_among nat_eq number (map (λ f. f.number) filesystems) ≡ true
+found_filesystem : (filesystems : List (Filesystem ℕ)) (number : ℕ)
+    → is_among nat_eq number (map (λ f. f.number) filesystems) ≡ true
     → Among (unwrap_or (find (λ f. nat_eq number f.number) filesystems) (no_filesystem number)) filesystems
     × ((unwrap_or (find (λ f. nat_eq number f.number) filesystems) (no_filesystem number)).number ≡ number)
 found_filesystem [] number h = absurd (true≢false (sym h))
@@ -27,8 +28,10 @@ found_filesystem (first ∷ rest) number h = by (nat_eq number first.number) ref
         → (is_among nat_eq number (map (λ f. f.number) rest) ≡ true
         → Among (unwrap_or (find (λ f. nat_eq number f.number) rest) (no_filesystem number)) rest
         × ((unwrap_or (find (λ f. nat_eq number f.number) rest) (no_filesystem number)).number ≡ number))
-        → Among (unwrap_or (cond b (Some first) (find (λ f. nat_eq number f.number) rest)) (no_filesystem number)) (first ∷ rest)
-        × ((unwrap_or (cond b (Some first) (find (λ f. nat_eq number f.number) rest)) (no_filesystem number)).number ≡ number)
+        → Among (unwrap_or (cond b (Some first) (find (λ f. nat_eq number f.number) rest)) (no_filesystem number))
+        (first ∷ rest)
+        × ((unwrap_or (cond b (Some first) (find (λ f. nat_eq number f.number) rest)) (no_filesystem number)).number
+        ≡ number)
     by true e g next = (inl refl, sym (eqb-true number first.number e))
     by false e g next = let later = next g in (inr later.0, later.1)
 
@@ -67,7 +70,8 @@ module _ (world : World ℕ) (number : ℕ) (files : FileTree ℕ) (unnamed : Li
 
   for_each : (P : Filesystem ℕ → Type 0) → P new → ((f : Filesystem ℕ) → Among f world.filesystems → P f)
       → (filesystem : Filesystem ℕ) → Among filesystem after.filesystems → P filesystem
-  for_each P here others filesystem m = ⊎_elim (λ e. subst P (sym e) here) (λ n. others filesystem n) (is_new_or_old filesystem m)
+  for_each P here others filesystem m =
+      ⊎_elim (λ e. subst P (sym e) here) (λ n. others filesystem n) (is_new_or_old filesystem m)
 
   plain_old : is_overlay old ≡ false
   plain_old = fails is_overlay world.filesystems settles.plain old old_there
@@ -85,7 +89,8 @@ module _ (world : World ℕ) (number : ℕ) (files : FileTree ℕ) (unnamed : Li
 
   mounted_old : (f : Filesystem ℕ) → Among f world.filesystems → is_mounted nat_eq world f.number ≡ true
   mounted_old f m =
-      ⊎_elim (λ e. e) (λ layered. absurd (true≢false (sym layered ∙ no_layers f.number world world.filesystems settles.plain)))
+      ⊎_elim (λ e. e) (λ layered. absurd
+      (true≢false (sym layered ∙ no_layers f.number world world.filesystems settles.plain)))
       (or_cases (is_mounted nat_eq world f.number) _
       (passes (filesystem_lives nat_eq world) world.filesystems settles.in_use.filesystems f m))
 
@@ -104,23 +109,28 @@ module _ (world : World ℕ) (number : ℕ) (files : FileTree ℕ) (unnamed : Li
 
   -- what is at a place, or has a name, is used
   used_after : (f : Filesystem ℕ) (inode : ℕ)
-      → (inode ≡ f.files.tree.root) ⊎ (is_among nat_eq inode (named_in f.files) ≡ true) ⊎ Among inode (located_in nat_eq world f.number)
+      → (inode ≡ f.files.tree.root) ⊎ (is_among nat_eq inode (named_in f.files) ≡ true)
+      ⊎ Among inode (located_in nat_eq world f.number)
       → is_inode_used after f inode ≡ true
   used_after f inode how =
       by how
     where
-      under : is_among nat_eq inode (named_in f.files ++ located_in nat_eq world f.number) ≡ true → is_inode_used after f inode ≡ true
+      under : is_among nat_eq inode (named_in f.files ++ located_in nat_eq world f.number) ≡ true
+          → is_inode_used after f inode ≡ true
       under h =
           or_second (nat_eq inode f.files.tree.root) _
           (is_among_left inode (named_in f.files ++ located_in nat_eq world f.number ++ layers_in nat_eq after f.number)
           (flat_map (objects_of_overlay nat_eq f.number) after.filesystems)
-          (is_among_left inode (named_in f.files ++ located_in nat_eq world f.number) (layers_in nat_eq after f.number) h))
+          (is_among_left inode (named_in f.files ++ located_in nat_eq world f.number)
+          (layers_in nat_eq after f.number) h))
 
-      by : (inode ≡ f.files.tree.root) ⊎ (is_among nat_eq inode (named_in f.files) ≡ true) ⊎ Among inode (located_in nat_eq world f.number)
+      by : (inode ≡ f.files.tree.root) ⊎ (is_among nat_eq inode (named_in f.files) ≡ true)
+          ⊎ Among inode (located_in nat_eq world f.number)
           → is_inode_used after f inode ≡ true
       by h =
           ⊎_elim (λ root. or_first (nat_eq inode f.files.tree.root) _ (eq-eqb inode f.files.tree.root root))
-          (λ rest. ⊎_elim (λ named. under (is_among_left inode (named_in f.files) (located_in nat_eq world f.number) named))
+          (λ rest. ⊎_elim (λ named. under
+          (is_among_left inode (named_in f.files) (located_in nat_eq world f.number) named))
           (λ located. under (is_among_right inode (named_in f.files) (located_in nat_eq world f.number)
           (is_among_numbers inode _ located))) rest) h
 
@@ -138,17 +148,20 @@ module _ (world : World ℕ) (number : ℕ) (files : FileTree ℕ) (unnamed : Li
       (among-map (λ k. (number, k)) unnamed inode (among_numbers inode unnamed lost))
       (ap (λ b. b && nat_eq inode inode) (eq-eqb new.number number old_number) ∙ eq-eqb inode inode refl)))
       (or_cases (is_among nat_eq inode (named_in files)) (is_among nat_eq inode unnamed)
-      (passes (λ k. is_among nat_eq k (named_in files) || is_among nat_eq k unnamed) (named_in old.files) changes.names inode
+      (passes (λ k. is_among nat_eq k (named_in files) || is_among nat_eq k unnamed)
+      (named_in old.files) changes.names inode
       (among_numbers inode (named_in old.files) name))))
       (λ located. still (inr (inr located)))
       rest)
       (plain_uses world settles.plain old inode
       (passes (is_inode_used world old) old.files.numbers
-      (among_from_all (λ f. list_all (is_inode_used world f) f.files.numbers ≡ true) world.filesystems settles.in_use.inodes old old_there)
+      (among_from_all (λ f. list_all (is_inode_used world f) f.files.numbers
+      ≡ true) world.filesystems settles.in_use.inodes old old_there)
       inode (among_numbers inode old.files.numbers was))))
       (λ named. still (inr (inl named)))
       (or_cases (is_among nat_eq inode old.files.numbers) (is_among nat_eq inode (named_in files))
-      (passes (λ k. is_among nat_eq k old.files.numbers || is_among nat_eq k (named_in files)) files.numbers changes.inodes inode m))
+      (passes (λ k. is_among nat_eq k old.files.numbers
+      || is_among nat_eq k (named_in files)) files.numbers changes.inodes inode m))
     where
       still : (inode ≡ new.files.tree.root) ⊎ (is_among nat_eq inode (named_in new.files) ≡ true)
           ⊎ Among inode (located_in nat_eq world new.number)
@@ -162,7 +175,8 @@ module _ (world : World ℕ) (number : ℕ) (files : FileTree ℕ) (unnamed : Li
       (used_after f inode
       (plain_uses world settles.plain f inode
       (passes (is_inode_used world f) f.files.numbers
-      (among_from_all (λ g. list_all (is_inode_used world g) g.files.numbers ≡ true) world.filesystems settles.in_use.inodes f n) inode m)))
+      (among_from_all (λ g. list_all (is_inode_used world g) g.files.numbers
+      ≡ true) world.filesystems settles.in_use.inodes f n) inode m)))
 
   inodes_after : InodesInUseBut losers.inodes after
   inodes_after =
@@ -181,7 +195,8 @@ module _ (world : World ℕ) (number : ℕ) (files : FileTree ℕ) (unnamed : Li
       })
 
 pub unnamed_go : UnnamedGo
-unnamed_go world number files unnamed settles there changes = unnamed_goes world number files unnamed settles there changes
+unnamed_go world number files unnamed settles there changes =
+    unnamed_goes world number files unnamed settles there changes
 
 pub named_stay : NamedStay
 named_stay world number files settles there changes = unnamed_goes world number files [] settles there changes

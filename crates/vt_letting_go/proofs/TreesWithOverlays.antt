@@ -32,16 +32,19 @@ use Rattle.vt_letting_go.proofs.OfWorlds.{found_filesystem}
 use Rattle.vt_letting_go.proofs.WithOverlays.{with_overlays_all_goes}
 
 -- a test of what is changed
-any_changed : {A : Type 0} (change : A → A) (p q : A → Bool) (list : List A) → ((x : A) → Among x list → p (change x) ≡ q x)
+any_changed : {A : Type 0} (change : A → A) (p q : A → Bool) (list : List A)
+    → ((x : A) → Among x list → p (change x) ≡ q x)
     → list_any p (map change list) ≡ list_any q list
 any_changed change p q [] same = refl
 any_changed change p q (x ∷ xs) same =
-    ap (λ b. b || list_any p (map change xs)) (same x (inl refl)) ∙ ap (λ b. q x || b) (any_changed change p q xs (λ y m. same y (inr m)))
+    ap (λ b. b || list_any p (map change xs)) (same x (inl refl))
+    ∙ ap (λ b. q x || b) (any_changed change p q xs (λ y m. same y (inr m)))
 
 -- Where filesystems keep their numbers and layers, the same are in use
 module _ (world : World ℕ) (change : Filesystem ℕ → Filesystem ℕ)
     (number_kept : (f : Filesystem ℕ) → Among f world.filesystems → (change f).number ≡ f.number)
-    (layers_kept : (f : Filesystem ℕ) → Among f world.filesystems → of_overlay [] layers_of (change f) ≡ of_overlay [] layers_of f) where
+    (layers_kept : (f : Filesystem ℕ) → Among f world.filesystems
+    → of_overlay [] layers_of (change f) ≡ of_overlay [] layers_of f) where
   same_layers_on : (number : ℕ) (f : Filesystem ℕ) → Among f world.filesystems
       → has_layer_on nat_eq number (change f) ≡ has_layer_on nat_eq number f
   same_layers_on number f m =
@@ -51,7 +54,8 @@ module _ (world : World ℕ) (change : Filesystem ℕ → Filesystem ℕ)
   pub lives_alike : (f : Filesystem ℕ) → Among f world.filesystems
       → filesystem_lives nat_eq (with_filesystems world change) (change f) ≡ filesystem_lives nat_eq world f
   lives_alike f m =
-      ap (λ n. is_mounted nat_eq world n || list_any (λ merged. has_layer_on nat_eq n merged && is_mounted nat_eq world merged.number)
+      ap (λ n. is_mounted nat_eq world n
+      || list_any (λ merged. has_layer_on nat_eq n merged && is_mounted nat_eq world merged.number)
       (map change world.filesystems))
       (number_kept f m)
       ∙ ap (λ b. is_mounted nat_eq world f.number || b)
@@ -61,8 +65,10 @@ module _ (world : World ℕ) (change : Filesystem ℕ → Filesystem ℕ)
       ∙ ap (λ k. has_layer_on nat_eq f.number g && is_mounted nat_eq world k) (number_kept g n)))
 
 -- In a world in which all but some is in use, all but those and what lost its last name or overlay is in use then
-module _ (world : World ℕ) (losers : Losers) (but : AllInUseBut losers world) (change : Filesystem ℕ → Filesystem ℕ) (lost : List Inode)
-    (changes : All (λ f. ChangesFilesystem (in_use_of (with_filesystems world change)) lost f (change f)) world.filesystems) where
+module _ (world : World ℕ) (losers : Losers) (but : AllInUseBut losers world) (change : Filesystem ℕ → Filesystem ℕ)
+    (lost : List Inode)
+    (changes : All (λ f. ChangesFilesystem (in_use_of (with_filesystems world change)) lost f
+    (change f)) world.filesystems) where
   abbrev after : World ℕ
   after = with_filesystems world change
 
@@ -84,14 +90,16 @@ module _ (world : World ℕ) (losers : Losers) (but : AllInUseBut losers world) 
   same_lives : (f : Filesystem ℕ) → Among f world.filesystems
       → filesystem_lives nat_eq (without_dead_mounts nat_eq after) (change f) ≡ filesystem_lives nat_eq mounted f
   same_lives f m =
-      lives_alike mounted change (λ g n. ChangesFilesystem.number (changed_so g n)) (λ g n. ChangesFilesystem.layers (changed_so g n)) f m
+      lives_alike mounted change (λ g n. ChangesFilesystem.number (changed_so g n))
+      (λ g n. ChangesFilesystem.layers (changed_so g n)) f m
 
   filesystems_but : FilesystemsInUseBut losers.filesystems (without_dead_mounts nat_eq after)
   filesystems_but =
       all_pass (λ f. is_among nat_eq f.number losers.filesystems || filesystem_lives nat_eq
       (without_dead_mounts nat_eq after) f) after.filesystems
       (λ x m. let from = among-from_map change world.filesystems x m in
-      ap (λ f. is_among nat_eq f.number losers.filesystems || filesystem_lives nat_eq (without_dead_mounts nat_eq after) f) from.2
+      ap (λ f. is_among nat_eq f.number losers.filesystems
+      || filesystem_lives nat_eq (without_dead_mounts nat_eq after) f) from.2
       ∙ ap (λ b. is_among nat_eq (change from.0).number losers.filesystems || b) (same_lives from.0 from.1)
       ∙ ap (λ n. is_among nat_eq n losers.filesystems || filesystem_lives nat_eq mounted from.0)
       (ChangesFilesystem.number (changed_so from.0 from.1))
@@ -99,7 +107,8 @@ module _ (world : World ℕ) (losers : Losers) (but : AllInUseBut losers world) 
       || filesystem_lives nat_eq mounted f) world.filesystems but.filesystems from.0 from.1)
 
   -- what lives is what lived
-  from_living : (f : Filesystem ℕ) → Among f living.filesystems → Among f world.filesystems × (filesystem_lives nat_eq mounted f ≡ true)
+  from_living : (f : Filesystem ℕ) → Among f living.filesystems
+      → Among f world.filesystems × (filesystem_lives nat_eq mounted f ≡ true)
   from_living f m = among-from_filter (filesystem_lives nat_eq mounted) world.filesystems f m
 
   lives_still : (f : Filesystem ℕ) → Among f living.filesystems → Among (change f) last.filesystems
@@ -109,13 +118,15 @@ module _ (world : World ℕ) (losers : Losers) (but : AllInUseBut losers world) 
       (among-map change world.filesystems f was.0)
       (same_lives f was.0 ∙ was.1)
 
-  lived : (x : Filesystem ℕ) → Among x last.filesystems → (f : Filesystem ℕ) × Among f living.filesystems × (x ≡ change f)
+  lived : (x : Filesystem ℕ) → Among x last.filesystems
+      → (f : Filesystem ℕ) × Among f living.filesystems × (x ≡ change f)
   lived x m =
       let now = among-from_filter (filesystem_lives nat_eq (without_dead_mounts nat_eq after)) after.filesystems x m in
       let from = among-from_map change world.filesystems x now.0 in (
         from.0,
         among-filter (filesystem_lives nat_eq mounted) world.filesystems from.0 from.1
-            (sym (same_lives from.0 from.1) ∙ ap (filesystem_lives nat_eq (without_dead_mounts nat_eq after)) (sym from.2) ∙ now.1),
+            (sym (same_lives from.0 from.1)
+            ∙ ap (filesystem_lives nat_eq (without_dead_mounts nat_eq after)) (sym from.2) ∙ now.1),
         from.2,
       )
 
@@ -132,13 +143,16 @@ module _ (world : World ℕ) (losers : Losers) (but : AllInUseBut losers world) 
   object_left filesystem number m =
       let one = among-from_flat_map (objects_of_overlay nat_eq filesystem) living.filesystems number m in
       ⊎_elim
-      (λ still. inl (among-flat_map (objects_of_overlay nat_eq filesystem) last.filesystems (change one.0) number (lives_still one.0 one.1)
+      (λ still. inl (among-flat_map (objects_of_overlay nat_eq filesystem) last.filesystems (change one.0) number
+      (lives_still one.0 one.1)
       (among_numbers number (objects_of_overlay nat_eq filesystem (change one.0)) still)))
       inr
-      (or_cases (is_among nat_eq number (objects_of_overlay nat_eq filesystem (change one.0))) (is_inode_among filesystem number lost)
+      (or_cases (is_among nat_eq number (objects_of_overlay nat_eq filesystem (change one.0)))
+      (is_inode_among filesystem number lost)
       (passes (λ object. is_among nat_eq object (objects_of_overlay nat_eq filesystem (change one.0))
       || is_inode_among filesystem object lost)
-      (objects_of_overlay nat_eq filesystem one.0) (ChangesFilesystem.objects (so_living one.0 one.1) filesystem) number one.2))
+      (objects_of_overlay nat_eq filesystem one.0)
+      (ChangesFilesystem.objects (so_living one.0 one.1) filesystem) number one.2))
 
   module _ (f : Filesystem ℕ) (there : Among f living.filesystems) where
     abbrev now : Filesystem ℕ
@@ -159,7 +173,8 @@ module _ (world : World ℕ) (losers : Losers) (but : AllInUseBut losers world) 
     used : (number : ℕ) → is_inode_used last now number ≡ true → is_used_or_among inodes last now number ≡ true
     used number h = or_second (is_inode_among now.number number inodes) (is_inode_used last now number) h
 
-    among_losers : (number : ℕ) → is_inode_among now.number number inodes ≡ true → is_used_or_among inodes last now number ≡ true
+    among_losers : (number : ℕ) → is_inode_among now.number number inodes ≡ true
+        → is_used_or_among inodes last now number ≡ true
     among_losers number h = or_first (is_inode_among now.number number inodes) (is_inode_used last now number) h
 
     may_go : (number : ℕ) → is_inode_among f.number number lost ≡ true → is_used_or_among inodes last now number ≡ true
@@ -169,7 +184,8 @@ module _ (world : World ℕ) (losers : Losers) (but : AllInUseBut losers world) 
         ∙ or_second (is_inode_among now.number number losers.inodes) (is_inode_among now.number number lost)
         (ap (λ n. is_inode_among n number lost) (ChangesFilesystem.number so) ∙ h))
 
-    could_go : (number : ℕ) → is_inode_among f.number number losers.inodes ≡ true → is_used_or_among inodes last now number ≡ true
+    could_go : (number : ℕ) → is_inode_among f.number number losers.inodes ≡ true
+        → is_used_or_among inodes last now number ≡ true
     could_go number h =
         among_losers number
         (list_any-append (λ (inode : Inode). nat_eq now.number inode.0 && nat_eq number inode.1) losers.inodes lost
@@ -183,7 +199,8 @@ module _ (world : World ℕ) (losers : Losers) (but : AllInUseBut losers world) 
 
     by_object : (number : ℕ) → is_among nat_eq number (upper_objects last now.number) ≡ true
         → is_used_or_among inodes last now number ≡ true
-    by_object number h = used number (is_among_right number (names ++ located ++ layers) (upper_objects last now.number) h)
+    by_object number h = used number
+        (is_among_right number (names ++ located ++ layers) (upper_objects last now.number) h)
 
     -- what was used is used, or may go
     use_left : (number : ℕ) → is_inode_used living f number ≡ true → is_used_or_among inodes last now number ≡ true
@@ -192,9 +209,11 @@ module _ (world : World ℕ) (losers : Losers) (but : AllInUseBut losers world) 
         (λ front. ⊎_elim
         (λ first. ⊎_elim
         (λ named. ⊎_elim
-        (λ root. by_name number (or_first (nat_eq number now.files.tree.root) _ (ap (nat_eq number) (ChangesFilesystem.root so) ∙ root)))
+        (λ root. by_name number (or_first (nat_eq number now.files.tree.root) _
+        (ap (nat_eq number) (ChangesFilesystem.root so) ∙ root)))
         (λ name. ⊎_elim
-        (λ still. by_name number (or_second (nat_eq number now.files.tree.root) (is_among nat_eq number (named_in now.files)) still))
+        (λ still. by_name number (or_second (nat_eq number now.files.tree.root)
+        (is_among nat_eq number (named_in now.files)) still))
         (may_go number)
         (or_cases (is_among nat_eq number (named_in now.files)) (is_inode_among f.number number lost)
         (passes (λ k. is_among nat_eq k (named_in now.files) || is_inode_among f.number k lost) (named_in f.files)
@@ -213,7 +232,8 @@ module _ (world : World ℕ) (losers : Losers) (but : AllInUseBut losers world) 
         (layers_still f.number number (among_numbers number (layers_in nat_eq living f.number) layer))))))
         (or_cases (is_among nat_eq number (old_names ++ located_in nat_eq living f.number))
         (is_among nat_eq number (layers_in nat_eq living f.number))
-        (sym (list_any-append (nat_eq number) (old_names ++ located_in nat_eq living f.number) (layers_in nat_eq living f.number))
+        (sym (list_any-append (nat_eq number) (old_names ++ located_in nat_eq living f.number)
+        (layers_in nat_eq living f.number))
         ∙ front)))
         (λ object. ⊎_elim
         (λ still. by_object number
@@ -221,9 +241,11 @@ module _ (world : World ℕ) (losers : Losers) (but : AllInUseBut losers world) 
         ∙ is_among_numbers number (upper_objects last f.number) still))
         (may_go number)
         (object_left f.number number (among_numbers number (upper_objects living f.number) object)))
-        (or_cases (is_among nat_eq number (old_names ++ located_in nat_eq living f.number ++ layers_in nat_eq living f.number))
+        (or_cases (is_among nat_eq number
+        (old_names ++ located_in nat_eq living f.number ++ layers_in nat_eq living f.number))
         (is_among nat_eq number (upper_objects living f.number))
-        (sym (list_any-append (nat_eq number) (old_names ++ located_in nat_eq living f.number ++ layers_in nat_eq living f.number)
+        (sym (list_any-append (nat_eq number)
+        (old_names ++ located_in nat_eq living f.number ++ layers_in nat_eq living f.number)
         (upper_objects living f.number)) ∙ is))
       where
         old_names : List ℕ
@@ -239,7 +261,8 @@ module _ (world : World ℕ) (losers : Losers) (but : AllInUseBut losers world) 
         (among_from_all (λ x. list_all (is_used_or_among losers.inodes living x) x.files.numbers
         ≡ true) living.filesystems but.inodes f there) number
         (among_numbers number f.files.numbers was))))
-        (λ named. by_name number (or_second (nat_eq number now.files.tree.root) (is_among nat_eq number (named_in now.files)) named))
+        (λ named. by_name number (or_second (nat_eq number now.files.tree.root)
+        (is_among nat_eq number (named_in now.files)) named))
         (or_cases (is_among nat_eq number f.files.numbers) (is_among nat_eq number (named_in now.files)) first))
         (by_object number)
         (or_cases (is_among nat_eq number f.files.numbers || is_among nat_eq number (named_in now.files))
@@ -253,7 +276,8 @@ module _ (world : World ℕ) (losers : Losers) (but : AllInUseBut losers world) 
       all_from_among (λ f. list_all (is_used_or_among inodes last f) f.files.numbers ≡ true) last.filesystems (λ x m.
       let from = lived x m in
       subst (λ f. list_all (is_used_or_among inodes last f) f.files.numbers ≡ true) (sym from.2)
-      (all_pass (is_used_or_among inodes last (change from.0)) (change from.0).files.numbers (inode_after from.0 from.1)))
+      (all_pass (is_used_or_among inodes last (change from.0)) (change from.0).files.numbers
+      (inode_after from.0 from.1)))
 
   pub all_but_changed : AllInUseBut (with_lost losers lost) after
   all_but_changed = record {
@@ -278,12 +302,14 @@ module _ (world : World ℕ) (change : Filesystem ℕ → Filesystem ℕ) (lost 
   so_changed f m = among_from_all (λ x. ChangesFilesystem changed lost x (change x)) world.filesystems changes f m
 
   stays : without_dead_filesystems nat_eq (without_dead_mounts nat_eq world) ≡ world
-  stays = ap (without_dead_filesystems nat_eq) (mounts_stay world settles.in_use.mounts) ∙ filesystems_stay world settles.in_use.filesystems
+  stays = ap (without_dead_filesystems nat_eq) (mounts_stay world settles.in_use.mounts)
+      ∙ filesystems_stay world settles.in_use.filesystems
 
   in_use_before : AllInUseBut none world
   in_use_before = record {
     mounts = settles.in_use.mounts;
-    filesystems = subst (FilesystemsInUseBut []) (sym (mounts_stay world settles.in_use.mounts)) settles.in_use.filesystems;
+    filesystems = subst (FilesystemsInUseBut [])
+        (sym (mounts_stay world settles.in_use.mounts)) settles.in_use.filesystems;
     inodes = subst (InodesInUseBut []) (sym stays) settles.in_use.inodes;
     groups = subst (GroupsInUseBut []) (sym (mounts_stay world settles.in_use.mounts))
         (λ group among none. settles.in_use.groups group none);
@@ -291,14 +317,16 @@ module _ (world : World ℕ) (change : Filesystem ℕ → Filesystem ℕ) (lost 
 
   filesystems_after : FilesystemsInUse changed
   filesystems_after =
-      all_pass (filesystem_lives nat_eq changed) changed.filesystems (λ x m. let from = among-from_map change world.filesystems x m in
+      all_pass (filesystem_lives nat_eq changed) changed.filesystems
+      (λ x m. let from = among-from_map change world.filesystems x m in
       ap (filesystem_lives nat_eq changed) from.2
       ∙ lives_alike world change (λ g n. ChangesFilesystem.number (so_changed g n))
       (λ g n. ChangesFilesystem.layers (so_changed g n)) from.0 from.1
       ∙ passes (filesystem_lives nat_eq world) world.filesystems settles.in_use.filesystems from.0 from.1)
 
   all_stay : in_use_of changed ≡ changed
-  all_stay = ap (without_dead_filesystems nat_eq) (mounts_stay changed settles.in_use.mounts) ∙ filesystems_stay changed filesystems_after
+  all_stay = ap (without_dead_filesystems nat_eq) (mounts_stay changed settles.in_use.mounts)
+      ∙ filesystems_stay changed filesystems_after
 
   trees_change : settled nat_eq changed ≡ let_go_all_inodes changed lost
   trees_change =
@@ -311,7 +339,8 @@ changed_trees_let_go world change lost settles trees uppers reals changes =
     trees_change world change lost settles trees uppers reals changes
 
 pub changed_trees_keep_all : ChangedTreesKeepAll
-changed_trees_keep_all world change settles trees uppers reals changes = trees_change world change [] settles trees uppers reals changes
+changed_trees_keep_all world change settles trees uppers reals changes =
+    trees_change world change [] settles trees uppers reals changes
 
 -- a plain filesystem has no real objects
 pub no_real : (f : Filesystem ℕ) → is_overlay f ≡ false → (number : ℕ) → real_in f number ≡ None
@@ -331,10 +360,14 @@ unchanged after lost f = record {
       || is_among nat_eq k (upper_objects after f.number))
       f.files.numbers (λ k m. or_first (is_among nat_eq k f.files.numbers || is_among nat_eq k (named_in f.files))
       (is_among nat_eq k (upper_objects after f.number))
-      (or_first (is_among nat_eq k f.files.numbers) (is_among nat_eq k (named_in f.files)) (is_among_numbers k f.files.numbers m)));
-  names = all_pass (λ k. is_among nat_eq k (named_in f.files) || is_inode_among f.number k lost) (named_in f.files) (λ k m.
-      or_first (is_among nat_eq k (named_in f.files)) (is_inode_among f.number k lost) (is_among_numbers k (named_in f.files) m));
-  objects = λ number. all_pass (λ k. is_among nat_eq k (objects_of_overlay nat_eq number f) || is_inode_among number k lost)
+      (or_first (is_among nat_eq k f.files.numbers) (is_among nat_eq k (named_in f.files))
+      (is_among_numbers k f.files.numbers m)));
+  names = all_pass (λ k. is_among nat_eq k (named_in f.files) || is_inode_among f.number k lost) (named_in f.files)
+      (λ k m.
+      or_first (is_among nat_eq k (named_in f.files)) (is_inode_among f.number k lost)
+      (is_among_numbers k (named_in f.files) m));
+  objects = λ number. all_pass (λ k. is_among nat_eq k (objects_of_overlay nat_eq number f)
+      || is_inode_among number k lost)
       (objects_of_overlay nat_eq number f)
       (λ k m. or_first (is_among nat_eq k (objects_of_overlay nat_eq number f)) (is_inode_among number k lost)
       (is_among_numbers k (objects_of_overlay nat_eq number f) m));
@@ -368,7 +401,8 @@ module _ (world : World ℕ) (number : ℕ) (files : FileTree ℕ) (unnamed : Li
       (t.0, t.1, sym t.2)
 
   old_is : old ≡ is_there.0
-  old_is = ap (filesystem_numbered nat_eq world) (sym is_there.2) ∙ found_filesystem world.filesystems one is_there.0 is_there.1
+  old_is = ap (filesystem_numbered nat_eq world) (sym is_there.2)
+      ∙ found_filesystem world.filesystems one is_there.0 is_there.1
 
   old_number : old.number ≡ number
   old_number = ap (λ (f : Filesystem ℕ). f.number) old_is ∙ is_there.2
@@ -400,7 +434,8 @@ module _ (world : World ℕ) (number : ℕ) (files : FileTree ℕ) (unnamed : Li
       by (is_the_one e s) = subst P (sym s) here
       by (is_another s) = subst P (sym s) (others f m)
 
-  for_all : (P : Filesystem ℕ → Type 0) → P new → ((f : Filesystem ℕ) → Among f world.filesystems → P f) → All P then_.filesystems
+  for_all : (P : Filesystem ℕ → Type 0) → P new → ((f : Filesystem ℕ) → Among f world.filesystems → P f)
+      → All P then_.filesystems
   for_all P here others =
       all_from_among P then_.filesystems (λ x m. let from = among-from_map swap world.filesystems x m in
       subst P (sym from.2) (for_each P here others from.0 from.1))
@@ -441,19 +476,24 @@ module _ (world : World ℕ) (number : ℕ) (files : FileTree ℕ) (unnamed : Li
         || is_among nat_eq k (upper_objects after new.number))
         files.numbers (λ k m. or_first (is_among nat_eq k old.files.numbers || is_among nat_eq k (named_in files))
         (is_among nat_eq k (upper_objects after new.number))
-        (passes (λ n. is_among nat_eq n old.files.numbers || is_among nat_eq n (named_in files)) files.numbers changes.inodes k m));
-    names = all_pass (λ k. is_among nat_eq k (named_in files) || is_inode_among old.number k without_name) (named_in old.files) (λ k m.
+        (passes (λ n. is_among nat_eq n old.files.numbers
+        || is_among nat_eq n (named_in files)) files.numbers changes.inodes k m));
+    names = all_pass (λ k. is_among nat_eq k (named_in files) || is_inode_among old.number k without_name)
+        (named_in old.files) (λ k m.
         ⊎_elim (or_first (is_among nat_eq k (named_in files)) (is_inode_among old.number k without_name))
-        (λ lost. or_second (is_among nat_eq k (named_in files)) (is_inode_among old.number k without_name) (lost_name k lost))
+        (λ lost. or_second (is_among nat_eq k (named_in files)) (is_inode_among old.number k without_name)
+        (lost_name k lost))
         (or_cases (is_among nat_eq k (named_in files)) (is_among nat_eq k unnamed)
-        (passes (λ n. is_among nat_eq n (named_in files) || is_among nat_eq n unnamed) (named_in old.files) changes.names k m)));
+        (passes (λ n. is_among nat_eq n (named_in files) || is_among nat_eq n unnamed)
+        (named_in old.files) changes.names k m)));
     objects = λ target. ap (list_all (λ k. is_among nat_eq k (objects_of_overlay nat_eq target new)
         || is_inode_among target k without_name))
         (no_objects world target old plain);
   }
 
   pub all_change : (after : World ℕ) → All (λ f. ChangesFilesystem after without_name f (swap f)) world.filesystems
-  all_change after = all_from_among (λ f. ChangesFilesystem after without_name f (swap f)) world.filesystems (λ f m. by f (which f m))
+  all_change after = all_from_among (λ f. ChangesFilesystem after without_name f (swap f)) world.filesystems
+      (λ f m. by f (which f m))
     where
       by : (f : Filesystem ℕ) → Is f → ChangesFilesystem after without_name f (swap f)
       by f (is_the_one e s) =
@@ -472,15 +512,20 @@ unnamed_go_with_overlays world number files unnamed settles one there plain chan
 pub taken_and_changed_lets_go : TakenAndChangedLetsGo
 taken_and_changed_lets_go world gone change lost settles trees uppers reals changes =
     with_overlays_all_goes then_ (with_lost (used_by_gone_with_layers world gone) lost) trees uppers reals
-    (subst (λ w. AllInUseBut (with_lost (used_by_gone_with_layers world gone) lost) (with_filesystems w change)) (sym (taken_is world gone))
+    (subst (λ w. AllInUseBut (with_lost (used_by_gone_with_layers world gone) lost) (with_filesystems w change))
+    (sym (taken_is world gone))
     (all_but_changed taken (used_by_gone_with_layers world gone)
-    (all_but_those world taken.mounts taken.master world.filesystems world.namespaces world.tasks gone (places_lost world gone)
+    (all_but_those world taken.mounts taken.master world.filesystems world.namespaces world.tasks gone
+    (places_lost world gone)
     (groups_of_mounts world gone)
-    settles.in_use settles.mounts (loses world gone world.namespaces settles.in_use settles.mounts (hands_on world gone))
-    (subst (GroupsInUseBut (groups_of_mounts world gone)) (taken_is world gone) (event_groups world gone settles.in_use.groups))
+    settles.in_use settles.mounts (loses world gone world.namespaces settles.in_use settles.mounts
+    (hands_on world gone))
+    (subst (GroupsInUseBut (groups_of_mounts world gone)) (taken_is world gone)
+    (event_groups world gone settles.in_use.groups))
     (record { kept = λ f m. m; new = λ f m. inl m }))
     change lost
-    (subst (λ w. All (λ f. ChangesFilesystem (in_use_of (with_filesystems w change)) lost f (change f)) world.filesystems)
+    (subst (λ w. All (λ f. ChangesFilesystem (in_use_of (with_filesystems w change)) lost f
+    (change f)) world.filesystems)
     (taken_is world gone) changes)))
   where
     then_ : World ℕ

@@ -28,15 +28,19 @@ use Rattle.std.proofs.lemmas.Bool.{or_parts}
 pub no_members : (world after : World ℕ) (gone : List ℕ) → GroupsInUse world
     → ((mount : Mount ℕ) → Among mount world.mounts → is_among nat_eq mount.number gone ≡ false → (group : ℕ)
     → is_member_of nat_eq group mount ≡ true → has_members nat_eq after.mounts group ≡ true)
-    → (group : ℕ) → is_among nat_eq group (groups_of_mounts world gone) ≡ false → has_members nat_eq after.mounts group ≡ false
+    → (group : ℕ) → is_among nat_eq group (groups_of_mounts world gone) ≡ false
+    → has_members nat_eq after.mounts group ≡ false
     → world.master group ≡ None
 no_members world after gone in_use stay group among none =
     in_use group
-    (none_passes (is_member_of nat_eq group) world.mounts (λ mount m. false_from_ne_true (is_member_of nat_eq group mount) (λ is.
+    (none_passes (is_member_of nat_eq group) world.mounts
+    (λ mount m. false_from_ne_true (is_member_of nat_eq group mount) (λ is.
     ⊎_elim
     (λ went. true≢false (sym (is_among_numbers group (groups_of_mounts world gone)
-    (among-filter_map (λ x. group_of x.propagation) (filter (λ x. is_among nat_eq x.number gone) world.mounts) mount group
-    (among-filter (λ x. is_among nat_eq x.number gone) world.mounts mount m went) (its_group (group_of mount.propagation) is))) ∙ among))
+    (among-filter_map (λ x. group_of x.propagation)
+    (filter (λ x. is_among nat_eq x.number gone) world.mounts) mount group
+    (among-filter (λ x. is_among nat_eq x.number gone) world.mounts mount m went)
+    (its_group (group_of mount.propagation) is))) ∙ among))
     (λ kept. true≢false (sym (stay mount m kept group is) ∙ none))
     (decided (is_among nat_eq mount.number gone)))))
   where
@@ -50,7 +54,8 @@ groups_but : (world after : World ℕ) (gone : List ℕ) → GroupsInUse world
     → is_member_of nat_eq group mount ≡ true → has_members nat_eq after.mounts group ≡ true)
     → ((group : ℕ) → world.master group ≡ None → after.master group ≡ None)
     → GroupsInUseBut (groups_of_mounts world gone) after
-groups_but world after gone in_use stay masters group among none = masters group (no_members world after gone in_use stay group among none)
+groups_but world after gone in_use stay masters group among none =
+    masters group (no_members world after gone in_use stay group among none)
 
 module _ (world : World ℕ) (gone : List ℕ) where
   abbrev without : World ℕ
@@ -71,7 +76,8 @@ module _ (world : World ℕ) (gone : List ℕ) where
   one_event b = sym (same_namespaces without b) ∙ is_changed world gone world.namespaces b
 
   -- one that goes is in no namespace then
-  outside : (b : Bool) (mount : Mount ℕ) → is_going nat_eq gone mount.number ≡ true → is_some (change b mount).namespace ≡ false
+  outside : (b : Bool) (mount : Mount ℕ) → is_going nat_eq gone mount.number ≡ true
+      → is_some (change b mount).namespace ≡ false
   outside true mount is =
       ap (λ c. is_some (cond c (detached mount) (record mount {
         mount_point = option_map
@@ -84,14 +90,17 @@ module _ (world : World ℕ) (gone : List ℕ) where
       })).namespace) is
 
   -- one that is in a namespace then does not go
-  does_not_go : (b : Bool) (mount : Mount ℕ) → is_some (change b mount).namespace ≡ true → is_going nat_eq gone mount.number ≡ false
-  does_not_go b mount e = false_from_ne_true (is_going nat_eq gone mount.number) (λ is. true≢false (sym e ∙ outside b mount is))
+  does_not_go : (b : Bool) (mount : Mount ℕ) → is_some (change b mount).namespace ≡ true
+      → is_going nat_eq gone mount.number ≡ false
+  does_not_go b mount e = false_from_ne_true (is_going nat_eq gone mount.number)
+      (λ is. true≢false (sym e ∙ outside b mount is))
 
   -- a mount that does not go stays in its group
   stays_member : (b : Bool) (mount : Mount ℕ) → is_going nat_eq gone mount.number ≡ false → (group : ℕ)
       → is_member_of nat_eq group mount ≡ true → is_member_of nat_eq group (change b mount) ≡ true
   stays_member true mount isnt group is =
-      ap (λ m. holds_of (nat_eq group) (group_of (inherited nat_eq without m.propagation))) (stays world gone world.namespaces mount isnt)
+      ap (λ m. holds_of (nat_eq group) (group_of (inherited nat_eq without m.propagation)))
+      (stays world gone world.namespaces mount isnt)
       ∙ by mount.propagation is
     where
       by : (kind : Propagation ℕ) → holds_of (nat_eq group) (group_of kind) ≡ true
@@ -100,7 +109,8 @@ module _ (world : World ℕ) (gone : List ℕ) where
       by (Slave up) e = absurd (true≢false (sym e))
       by Private e = absurd (true≢false (sym e))
       by Unbindable e = absurd (true≢false (sym e))
-  stays_member false mount isnt group is = ap (is_member_of nat_eq group) (stays world gone world.namespaces mount isnt) ∙ is
+  stays_member false mount isnt group is =
+      ap (is_member_of nat_eq group) (stays world gone world.namespaces mount isnt) ∙ is
 
   masters_end : (b : Bool) (group : ℕ) → world.master group ≡ None → masters b group ≡ None
   masters_end true group e = ap (heir nat_eq without) e
@@ -108,7 +118,8 @@ module _ (world : World ℕ) (gone : List ℕ) where
 
 pub event_groups : (world : World ℕ) (gone : List ℕ) → GroupsInUse world
     → GroupsInUseBut (groups_of_mounts world gone) (taken_away nat_eq world gone)
-event_groups world gone in_use = subst (GroupsInUseBut (groups_of_mounts world gone)) (sym (one_event world gone b)) then_
+event_groups world gone in_use =
+    subst (GroupsInUseBut (groups_of_mounts world gone)) (sym (one_event world gone b)) then_
   where
     b : Bool
     b = hands_on world gone
@@ -131,7 +142,8 @@ one_event_lets_go world gone settles =
     taking_away_lets_go world gone (groups_of_mounts world gone) settles (event_groups world gone settles.in_use.groups)
 
 pub unmounts_let_go : UnmountsLetGo
-unmounts_let_go fresh world task mount settles = one_event_lets_go world (going nat_eq world (mount_numbered nat_eq world mount)) settles
+unmounts_let_go fresh world task mount settles =
+    one_event_lets_go world (going nat_eq world (mount_numbered nat_eq world mount)) settles
 
 pub trees_let_go : TreesLetGo
 trees_let_go world mounts settles = one_event_lets_go world (numbers_of_trees world mounts) settles
@@ -153,7 +165,8 @@ pub record Faded (world now : World ℕ) : Type 0 where
   pub place : (mount : Mount ℕ) (at : Location ℕ) → mount.mount_point ≡ Some at → is_some (change mount).namespace ≡ true
       → is_some (change (mount_at nat_eq world at)).namespace ≡ true → (change mount).mount_point ≡ Some at
   pub nowhere : (mount : Mount ℕ) → Among mount world.mounts → is_nowhere_or_attached (change mount) ≡ true
-  pub member : (mount : Mount ℕ) → is_some (change mount).namespace ≡ true → (group : ℕ) → is_member_of nat_eq group mount ≡ true
+  pub member : (mount : Mount ℕ) → is_some (change mount).namespace ≡ true → (group : ℕ)
+      → is_member_of nat_eq group mount ≡ true
       → is_member_of nat_eq group (change mount) ≡ true
   pub master : (group : ℕ) → world.master group ≡ None → now.master group ≡ None
 
@@ -199,9 +212,11 @@ module _ (world now : World ℕ) (faded : Faded world now) (gone : List ℕ) whe
           ap (λ w. w.mounts) event ∙ ap (λ w. map (change now gone b) w.mounts) faded.is
           ∙ map_twice (change now gone b) faded.change world.mounts
 
-  still_in_one : (mount : Mount ℕ) → is_some (next mount).namespace ≡ true → is_some (faded.change mount).namespace ≡ true
+  still_in_one : (mount : Mount ℕ) → is_some (next mount).namespace ≡ true
+      → is_some (faded.change mount).namespace ≡ true
   still_in_one mount e =
-      ap is_some (sym (same_namespace now gone now.namespaces b (faded.change mount) (does_not_go now gone b (faded.change mount) e))) ∙ e
+      ap is_some (sym (same_namespace now gone now.namespaces b (faded.change mount)
+      (does_not_go now gone b (faded.change mount) e))) ∙ e
 
   fades : Faded world then_
   fades = record {
@@ -220,14 +235,16 @@ module _ (world now : World ℕ) (faded : Faded world now) (gone : List ℕ) whe
     member = λ mount here group is.
         stays_member now gone b (faded.change mount) (does_not_go now gone b (faded.change mount) here) group
         (faded.member mount (still_in_one mount here) group is);
-    master = λ group e. ap (λ w. w.master group) (one_event now gone b) ∙ masters_end now gone b group (faded.master group e);
+    master = λ group e. ap (λ w. w.master group) (one_event now gone b)
+        ∙ masters_end now gone b group (faded.master group e);
   }
 
 all_events : (world : World ℕ) (mounts : List (Mount ℕ)) (now : World ℕ) → Faded world now
     → Faded world (folded (unmounted_if_there nat_eq) now mounts)
 all_events world [] now faded = faded
 all_events world (mount ∷ mounts) now faded =
-    all_events world mounts (unmounted_if_there nat_eq now mount) (by (is_some (mount_numbered nat_eq now mount.number).namespace))
+    all_events world mounts (unmounted_if_there nat_eq now mount)
+    (by (is_some (mount_numbered nat_eq now mount.number).namespace))
   where
     by : (c : Bool) → Faded world (cond c (unmounted nat_eq now mount.number) now)
     by true = fades world now faded (going nat_eq now (mount_numbered nat_eq now mount.number))
@@ -248,7 +265,8 @@ module _ (world now : World ℕ) (in_use : AllInUse world) (stand : MountsStand 
       ∙ ap faded.change itself
 
   -- what is not lost is in its namespace
-  in_one_still : (mount : Mount ℕ) → Among mount world.mounts → is_some mount.namespace ≡ true → is_among nat_eq mount.number lost ≡ false
+  in_one_still : (mount : Mount ℕ) → Among mount world.mounts → is_some mount.namespace ≡ true
+      → is_among nat_eq mount.number lost ≡ false
       → is_some (faded.change mount).namespace ≡ true
   in_one_still mount m e isnt =
       ⊎_elim (λ is. is)
@@ -266,7 +284,8 @@ module _ (world now : World ℕ) (in_use : AllInUse world) (stand : MountsStand 
   placed_in_one mount m at p =
       ⊎_elim (λ is. is)
       (λ out. absurd (true≢false
-      (sym (ap is_some p) ∙ (nowhere_parts mount (passes is_nowhere_or_attached world.mounts stand.nowhere mount m) out).0)))
+      (sym (ap is_some p) ∙ (nowhere_parts mount
+      (passes is_nowhere_or_attached world.mounts stand.nowhere mount m) out).0)))
       (decided (is_some mount.namespace))
 
   stands_in_one : (mount : Mount ℕ) → Among mount world.mounts → (at : Location ℕ) → mount.mount_point ≡ Some at
@@ -301,7 +320,8 @@ module _ (world now : World ℕ) (in_use : AllInUse world) (stand : MountsStand 
       (among-filter (loses_its_place lost) world.mounts mount m loses) p))
       (λ keeps. let parts = or_parts (is_going nat_eq lost mount.number)
       (holds_of (λ l. is_going nat_eq lost l.mount) mount.mount_point) keeps in
-      let on : is_going nat_eq lost at.mount ≡ false = sym (ap (holds_of (λ l. is_going nat_eq lost l.mount)) p) ∙ parts.1 in
+      let on : is_going nat_eq lost at.mount ≡ false =
+      sym (ap (holds_of (λ l. is_going nat_eq lost l.mount)) p) ∙ parts.1 in
       let parent = stands_in_one mount m at p in
       inl (
         faded.change mount,
@@ -319,26 +339,33 @@ module _ (world now : World ℕ) (in_use : AllInUse world) (stand : MountsStand 
 
   pub loses : Loses world last lost (places_lost world lost)
   loses = record {
-    images = λ mount m. (faded.change mount, (among-map faded.change world.mounts mount m, (faded.root mount, faded.filesystem mount)));
+    images = λ mount m. (
+      faded.change mount,
+      (among-map faded.change world.mounts mount m, (faded.root mount, faded.filesystem mount)),
+    );
     shown = λ location m. ⊎_elim (λ e. e)
-        (λ found. ap (λ x. x.filesystem) (found-map faded.change faded.number world.mounts location.mount found.0 found.1 found.2 found.3)
+        (λ found. ap (λ x. x.filesystem)
+        (found-map faded.change faded.number world.mounts location.mount found.0 found.1 found.2 found.3)
         ∙ faded.filesystem (mount_in nat_eq world.mounts location.mount))
         (not_found-map faded.change faded.number world.mounts location.mount);
     live = λ x m isnt. let from = among-from_map faded.change world.mounts x m in
         ap (mount_lives nat_eq last) from.2
-        ∙ lives from.0 from.1 (ap (λ n. is_among nat_eq n lost) (sym (faded.number from.0) ∙ ap (λ (y : Mount ℕ). y.number) (sym from.2))
+        ∙ lives from.0 from.1 (ap (λ n. is_among nat_eq n lost)
+        (sym (faded.number from.0) ∙ ap (λ (y : Mount ℕ). y.number) (sym from.2))
         ∙ isnt);
     locations = λ location m. inl (inl m);
     places = place_still;
     nowhere = all_pass is_nowhere_or_attached last.mounts (λ x m.
-        let from = among-from_map faded.change world.mounts x m in ap is_nowhere_or_attached from.2 ∙ faded.nowhere from.0 from.1);
+        let from = among-from_map faded.change world.mounts x m in
+        ap is_nowhere_or_attached from.2 ∙ faded.nowhere from.0 from.1);
   }
 
   pub groups : GroupsInUseBut (groups_of_mounts world lost) last
   groups =
       groups_but world last lost in_use.groups
       (λ mount m isnt group is.
-      any_passes (is_member_of nat_eq group) last.mounts (faded.change mount) (among-map faded.change world.mounts mount m)
+      any_passes (is_member_of nat_eq group) last.mounts (faded.change mount)
+      (among-map faded.change world.mounts mount m)
       (faded.member mount (in_one_still mount m (member_is_in_one mount m group is) isnt) group is))
       faded.master
 
@@ -346,7 +373,8 @@ pub faded_lets_go : (world now : World ℕ) → IsSettledPlain world → Faded w
     → settled nat_eq now ≡ let_go now (used_by_gone world (detached_between world now))
 faded_lets_go world now settles faded =
     subst (λ w. settled nat_eq w ≡ let_go w (used_by_gone world gone)) (sym faded.is)
-    (losers_go world (map faded.change world.mounts) now.master world.namespaces world.tasks gone (places_lost world gone)
+    (losers_go world (map faded.change world.mounts) now.master world.namespaces world.tasks gone
+    (places_lost world gone)
     (groups_of_mounts world gone) settles
     (loses world now settles.in_use settles.mounts faded) (groups world now settles.in_use settles.mounts faded))
   where
@@ -354,9 +382,11 @@ faded_lets_go world now settles faded =
     gone = detached_between world now
 
 -- a lazy unmount is several events
-pub lazily_fades : (world : World ℕ) (number : ℕ) → MountsStand world → Faded world (lazily_unmounted nat_eq world number)
+pub lazily_fades : (world : World ℕ) (number : ℕ) → MountsStand world
+    → Faded world (lazily_unmounted nat_eq world number)
 lazily_fades world number stand =
-    all_events world (deepest_first nat_eq world (mount_tree nat_eq world.mounts (mount_numbered nat_eq world number))) world
+    all_events world (deepest_first nat_eq world
+    (mount_tree nat_eq world.mounts (mount_numbered nat_eq world number))) world
     (begun world stand)
 
 pub lazy_unmounts_let_go : LazyUnmountsLetGo

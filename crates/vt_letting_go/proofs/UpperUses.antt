@@ -17,7 +17,8 @@ module _ {A : Type 0} where
   pub times_append : (test : A → Bool) (xs ys : List A) → times test (xs ++ ys) ≡ times test xs + times test ys
   times_append test [] ys = zero_first (times test ys)
   times_append test (x ∷ xs) ys =
-      ap (λ n. cond (test x) 1 0 + n) (times_append test xs ys) ∙ again (cond (test x) 1 0) (times test xs) (times test ys)
+      ap (λ n. cond (test x) 1 0 + n) (times_append test xs ys)
+      ∙ again (cond (test x) 1 0) (times test xs) (times test ys)
     where
       again : (x y z : ℕ) → x + (y + z) ≡ (x + y) + z
       again x y z = omega arith
@@ -28,7 +29,8 @@ module _ {A B : Type 0} where
   flat_map_one g [] back x y e = ap (λ l. l ++ flat_map g back) e
   flat_map_one g (z ∷ front) back x y e = ap (λ l. g z ++ l) (flat_map_one g front back x y e)
 
-  times_one : (test : B → Bool) (g : A → List B) (front back : List A) (x y : A) (less : ℕ) → times test (g x) ≡ times test (g y) + less
+  times_one : (test : B → Bool) (g : A → List B) (front back : List A) (x y : A) (less : ℕ)
+      → times test (g x) ≡ times test (g y) + less
       → times test (flat_map g (front ++ (x ∷ back))) ≡ times test (flat_map g (front ++ (y ∷ back))) + less
   times_one test g [] back x y less e =
       times_append test (g x) (flat_map g back) ∙ ap (λ n. n + times test (flat_map g back)) e
@@ -58,7 +60,8 @@ module _ (overlay : Overlay ℕ) (inode object number : ℕ) (upper : overlay.re
   left numbers = filter_map after (filter (λ other. not (nat_eq other inode)) numbers)
 
   objects_less : (b : Bool) → nat_eq number object ≡ b → (numbers : List ℕ)
-      → times (nat_eq number) (filter_map before numbers) ≡ times (nat_eq number) (left numbers) + cond b (times (nat_eq inode) numbers) 0
+      → times (nat_eq number) (filter_map before numbers)
+      ≡ times (nat_eq number) (left numbers) + cond b (times (nat_eq inode) numbers) 0
   objects_less true e [] = refl
   objects_less false e [] = refl
   objects_less b e (k ∷ numbers) = by (nat_eq k inode) refl (objects_less b e numbers)
@@ -70,7 +73,8 @@ module _ (overlay : Overlay ℕ) (inode object number : ℕ) (upper : overlay.re
           → times (nat_eq number) (filter_map before numbers) ≡ times (nat_eq number) (left numbers) + cond b
           (times (nat_eq inode) numbers) 0
           → times (nat_eq number) (cons_option (before k) (filter_map before numbers))
-          ≡ times (nat_eq number) (filter_map after (cond (not (nat_eq k inode)) (k ∷ filter (λ other. not (nat_eq other inode)) numbers)
+          ≡ times (nat_eq number) (filter_map after
+          (cond (not (nat_eq k inode)) (k ∷ filter (λ other. not (nat_eq other inode)) numbers)
           (filter (λ other. not (nat_eq other inode)) numbers)))
           + cond b (cond (nat_eq inode k) 1 0 + times (nat_eq inode) numbers) 0
       by true same later =
@@ -82,7 +86,8 @@ module _ (overlay : Overlay ℕ) (inode object number : ℕ) (upper : overlay.re
           ∙ ap (λ c. times (nat_eq number) (left numbers) + cond b (cond c 1 0 + times (nat_eq inode) numbers) 0)
           (sym (eq-eqb inode k (sym (eqb-true k inode same))))
           ∙ ap (λ c. times (nat_eq number) (filter_map after
-          (cond (not c) (k ∷ filter (λ other. not (nat_eq other inode)) numbers) (filter (λ other. not (nat_eq other inode)) numbers)))
+          (cond (not c) (k ∷ filter (λ other. not (nat_eq other inode)) numbers)
+          (filter (λ other. not (nat_eq other inode)) numbers)))
           + cond b (cond (nat_eq inode k) 1 0 + times (nat_eq inode) numbers) 0) (sym same)
         where
           sum : (c : Bool) (r t : ℕ) → cond c 1 0 + (r + cond c t 0) ≡ r + cond c (1 + t) 0
@@ -92,11 +97,14 @@ module _ (overlay : Overlay ℕ) (inode object number : ℕ) (upper : overlay.re
           kept (before k)
           ∙ ap (λ o. times (nat_eq number) (cons_option o (left numbers)) + cond b (times (nat_eq inode) numbers) 0)
           (ap (λ c. upper_object (cond c None (overlay.real k))) (sym same))
-          ∙ ap (λ n. times (nat_eq number) (cons_option (after k) (left numbers)) + cond b n 0) (zero_first (times (nat_eq inode) numbers))
-          ∙ ap (λ c. times (nat_eq number) (cons_option (after k) (left numbers)) + cond b (cond c 1 0 + times (nat_eq inode) numbers) 0)
+          ∙ ap (λ n. times (nat_eq number) (cons_option (after k) (left numbers)) + cond b n 0)
+          (zero_first (times (nat_eq inode) numbers))
+          ∙ ap (λ c. times (nat_eq number) (cons_option (after k) (left numbers)) + cond b
+          (cond c 1 0 + times (nat_eq inode) numbers) 0)
           (sym (differ (nat_eq inode k) refl))
           ∙ ap (λ c. times (nat_eq number) (filter_map after
-          (cond (not c) (k ∷ filter (λ other. not (nat_eq other inode)) numbers) (filter (λ other. not (nat_eq other inode)) numbers)))
+          (cond (not c) (k ∷ filter (λ other. not (nat_eq other inode)) numbers)
+          (filter (λ other. not (nat_eq other inode)) numbers)))
           + cond b (cond (nat_eq inode k) 1 0 + times (nat_eq inode) numbers) 0) (sym same)
         where
           differ : (c : Bool) → nat_eq inode k ≡ c → nat_eq inode k ≡ false
@@ -111,19 +119,22 @@ module _ (overlay : Overlay ℕ) (inode object number : ℕ) (upper : overlay.re
           kept None = later
           kept (Some x) =
               ap (λ n. cond (nat_eq number x) 1 0 + n) later
-              ∙ over (cond (nat_eq number x) 1 0) (times (nat_eq number) (left numbers)) (cond b (times (nat_eq inode) numbers) 0)
+              ∙ over (cond (nat_eq number x) 1 0) (times (nat_eq number) (left numbers))
+              (cond b (times (nat_eq inode) numbers) 0)
 
 pub one_upper_use_less : OneUpperUseLess
 one_upper_use_less world front back merged overlay layer inode object all is upper real once filesystem number =
     ap (λ n. first + n) (times_append (nat_eq number) (others (layers_in nat_eq world filesystem.number))
     (flat_map objects world.filesystems))
-    ∙ ap (λ (n : ℕ). first + (times (nat_eq number) (others (layers_in nat_eq world filesystem.number)) + n)) objects_one
+    ∙ ap (λ (n : ℕ). first + (times (nat_eq number)
+    (others (layers_in nat_eq world filesystem.number)) + n)) objects_one
     ∙ ap (λ l. first + (times (nat_eq number) (others l) +
     (times (nat_eq number) (flat_map objects (front ++ (gone ∷ back))) + less))) layers
     ∙ over first (times (nat_eq number) (others (layers_in nat_eq later filesystem.number)))
     (times (nat_eq number) (flat_map objects (front ++ (gone ∷ back)))) less
     ∙ ap (λ n. (first + n) + less)
-    (sym (times_append (nat_eq number) (others (layers_in nat_eq later filesystem.number)) (flat_map objects (front ++ (gone ∷ back)))))
+    (sym (times_append (nat_eq number) (others (layers_in nat_eq later filesystem.number))
+    (flat_map objects (front ++ (gone ∷ back)))))
   where
     gone : Filesystem ℕ
     gone = without_inode_of inode merged
@@ -149,14 +160,16 @@ one_upper_use_less world front back merged overlay layer inode object all is upp
     layers_gone : of_overlay [] layers_of merged ≡ of_overlay [] layers_of gone
     layers_gone = by merged.overlay
       where
-        by : (o : Option (Overlay ℕ)) → overlay_or [] layers_of o ≡ overlay_or [] layers_of (option_map (without_real inode) o)
+        by : (o : Option (Overlay ℕ)) → overlay_or [] layers_of o
+            ≡ overlay_or [] layers_of (option_map (without_real inode) o)
         by None = refl
         by (Some x) = refl
 
     layers : layers_in nat_eq world filesystem.number ≡ layers_in nat_eq later filesystem.number
     layers =
         ap (λ list. map (λ l. l.directory) (filter (λ l. nat_eq filesystem.number l.filesystem) list))
-        (ap (flat_map (of_overlay [] layers_of)) all ∙ flat_map_one (of_overlay [] layers_of) front back merged gone layers_gone)
+        (ap (flat_map (of_overlay [] layers_of)) all
+        ∙ flat_map_one (of_overlay [] layers_of) front back merged gone layers_gone)
 
     of_upper : Option (Layer ℕ) → List ℕ → List ℕ
     of_upper u list = cond (holds_of (λ l. nat_eq filesystem.number l.filesystem) u) list []

@@ -28,7 +28,8 @@ module _ {A : Type 0} where
       → times test (front ++ (a ∷ back)) ≡ times test (front ++ back) + cond (test a) 1 0
   one_less test [] back a = omega arith
   one_less test (b ∷ front) back a =
-      ap (λ n. cond (test b) 1 0 + n) (one_less test front back a) ∙ again (cond (test b) 1 0) (times test (front ++ back))
+      ap (λ n. cond (test b) 1 0 + n) (one_less test front back a)
+      ∙ again (cond (test b) 1 0) (times test (front ++ back))
       (cond (test a) 1 0)
     where
       again : (x y z : ℕ) → x + (y + z) ≡ (x + y) + z
@@ -47,10 +48,12 @@ pub one_use_less : OneUseLess
 one_use_less world after front back location e f number =
     ap (times (λ (l : Location ℕ). nat_eq number l.mount)) e
     ∙ one_less (λ l. nat_eq number l.mount) front back location
-    ∙ ap (λ (list : List (Location ℕ)). times (λ l. nat_eq number l.mount) list + cond (nat_eq number location.mount) 1 0) (sym f)
+    ∙ ap (λ (list : List (Location ℕ)). times (λ l. nat_eq number l.mount) list + cond
+    (nat_eq number location.mount) 1 0) (sym f)
 
 pub one_mount_less : OneMountLess
 one_mount_less world after front back mount e f number =
     ap (times (λ (m : Mount ℕ). nat_eq number m.filesystem)) e
     ∙ one_less (λ m. nat_eq number m.filesystem) front back mount
-    ∙ ap (λ (list : List (Mount ℕ)). times (λ m. nat_eq number m.filesystem) list + cond (nat_eq number mount.filesystem) 1 0) (sym f)
+    ∙ ap (λ (list : List (Mount ℕ)). times (λ m. nat_eq number m.filesystem) list + cond
+    (nat_eq number mount.filesystem) 1 0) (sym f)

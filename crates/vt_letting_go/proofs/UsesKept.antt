@@ -31,10 +31,12 @@ module _ (world : World ℕ) (change : Mount ℕ → Mount ℕ) (master : ℕ �
   same_places [] = refl
   same_places (mount ∷ rest) = λ i. cons_option (keeps.mount_point mount i) (same_places rest i)
 
-  same_filesystem : (number : ℕ) → (mount_in nat_eq after.mounts number).filesystem ≡ (mount_in nat_eq world.mounts number).filesystem
+  same_filesystem : (number : ℕ)
+      → (mount_in nat_eq after.mounts number).filesystem ≡ (mount_in nat_eq world.mounts number).filesystem
   same_filesystem number =
       ⊎_elim (λ e. e)
-      (λ found. ap (λ x. x.filesystem) (found-map change keeps.number world.mounts number found.0 found.1 found.2 found.3)
+      (λ found. ap (λ x. x.filesystem)
+      (found-map change keeps.number world.mounts number found.0 found.1 found.2 found.3)
       ∙ keeps.filesystem (mount_in nat_eq world.mounts number))
       (not_found-map change keeps.number world.mounts number)
 
@@ -47,24 +49,30 @@ module _ (world : World ℕ) (change : Mount ℕ → Mount ℕ) (master : ℕ �
   same_mounted number = any-map (λ mount. nat_eq number mount.filesystem) change world.mounts
       (λ mount. ap (nat_eq number) (keeps.filesystem mount))
 
-  same_lives : (filesystem : Filesystem ℕ) → filesystem_lives nat_eq after filesystem ≡ filesystem_lives nat_eq world filesystem
+  same_lives : (filesystem : Filesystem ℕ)
+      → filesystem_lives nat_eq after filesystem ≡ filesystem_lives nat_eq world filesystem
   same_lives filesystem = λ i. same_mounted filesystem.number i
-      || list_any (λ merged. has_layer_on nat_eq filesystem.number merged && same_mounted merged.number i) world.filesystems
+      || list_any (λ merged. has_layer_on nat_eq filesystem.number merged
+      && same_mounted merged.number i) world.filesystems
 
-  same_used : (filesystem : Filesystem ℕ) (number : ℕ) → is_inode_used after filesystem number ≡ is_inode_used world filesystem number
+  same_used : (filesystem : Filesystem ℕ) (number : ℕ)
+      → is_inode_used after filesystem number ≡ is_inode_used world filesystem number
   same_used filesystem number = λ i. is_among nat_eq number
       (filesystem.files.tree.root ∷ (named_in filesystem.files ++ same_located filesystem.number i
-      ++ layers_in nat_eq world filesystem.number ++ flat_map (objects_of_overlay nat_eq filesystem.number) world.filesystems))
+      ++ layers_in nat_eq world filesystem.number
+      ++ flat_map (objects_of_overlay nat_eq filesystem.number) world.filesystems))
 
   pub still_in_use : AllInUse world → GroupsInUse after → AllInUse after
   still_in_use all groups = record {
-    mounts = all_pass (mount_lives nat_eq after) after.mounts (λ last m. let from = among-from_map change world.mounts last m in
+    mounts = all_pass (mount_lives nat_eq after) after.mounts
+        (λ last m. let from = among-from_map change world.mounts last m in
         ap (mount_lives nat_eq after) from.2
         ∙ (λ i. is_some (keeps.namespace from.0 i) || is_located nat_eq world (keeps.number from.0 i))
         ∙ passes (mount_lives nat_eq world) world.mounts all.mounts from.0 from.1);
     filesystems = all_pass (filesystem_lives nat_eq after) world.filesystems (λ filesystem m.
         same_lives filesystem ∙ passes (filesystem_lives nat_eq world) world.filesystems all.filesystems filesystem m);
-    inodes = all_from_among (λ f. list_all (is_inode_used after f) f.files.numbers ≡ true) world.filesystems (λ filesystem m.
+    inodes = all_from_among (λ f. list_all (is_inode_used after f) f.files.numbers ≡ true) world.filesystems
+        (λ filesystem m.
         all_pass (is_inode_used after filesystem) filesystem.files.numbers (λ number n. same_used filesystem number
         ∙ passes (is_inode_used world filesystem) filesystem.files.numbers
         (among_from_all (λ f. list_all (is_inode_used world f) f.files.numbers
@@ -80,7 +88,8 @@ types_keep_all world change master all keeps groups =
 pub flags_are_of_one : FlagsAreOfOne
 flags_are_of_one world here flags one =
     ap (with_mounts world)
-    (map_alike (replaced_if_same nat_eq (record (mount_at nat_eq world here) { flags = flags })) (flags_if here.mount flags) world.mounts
+    (map_alike (replaced_if_same nat_eq (record (mount_at nat_eq world here) { flags = flags }))
+    (flags_if here.mount flags) world.mounts
     (λ mount m. ap (λ n. cond (nat_eq n mount.number) (record (mount_at nat_eq world here) { flags = flags }) mount)
     (number_found world.mounts here.mount)
     ∙ by mount m (nat_eq here.mount mount.number) refl))
@@ -93,11 +102,13 @@ flags_are_of_one world here flags one =
         (ap (mount_in nat_eq world.mounts) (eqb-true here.mount mount.number e) ∙ found_itself world.mounts one mount m)
         ∙ ap (λ b. cond b (record mount { flags = flags }) mount)
         (sym (eq-eqb mount.number here.mount (sym (eqb-true here.mount mount.number e))))
-    by mount m false e = ap (λ b. cond b (record mount { flags = flags }) mount) (sym (differs (nat_eq mount.number here.mount) refl))
+    by mount m false e = ap (λ b. cond b (record mount { flags = flags }) mount)
+        (sym (differs (nat_eq mount.number here.mount) refl))
       where
         differs : (b : Bool) → nat_eq mount.number here.mount ≡ b → b ≡ false
         differs false f = refl
-        differs true f = absurd (true≢false (sym (eq-eqb here.mount mount.number (sym (eqb-true mount.number here.mount f))) ∙ e))
+        differs true f = absurd (true≢false
+            (sym (eq-eqb here.mount mount.number (sym (eqb-true mount.number here.mount f))) ∙ e))
 
 keeps_flags : (number : ℕ) (flags : MountFlags) → KeepsUses (flags_if number flags)
 keeps_flags number flags = record {
@@ -108,7 +119,8 @@ keeps_flags number flags = record {
   root = λ mount. by mount (λ m. m.root) (λ m. refl) (nat_eq mount.number number);
 }
   where
-    by : {A : Type 0} (mount : Mount ℕ) (part : Mount ℕ → A) → ((m : Mount ℕ) → part (record m { flags = flags }) ≡ part m) → (b : Bool)
+    by : {A : Type 0} (mount : Mount ℕ) (part : Mount ℕ → A)
+        → ((m : Mount ℕ) → part (record m { flags = flags }) ≡ part m) → (b : Bool)
         → part (cond b (record mount { flags = flags }) mount) ≡ part mount
     by mount part same true = same mount
     by mount part same false = refl

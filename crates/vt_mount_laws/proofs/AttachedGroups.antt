@@ -85,7 +85,8 @@ module _ (world : World ℕ) (new : Copies ℕ) (place : Location ℕ) (moves : 
 
   -- what lived lives
   still_lives : (group : ℕ) → LivesIn world group → LivesIn after group
-  still_lives group (has_no_master it has e) = has_no_master it (stay it has) (old_master world new place moves mounts serve own it has ∙ e)
+  still_lives group (has_no_master it has e) =
+      has_no_master it (stay it has) (old_master world new place moves mounts serve own it has ∙ e)
   still_lives group (has_master it next has e later) =
       has_master it next (stay it has) (old_master world new place moves mounts serve own it has ∙ e)
       (still_lives next later)
@@ -187,7 +188,8 @@ module _ (world : World ℕ) (new : Copies ℕ) (place : Location ℕ) (moves : 
           ≡ option_map (image_of origin) (find (has_members nat_eq parts) (groups_up world next))
           → (found : Option ℕ) → find (has_members nat_eq parts) (groups_up world next) ≡ found
           → LivesIn after (image_of origin group)
-      found_by next e member is None f = has_no_master (image_of origin group) member (is ∙ ap (option_map (image_of origin)) f)
+      found_by next e member is None f =
+          has_no_master (image_of origin group) member (is ∙ ap (option_map (image_of origin)) f)
       found_by next e member is (Some other) f =
           let t = found_passes (has_members nat_eq parts) (groups_up world next) other f in
           has_master (image_of origin group) (image_of origin other) member (is ∙ ap (option_map (image_of origin)) f)

@@ -41,7 +41,8 @@ differ_by_mount a b p q e f differ =
     ∙ ap (λ c. c && nat_eq p.node q.node) differ
 
 -- what stands at one place has it twice
-pub one_place : (a b : Mount ℕ) → test a b ≡ true → (p : Location ℕ) × (a.mount_point ≡ Some p) × (b.mount_point ≡ Some p)
+pub one_place : (a b : Mount ℕ) → test a b ≡ true
+    → (p : Location ℕ) × (a.mount_point ≡ Some p) × (b.mount_point ≡ Some p)
 one_place a b h = by a.mount_point refl b.mount_point refl
   where
     by : (x : Option (Location ℕ)) → a.mount_point ≡ x → (y : Option (Location ℕ)) → b.mount_point ≡ y
@@ -55,7 +56,8 @@ one_place a b h = by a.mount_point refl b.mount_point refl
         (p, e, f ∙ ap Some (sym (same_location_is p q same)))
 
 -- and the other way round
-pub stand_together : (a b : Mount ℕ) (p : Location ℕ) → a.mount_point ≡ Some p → b.mount_point ≡ Some p → test a b ≡ true
+pub stand_together : (a b : Mount ℕ) (p : Location ℕ) → a.mount_point ≡ Some p → b.mount_point ≡ Some p
+    → test a b ≡ true
 stand_together a b p e f = one_place_of_two p a b e f
 
 -- of the mounts of a list no two have one place
@@ -264,7 +266,8 @@ module _ (world : World ℕ) (new : Copies ℕ) (place : Location ℕ) (mounts :
   data CopyPlace (part origin : Mount ℕ) : Type 0 where
     at_part : nat_eq origin.number top.number ≡ true → (copy part origin).mount_point ≡ Some (place_at part)
         → CopyPlace part origin
-    on_copy : (on : Location ℕ) (parent : Mount ℕ) → nat_eq origin.number top.number ≡ false → origin.mount_point ≡ Some on
+    on_copy : (on : Location ℕ) (parent : Mount ℕ) → nat_eq origin.number top.number ≡ false
+        → origin.mount_point ≡ Some on
         → Among parent mounts → parent.number ≡ on.mount → (copy part origin).mount_point ≡ Some (place_upon part on)
         → CopyPlace part origin
 
@@ -395,7 +398,8 @@ module _ (world : World ℕ) (new : Copies ℕ) (place : Location ℕ) (mounts :
             ∙ ap (new.copy part.number) (sym same_too)) in
             let mount_is : on.mount ≡ at.mount = sym same ∙ number.1 ∙ same_too in
             let node_is : on.node ≡ at.node = ap (λ (l : Location ℕ). l.node) equal in
-            let place_is : b.mount_point ≡ Some on = h ∙ sym (λ i. Some (record { mount = mount_is i; node = node_is i })) in
+            let place_is : b.mount_point ≡ Some on =
+            h ∙ sym (λ i. Some (record { mount = mount_is i; node = node_is i })) in
             true≢false (sym (stand_together a b on f place_is) ∙ spread a b i j e g differ))
 
     copies_spread : (part : Mount ℕ) → Among part parts → any_pair test (copies part) ≡ false
@@ -453,10 +457,12 @@ module _ (world : World ℕ) (new : Copies ℕ) (place : Location ℕ) (mounts :
         by : Stands nat_eq world mount.number → mount_numbered nat_eq world mount.number ≡ mount
             → is_mount world on.mount ≡ true
         by (at_root number f) itself =
-            absurd (true≢false (sym (ap is_some e) ∙ sym (ap (λ (x : Mount ℕ). is_some x.mount_point) itself) ∙ ap is_some f))
+            absurd (true≢false (sym (ap is_some e) ∙ sym (ap (λ (x : Mount ℕ). is_some x.mount_point) itself)
+            ∙ ap is_some f))
         by (on_parent number at f g stands) itself =
             let same : at.mount ≡ on.mount =
-            ap (λ (l : Location ℕ). l.mount) (same_Some at on (sym f ∙ ap (λ (x : Mount ℕ). x.mount_point) itself ∙ e)) in
+            ap (λ (l : Location ℕ). l.mount)
+            (same_Some at on (sym f ∙ ap (λ (x : Mount ℕ). x.mount_point) itself ∙ e)) in
             subst (λ n. is_mount world n ≡ true) same
             (parent_there world new place mounts serve own one there hangs top others is_tree nowhere number at f g)
 
@@ -538,7 +544,8 @@ module _ (world : World ℕ) (new : Copies ℕ) (place : Location ℕ) (mounts :
             false_from_ne_true (test (push a) (copy part origin)) (λ both.
             let t = one_place (push a) (copy part origin) both in
             let stands : a.mount_point ≡ Some (place_at part) =
-            ap (λ (z : Mount ℕ). z.mount_point) (sym g) ∙ t.1 ∙ ap Some (sym (same_Some (place_at part) t.0 (sym f ∙ t.2))) in
+            ap (λ (z : Mount ℕ). z.mount_point) (sym g) ∙ t.1
+            ∙ ap Some (sym (same_Some (place_at part) t.0 (sym f ∙ t.2))) in
             ⊎_elim
             (λ is_destination.
             let number : part.number ≡ place.mount =

@@ -20,7 +20,8 @@ use Rattle.vt_mount_laws.proofs.Standing.{bindable_child, binds_take_each_once, 
 -- What a bind takes hangs together
 module _ (world : World ℕ) (whole : List (Mount ℕ)) where
   -- a child of what hangs
-  pub child_hangs : (number : ℕ) (child : Mount ℕ) → Among child (children nat_eq world.mounts number) → Among child whole
+  pub child_hangs : (number : ℕ) (child : Mount ℕ) → Among child (children nat_eq world.mounts number)
+      → Among child whole
       → Hangs whole number → Hangs whole child.number
   child_hangs number child m there hung = by child.mount_point refl
     where

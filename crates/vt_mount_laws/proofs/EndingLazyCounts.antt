@@ -86,7 +86,8 @@ placed_or_out_then world gone number was = by (is_going nat_eq gone number) refl
     itself : Mount ℕ
     itself = mount_numbered nat_eq world number
 
-    alike : (place : Option (Location ℕ)) → is_some (option_map (mount_point_left nat_eq world gone) place) ≡ is_some place
+    alike : (place : Option (Location ℕ))
+        → is_some (option_map (mount_point_left nat_eq world gone) place) ≡ is_some place
     alike None = refl
     alike (Some p) = refl
 

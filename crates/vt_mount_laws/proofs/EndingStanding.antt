@@ -30,7 +30,8 @@ module _ (world : World ℕ) (gone : List ℕ) where
   -- what stays is left on a mount that stays
   abbrev AllLand : Type 0
   AllLand =
-      (number : ℕ) (place : Location ℕ) → is_going nat_eq gone number ≡ false → (before_it number).mount_point ≡ Some place
+      (number : ℕ) (place : Location ℕ) → is_going nat_eq gone number ≡ false
+      → (before_it number).mount_point ≡ Some place
       → (rest : Location ℕ) × FallsTo world gone place rest
 
   -- a place stands on in the namespace of a mount

@@ -8,7 +8,8 @@ use Rattle.vt_mount_laws.proofs.GroupsUp.{groups_live_by, lives_in}
 
 pub all_live : (world : World ℕ) → GroupsLive world → AllGroupsLive world
 all_live world live =
-    all_from_among (HasLivingGroups nat_eq world) world.mounts (λ mount m source e. lives_in world live mount m source e)
+    all_from_among (HasLivingGroups nat_eq world) world.mounts
+    (λ mount m source e. lives_in world live mount m source e)
 
 pub tested_live : (world : World ℕ) → AllGroupsLive world → GroupsLive world
 tested_live world live =

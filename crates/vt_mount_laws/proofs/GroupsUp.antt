@@ -43,7 +43,8 @@ module _ (master : ℕ → Option ℕ) where
   ends_up (suc n) group e = by (master group) refl (ends_up n)
     where
       by : (found : Option ℕ) → master group ≡ found
-          → ((next : ℕ) → is_some (master (last_or next (chain n master next))) ≡ false → EndsUp master next) → EndsUp master group
+          → ((next : ℕ) → is_some (master (last_or next (chain n master next))) ≡ false → EndsUp master next)
+          → EndsUp master group
       by None f later = at_top group f
       by (Some next) f later =
           goes_up group next f
@@ -54,7 +55,8 @@ module _ (master : ℕ → Option ℕ) where
   module _ (members : ℕ → Bool) where
     pub lives_by_chain : (n group : ℕ) → list_all members (chain n master group) ≡ true
         → is_some (master (last_or group (chain n master group))) ≡ false → Lives members master group
-    lives_by_chain zero group all e = has_no_master group (and_parts (members group) true all).0 (none_there (master group) e)
+    lives_by_chain zero group all e =
+        has_no_master group (and_parts (members group) true all).0 (none_there (master group) e)
     lives_by_chain (suc n) group all e = by (master group) refl (lives_by_chain n)
       where
         by : (found : Option ℕ) → master group ≡ found
@@ -62,7 +64,8 @@ module _ (master : ℕ → Option ℕ) where
             → is_some (master (last_or next (chain n master next))) ≡ false → Lives members master next)
             → Lives members master group
         by None f later =
-            has_no_master group (and_parts (members group) true (sym (ap (list_all members) (chain_ends master n group f)) ∙ all)).0 f
+            has_no_master group (and_parts (members group) true
+            (sym (ap (list_all members) (chain_ends master n group f)) ∙ all)).0 f
         by (Some next) f later =
             let parts : (members group ≡ true) × (list_all members (chain n master next) ≡ true) =
             and_parts _ _ (sym (ap (list_all members) (chain_goes_on master n group next f)) ∙ all) in
@@ -82,9 +85,11 @@ module _ (master : ℕ → Option ℕ) where
 
     all_on_way : (n group : ℕ) → Lives members master group → list_all members (chain n master group) ≡ true
     all_on_way zero group life = ap (λ b. b && true) (live_members group life)
-    all_on_way (suc n) group (has_no_master it has f) = ap (list_all members) (chain_ends master n it f) ∙ ap (λ b. b && true) has
+    all_on_way (suc n) group (has_no_master it has f) =
+        ap (list_all members) (chain_ends master n it f) ∙ ap (λ b. b && true) has
     all_on_way (suc n) group (has_master it next has f later) =
-        ap (list_all members) (chain_goes_on master n it next f) ∙ ap (λ b. b && list_all members (chain n master next)) has
+        ap (list_all members) (chain_goes_on master n it next f)
+        ∙ ap (λ b. b && list_all members (chain n master next)) has
         ∙ all_on_way n next later
 
     ends_within : (n group : ℕ) (life : Lives members master group) → length (way group life) ≤ suc n
@@ -98,7 +103,8 @@ module _ (master : ℕ → Option ℕ) where
         too_long g (has_no_master x h e) t = omega (arith, t)
         too_long g (has_master x y h e r) t = omega (arith, t)
     ends_within (suc n) group (has_master it next has f later) l =
-        ap (λ g. is_some (master g)) (ap (last_or it) (chain_goes_on master n it next f) ∙ last_of_chain master n next it)
+        ap (λ g. is_some (master g)) (ap (last_or it) (chain_goes_on master n it next f)
+        ∙ last_of_chain master n next it)
         ∙ ends_within n next later (omega (arith, l))
 
     same_length : (a : ℕ) (life : Lives members master a) (b : ℕ) (other : Lives members master b) → a ≡ b
@@ -117,10 +123,12 @@ module _ (master : ℕ → Option ℕ) where
     rest_of_way group (has_no_master it has f) other m = ⊎_elim (λ e. by other (sym e)) (λ none. absurd none) m
       where
         by : (o : ℕ) → it ≡ o → (rest : Lives members master o) × (length (way o rest) ≤ 1)
-        by o e = subst (λ g. (rest : Lives members master g) × (length (way g rest) ≤ 1)) e (has_no_master it has f, omega arith)
+        by o e = subst (λ g. (rest : Lives members master g) × (length (way g rest) ≤ 1)) e
+            (has_no_master it has f, omega arith)
     rest_of_way group (has_master it next has f later) other m =
         ⊎_elim
-        (λ e. subst (λ g. (rest : Lives members master g) × (length (way g rest) ≤ suc (length (way next later)))) (sym e)
+        (λ e. subst (λ g. (rest : Lives members master g) × (length (way g rest) ≤ suc (length (way next later))))
+        (sym e)
         (has_master it next has f later, omega arith))
         (λ l. let t = rest_of_way next later other l in (t.0, omega (arith, t.1)))
         m
@@ -132,13 +140,15 @@ module _ (master : ℕ → Option ℕ) where
         or_from (list_any (nat_eq it) (way next later)) (any_pair nat_eq (way next later))
         (false_from_ne_true (list_any (nat_eq it) (way next later)) (λ h.
         let t = rest_of_way next later it (among_numbers (way next later) it h) in
-        let same : length (way it t.0) ≡ suc (length (way next later)) = same_length it t.0 it (has_master it next has f later) refl in
+        let same : length (way it t.0) ≡ suc (length (way next later)) =
+        same_length it t.0 it (has_master it next has f later) refl in
         absurd (omega (arith, t.1, same))))
         (way_apart next later)
 
     way_members : (group : ℕ) (life : Lives members master group) → list_all members (way group life) ≡ true
     way_members group (has_no_master it has f) = ap (λ b. b && true) has
-    way_members group (has_master it next has f later) = ap (λ b. b && list_all members (way next later)) has ∙ way_members next later
+    way_members group (has_master it next has f later) =
+        ap (λ b. b && list_all members (way next later)) has ∙ way_members next later
 
 -- groups that each have a member are no more than the mounts
 fewer_groups : (groups : List ℕ) (mounts : List (Mount ℕ)) → any_pair nat_eq groups ≡ false
@@ -147,16 +157,19 @@ fewer_groups [] mounts distinct all = omega arith
 fewer_groups (group ∷ groups) mounts distinct all =
     let apart_all : (list_any (nat_eq group) groups ≡ false) × (any_pair nat_eq groups ≡ false) =
     or_parts (list_any (nat_eq group) groups) (any_pair nat_eq groups) distinct in
-    let each : (has_members nat_eq mounts group ≡ true) × (list_all (has_members nat_eq mounts) groups ≡ true) = and_parts _ _ all in
+    let each : (has_members nat_eq mounts group ≡ true) × (list_all (has_members nat_eq mounts) groups ≡ true) =
+    and_parts _ _ all in
     let member = any_among (is_member_of nat_eq group) mounts each.0 in
     let inside : Among member.0 (filter (is_member_of nat_eq group) mounts) =
     among-filter (is_member_of nat_eq group) mounts member.0 member.1 member.2 in
     let some_inside : 1 ≤ length (filter (is_member_of nat_eq group) mounts) =
     not_empty (filter (is_member_of nat_eq group) mounts) member.0 inside in
-    let both = length-filter_both (is_member_of nat_eq group) (λ mount. not (is_member_of nat_eq group mount)) (λ mount. refl) mounts in
+    let both = length-filter_both (is_member_of nat_eq group) (λ mount. not (is_member_of nat_eq group mount))
+    (λ mount. refl) mounts in
     let rest : length groups ≤ length (filter (λ mount. not (is_member_of nat_eq group mount)) mounts) =
     fewer_groups groups (filter (λ mount. not (is_member_of nat_eq group mount)) mounts) apart_all.1
-    (list_all_from_among (has_members nat_eq (filter (λ mount. not (is_member_of nat_eq group mount)) mounts)) groups (λ other m.
+    (list_all_from_among (has_members nat_eq (filter (λ mount. not (is_member_of nat_eq group mount)) mounts)) groups
+    (λ other m.
     still group other mounts (none_among (nat_eq group) groups apart_all.0 other m)
     (among_from_list_all (has_members nat_eq mounts) groups each.1 other m))) in
     omega (arith, both, rest, some_inside)
@@ -189,13 +202,16 @@ lives_in world live mount m source e =
     lives_by_chain world.master (has_members nat_eq world.mounts) (length world.mounts) source t.0 (not-true _ t.1)
 
 pub groups_live_by : (world : World ℕ)
-    → ((mount : Mount ℕ) → Among mount world.mounts → (source : ℕ) → source_of mount.propagation ≡ Some source → LivesIn world source)
+    → ((mount : Mount ℕ) → Among mount world.mounts → (source : ℕ) → source_of mount.propagation ≡ Some source
+    → LivesIn world source)
     → GroupsLive world
 groups_live_by world lives =
-    list_all_from_among (has_living_groups nat_eq world) world.mounts (λ mount m. by mount m (source_of mount.propagation) refl)
+    list_all_from_among (has_living_groups nat_eq world) world.mounts
+    (λ mount m. by mount m (source_of mount.propagation) refl)
   where
     one : (source : ℕ) → LivesIn world source
-        → (list_all (has_members nat_eq world.mounts) (groups_up world source) && masters_end nat_eq world source) ≡ true
+        → (list_all (has_members nat_eq world.mounts) (groups_up world source) && masters_end nat_eq world source)
+        ≡ true
     one source life =
         let members = has_members nat_eq world.mounts in
         let few : length (way world.master members source life) ≤ length world.mounts =

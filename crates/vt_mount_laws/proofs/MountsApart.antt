@@ -41,7 +41,8 @@ replaced_same_place mounts one new same old m = by (nat_eq new.number old.number
     by : (b : Bool) → nat_eq new.number old.number ≡ b → (replaced_if_same nat_eq new old).mount_point ≡ old.mount_point
     by true e =
         ap (λ x. x.mount_point) (replaced_there new old e) ∙ sym same
-        ∙ ap (λ x. x.mount_point) (ap (mount_in nat_eq mounts) (eqb-true new.number old.number e) ∙ found_itself mounts one old m)
+        ∙ ap (λ x. x.mount_point) (ap (mount_in nat_eq mounts) (eqb-true new.number old.number e)
+        ∙ found_itself mounts one old m)
     by false e = ap (λ x. x.mount_point) (replaced_elsewhere new old e)
 
 pub flags_keep_apart : KeptByFlags AreApart
@@ -51,7 +52,8 @@ flags_keep_apart world here flags both =
       by_number = flags_keep_numbers world here flags both.by_number;
       by_place = places_same (replaced_if_same nat_eq new) world.mounts
           (replaced_same_place world.mounts both.by_number new
-          (ap (λ n. (mount_in nat_eq world.mounts n).mount_point) (number_found world.mounts here.mount))) both.by_place;
+          (ap (λ n. (mount_in nat_eq world.mounts n).mount_point)
+          (number_found world.mounts here.mount))) both.by_place;
     }
 
 pub types_keep_apart : KeptByType AreApart
@@ -85,7 +87,8 @@ lazy_numbers : (mounts : List (Mount ℕ)) (world : World ℕ) → OneNumberEach
     → OneNumberEach (folded (unmounted_if_there nat_eq) world mounts)
 lazy_numbers [] world e = e
 lazy_numbers (mount ∷ mounts) world e =
-    lazy_numbers mounts (unmounted_if_there nat_eq world mount) (by (is_some (mount_numbered nat_eq world mount.number).namespace))
+    lazy_numbers mounts (unmounted_if_there nat_eq world mount)
+    (by (is_some (mount_numbered nat_eq world mount.number).namespace))
   where
     by : (b : Bool) → OneNumberEach (if b then unmounted nat_eq world mount.number else world)
     by true = unmount_keeps_numbers world mount.number e
@@ -99,7 +102,8 @@ lazy_nowhere : (mounts : List (Mount ℕ)) (world : World ℕ) → NowhereOrAtta
     → NowhereOrAttached (folded (unmounted_if_there nat_eq) world mounts)
 lazy_nowhere [] world e = e
 lazy_nowhere (mount ∷ mounts) world e =
-    lazy_nowhere mounts (unmounted_if_there nat_eq world mount) (by (is_some (mount_numbered nat_eq world mount.number).namespace))
+    lazy_nowhere mounts (unmounted_if_there nat_eq world mount)
+    (by (is_some (mount_numbered nat_eq world mount.number).namespace))
   where
     by : (b : Bool) → NowhereOrAttached (if b then unmounted nat_eq world mount.number else world)
     by true = unmount_keeps_nowhere world mount.number e
@@ -126,8 +130,10 @@ flags_keep_nowhere world here flags one e =
     let from = among-from_map (replaced_if_same nat_eq new) world.mounts mount m in
     ap is_nowhere_or_attached from.2 ∙ by from.0 from.1 (nat_eq new.number from.0.number) refl)
   where
-    by : (old : Mount ℕ) → Among old world.mounts → (b : Bool) → nat_eq (mount_at nat_eq world here).number old.number ≡ b
-        → is_nowhere_or_attached (replaced_if_same nat_eq (record (mount_at nat_eq world here) { flags = flags }) old) ≡ true
+    by : (old : Mount ℕ) → Among old world.mounts → (b : Bool)
+        → nat_eq (mount_at nat_eq world here).number old.number ≡ b
+        → is_nowhere_or_attached (replaced_if_same nat_eq (record (mount_at nat_eq world here) { flags = flags }) old)
+        ≡ true
     by old m true f =
         let same : mount_at nat_eq world here ≡ old =
         ap (mount_in nat_eq world.mounts) (sym (number_found world.mounts here.mount) ∙ eqb-true _ _ f)

@@ -33,7 +33,8 @@ module _ (world : World ℕ) (new : Copies ℕ) (graft : Graft ℕ) (parts : Lis
           record { number = refl; namespace = refl; filesystem = refl; root = refl; flags = refl; propagation = refl }
 
   abbrev pub is_pushed_by : Mount ℕ → Mount ℕ → Bool
-  is_pushed_by mount receiver = stands_at nat_eq (record { mount = receiver.number; node = graft.destination.node }) mount
+  is_pushed_by mount receiver = stands_at nat_eq
+      (record { mount = receiver.number; node = graft.destination.node }) mount
 
   -- what stands at no receiver's place is left
   pub none_pushes : (mount : Mount ℕ)

@@ -36,13 +36,15 @@ module _ (world after : World ℕ)
   same_last (suc n) a b r = by a.mount_point refl (same_last n)
     where
       by : (found : Option (Location ℕ)) → a.mount_point ≡ found
-          → ((x y : Mount ℕ) → StandsAlike x y → StandsAlike (last_or x (chain n below_before x)) (last_or y (chain n below_after y)))
+          → ((x y : Mount ℕ) → StandsAlike x y
+          → StandsAlike (last_or x (chain n below_before x)) (last_or y (chain n below_after y)))
           → StandsAlike (last_or a (chain (suc n) below_before a)) (last_or b (chain (suc n) below_after b))
       by None e later =
           subst (λ l. StandsAlike l (last_or b (chain (suc n) below_after b)))
           (sym (ap (last_or a) (chain_ends below_before n a (ap (option_map (mount_at nat_eq world)) e))))
           (subst (StandsAlike a)
-          (sym (ap (last_or b) (chain_ends below_after n b (ap (option_map (mount_at nat_eq after)) (r.mount_point ∙ e))))) r)
+          (sym (ap (last_or b) (chain_ends below_after n b
+          (ap (option_map (mount_at nat_eq after)) (r.mount_point ∙ e))))) r)
       by (Some at) e later =
           let x = mount_at nat_eq world at in
           let y = mount_at nat_eq after at in
@@ -50,27 +52,34 @@ module _ (world after : World ℕ)
           (sym (ap (last_or a) (chain_goes_on below_before n a x (ap (option_map (mount_at nat_eq world)) e))
           ∙ last_of_chain below_before n x a))
           (subst (StandsAlike (last_or x (chain n below_before x)))
-          (sym (ap (last_or b) (chain_goes_on below_after n b y (ap (option_map (mount_at nat_eq after)) (r.mount_point ∙ e)))
+          (sym (ap (last_or b) (chain_goes_on below_after n b y
+          (ap (option_map (mount_at nat_eq after)) (r.mount_point ∙ e)))
           ∙ last_of_chain below_after n y b))
           (later x y (alike at.mount)))
 
-  pub places_end_alike : OneNumberEach world → numbers_of after.mounts ≡ numbers_of world.mounts → PlacesEnd world → PlacesEnd after
-  places_end_alike one numbers ends = list_all_from_among (stands_in_its_namespace nat_eq after) after.mounts (λ mount m.
+  pub places_end_alike : OneNumberEach world → numbers_of after.mounts ≡ numbers_of world.mounts → PlacesEnd world
+      → PlacesEnd after
+  places_end_alike one numbers ends =
+      list_all_from_among (stands_in_its_namespace nat_eq after) after.mounts (λ mount m.
       let old = mount_numbered nat_eq world mount.number in
       let found : mount_numbered nat_eq after mount.number ≡ mount =
       found_itself after.mounts (one_number_by_numbers world.mounts after.mounts numbers one) mount m in
       let r : StandsAlike old mount = subst (StandsAlike old) found (alike mount.number) in
       let there : Among old world.mounts = found_there world.mounts mount.number
       (ap (is_among nat_eq mount.number) (sym numbers)
-      ∙ is_among_numbers (numbers_of after.mounts) mount.number (among-map (λ (x : Mount ℕ). x.number) after.mounts mount m)) in
+      ∙ is_among_numbers (numbers_of after.mounts) mount.number
+      (among-map (λ (x : Mount ℕ). x.number) after.mounts mount m)) in
       let long : length after.mounts ≡ length world.mounts =
-      sym (length-map after.mounts (λ (x : Mount ℕ). x.number)) ∙ ap length numbers ∙ length-map world.mounts (λ (x : Mount ℕ). x.number) in
+      sym (length-map after.mounts (λ (x : Mount ℕ). x.number)) ∙ ap length numbers
+      ∙ length-map world.mounts (λ (x : Mount ℕ). x.number) in
       let last = same_last (length world.mounts) old mount r in
-      ap (λ n. not (is_some (last_or mount (chain n below_after mount)).mount_point) && same_option nat_eq mount.namespace
+      ap (λ n. not (is_some (last_or mount (chain n below_after mount)).mount_point)
+      && same_option nat_eq mount.namespace
       (last_or mount (chain n below_after mount)).namespace) long
       ∙ ap (λ p. not (is_some p) && same_option nat_eq mount.namespace
       (last_or mount (chain (length world.mounts) below_after mount)).namespace) last.mount_point
-      ∙ ap (λ s. not (is_some (last_parent nat_eq world old).mount_point) && same_option nat_eq mount.namespace s) last.namespace
+      ∙ ap (λ s. not (is_some (last_parent nat_eq world old).mount_point)
+      && same_option nat_eq mount.namespace s) last.namespace
       ∙ ap (λ s. not (is_some (last_parent nat_eq world old).mount_point) && same_option nat_eq s
       (last_parent nat_eq world old).namespace) r.namespace
       ∙ among_from_list_all (stands_in_its_namespace nat_eq world) world.mounts ends old there)
@@ -86,7 +95,8 @@ flags_keep_places_ending world here flags one ends =
     let new = record (mount_at nat_eq world here) { flags = flags } in
     places_end_alike world (with_flags nat_eq world here flags)
     (related-with_mount StandsAlike (λ mount. record { mount_point = refl; namespace = refl }) world.mounts new
-    (subst (λ m. StandsAlike m new) (sym (ap (mount_in nat_eq world.mounts) (number_found world.mounts here.mount))) (record { mount_point = refl; namespace = refl })))
+    (subst (λ m. StandsAlike m new) (sym (ap (mount_in nat_eq world.mounts) (number_found world.mounts here.mount)))
+    (record { mount_point = refl; namespace = refl })))
     one (numbers-with_mount new world.mounts) ends
 
 pub inheritance_keeps_places_ending : InheritanceKeepsPlacesEnding
@@ -97,4 +107,5 @@ inheritance_keeps_places_ending world one ends =
     (sym (ap (λ mounts. mount_in nat_eq mounts number) (mounts-regrouped world)
     ∙ found-map (inheriting nat_eq world) (λ mount. refl) world.mounts number refl))
     (record { mount_point = refl; namespace = refl }))
-    one (ap numbers_of (mounts-regrouped world) ∙ numbers-map (inheriting nat_eq world) (λ mount. refl) world.mounts) ends
+    one (ap numbers_of (mounts-regrouped world)
+    ∙ numbers-map (inheriting nat_eq world) (λ mount. refl) world.mounts) ends

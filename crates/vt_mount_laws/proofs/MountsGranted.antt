@@ -30,7 +30,8 @@ module _ (answer : Answer) (world : World ℕ) where
 locations_raised : (name : TaskName) (task : Task ℕ) → locations_of (raised_task name task) ≡ locations_of task
 locations_raised name task = by (same_name name task.name)
   where
-    by : (b : Bool) → locations_of (if b then (record task { change = raised task.change }) else task) ≡ locations_of task
+    by : (b : Bool) → locations_of (if b then (record task { change = raised task.change }) else task)
+        ≡ locations_of task
     by true = refl
     by false = refl
 
@@ -43,7 +44,8 @@ all_locations_raised name (task ∷ tasks) =
 
 -- what lives after a call lives as its outcome leaves it
 lives_then : (before world : World ℕ) (name : TaskName) (changed : List ℕ) (mount : Mount ℕ)
-    → mount_lives nat_eq world mount ≡ mount_lives nat_eq (numbers_raised nat_eq before name changed (settled nat_eq world)) mount
+    → mount_lives nat_eq world mount
+    ≡ mount_lives nat_eq (numbers_raised nat_eq before name changed (settled nat_eq world)) mount
 lives_then before world name changed mount =
     ap (λ locations. is_some mount.namespace || list_any (λ location. nat_eq mount.number location.mount) locations)
     (sym (all_locations_raised name world.tasks))
@@ -73,10 +75,12 @@ policy_leaves fresh world name call leaves = by (ok_or (task_called world name) 
 
     by : (found : Result (Task ℕ) Deny)
         → ((after world found
-        (λ task. finished nat_eq world name call (changed task) (call_outcome nat_eq fresh world task call))).world.mounts ≡ world.mounts)
+        (λ task. finished nat_eq world name call (changed task)
+        (call_outcome nat_eq fresh world task call))).world.mounts ≡ world.mounts)
         ⊎ HasLiving
         (after world found
-        (λ task. finished nat_eq world name call (changed task) (call_outcome nat_eq fresh world task call))).world world.mounts
+        (λ task. finished nat_eq world name call (changed task)
+        (call_outcome nat_eq fresh world task call))).world world.mounts
     by (Ok task) =
         let outcome = call_outcome nat_eq fresh world task call in
         let ended = finished nat_eq world name call (changed task) outcome in
@@ -84,7 +88,8 @@ policy_leaves fresh world name call leaves = by (ok_or (task_called world name) 
         (finished_leaves (only_looks call || not (is_ok outcome.answer)) world name (changed task) outcome)
     by (Err deny) = inl refl
 
-module _ (fresh : Fresh ℕ) (world : World ℕ) (name : TaskName) (task : Task ℕ) (call : Call) (is : task_called world name ≡ Some task) where
+module _ (fresh : Fresh ℕ) (world : World ℕ) (name : TaskName) (task : Task ℕ) (call : Call)
+    (is : task_called world name ≡ Some task) where
   abbrev changed : Task ℕ → List ℕ
   changed one = filesystems_changed_by nat_eq world (judge_in nat_eq fresh world one call)
 
@@ -94,7 +99,8 @@ module _ (fresh : Fresh ℕ) (world : World ℕ) (name : TaskName) (task : Task 
       ap (λ found. after world (ok_or found (denial S2))
       (λ t. finished nat_eq world name call (changed t) (call_outcome nat_eq fresh world t call))) is
 
-  answer_stays : (b : Bool) (outcome : Outcome ℕ) → (finished_by nat_eq b world name (changed task) outcome).answer ≡ outcome.answer
+  answer_stays : (b : Bool) (outcome : Outcome ℕ)
+      → (finished_by nat_eq b world name (changed task) outcome).answer ≡ outcome.answer
   answer_stays true outcome = refl
   answer_stays false outcome = refl
 
@@ -114,4 +120,5 @@ module _ (fresh : Fresh ℕ) (world : World ℕ) (name : TaskName) (task : Task 
       policy_is
       ∙ ap (λ b. finished_by nat_eq (b || not (is_ok outcome.answer)) world name (changed task) outcome) looks
       ∙ ap (λ a. finished_by nat_eq (not (is_ok a)) world name (changed task) outcome) (sym answered ∙ e) in
-      subst (λ o. HasLiving o.world outcome.world.mounts) (sym ends) (living_then world outcome.world name (changed task))
+      subst (λ o. HasLiving o.world outcome.world.mounts) (sym ends)
+      (living_then world outcome.world name (changed task))

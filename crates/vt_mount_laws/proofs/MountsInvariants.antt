@@ -150,8 +150,11 @@ module _ (world : World ℕ) (here : Location ℕ) (flags : MountFlags) (one : O
             ap (λ x. x.namespace) (replaced_there new mount f) ∙ ap (λ x. x.namespace) same,
             ap (λ x. x.mount_point) (replaced_there new mount f) ∙ ap (λ x. x.mount_point) same,
           )
-      by false f =
-          (ap (λ x. x.namespace) (replaced_elsewhere new mount f), ap (λ x. x.mount_point) (replaced_elsewhere new mount f))
+      by false f = (
+        ap (λ x. x.namespace) (replaced_elsewhere new mount f),
+        ap (λ x. x.mount_point)
+            (replaced_elsewhere new mount f),
+      )
 
 pub flags_keep_counts : SetFlagsKeepCounts
 flags_keep_counts world here flags namespace one =

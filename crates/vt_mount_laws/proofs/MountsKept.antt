@@ -23,21 +23,24 @@ use Rattle.vt_spec.specs.Machine.Types.{with_type}
 
 -- Numbers
 numbers_regrouped : (world : World ℕ) → numbers_of (regrouped nat_eq world).mounts ≡ numbers_of world.mounts
-numbers_regrouped world = ap numbers_of (mounts-regrouped world) ∙ numbers-map (inheriting nat_eq world) (λ mount. refl) world.mounts
+numbers_regrouped world = ap numbers_of (mounts-regrouped world)
+    ∙ numbers-map (inheriting nat_eq world) (λ mount. refl) world.mounts
 
 pub taking_away_keeps_numbers : KeptByTakingAway OneNumberEach
 taking_away_keeps_numbers world gone e =
     one_number_by_numbers world.mounts (taken_away nat_eq world gone).mounts (numbers_taken world gone) e
 
 pub unmount_keeps_numbers : KeptByUnmount OneNumberEach
-unmount_keeps_numbers world one e = taking_away_keeps_numbers world (going nat_eq world (mount_numbered nat_eq world one)) e
+unmount_keeps_numbers world one e =
+    taking_away_keeps_numbers world (going nat_eq world (mount_numbered nat_eq world one)) e
 
 pub ended_namespaces_keep_numbers : KeptByEndedNamespaces OneNumberEach
 ended_namespaces_keep_numbers world e =
     taking_away_keeps_numbers world (map (λ mount. mount.number) (filter (is_in_ended nat_eq world) world.mounts)) e
 
 pub inheritance_keeps_numbers : KeptByInheritance OneNumberEach
-inheritance_keeps_numbers world e = one_number_by_numbers world.mounts (regrouped nat_eq world).mounts (numbers_regrouped world) e
+inheritance_keeps_numbers world e =
+    one_number_by_numbers world.mounts (regrouped nat_eq world).mounts (numbers_regrouped world) e
 
 pub types_keep_numbers : KeptByType OneNumberEach
 types_keep_numbers world fresh one word recursive e =
@@ -66,7 +69,8 @@ pivot_keeps_numbers world namespace root new put e =
     (numbers-map (pivoted_mount nat_eq root new put) (pivot_number root new put) world.mounts) e
 
 pub settling_keeps_numbers : KeptBySettling OneNumberEach
-settling_keeps_numbers world e = pair-filter (λ (a b : Mount ℕ). nat_eq a.number b.number) (mount_lives nat_eq world) world.mounts e
+settling_keeps_numbers world e =
+    pair-filter (λ (a b : Mount ℕ). nat_eq a.number b.number) (mount_lives nat_eq world) world.mounts e
 
 -- Mounts outside every namespace
 nowhere_inherits : (world : World ℕ) (mount : Mount ℕ) → is_nowhere_or_attached mount ≡ true
@@ -120,7 +124,8 @@ taking_away_keeps_nowhere world gone e =
     (all-map is_nowhere_or_attached (after_going nat_eq world gone) (nowhere_after world gone) world.mounts e)
 
 pub unmount_keeps_nowhere : KeptByUnmount NowhereOrAttached
-unmount_keeps_nowhere world one e = taking_away_keeps_nowhere world (going nat_eq world (mount_numbered nat_eq world one)) e
+unmount_keeps_nowhere world one e =
+    taking_away_keeps_nowhere world (going nat_eq world (mount_numbered nat_eq world one)) e
 
 pub ended_namespaces_keep_nowhere : KeptByEndedNamespaces NowhereOrAttached
 ended_namespaces_keep_nowhere world e =

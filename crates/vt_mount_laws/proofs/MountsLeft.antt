@@ -48,7 +48,8 @@ module _ (world : World ℕ) where
 
   pub mounts-with_change : (fresh : Fresh ℕ) (location : Location ℕ) (change : Change ℕ)
       → (with_change nat_eq fresh world location change).mounts ≡ world.mounts
-  mounts-with_change fresh location change = by (filesystem_at nat_eq world location) (filesystem_at nat_eq world location).overlay
+  mounts-with_change fresh location change =
+      by (filesystem_at nat_eq world location) (filesystem_at nat_eq world location).overlay
     where
       upper : (filesystem : Filesystem ℕ) (overlay : Overlay ℕ) (layer : Option (Layer ℕ))
           → (overlay_changed nat_eq fresh world filesystem overlay layer change).mounts ≡ world.mounts
@@ -60,7 +61,8 @@ module _ (world : World ℕ) where
       by filesystem None = refl
       by filesystem (Some overlay) = upper filesystem overlay overlay.upper
 
-  made_leaves : (fresh : Fresh ℕ) (task : Task ℕ) (place : Place ℕ) (node : Node ℕ) → Leaves (made_at nat_eq fresh world task place node)
+  made_leaves : (fresh : Fresh ℕ) (task : Task ℕ) (place : Place ℕ) (node : Node ℕ)
+      → Leaves (made_at nat_eq fresh world task place node)
   made_leaves fresh task place node =
       judged_leaves (new_rules nat_eq fresh world task place node) _
       (mounts-with_change (odds fresh) place.parent (making place (evens fresh 0) node))
@@ -68,20 +70,24 @@ module _ (world : World ℕ) where
   written_leaves : (fresh : Fresh ℕ) (task : Task ℕ) (place : Place ℕ) (bytes : List ℕ) (file : Option (Location ℕ))
       → Leaves (written nat_eq fresh world task place bytes file)
   written_leaves fresh task place bytes (Some file) =
-      judged_leaves (rewrite_rules nat_eq world task file bytes) _ (mounts-with_change fresh file (SetBytes file.node bytes))
+      judged_leaves (rewrite_rules nat_eq world task file bytes) _
+      (mounts-with_change fresh file (SetBytes file.node bytes))
   written_leaves fresh task place bytes None =
       judged_leaves ((nat_lt largest_file (length bytes), E6) ∷ []) _
-      (judged_leaves (make_rules nat_eq world task place (making place (evens fresh 0) (new_file task file_mode bytes))) _
+      (judged_leaves (make_rules nat_eq world task place
+      (making place (evens fresh 0) (new_file task file_mode bytes))) _
       (mounts-with_change (odds fresh) place.parent (making place (evens fresh 0) (new_file task file_mode bytes))))
 
-  copied_leaves : (b : Bool) (fresh : Fresh ℕ) (file : Location ℕ) → (with_copy nat_eq b fresh world file).mounts ≡ world.mounts
+  copied_leaves : (b : Bool) (fresh : Fresh ℕ) (file : Location ℕ)
+      → (with_copy nat_eq b fresh world file).mounts ≡ world.mounts
   copied_leaves true fresh file = mounts-with_change fresh file (CopyUp file.node)
   copied_leaves false fresh file = refl
 
   open_leaves : (fresh : Fresh ℕ) (task : Task ℕ) (file : Location ℕ) (access : Access)
       → Leaves (open_file nat_eq fresh world task file access)
   open_leaves fresh task file access =
-      judged_leaves (open_rules nat_eq world task file access) _ (copied_leaves (is_copied_up nat_eq world file access) fresh file)
+      judged_leaves (open_rules nat_eq world task file access) _
+      (copied_leaves (is_copied_up nat_eq world file access) fresh file)
 
   create_leaves : (fresh : Fresh ℕ) (task : Task ℕ) (place : Place ℕ) (access : Access) (mode : ℕ)
       → Leaves (create_file nat_eq fresh world task place access mode)
@@ -89,7 +95,8 @@ module _ (world : World ℕ) where
       judged_leaves (make_rules nat_eq world task place (making place (evens fresh 0) (new_file task mode []))) _
       (mounts-with_change (odds fresh) place.parent (making place (evens fresh 0) (new_file task mode [])))
 
-  open_or_create_leaves : (fresh : Fresh ℕ) (task : Task ℕ) (place : Place ℕ) (access : Access) (mode : ℕ) (file : Option (Location ℕ))
+  open_or_create_leaves : (fresh : Fresh ℕ) (task : Task ℕ) (place : Place ℕ) (access : Access) (mode : ℕ)
+      (file : Option (Location ℕ))
       → Leaves (opened_or_created nat_eq fresh world task place access mode file)
   open_or_create_leaves fresh task place access mode (Some file) = open_leaves fresh task file access
   open_or_create_leaves fresh task place access mode None = create_leaves fresh task place access mode
@@ -97,7 +104,8 @@ module _ (world : World ℕ) where
   open_by_leaves : (fresh : Fresh ℕ) (task : Task ℕ) (path : List ℕ) (access : Access) (creation : Creation)
       → Leaves (open_by nat_eq fresh world task path access creation)
   open_by_leaves fresh task path access NoCreation =
-      after_leaves (walk_end (object_walk nat_eq world task path)) _ (λ here. open_leaves fresh task here.location access)
+      after_leaves (walk_end (object_walk nat_eq world task path)) _
+      (λ here. open_leaves fresh task here.location access)
   open_by_leaves fresh task path access (OrCreate mode) =
       after_leaves (walk_end (file_walk nat_eq world task path)) _ (λ place.
       judged_leaves (file_word_rules place) _ (open_or_create_leaves fresh task place access mode place.object))
@@ -109,12 +117,14 @@ module _ (world : World ℕ) where
       → (pwritten nat_eq fresh world file offset bytes).mounts ≡ world.mounts
   pwritten_leaves fresh file offset [] = refl
   pwritten_leaves fresh file offset (byte ∷ bytes) =
-      mounts-with_change fresh file (SetBytes file.node (overwritten offset (byte ∷ bytes) (bytes_in (node_at nat_eq world file))))
+      mounts-with_change fresh file (SetBytes file.node
+      (overwritten offset (byte ∷ bytes) (bytes_in (node_at nat_eq world file))))
 
   attr_leaves : (fresh : Fresh ℕ) (object : Location ℕ) (allowed : Bool) (attr : Attr)
       → Leaves (attr_set nat_eq fresh world object allowed attr)
   attr_leaves fresh object allowed attr =
-      judged_leaves (attr_rules nat_eq world object allowed attr) _ (mounts-with_change fresh object (SetAttr object.node attr))
+      judged_leaves (attr_rules nat_eq world object allowed attr) _
+      (mounts-with_change fresh object (SetAttr object.node attr))
 
   -- each such call
   call_leaves : (fresh : Fresh ℕ) (task : Task ℕ) (call : Call) → is_of_no_mount call ≡ true
@@ -139,14 +149,20 @@ module _ (world : World ℕ) where
       (λ here. judged_leaves (exec_rules nat_eq world task here.location) _ refl)
   call_leaves fresh task (Mkdir path mode) e =
       after_leaves (walk_end (new_walk nat_eq world task path)) _ (λ place.
-      made_leaves fresh task place (record { attr = new_attr task (unwrap_or mode directory_mode); content = new_directory place.parent.node }))
+      made_leaves fresh task place (record {
+        attr = new_attr task
+            (unwrap_or mode directory_mode);
+        content = new_directory place.parent.node;
+      }))
   call_leaves fresh task (SymlinkAt text path) e =
-      judged_leaves (symlink_text_rules text) _ (after_leaves (walk_end (new_leaf_walk nat_eq world task path)) _ (λ place.
+      judged_leaves (symlink_text_rules text) _
+      (after_leaves (walk_end (new_leaf_walk nat_eq world task path)) _ (λ place.
       made_leaves fresh task place (record { attr = exact_attr task symlink_mode; content = Symlink text })))
   call_leaves fresh task (MakeWhiteout path) e =
       after_leaves (walk_end (new_leaf_walk nat_eq world task path)) _ (λ place.
       judged_leaves (whiteout_rules nat_eq world task place) _
-      (mounts-with_change (odds fresh) place.parent (making place (evens fresh 0) (record { attr = exact_attr task 0; content = Whiteout }))))
+      (mounts-with_change (odds fresh) place.parent
+      (making place (evens fresh 0) (record { attr = exact_attr task 0; content = Whiteout }))))
   call_leaves fresh task (LinkTo old new) e =
       after_leaves (walk_end (symlink_walk nat_eq world task old)) _ (λ from.
       after_leaves (walk_end (new_leaf_walk nat_eq world task new)) _ (λ place.
@@ -165,19 +181,24 @@ module _ (world : World ℕ) where
   call_leaves fresh task (Chown path uid gid) e =
       after_leaves (walk_end (object_walk nat_eq world task path)) _ (λ here.
       attr_leaves fresh here.location
-      (may_chown task.credentials (attr_at nat_eq world here.location) (attr_with_owner (attr_at nat_eq world here.location) uid gid))
+      (may_chown task.credentials (attr_at nat_eq world here.location)
+      (attr_with_owner (attr_at nat_eq world here.location) uid gid))
       (attr_with_owner (attr_at nat_eq world here.location) uid gid))
   call_leaves fresh task (Opaque path mark) e =
       judged_leaves ((lacks task cap_sys_admin, K1) ∷ []) _
       (after_leaves (walk_end (directory_walk nat_eq world task path)) _ (λ here.
-      judged_leaves (opaque_rules nat_eq world here.location) _ (mounts-with_change fresh here.location (SetMark here.location.node mark))))
+      judged_leaves (opaque_rules nat_eq world here.location) _
+      (mounts-with_change fresh here.location (SetMark here.location.node mark))))
   call_leaves fresh task (OpenFile path access creation) e =
       judged_leaves (descriptor_rules task) _ (open_by_leaves fresh task path access creation)
-  call_leaves fresh task (Pread descriptor offset size) e = after_leaves (descriptor_at task descriptor (λ d. d.reads)) _ (λ here. refl)
+  call_leaves fresh task (Pread descriptor offset size) e =
+      after_leaves (descriptor_at task descriptor (λ d. d.reads)) _ (λ here. refl)
   call_leaves fresh task (Pwrite descriptor offset bytes) e =
       after_leaves (descriptor_at task descriptor (λ d. d.writes)) _ (λ here.
-      judged_leaves (pwrite_rules nat_eq world here.location offset bytes) _ (pwritten_leaves fresh here.location offset bytes))
-  call_leaves fresh task (Close descriptor) e = after_leaves (descriptor_at task descriptor (λ d. true)) _ (λ here. refl)
+      judged_leaves (pwrite_rules nat_eq world here.location offset bytes) _
+      (pwritten_leaves fresh here.location offset bytes))
+  call_leaves fresh task (Close descriptor) e =
+      after_leaves (descriptor_at task descriptor (λ d. true)) _ (λ here. refl)
   call_leaves fresh task (Chdir path) e =
       after_leaves (walk_end (directory_walk nat_eq world task path)) _
       (λ here. judged_leaves (enter_rules nat_eq world task here.location) _ refl)
@@ -187,7 +208,8 @@ module _ (world : World ℕ) where
       (λ here. judged_leaves (enter_rules nat_eq world task here.location) _ refl))
   call_leaves fresh task (Umask mode) e = refl
   call_leaves fresh task (Drop which) e = refl
-  call_leaves fresh task (Fork words) e = judged_leaves (fork_rules task (child_credentials task.credentials words)) _ refl
+  call_leaves fresh task (Fork words) e =
+      judged_leaves (fork_rules task (child_credentials task.credentials words)) _ refl
   call_leaves fresh task ListMounts e = refl
   call_leaves fresh task (Rmdir path) e = absurd (true≢false (sym e))
   call_leaves fresh task (Rename old new) e = absurd (true≢false (sym e))
@@ -205,4 +227,5 @@ module _ (world : World ℕ) where
   call_leaves fresh task (PivotRoot new put) e = absurd (true≢false (sym e))
 
 pub file_calls_leave_mounts : FileCallsLeaveMounts
-file_calls_leave_mounts fresh world name call e = policy_leaves fresh world name call (λ task. call_leaves world fresh task call e)
+file_calls_leave_mounts fresh world name call e =
+    policy_leaves fresh world name call (λ task. call_leaves world fresh task call e)

@@ -28,7 +28,8 @@ stands_there place mount h = by mount.mount_point refl
   where
     by : (other : Option (Location ℕ)) → mount.mount_point ≡ other → mount.mount_point ≡ Some place
     by None e = absurd (true≢false (sym h ∙ ap (holds_of (same_location nat_eq place)) e))
-    by (Some other) e = e ∙ ap Some (sym (same_location_is place other (sym (ap (holds_of (same_location nat_eq place)) e) ∙ h)))
+    by (Some other) e = e ∙ ap Some
+        (sym (same_location_is place other (sym (ap (holds_of (same_location nat_eq place)) e) ∙ h)))
 
 pub stands_at_its_place : (place : Location ℕ) (mount : Mount ℕ) → mount.mount_point ≡ Some place → stands_at nat_eq place mount ≡ true
 stands_at_its_place place mount e = ap (holds_of (same_location nat_eq place)) e ∙ same_location_itself place
@@ -41,11 +42,13 @@ one_place_of_two place a b e f =
     ∙ same_location_itself place
 
 -- where no two stand at one place, one that stands there is found there
-pub found_at_its_place : (mounts : List (Mount ℕ)) → OneMountAPlace mounts → (mount : Mount ℕ) → Among mount mounts → (place : Location ℕ)
+pub found_at_its_place : (mounts : List (Mount ℕ)) → OneMountAPlace mounts → (mount : Mount ℕ) → Among mount mounts
+    → (place : Location ℕ)
     → mount.mount_point ≡ Some place → child_at nat_eq mounts place ≡ Some mount
 found_at_its_place [] one mount m place e = absurd m
 found_at_its_place (first ∷ rest) one mount m place e =
-    let apart : (list_any (share_a_mount_point nat_eq first) rest ≡ false) × (any_pair (share_a_mount_point nat_eq) rest ≡ false) =
+    let apart : (list_any (share_a_mount_point nat_eq first) rest ≡ false)
+    × (any_pair (share_a_mount_point nat_eq) rest ≡ false) =
     or_parts _ _ one in
     ⊎_elim
     (λ same. ap (λ b. cond b (Some first) (find (stands_at nat_eq place) rest))
@@ -57,7 +60,8 @@ found_at_its_place (first ∷ rest) one mount m place e =
   where
     by : (b : Bool) → stands_at nat_eq place first ≡ b → share_a_mount_point nat_eq first mount ≡ false
         → find (stands_at nat_eq place) rest ≡ Some mount → child_at nat_eq (first ∷ rest) place ≡ Some mount
-    by true here differ found = absurd (true≢false (sym (one_place_of_two place first mount (stands_there place first here) e) ∙ differ))
+    by true here differ found = absurd
+        (true≢false (sym (one_place_of_two place first mount (stands_there place first here) e) ∙ differ))
     by false here differ found = ap (λ b. cond b (Some first) (find (stands_at nat_eq place) rest)) here ∙ found
 
 pub stands_alone : StandsAloneAtItsPlace
@@ -73,7 +77,8 @@ place_of_both a b h = by a.mount_point refl b.mount_point refl h
     by : (p : Option (Location ℕ)) → a.mount_point ≡ p → (q : Option (Location ℕ)) → b.mount_point ≡ q
         → share_a_mount_point nat_eq a b ≡ true
         → (place : Location ℕ) × (a.mount_point ≡ Some place) × (b.mount_point ≡ Some place)
-    by None e q f t = absurd (true≢false (sym t ∙ ap (λ p. is_some p && same_option (same_location nat_eq) p b.mount_point) e))
+    by None e q f t = absurd (true≢false
+        (sym t ∙ ap (λ p. is_some p && same_option (same_location nat_eq) p b.mount_point) e))
     by (Some p) e None f t =
         absurd (true≢false (sym t ∙ ap (λ x. is_some x && same_option (same_location nat_eq) x b.mount_point) e
         ∙ ap (same_option (same_location nat_eq) (Some p)) f))

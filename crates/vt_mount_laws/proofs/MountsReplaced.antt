@@ -18,7 +18,8 @@ module _ (new : Mount ℕ) where
   pub replaced_there : (old : Mount ℕ) → nat_eq new.number old.number ≡ true → replaced_if_same nat_eq new old ≡ new
   replaced_there old e = ap (λ b. if b then new else old) e
 
-  pub replaced_elsewhere : (old : Mount ℕ) → nat_eq new.number old.number ≡ false → replaced_if_same nat_eq new old ≡ old
+  pub replaced_elsewhere : (old : Mount ℕ) → nat_eq new.number old.number ≡ false
+      → replaced_if_same nat_eq new old ≡ old
   replaced_elsewhere old e = ap (λ b. if b then new else old) e
 
   pub number_replaced : (old : Mount ℕ) → (replaced_if_same nat_eq new old).number ≡ old.number
@@ -50,16 +51,19 @@ module _ (new : Mount ℕ) where
       here b = refl
 
       by : (b : Bool) → nat_eq new.number first.number ≡ b
-          → (is_among nat_eq new.number (numbers_of rest) ≡ true → mount_in nat_eq (with_mount nat_eq rest new) new.number ≡ new)
+          → (is_among nat_eq new.number (numbers_of rest) ≡ true
+          → mount_in nat_eq (with_mount nat_eq rest new) new.number ≡ new)
           → mount_in nat_eq (with_mount nat_eq (first ∷ rest) new) new.number ≡ new
       by true e later =
           ap (λ x. mount_in nat_eq (x ∷ with_mount nat_eq rest new) new.number) (replaced_there first e)
-          ∙ ap (λ b. unwrap_or (cond b (Some new) (find (λ mount. nat_eq new.number mount.number) (with_mount nat_eq rest new)))
+          ∙ ap (λ b. unwrap_or (cond b (Some new)
+          (find (λ mount. nat_eq new.number mount.number) (with_mount nat_eq rest new)))
           (no_mount new.number)) (eq-eqb new.number new.number refl)
       by false e later =
           ap (λ x. mount_in nat_eq (x ∷ with_mount nat_eq rest new) new.number) (replaced_elsewhere first e)
           ∙ ap (λ b. unwrap_or
-          (cond b (Some first) (find (λ mount. nat_eq new.number mount.number) (with_mount nat_eq rest new))) (no_mount new.number)) e
+          (cond b (Some first) (find (λ mount. nat_eq new.number mount.number) (with_mount nat_eq rest new)))
+          (no_mount new.number)) e
           ∙ later (sym (ap (λ b. b || is_among nat_eq new.number (numbers_of rest)) e) ∙ h)
 
 -- a number that no mount has
@@ -69,12 +73,15 @@ none_numbered [] number h = refl
 none_numbered (first ∷ rest) number h =
     let parts : (nat_eq number first.number ≡ false) × (is_among nat_eq number (numbers_of rest) ≡ false) =
     or_parts (nat_eq number first.number) (is_among nat_eq number (numbers_of rest)) h in
-    ap (λ b. unwrap_or (cond b (Some first) (find (λ mount. nat_eq number mount.number) rest)) (no_mount number)) parts.0
+    ap (λ b. unwrap_or (cond b (Some first) (find (λ mount. nat_eq number mount.number) rest))
+    (no_mount number)) parts.0
     ∙ none_numbered rest number parts.1
 
--- A mount that is changed where it stands, as it is found: what holds between the old and the new holds of what is found before and after.
+-- A mount that is changed where it stands, as it is found: what holds between the old and the new holds of what is
+-- found before and after.
 module _ (R : Mount ℕ → Mount ℕ → Type 0) (same : (mount : Mount ℕ) → R mount mount) where
-  pub related-with_mount : (mounts : List (Mount ℕ)) (new : Mount ℕ) → R (mount_in nat_eq mounts new.number) new → (number : ℕ)
+  pub related-with_mount : (mounts : List (Mount ℕ)) (new : Mount ℕ) → R (mount_in nat_eq mounts new.number) new
+      → (number : ℕ)
       → R (mount_in nat_eq mounts number) (mount_in nat_eq (with_mount nat_eq mounts new) number)
   related-with_mount mounts new r number = by (nat_eq new.number number) refl
     where
@@ -104,33 +111,42 @@ found-append [] others number h = absurd (true≢false (sym h))
 found-append (first ∷ rest) others number h = by (nat_eq number first.number) refl (found-append rest others number)
   where
     by : (b : Bool) → nat_eq number first.number ≡ b
-        → (is_among nat_eq number (numbers_of rest) ≡ true → mount_in nat_eq (rest ++ others) number ≡ mount_in nat_eq rest number)
+        → (is_among nat_eq number (numbers_of rest) ≡ true
+        → mount_in nat_eq (rest ++ others) number ≡ mount_in nat_eq rest number)
         → mount_in nat_eq ((first ∷ rest) ++ others) number ≡ mount_in nat_eq (first ∷ rest) number
     by true e later =
-        ap (λ b. unwrap_or (cond b (Some first) (find (λ mount. nat_eq number mount.number) (rest ++ others))) (no_mount number)) e
-        ∙ sym (ap (λ b. unwrap_or (cond b (Some first) (find (λ mount. nat_eq number mount.number) rest)) (no_mount number)) e)
+        ap (λ b. unwrap_or (cond b (Some first) (find (λ mount. nat_eq number mount.number) (rest ++ others)))
+        (no_mount number)) e
+        ∙ sym (ap (λ b. unwrap_or (cond b (Some first) (find (λ mount. nat_eq number mount.number) rest))
+        (no_mount number)) e)
     by false e later =
-        ap (λ b. unwrap_or (cond b (Some first) (find (λ mount. nat_eq number mount.number) (rest ++ others))) (no_mount number)) e
+        ap (λ b. unwrap_or (cond b (Some first) (find (λ mount. nat_eq number mount.number) (rest ++ others)))
+        (no_mount number)) e
         ∙ later (sym (ap (λ b. b || is_among nat_eq number (numbers_of rest)) e) ∙ h)
-        ∙ sym (ap (λ b. unwrap_or (cond b (Some first) (find (λ mount. nat_eq number mount.number) rest)) (no_mount number)) e)
+        ∙ sym (ap (λ b. unwrap_or (cond b (Some first) (find (λ mount. nat_eq number mount.number) rest))
+        (no_mount number)) e)
 
 -- where no two mounts have one number, a mount is found by its own
 pub found_itself : (mounts : List (Mount ℕ)) → OneNumberAMount mounts → (mount : Mount ℕ) → Among mount mounts
     → mount_in nat_eq mounts mount.number ≡ mount
 found_itself [] one mount m = absurd m
 found_itself (first ∷ rest) one mount m =
-    let parts : (list_any (λ (other : Mount ℕ). nat_eq first.number other.number) rest ≡ false) × OneNumberAMount rest = or_parts _ _ one in
+    let parts : (list_any (λ (other : Mount ℕ). nat_eq first.number other.number) rest ≡ false)
+    × OneNumberAMount rest = or_parts _ _ one in
     ⊎_elim
     (λ e. ap (λ b. unwrap_or (cond b (Some first) (find (λ other. nat_eq mount.number other.number) rest))
     (no_mount mount.number)) (eq-eqb mount.number first.number (ap (λ x. x.number) e)) ∙ sym e)
     (λ later.
-    ap (λ b. unwrap_or (cond b (Some first) (find (λ other. nat_eq mount.number other.number) rest)) (no_mount mount.number))
-    (apart first.number mount.number (none_among (λ (other : Mount ℕ). nat_eq first.number other.number) rest parts.0 mount later))
+    ap (λ b. unwrap_or (cond b (Some first) (find (λ other. nat_eq mount.number other.number) rest))
+    (no_mount mount.number))
+    (apart first.number mount.number
+    (none_among (λ (other : Mount ℕ). nat_eq first.number other.number) rest parts.0 mount later))
     ∙ found_itself rest parts.1 mount later)
     m
 
 -- a tree of mounts holds its top, and mounts of the list
-pub tree_among : (depth : ℕ) (mounts : List (Mount ℕ)) (top mount : Mount ℕ) → Among mount (tree_from nat_eq depth mounts top)
+pub tree_among : (depth : ℕ) (mounts : List (Mount ℕ)) (top mount : Mount ℕ)
+    → Among mount (tree_from nat_eq depth mounts top)
     → (mount ≡ top) ⊎ Among mount mounts
 tree_among zero mounts top mount m = ⊎_elim inl (λ none. absurd none) m
 tree_among (suc depth) mounts top mount m =
@@ -139,7 +155,8 @@ tree_among (suc depth) mounts top mount m =
     let under = among-from_flat_map (tree_from nat_eq depth mounts) (children nat_eq mounts top.number) mount later in
     let child : Among under.0 mounts × (stands_on nat_eq top.number under.0 ≡ true) =
     among-from_filter (stands_on nat_eq top.number) mounts under.0 under.1 in
-    inr (⊎_elim (λ e. subst (λ x. Among x mounts) (sym e) child.0) (λ l. l) (tree_among depth mounts under.0 mount under.2)))
+    inr (⊎_elim (λ e. subst (λ x. Among x mounts) (sym e) child.0) (λ l. l)
+    (tree_among depth mounts under.0 mount under.2)))
     m
 
 any_by_numbers : (number : ℕ) (mounts : List (Mount ℕ))
@@ -154,6 +171,8 @@ pair_by_numbers (mount ∷ mounts) =
     ap (λ b. b || any_pair (λ (a b : Mount ℕ). nat_eq a.number b.number) mounts) (any_by_numbers mount.number mounts)
     ∙ ap (λ b. list_any (nat_eq mount.number) (numbers_of mounts) || b) (pair_by_numbers mounts)
 
-pub one_number_by_numbers : (before later : List (Mount ℕ)) → numbers_of later ≡ numbers_of before → OneNumberAMount before
+pub one_number_by_numbers : (before later : List (Mount ℕ)) → numbers_of later ≡ numbers_of before
+    → OneNumberAMount before
     → OneNumberAMount later
-one_number_by_numbers before later same e = pair_by_numbers later ∙ ap (any_pair nat_eq) same ∙ sym (pair_by_numbers before) ∙ e
+one_number_by_numbers before later same e =
+    pair_by_numbers later ∙ ap (any_pair nat_eq) same ∙ sym (pair_by_numbers before) ∙ e

@@ -86,12 +86,14 @@ module _ (world : World ℕ) where
         by (at_root it e) itself on =
             absurd (true≢false
             (sym on
-            ∙ ap (λ (x : Mount ℕ). holds_of (λ (p : Location ℕ). nat_eq mount.number p.mount) x.mount_point) (sym itself)
+            ∙ ap (λ (x : Mount ℕ). holds_of (λ (p : Location ℕ). nat_eq mount.number p.mount) x.mount_point)
+            (sym itself)
             ∙ ap (holds_of (λ (p : Location ℕ). nat_eq mount.number p.mount)) e))
         by (on_parent it at e f stands) itself on =
             let parent : mount.number ≡ at.mount =
             eqb-true mount.number at.mount
-            (sym (ap (λ (x : Mount ℕ). holds_of (λ (p : Location ℕ). nat_eq mount.number p.mount) x.mount_point) (sym itself)
+            (sym (ap (λ (x : Mount ℕ). holds_of (λ (p : Location ℕ). nat_eq mount.number p.mount) x.mount_point)
+            (sym itself)
             ∙ ap (holds_of (λ (p : Location ℕ). nat_eq mount.number p.mount)) e) ∙ on) in
             ap (λ (x : Mount ℕ). x.namespace) (sym itself) ∙ f
             ∙ ap (λ n. (mount_numbered nat_eq world n).namespace) (sym parent)

@@ -222,7 +222,8 @@ module _ (world : World ℕ) (new : Copies ℕ) (place : Location ℕ) (mounts :
       ap (λ c. Some (landing origin.mount_point c))
       (ap (λ (ms : List (Mount ℕ)). holds_of (same_origin (twig origin)) (first_of_list (map twig ms))) may.is_tree ∙ e)
 
-  top_place : (origin : Mount ℕ) → nat_eq origin.number may.top.number ≡ true → (arrived origin).mount_point ≡ Some place
+  top_place : (origin : Mount ℕ) → nat_eq origin.number may.top.number ≡ true
+      → (arrived origin).mount_point ≡ Some place
   top_place origin e =
       placed origin true e
       ∙ ap (λ (k : ℕ). Some (record { mount = k; node = place.node })) (number_found world.mounts place.mount)
@@ -244,8 +245,10 @@ module _ (world : World ℕ) (new : Copies ℕ) (place : Location ℕ) (mounts :
       sym (found_itself mounts may.own a m) ∙ ap (mount_in nat_eq mounts) same ∙ found_itself mounts may.own b n
 
   data ArrivedPlace (origin : Mount ℕ) : Type 0 where
-    at_place : nat_eq origin.number may.top.number ≡ true → (arrived origin).mount_point ≡ Some place → ArrivedPlace origin
-    as_before : (on : Location ℕ) → origin.mount_point ≡ Some on → (arrived origin).mount_point ≡ Some on → ArrivedPlace origin
+    at_place : nat_eq origin.number may.top.number ≡ true → (arrived origin).mount_point ≡ Some place
+        → ArrivedPlace origin
+    as_before : (on : Location ℕ) → origin.mount_point ≡ Some on → (arrived origin).mount_point ≡ Some on
+        → ArrivedPlace origin
 
   arrived_place : (origin : Mount ℕ) → Among origin mounts → (number : ℕ) → Hangs mounts number → number ≡ origin.number
       → ArrivedPlace origin

@@ -222,7 +222,8 @@ module _ (world : World ℕ) (new : Copies ℕ) (place : Location ℕ) (mounts :
             ∙ ap (new.copy part.number) (sym same_too)) in
             let mount_is : on.mount ≡ at.mount = sym same ∙ number.1 ∙ same_too in
             let node_is : on.node ≡ at.node = ap (λ (l : Location ℕ). l.node) equal in
-            let place_is : b.mount_point ≡ Some on = h ∙ sym (λ i. Some (record { mount = mount_is i; node = node_is i })) in
+            let place_is : b.mount_point ≡ Some on =
+            h ∙ sym (λ i. Some (record { mount = mount_is i; node = node_is i })) in
             true≢false (sym (stand_together a b on f place_is)
             ∙ two_of world.mounts places a b (may.inside a i) (may.inside b j) differ))
 
@@ -288,10 +289,12 @@ module _ (world : World ℕ) (new : Copies ℕ) (place : Location ℕ) (mounts :
         by : Stands nat_eq moved mount.number → mount_numbered nat_eq moved mount.number ≡ mount
             → is_mount moved on.mount ≡ true
         by (at_root number f) itself =
-            absurd (true≢false (sym (ap is_some e) ∙ sym (ap (λ (x : Mount ℕ). is_some x.mount_point) itself) ∙ ap is_some f))
+            absurd (true≢false (sym (ap is_some e) ∙ sym (ap (λ (x : Mount ℕ). is_some x.mount_point) itself)
+            ∙ ap is_some f))
         by (on_parent number at f g stands) itself =
             let same : at.mount ≡ on.mount =
-            ap (λ (l : Location ℕ). l.mount) (same_Some at on (sym f ∙ ap (λ (x : Mount ℕ). x.mount_point) itself ∙ e)) in
+            ap (λ (l : Location ℕ). l.mount)
+            (same_Some at on (sym f ∙ ap (λ (x : Mount ℕ). x.mount_point) itself ∙ e)) in
             subst (λ n. is_mount moved n ≡ true) same
             (stood_on_there moved (nowhere_left world new place mounts may) number at f g)
 
@@ -374,7 +377,8 @@ module _ (world : World ℕ) (new : Copies ℕ) (place : Location ℕ) (mounts :
             false_from_ne_true (test (push a) (copy part origin)) (λ both.
             let t = one_place (push a) (copy part origin) both in
             let stands : a.mount_point ≡ Some (place_at part) =
-            ap (λ (z : Mount ℕ). z.mount_point) (sym g) ∙ t.1 ∙ ap Some (sym (same_Some (place_at part) t.0 (sym f ∙ t.2))) in
+            ap (λ (z : Mount ℕ). z.mount_point) (sym g) ∙ t.1
+            ∙ ap Some (sym (same_Some (place_at part) t.0 (sym f ∙ t.2))) in
             true≢false
             (sym (stands_at_its_place (place_at part) a stands)
             ∙ unfound (λ other. stands_at nat_eq (place_at other) a) takers h part n))

@@ -299,7 +299,8 @@ moves_keep_root_mounts world fresh source place one placed namespace =
 
     there : {origin : Mount ℕ} → (origin ≡ mount_at nat_eq world source) ⊎ Among origin world.mounts
         → Among origin world.mounts
-    there (inl e) = subst (λ y. Among y world.mounts) (sym e) (top_there (mount_at nat_eq world source).mount_point refl)
+    there (inl e) = subst (λ y. Among y world.mounts) (sym e)
+        (top_there (mount_at nat_eq world source).mount_point refl)
     there (inr m) = m
 
 pub moves_stay_in_namespaces : MovesStayInNamespaces

@@ -144,7 +144,8 @@ module _ (world : World ℕ) (namespace : ℕ) (root new : Mount ℕ) (put : Loc
   -- what becomes of each
   abbrev moved_if : Bool → Bool → Mount ℕ → Mount ℕ
   moved_if first second mount =
-      if first then record mount { mount_point = root.mount_point } else if second then record mount { mount_point = Some put } else mount
+      if first then record mount { mount_point = root.mount_point }
+      else if second then record mount { mount_point = Some put } else mount
 
   pub moved_new : (move new).mount_point ≡ root.mount_point
   moved_new =
@@ -343,7 +344,8 @@ module _ (world : World ℕ) (namespace : ℕ) (root new : Mount ℕ) (put : Loc
   swapped number = cond (nat_eq number root.number) new.number number
 
   -- what stands at a place stood there, or was one whose place it took; or it is the old root mount
-  came_from : (mount : Mount ℕ) → Among mount world.mounts → (place : Location ℕ) → (move mount).mount_point ≡ Some place
+  came_from : (mount : Mount ℕ) → Among mount world.mounts → (place : Location ℕ)
+      → (move mount).mount_point ≡ Some place
       → ((before : Mount ℕ) × Among before world.mounts × (before.mount_point ≡ Some place)
       × (mount.number ≡ swapped before.number))
       ⊎ ((mount.number ≡ root.number) × (put ≡ place))

@@ -25,10 +25,12 @@ module _ (it : Attachment) (can : CanAttach it) where
   supply = copies_from nat_eq it.fresh (parts_of nat_eq it.world it.mount_point) it.mounts
 
   pub serve_copies : ServeAsCopies it.world (parts_of nat_eq it.world it.mount_point) it.mounts supply
-  serve_copies = supplies_serve_as_copies it.world it.fresh (parts_of nat_eq it.world it.mount_point) it.mounts can.serves
+  serve_copies = supplies_serve_as_copies it.world it.fresh
+      (parts_of nat_eq it.world it.mount_point) it.mounts can.serves
 
   pub serve_images : ServeAsImages it.world (parts_of nat_eq it.world it.mount_point) it.mounts supply
-  serve_images = supplies_serve_as_images it.world it.fresh (parts_of nat_eq it.world it.mount_point) it.mounts can.serves
+  serve_images = supplies_serve_as_images it.world it.fresh
+      (parts_of nat_eq it.world it.mount_point) it.mounts can.serves
 
   pub part_among : (part : Mount ℕ) → IsPart it part → Among part (parts_of nat_eq it.world it.mount_point)
   part_among part c = among_from_contains (parts_of nat_eq it.world it.mount_point) part c
@@ -139,13 +141,18 @@ module _ (it : Attachment) (can : CanAttach it) where
 
       by : (b : Bool) → moves_to it part ≡ b
           → (b && list_any (is_pushed_by it.world supply (tree it.world supply it.mount_point it.moves it.mounts)
-          (parts_of nat_eq it.world it.mount_point) (made_at part origin)) (rest_of (parts_of nat_eq it.world it.mount_point)))
+          (parts_of nat_eq it.world it.mount_point) (made_at part origin))
+          (rest_of (parts_of nat_eq it.world it.mount_point)))
           ≡ false
       by false g = refl
       by true g =
           let same : (made_at part origin).mount_point ≡ origin.mount_point =
           place
-          ∙ ap (λ b. Some (record { mount = if b then below.number else supply.copy part.number below.number; node = at.node }))
+          ∙ ap (λ b. Some (record {
+            mount = if b then below.number
+                else supply.copy part.number below.number;
+            node = at.node;
+          }))
           g
           ∙ ap (λ n. Some (record { mount = n; node = at.node })) (sym on) ∙ sym stood in
           ap
@@ -225,9 +232,11 @@ private_on_shared it origin can d e f =
     let m = tree_among it can origin d in (
       new_group it can origin d own.0,
       kind_on_shared it can origin d own.0 own.1 ∙ ap (type_on_shared (new_group it can origin d own.0)) f,
-      there_new it.world (supply it can) it.mount_point it.moves it.mounts (serve_images it can) can.each_once origin m own.0
+      there_new it.world (supply it can) it.mount_point it.moves it.mounts
+          (serve_images it can) can.each_once origin m own.0
           own.1,
-      private_there it.world (supply it can) it.mount_point it.moves it.mounts (serve_images it can) can.each_once origin m
+      private_there it.world (supply it can) it.mount_point it.moves it.mounts
+          (serve_images it can) can.each_once origin m
           own.0 own.1 f,
     )
 
@@ -237,9 +246,11 @@ slave_on_shared it origin master can d e f =
     let m = tree_among it can origin d in (
       new_group it can origin d own.0,
       kind_on_shared it can origin d own.0 own.1 ∙ ap (type_on_shared (new_group it can origin d own.0)) f,
-      there_new it.world (supply it can) it.mount_point it.moves it.mounts (serve_images it can) can.each_once origin m own.0
+      there_new it.world (supply it can) it.mount_point it.moves it.mounts
+          (serve_images it can) can.each_once origin m own.0
           own.1,
-      slave_there it.world (supply it can) it.mount_point it.moves it.mounts (serve_images it can) can.each_once origin m
+      slave_there it.world (supply it can) it.mount_point it.moves it.mounts
+          (serve_images it can) can.each_once origin m
           own.0 master own.1 f,
     )
 
@@ -251,7 +262,8 @@ pub copy_shared : (it : Attachment) (can : CanAttach it) (part origin : Mount �
     → (copy_of it part origin).propagation ≡ Shared (image_group it can origin group)
 copy_shared it can part origin group c d e =
     copy_kind it can part origin c d
-    ∙ shared_kind it.world (supply it can) it.mount_point it.moves it.mounts (serve_images it can) can.each_once part origin
+    ∙ shared_kind it.world (supply it can) it.mount_point it.moves it.mounts
+    (serve_images it can) can.each_once part origin
     (part_among it can part c) group e
 
 pub copies_at_peers_are_peers : CopiesAtPeersArePeers
@@ -265,7 +277,8 @@ pub copies_at_slaves_are_slaves : CopiesAtSlavesAreSlaves
 copies_at_slaves_are_slaves it one other origin master group can c c_other d away e near e_other = (
   image_group it can origin group,
   copy_kind it can one origin c d
-      ∙ slave_kind it.world (supply it can) it.mount_point it.moves it.mounts (serve_images it can) can.each_once one origin
+      ∙ slave_kind it.world (supply it can) it.mount_point it.moves it.mounts
+      (serve_images it can) can.each_once one origin
       master group away e near,
   copy_shared it can other origin group c_other d e_other,
 )
@@ -279,10 +292,12 @@ copies_at_lower_groups_follow it one other origin own master group can c c_other
     copy_shared it can one origin own c d e,
     image_new it.world (supply it can) it.mount_point it.moves it.mounts (serve_images it can) can.each_once origin
         (tree_among it can origin d) own
-        (any_from_among (is_member_of nat_eq own) (parts_of nat_eq it.world it.mount_point) one (part_among it can one c)
+        (any_from_among (is_member_of nat_eq own) (parts_of nat_eq it.world it.mount_point) one
+        (part_among it can one c)
         (shared_member own one e))
         lacks,
-    lower_master it.world (supply it can) it.mount_point it.moves it.mounts (serve_images it can) can.each_once one origin
+    lower_master it.world (supply it can) it.mount_point it.moves it.mounts
+        (serve_images it can) can.each_once one origin
         (part_among it can one c) (tree_among it can origin d) own master group e lacks up near,
   ),
 )

@@ -63,7 +63,8 @@ module _ (it : Attachment) (can : CanAttach it) where
       ⊎_elim (λ same. same)
       (λ rest. absurd
       (subst (λ o. Among part (unwrap_or (option_map (receivers nat_eq it.world) o) [])) e
-      (among-from_filter (takes_part nat_eq it.world it.mount_point) (receivers_of nat_eq it.world (destination_of it)) part
+      (among-from_filter (takes_part nat_eq it.world it.mount_point)
+      (receivers_of nat_eq it.world (destination_of it)) part
       rest).0))
       (part_among it can part c)
 
@@ -83,7 +84,8 @@ copies_hear_one_another it one other origin group can c c_other d e =
     let own = in_a_group it can other group c_other e in (
       image_group it can origin group,
       copy_shared it can other origin group c_other d e,
-      hears_images it.world (supply it can) it.mount_point it.moves it.mounts (serve_images it can) can.each_once can.groups
+      hears_images it.world (supply it can) it.mount_point it.moves it.mounts
+          (serve_images it can) can.each_once can.groups
           origin (tree_among it can origin d) (sourced it can origin (tree_among it can origin d)) own.0 own.1
           (groups_after it can) one (part_among it can one c) (copy_of it one origin) (copy_among it can one origin c d)
           (copy_kind it can one origin c d) group
@@ -97,7 +99,8 @@ copies_hear_as_their_origins it part origin group can c d lived = by (group_of (
     by : (found : Option ℕ) → group_of (destination_of it).propagation ≡ found
         → receives nat_eq (world_after it) group (copy_of it part origin) ≡ receives nat_eq it.world group origin
     by (Some own) f =
-        hears_old it.world (supply it can) it.mount_point it.moves it.mounts (serve_images it can) can.each_once can.groups
+        hears_old it.world (supply it can) it.mount_point it.moves it.mounts
+        (serve_images it can) can.each_once can.groups
         origin (tree_among it can origin d) (sourced it can origin (tree_among it can origin d)) own f
         (groups_after it can) part (part_among it can part c) (copy_of it part origin)
         (copy_among it can part origin c d)
@@ -118,7 +121,8 @@ copies_hear_as_their_origins it part origin group can c d lived = by (group_of (
             let life = sourced it can origin (tree_among it can origin d) t.0 e in
             ap (holds_of (λ s. is_among nat_eq group (groups_up it.world s))) e
             ∙ up_among it.world can.groups t.0 group life
-            (old_up it.world (supply it can) it.mount_point it.moves it.mounts (serve_images it can) can.each_once t.0 group
+            (old_up it.world (supply it can) it.mount_point it.moves it.mounts
+            (serve_images it can) can.each_once t.0 group
             life t.2)
 
         forth : receives nat_eq it.world group origin ≡ true
@@ -128,5 +132,6 @@ copies_hear_as_their_origins it part origin group can c d lived = by (group_of (
             hears (world_after it) (groups_after it can) (copy_of it part origin)
             (copy_among it can part origin c d) t.0
             group (ap source_of same_kind ∙ t.1)
-            (old_up_after it.world (supply it can) it.mount_point it.moves it.mounts (serve_images it can) can.each_once t.0
+            (old_up_after it.world (supply it can) it.mount_point it.moves it.mounts
+            (serve_images it can) can.each_once t.0
             group (sourced it can origin (tree_among it can origin d) t.0 t.1) t.2)

@@ -20,7 +20,8 @@ module _ (master : ℕ → Option ℕ) where
       → (n source group : ℕ) → P source → is_among nat_eq group (chain n master source) ≡ true → P group
   along_chain P up zero source group p h =
       ⊎_elim (λ e. subst P (sym e) p) (λ none. absurd (true≢false (sym none))) (among_cases group source [] h)
-  along_chain P up (suc n) source group p h = by (master source) refl (λ above q later. along_chain P up n above group q later)
+  along_chain P up (suc n) source group p h =
+      by (master source) refl (λ above q later. along_chain P up n above group q later)
     where
       by : (found : Option ℕ) → master source ≡ found
           → ((above : ℕ) → P above → is_among nat_eq group (chain n master above) ≡ true → P group) → P group
@@ -29,7 +30,8 @@ module _ (master : ℕ → Option ℕ) where
           (among_cases group source [] (sym (ap (is_among nat_eq group) (chain_ends master n source e)) ∙ h))
       by (Some above) e next =
           ⊎_elim (λ same. subst P (sym same) p) (λ later. next above (up above source e p) later)
-          (among_cases group source (chain n master above) (sym (ap (is_among nat_eq group) (chain_goes_on master n source above e)) ∙ h))
+          (among_cases group source (chain n master above)
+          (sym (ap (is_among nat_eq group) (chain_goes_on master n source above e)) ∙ h))
 
   -- the end of a chain has no master
   abbrev Ends : ℕ → ℕ → Type 0
@@ -46,16 +48,19 @@ module _ (master : ℕ → Option ℕ) where
       by : (found : Option ℕ) → master source ≡ found → is_among nat_eq source (chain (suc n) master source) ≡ true
       by None e = ap (is_among nat_eq source) (chain_ends master n source e) ∙ head_among source source [] refl
       by (Some above) e =
-          ap (is_among nat_eq source) (chain_goes_on master n source above e) ∙ head_among source source (chain n master above) refl
+          ap (is_among nat_eq source) (chain_goes_on master n source above e)
+          ∙ head_among source source (chain n master above) refl
 
   -- a chain that ends holds the master of each of its groups
   pub chain_is_closed : (n source lower group : ℕ) → Ends n source → master lower ≡ Some group
       → is_among nat_eq lower (chain n master source) ≡ true
       → is_among nat_eq group (chain n master source) ≡ true
   chain_is_closed zero source lower group ends above h =
-      ⊎_elim (λ same. absurd (no_end source group (ap master (sym same) ∙ above) ends)) (λ none. absurd (true≢false (sym none)))
+      ⊎_elim (λ same. absurd (no_end source group (ap master (sym same) ∙ above) ends))
+      (λ none. absurd (true≢false (sym none)))
       (among_cases lower source [] h)
-  chain_is_closed (suc n) source lower group ends above h = by (master source) refl (λ next. chain_is_closed n next lower group)
+  chain_is_closed (suc n) source lower group ends above h =
+      by (master source) refl (λ next. chain_is_closed n next lower group)
     where
       by : (found : Option ℕ) → master source ≡ found
           → ((next : ℕ) → Ends n next → master lower ≡ Some group → is_among nat_eq lower (chain n master next) ≡ true
@@ -67,7 +72,8 @@ module _ (master : ℕ → Option ℕ) where
           (λ none. absurd (true≢false (sym none)))
           (among_cases lower source [] (sym (ap (is_among nat_eq lower) (chain_ends master n source e)) ∙ h))
       by (Some next) e go =
-          let longer : chain (suc n) master source ≡ source ∷ chain n master next = chain_goes_on master n source next e in
+          let longer : chain (suc n) master source ≡ source ∷ chain n master next =
+          chain_goes_on master n source next e in
           let last : last_or source (chain (suc n) master source) ≡ last_or next (chain n master next) =
           ap (last_or source) longer ∙ last_of_chain master n next source in
           ap (is_among nat_eq group) longer
@@ -82,11 +88,14 @@ module _ (master : ℕ → Option ℕ) where
 -- the group or master of a mount, and the groups up the masters, have members and come to an end
 pub groups_live_at : (world : World ℕ) → GroupsLive world → (mount : Mount ℕ) → Among mount world.mounts → (source : ℕ)
     → source_of mount.propagation ≡ Some source
-    → (list_all (has_members nat_eq world.mounts) (groups_up world source) ≡ true) × (masters_end nat_eq world source ≡ true)
+    → (list_all (has_members nat_eq world.mounts) (groups_up world source) ≡ true)
+    × (masters_end nat_eq world source ≡ true)
 groups_live_at world live mount m source e =
     and_parts _ _
-    (among_from_list_all (λ group. list_all (has_members nat_eq world.mounts) (groups_up world group) && masters_end nat_eq world group)
-    (option_to_list (source_of mount.propagation)) (among_from_list_all (has_living_groups nat_eq world) world.mounts live mount m) source
+    (among_from_list_all (λ group. list_all (has_members nat_eq world.mounts) (groups_up world group)
+    && masters_end nat_eq world group)
+    (option_to_list (source_of mount.propagation))
+    (among_from_list_all (has_living_groups nat_eq world) world.mounts live mount m) source
     (subst (λ s. Among source (option_to_list s)) (sym e) (inl refl)))
 
 ends_above : (world : World ℕ) → GroupsLive world → (mount : Mount ℕ) → Among mount world.mounts → (source : ℕ)
@@ -100,12 +109,15 @@ module _ (world : World ℕ) where
       → receives nat_eq world group mount ≡ is_among nat_eq group (groups_up world source)
   receives_by_source group source mount e = ap (holds_of (λ s. is_among nat_eq group (groups_up world s))) e
 
-  pub receives_soundly : (group : ℕ) (mount : Mount ℕ) → receives nat_eq world group mount ≡ true → Receives world group mount
+  pub receives_soundly : (group : ℕ) (mount : Mount ℕ) → receives nat_eq world group mount ≡ true
+      → Receives world group mount
   receives_soundly group mount h = by mount.propagation refl
     where
-      from : (source : ℕ) → source_of mount.propagation ≡ Some source → Receives world source mount → Receives world group mount
+      from : (source : ℕ) → source_of mount.propagation ≡ Some source → Receives world source mount
+          → Receives world group mount
       from source e r =
-          along_chain world.master (λ g. Receives world g mount) (λ above lower up here. further_down above lower mount up here)
+          along_chain world.master (λ g. Receives world g mount)
+          (λ above lower up here. further_down above lower mount up here)
           (length world.mounts) source group r (sym (receives_by_source group source mount e) ∙ h)
 
       none : source_of mount.propagation ≡ None → Receives world group mount
@@ -119,7 +131,8 @@ module _ (world : World ℕ) where
 
   pub receives_from_source : (group : ℕ) (mount : Mount ℕ) → source_of mount.propagation ≡ Some group
       → receives nat_eq world group mount ≡ true
-  receives_from_source group mount e = receives_by_source group group mount e ∙ start_among world.master (length world.mounts) group
+  receives_from_source group mount e =
+      receives_by_source group group mount e ∙ start_among world.master (length world.mounts) group
 
   receives_further_down : GroupsLive world → (group lower : ℕ) (mount : Mount ℕ) → Among mount world.mounts
       → world.master lower ≡ Some group
@@ -130,10 +143,12 @@ module _ (world : World ℕ) where
       by None e = absurd (true≢false (sym h ∙ ap (holds_of (λ s. is_among nat_eq lower (groups_up world s))) e))
       by (Some source) e =
           receives_by_source group source mount e
-          ∙ chain_is_closed world.master (length world.mounts) source lower group (ends_above world live mount m source e) up
+          ∙ chain_is_closed world.master (length world.mounts) source lower group
+          (ends_above world live mount m source e) up
           (sym (receives_by_source lower source mount e) ∙ h)
 
-  pub receives_completely : GroupsLive world → (group : ℕ) (mount : Mount ℕ) → Among mount world.mounts → Receives world group mount
+  pub receives_completely : GroupsLive world → (group : ℕ) (mount : Mount ℕ) → Among mount world.mounts
+      → Receives world group mount
       → receives nat_eq world group mount ≡ true
   receives_completely live group mount m (member own one e) = receives_from_source own one (ap source_of e)
   receives_completely live group mount m (slave above one e) = receives_from_source above one (ap source_of e)
@@ -149,19 +164,23 @@ pub receivers_receive : ReceiversReceive
 receivers_receive world group mount live = (
   λ c.
       let found : Among mount world.mounts × (receives nat_eq world group mount ≡ true) =
-      among-from_filter (receives nat_eq world group) world.mounts mount (among_from_contains (receivers nat_eq world group) mount c) in
+      among-from_filter (receives nat_eq world group) world.mounts mount
+      (among_from_contains (receivers nat_eq world group) mount c) in
       (contains_from_among world.mounts mount found.0, receives_soundly world group mount found.1),
   λ t.
       let m : Among mount world.mounts = among_from_contains world.mounts mount t.0 in
       contains_from_among (receivers nat_eq world group) mount
-      (among-filter (receives nat_eq world group) world.mounts mount m (receives_completely world live group mount m t.1)),
+      (among-filter (receives nat_eq world group) world.mounts mount m
+      (receives_completely world live group mount m t.1)),
 )
 
 pub receivers_are_closed : ReceiversAreClosed
 receivers_are_closed world live = record {
-  members = λ group. all_from_among (λ mount. mount.propagation ≡ Shared group → receives nat_eq world group mount ≡ true) world.mounts
+  members = λ group. all_from_among
+      (λ mount. mount.propagation ≡ Shared group → receives nat_eq world group mount ≡ true) world.mounts
       (λ mount m e. receives_from_source world group mount (ap source_of e));
-  slaves = λ group. all_from_among (λ mount. mount.propagation ≡ Slave group → receives nat_eq world group mount ≡ true) world.mounts
+  slaves = λ group. all_from_among
+      (λ mount. mount.propagation ≡ Slave group → receives nat_eq world group mount ≡ true) world.mounts
       (λ mount m e. receives_from_source world group mount (ap source_of e));
   further_down =
       λ group lower up. all_from_among (λ mount. receives nat_eq world lower mount ≡ true
@@ -170,14 +189,16 @@ receivers_are_closed world live = record {
 }
 
 -- what receives is in every closed set
-in_closed : (world : World ℕ) (set : ℕ → Mount ℕ → Bool) → IsClosed world set → (group : ℕ) (mount : Mount ℕ) → Among mount world.mounts
+in_closed : (world : World ℕ) (set : ℕ → Mount ℕ → Bool) → IsClosed world set → (group : ℕ) (mount : Mount ℕ)
+    → Among mount world.mounts
     → Receives world group mount → set group mount ≡ true
 in_closed world set closed group mount m (member own one e) =
     among_from_all (λ x. x.propagation ≡ Shared own → set own x ≡ true) world.mounts (closed.members own) one m e
 in_closed world set closed group mount m (slave above one e) =
     among_from_all (λ x. x.propagation ≡ Slave above → set above x ≡ true) world.mounts (closed.slaves above) one m e
 in_closed world set closed group mount m (further_down above lower one up r) =
-    among_from_all (λ x. set lower x ≡ true → set above x ≡ true) world.mounts (closed.further_down above lower up) one m
+    among_from_all (λ x. set lower x ≡ true → set above x ≡ true) world.mounts
+    (closed.further_down above lower up) one m
     (in_closed world set closed lower one m r)
 
 pub receivers_are_least : ReceiversAreLeast

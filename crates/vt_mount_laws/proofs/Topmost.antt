@@ -24,7 +24,8 @@ module _ (world : World ℕ) (mounts : MountInvariants nat_eq world) where
   higher here child e =
       let found = found_in (stands_at nat_eq here) world.mounts child e in
       rank_child world mounts.one_number mounts.standing child.number here
-      (ap (λ x. x.mount_point) (found_itself world.mounts mounts.one_number child found.0) ∙ stands_there here child found.1)
+      (ap (λ x. x.mount_point) (found_itself world.mounts mounts.one_number child found.0)
+      ∙ stands_there here child found.1)
 
   free_after : (n : ℕ) (here : Location ℕ) → length world.mounts ≤ n + level here.mount
       → child_at nat_eq world.mounts (last_or here (chain n over here)) ≡ None

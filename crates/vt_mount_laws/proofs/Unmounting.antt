@@ -46,7 +46,8 @@ module _ (world : World ℕ) (gone : List ℕ) where
     where
       by : (b : Bool)
           → (if b then detached (no_mount number) else
-          (record (no_mount number) { mount_point = option_map (mount_point_left nat_eq world gone) None })) ≡ no_mount number
+          (record (no_mount number) { mount_point = option_map (mount_point_left nat_eq world gone) None }))
+          ≡ no_mount number
       by true = refl
       by false = refl
 
@@ -60,9 +61,11 @@ module _ (world : World ℕ) (gone : List ℕ) where
   taken number =
       ap (λ mounts. mount_in nat_eq mounts number) (mounts-regrouped middle)
       ∙ found-map (inheriting nat_eq middle) (λ mount. refl) middle.mounts number refl
-      ∙ ap (inheriting nat_eq middle) (found-map (after_going nat_eq world gone) number_after world.mounts number (none_after number))
+      ∙ ap (inheriting nat_eq middle)
+      (found-map (after_going nat_eq world gone) number_after world.mounts number (none_after number))
 
-  pub numbers_taken : map (λ mount. mount.number) (taken_away nat_eq world gone).mounts ≡ map (λ mount. mount.number) world.mounts
+  pub numbers_taken : map (λ mount. mount.number) (taken_away nat_eq world gone).mounts
+      ≡ map (λ mount. mount.number) world.mounts
   numbers_taken =
       ap (map (λ mount. mount.number)) (mounts-regrouped middle)
       ∙ numbers-map (inheriting nat_eq middle) (λ mount. refl) middle.mounts
@@ -71,7 +74,8 @@ module _ (world : World ℕ) (gone : List ℕ) where
   -- what goes, by the number of what is found
   taken_going : (number : ℕ) → is_going nat_eq gone (mount_numbered nat_eq world number).number ≡ true
       → mount_numbered nat_eq (taken_away nat_eq world gone) number ≡ detached (mount_numbered nat_eq world number)
-  taken_going number e = taken number ∙ ap (inheriting nat_eq middle) (going_is_detached (mount_numbered nat_eq world number) e)
+  taken_going number e = taken number
+      ∙ ap (inheriting nat_eq middle) (going_is_detached (mount_numbered nat_eq world number) e)
 
   taken_staying : (number : ℕ) → is_going nat_eq gone (mount_numbered nat_eq world number).number ≡ false
       → mount_numbered nat_eq (taken_away nat_eq world gone) number
@@ -80,7 +84,8 @@ module _ (world : World ℕ) (gone : List ℕ) where
         mount_point = option_map (mount_point_left nat_eq world gone)
             (mount_numbered nat_eq world number).mount_point;
       })
-  taken_staying number e = taken number ∙ ap (inheriting nat_eq middle) (staying_is_placed (mount_numbered nat_eq world number) e)
+  taken_staying number e = taken number
+      ∙ ap (inheriting nat_eq middle) (staying_is_placed (mount_numbered nat_eq world number) e)
 
   -- Places
 
@@ -92,7 +97,8 @@ module _ (world : World ℕ) (gone : List ℕ) where
       → last_or place (chain n (mount_point_of_parent nat_eq world gone) place) ≡ place
   left_at_rest zero place e = refl
   left_at_rest (suc n) place e =
-      ap (last_or place) (chain_ends (mount_point_of_parent nat_eq world gone) n place (ap (λ b. if b then down place else None) e))
+      ap (last_or place) (chain_ends (mount_point_of_parent nat_eq world gone) n place
+      (ap (λ b. if b then down place else None) e))
 
   -- the places below a place end within so many steps
   abbrev EndsBelow : ℕ → Location ℕ → Type 0
@@ -101,13 +107,16 @@ module _ (world : World ℕ) (gone : List ℕ) where
   falls_to_rest : (n : ℕ) (place rest : Location ℕ) → EndsBelow n place → FallsTo world gone place rest
       → last_or place (chain n (mount_point_of_parent nat_eq world gone) place) ≡ rest
   falls_to_rest n place rest ends (rests at stays) = left_at_rest n at stays
-  falls_to_rest zero place rest ends (falls at below end goes under later) = absurd (true≢false (sym (ap is_some under) ∙ ends))
+  falls_to_rest zero place rest ends (falls at below end goes under later) =
+      absurd (true≢false (sym (ap is_some under) ∙ ends))
   falls_to_rest (suc n) place rest ends (falls at below end goes under later) =
-      let next : mount_point_of_parent nat_eq world gone at ≡ Some below = ap (λ b. if b then down at else None) goes ∙ under in
+      let next : mount_point_of_parent nat_eq world gone at ≡ Some below =
+      ap (λ b. if b then down at else None) goes ∙ under in
       ap (last_or at) (chain_goes_on (mount_point_of_parent nat_eq world gone) n at below next)
       ∙ last_of_chain (mount_point_of_parent nat_eq world gone) n below at
       ∙ falls_to_rest n below end
-      (sym (ap (λ p. is_some (down p)) (ap (last_or at) (chain_goes_on down n at below under) ∙ last_of_chain down n below at))
+      (sym (ap (λ p. is_some (down p))
+      (ap (last_or at) (chain_goes_on down n at below under) ∙ last_of_chain down n below at))
       ∙ ends) later
 
   abbrev below_mount : Mount ℕ → Option (Mount ℕ)
@@ -124,7 +133,8 @@ module _ (world : World ℕ) (gone : List ℕ) where
           → ((next : Location ℕ)
           → (last_or (mount_at nat_eq world next) (chain n below_mount (mount_at nat_eq world next))).mount_point ≡ down
           (last_or next (chain n down next)))
-          → (last_or (mount_at nat_eq world place) (chain (suc n) below_mount (mount_at nat_eq world place))).mount_point ≡ down
+          → (last_or (mount_at nat_eq world place)
+          (chain (suc n) below_mount (mount_at nat_eq world place))).mount_point ≡ down
           (last_or place (chain (suc n) down place))
       by None e later =
           ap (λ ms. (last_or (mount_at nat_eq world place) ms).mount_point)
@@ -144,12 +154,14 @@ module _ (world : World ℕ) (gone : List ℕ) where
       ap is_some (sym (same_end (length world.mounts) place))
       ∙ ⊎_elim
       (λ m. not-true _
-      (and_parts _ _ (among_from_list_all (stands_in_its_namespace nat_eq world) world.mounts ends (mount_at nat_eq world place) m)).0)
+      (and_parts _ _ (among_from_list_all (stands_in_its_namespace nat_eq world) world.mounts ends
+      (mount_at nat_eq world place) m)).0)
       (λ none. ap (λ m. is_some (last_or m (chain (length world.mounts) below_mount m)).mount_point) none
       ∙ none_ends (length world.mounts) place.mount)
       (found_or_none world.mounts place.mount)
     where
-      none_ends : (n number : ℕ) → is_some (last_or (no_mount number) (chain n below_mount (no_mount number))).mount_point ≡ false
+      none_ends : (n number : ℕ) → is_some
+          (last_or (no_mount number) (chain n below_mount (no_mount number))).mount_point ≡ false
       none_ends zero number = refl
       none_ends (suc n) number = refl
 
@@ -160,13 +172,15 @@ module _ (world : World ℕ) (gone : List ℕ) where
   abbrev before_it : ℕ → Mount ℕ
   before_it number = mount_numbered nat_eq world number
 
-  goes_so : (number : ℕ) (b : Bool) → is_going nat_eq gone number ≡ b → is_going nat_eq gone (before_it number).number ≡ b
+  goes_so : (number : ℕ) (b : Bool) → is_going nat_eq gone number ≡ b
+      → is_going nat_eq gone (before_it number).number ≡ b
   goes_so number b e = ap (is_going nat_eq gone) (number_found world.mounts number) ∙ e
 
   pub detached_by_number : (number : ℕ) → is_going nat_eq gone number ≡ true → left number ≡ detached (before_it number)
   detached_by_number number e = taken_going number (goes_so number true e)
 
-  pub kept_by_number : (number : ℕ) → is_going nat_eq gone number ≡ false → KeepsAllButPlaceAndType (before_it number) (left number)
+  pub kept_by_number : (number : ℕ) → is_going nat_eq gone number ≡ false
+      → KeepsAllButPlaceAndType (before_it number) (left number)
   kept_by_number number e =
       let it = taken_staying number (goes_so number false e) in
       record {
@@ -177,28 +191,36 @@ module _ (world : World ℕ) (gone : List ℕ) where
         flags = ap (λ m. m.flags) it;
       }
 
-  place_by_number : (number : ℕ) (place : Location ℕ) → is_going nat_eq gone number ≡ false → (before_it number).mount_point ≡ Some place
+  place_by_number : (number : ℕ) (place : Location ℕ) → is_going nat_eq gone number ≡ false
+      → (before_it number).mount_point ≡ Some place
       → (left number).mount_point ≡ Some (mount_point_left nat_eq world gone place)
   place_by_number number place e at =
-      ap (λ m. m.mount_point) (taken_staying number (goes_so number false e)) ∙ ap (option_map (mount_point_left nat_eq world gone)) at
+      ap (λ m. m.mount_point) (taken_staying number (goes_so number false e))
+      ∙ ap (option_map (mount_point_left nat_eq world gone)) at
 
-  pub place_kept : (number : ℕ) (place : Location ℕ) → is_going nat_eq gone number ≡ false → (before_it number).mount_point ≡ Some place
+  pub place_kept : (number : ℕ) (place : Location ℕ) → is_going nat_eq gone number ≡ false
+      → (before_it number).mount_point ≡ Some place
       → is_going nat_eq gone place.mount ≡ false → (left number).mount_point ≡ Some place
-  place_kept number place e at stays = place_by_number number place e at ∙ ap Some (left_at_rest (length world.mounts) place stays)
+  place_kept number place e at stays =
+      place_by_number number place e at ∙ ap Some (left_at_rest (length world.mounts) place stays)
 
   pub place_fallen : PlacesEnd world → (number : ℕ) (place rest : Location ℕ) → is_going nat_eq gone number ≡ false
-      → (before_it number).mount_point ≡ Some place → FallsTo world gone place rest → (left number).mount_point ≡ Some rest
+      → (before_it number).mount_point ≡ Some place → FallsTo world gone place rest
+      → (left number).mount_point ≡ Some rest
   place_fallen ends number place rest e at fall =
-      place_by_number number place e at ∙ ap Some (falls_to_rest (length world.mounts) place rest (ends_below ends place) fall)
+      place_by_number number place e at
+      ∙ ap Some (falls_to_rest (length world.mounts) place rest (ends_below ends place) fall)
 
   pub root_stays : (number : ℕ) → (before_it number).mount_point ≡ None → (left number).mount_point ≡ None
-  root_stays number at = ap (λ m. m.mount_point) (taken number) ∙ by (is_going nat_eq gone (before_it number).number) refl
+  root_stays number at = ap (λ m. m.mount_point) (taken number)
+      ∙ by (is_going nat_eq gone (before_it number).number) refl
     where
       by : (b : Bool) → is_going nat_eq gone (before_it number).number ≡ b
           → (after_going nat_eq world gone (before_it number)).mount_point ≡ None
       by true e = ap (λ m. m.mount_point) (going_is_detached (before_it number) e)
       by false e =
-          ap (λ m. m.mount_point) (staying_is_placed (before_it number) e) ∙ ap (option_map (mount_point_left nat_eq world gone)) at
+          ap (λ m. m.mount_point) (staying_is_placed (before_it number) e)
+          ∙ ap (option_map (mount_point_left nat_eq world gone)) at
 
   -- Types
   type_by_number : (number : ℕ) → is_going nat_eq gone number ≡ false
@@ -214,14 +236,17 @@ module _ (world : World ℕ) (gone : List ℕ) where
       → (left number).propagation ≡ (before_it number).propagation
   type_kept number e has = type_by_number number e ∙ by (before_it number).propagation has
     where
-      by : (kind : Propagation ℕ) → has_its_master (taken_away nat_eq world gone) kind ≡ true → inherited nat_eq middle kind ≡ kind
+      by : (kind : Propagation ℕ) → has_its_master (taken_away nat_eq world gone) kind ≡ true
+          → inherited nat_eq middle kind ≡ kind
       by (Shared group) h = refl
       by (Slave above) h = inherited_kept middle above (sym (members_of_middle above) ∙ h)
       by Private h = refl
       by Unbindable h = refl
 
-  pub slave_inherits : (number master : ℕ) → is_going nat_eq gone number ≡ false → (before_it number).propagation ≡ Slave master
-      → (left number).propagation ≡ slave_of_heir (find (has_members nat_eq (taken_away nat_eq world gone).mounts) (groups_up world master))
+  pub slave_inherits : (number master : ℕ) → is_going nat_eq gone number ≡ false
+      → (before_it number).propagation ≡ Slave master
+      → (left number).propagation ≡ slave_of_heir
+      (find (has_members nat_eq (taken_away nat_eq world gone).mounts) (groups_up world master))
   slave_inherits number master e slave =
       type_by_number number e ∙ ap (inherited nat_eq middle) slave
       ∙ ap (λ n. slave_of_heir (find (has_members nat_eq middle.mounts) (chain n world.master master)))
@@ -231,7 +256,8 @@ module _ (world : World ℕ) (gone : List ℕ) where
       (λ group. sym (members_of_middle group)) (groups_up world master))
 
   pub master_kept : (group master : ℕ) → world.master group ≡ Some master
-      → has_members nat_eq (taken_away nat_eq world gone).mounts master ≡ true → (taken_away nat_eq world gone).master group ≡ Some master
+      → has_members nat_eq (taken_away nat_eq world gone).mounts master ≡ true
+      → (taken_away nat_eq world gone).master group ≡ Some master
   master_kept group master e h = master-regrouped middle group master e (sym (members_of_middle master) ∙ h)
 
   pub all_but_mounts : KeepsAllButMounts world (taken_away nat_eq world gone)
@@ -255,13 +281,15 @@ pub what_stays_keeps : WhatStaysKeeps
 what_stays_keeps world one number e = kept_by_number world (gone_with world one) number e
 
 pub what_stays_keeps_its_place : WhatStaysKeepsItsPlace
-what_stays_keeps_its_place world one number place e at stays = place_kept world (gone_with world one) number place e at stays
+what_stays_keeps_its_place world one number place e at stays =
+    place_kept world (gone_with world one) number place e at stays
 
 pub root_mounts_stay : RootMountsStay
 root_mounts_stay world one number at = root_stays world (gone_with world one) number at
 
 pub what_covered_falls : WhatCoveredFalls
-what_covered_falls world one number place rest ends e at fall = place_fallen world (gone_with world one) ends number place rest e at fall
+what_covered_falls world one number place rest ends e at fall =
+    place_fallen world (gone_with world one) ends number place rest e at fall
 
 pub what_stays_keeps_its_type : WhatStaysKeepsItsType
 what_stays_keeps_its_type world one number e has = type_kept world (gone_with world one) number e has

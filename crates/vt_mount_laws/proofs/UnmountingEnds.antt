@@ -39,7 +39,8 @@ event : (world : World ℕ) (gone : List ℕ) (number : ℕ)
 event world gone number = by (is_going nat_eq gone number) refl
   where
     by : (b : Bool) → is_going nat_eq gone number ≡ b
-        → DetachedOrKept (mount_numbered nat_eq world number) (mount_numbered nat_eq (taken_away nat_eq world gone) number)
+        → DetachedOrKept (mount_numbered nat_eq world number)
+        (mount_numbered nat_eq (taken_away nat_eq world gone) number)
     by true e = inl (detached_by_number world gone number e)
     by false e = inr (kept_by_number world gone number e)
 
@@ -56,7 +57,8 @@ detached_of_kept a b r = λ i. record {
 }
 
 -- a mount outside every namespace, with no place and no group, stays as it is
-stays_detached : (world : World ℕ) (gone : List ℕ) (number : ℕ) (before : Mount ℕ) → mount_numbered nat_eq world number ≡ detached before
+stays_detached : (world : World ℕ) (gone : List ℕ) (number : ℕ) (before : Mount ℕ)
+    → mount_numbered nat_eq world number ≡ detached before
     → mount_numbered nat_eq (taken_away nat_eq world gone) number ≡ detached before
 stays_detached world gone number before e =
     taken world gone number ∙ ap (λ m. inheriting nat_eq (middle world gone) (after_going nat_eq world gone m)) e
@@ -91,7 +93,8 @@ all_events before number (mount ∷ mounts) world r =
     all_events before number mounts (unmounted_if_there nat_eq world mount)
     (by (is_some (mount_numbered nat_eq world mount.number).namespace))
   where
-    by : (b : Bool) → DetachedOrKept before (mount_numbered nat_eq (if b then unmounted nat_eq world mount.number else world) number)
+    by : (b : Bool) → DetachedOrKept before
+        (mount_numbered nat_eq (if b then unmounted nat_eq world mount.number else world) number)
     by true = then_event before world (going nat_eq world (mount_numbered nat_eq world mount.number)) number r
     by false = r
 
@@ -101,7 +104,8 @@ lazy_detaches_or_keeps world one number =
     (deepest_first nat_eq world (mount_tree nat_eq world.mounts (mount_numbered nat_eq world one))) world
     (inr (record { number = refl; namespace = refl; filesystem = refl; root = refl; flags = refl }))
 
-all_of_mounts : (mounts : List (Mount ℕ)) (world : World ℕ) → KeepsAllButMounts world (folded (unmounted_if_there nat_eq) world mounts)
+all_of_mounts : (mounts : List (Mount ℕ)) (world : World ℕ)
+    → KeepsAllButMounts world (folded (unmounted_if_there nat_eq) world mounts)
 all_of_mounts [] world = record { filesystems = refl; namespaces = refl; tasks = refl; change = refl }
 all_of_mounts (mount ∷ mounts) world =
     let first = by (is_some (mount_numbered nat_eq world mount.number).namespace) in
@@ -153,12 +157,14 @@ the_mount_itself_goes world one place one_each at childless =
         (found_or_none world.mounts one)
 
     at_parent : child_at nat_eq world.mounts (record { mount = parent.number; node = place.node }) ≡ Some itself
-    at_parent = ap (λ n. child_at nat_eq world.mounts (record { mount = n; node = place.node })) (number_found world.mounts place.mount) ∙ found_at_its_place world.mounts one_each itself itself_among place at
+    at_parent = ap (λ n. child_at nat_eq world.mounts (record { mount = n; node = place.node }))
+        (number_found world.mounts place.mount) ∙ found_at_its_place world.mounts one_each itself itself_among place at
 
     parent_among : (group : ℕ) → parent.propagation ≡ Shared group → Among parent world.mounts
     parent_among group e =
         ⊎_elim (λ m. m)
-        (λ none. absurd (true≢false (sym (ap (λ k. is_some (group_of k)) e) ∙ ap (λ m. is_some (group_of m.propagation)) none)))
+        (λ none. absurd (true≢false (sym (ap (λ k. is_some (group_of k)) e)
+        ∙ ap (λ m. is_some (group_of m.propagation)) none)))
         (found_or_none world.mounts place.mount)
 
     by : (kind : Propagation ℕ) → parent.propagation ≡ kind
@@ -170,8 +176,10 @@ the_mount_itself_goes world one place one_each at childless =
         (filter_map (goes_at nat_eq world place.node) rs))) (receivers_of_shared world parent group e)
         ∙ is_among_numbers _ one
         (subst (λ n. Among n
-        (map (λ (gone : Mount ℕ). gone.number) (filter_map (goes_at nat_eq world place.node) (receivers nat_eq world group)))) number
-        (among-map (λ (gone : Mount ℕ). gone.number) (filter_map (goes_at nat_eq world place.node) (receivers nat_eq world group)) itself
+        (map (λ (gone : Mount ℕ). gone.number)
+        (filter_map (goes_at nat_eq world place.node) (receivers nat_eq world group)))) number
+        (among-map (λ (gone : Mount ℕ). gone.number)
+        (filter_map (goes_at nat_eq world place.node) (receivers nat_eq world group)) itself
         (among-filter_map (goes_at nat_eq world place.node) (receivers nat_eq world group) parent itself
         (among-filter (receives nat_eq world group) world.mounts parent (parent_among group e)
         (receives_from_source world group parent (ap source_of e)))

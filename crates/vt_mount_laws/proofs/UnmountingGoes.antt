@@ -29,26 +29,34 @@ only_one number one m = ⊎_elim (λ e. e) (λ none. absurd none) m
 module _ (world : World ℕ) where
   -- what goes at a receiver
   pub child_goes : (node : ℕ) (receiver child : Mount ℕ) → goes_at nat_eq world node receiver ≡ Some child
-      → (child_at nat_eq world.mounts (record { mount = receiver.number; node = node }) ≡ Some child) × (may_go nat_eq world child ≡ true)
-  child_goes node receiver child e = by (child_at nat_eq world.mounts (record { mount = receiver.number; node = node })) refl
+      → (child_at nat_eq world.mounts (record { mount = receiver.number; node = node }) ≡ Some child)
+      × (may_go nat_eq world child ≡ true)
+  child_goes node receiver child e =
+      by (child_at nat_eq world.mounts (record { mount = receiver.number; node = node })) refl
     where
       may : (found : Mount ℕ) (b : Bool) → may_go nat_eq world found ≡ b → when b found ≡ Some child
           → (found ≡ child) × (may_go nat_eq world child ≡ true)
       may found true f g = let same : found ≡ child = cc in (same, ap (may_go nat_eq world) (sym same) ∙ f)
       may found false f g = cc
 
-      by : (found : Option (Mount ℕ)) → child_at nat_eq world.mounts (record { mount = receiver.number; node = node }) ≡ found
-          → (child_at nat_eq world.mounts (record { mount = receiver.number; node = node }) ≡ Some child) × (may_go nat_eq world child ≡ true)
-      by None f = absurd (true≢false (sym (ap is_some e) ∙ ap (λ found. is_some (then_some found (λ c. when (may_go nat_eq world c) c))) f))
+      by : (found : Option (Mount ℕ))
+          → child_at nat_eq world.mounts (record { mount = receiver.number; node = node }) ≡ found
+          → (child_at nat_eq world.mounts (record { mount = receiver.number; node = node }) ≡ Some child)
+          × (may_go nat_eq world child ≡ true)
+      by None f = absurd (true≢false
+          (sym (ap is_some e) ∙ ap (λ found. is_some (then_some found (λ c. when (may_go nat_eq world c) c))) f))
       by (Some found) f =
           let t : (found ≡ child) × (may_go nat_eq world child ≡ true) =
-          may found (may_go nat_eq world found) refl (sym (ap (λ o. then_some o (λ c. when (may_go nat_eq world c) c)) f) ∙ e) in
+          may found (may_go nat_eq world found) refl
+          (sym (ap (λ o. then_some o (λ c. when (may_go nat_eq world c) c)) f) ∙ e) in
           (f ∙ ap Some t.0, t.1)
 
   pub child_goes_so : (node : ℕ) (receiver child : Mount ℕ)
-      → child_at nat_eq world.mounts (record { mount = receiver.number; node = node }) ≡ Some child → may_go nat_eq world child ≡ true
+      → child_at nat_eq world.mounts (record { mount = receiver.number; node = node }) ≡ Some child
+      → may_go nat_eq world child ≡ true
       → goes_at nat_eq world node receiver ≡ Some child
-  child_goes_so node receiver child f g = ap (λ o. then_some o (λ c. when (may_go nat_eq world c) c)) f ∙ ap (λ b. when b child) g
+  child_goes_so node receiver child f g =
+      ap (λ o. then_some o (λ c. when (may_go nat_eq world c) c)) f ∙ ap (λ b. when b child) g
 
   pub receivers_of_shared : (parent : Mount ℕ) (group : ℕ) → parent.propagation ≡ Shared group
       → receivers_of nat_eq world parent ≡ receivers nat_eq world group
@@ -65,19 +73,25 @@ module _ (world : World ℕ) (live : GroupsLive world) (mount : Mount ℕ) where
       listed numbers e = among_numbers numbers number (sym (ap (λ ns. is_going nat_eq ns number) e) ∙ h)
 
       shared : (place : Location ℕ) (group : ℕ) → mount.mount_point ≡ Some place → (mount_at nat_eq world place).propagation ≡ Shared group
-          → Among number (map (λ gone. gone.number) (filter_map (goes_at nat_eq world place.node) (receivers nat_eq world group)))
+          → Among number (map (λ gone. gone.number)
+          (filter_map (goes_at nat_eq world place.node) (receivers nat_eq world group)))
           → Goes world mount number
       shared place group e f m =
-          let gone : (x : Mount ℕ) × Among x (filter_map (goes_at nat_eq world place.node) (receivers nat_eq world group))
+          let gone : (x : Mount ℕ)
+          × Among x (filter_map (goes_at nat_eq world place.node) (receivers nat_eq world group))
           × (number ≡ x.number) =
-          among-from_map (λ gone. gone.number) (filter_map (goes_at nat_eq world place.node) (receivers nat_eq world group)) number m in
-          let heard : (x : Mount ℕ) × Among x (receivers nat_eq world group) × (goes_at nat_eq world place.node x ≡ Some gone.0) =
+          among-from_map (λ gone. gone.number)
+          (filter_map (goes_at nat_eq world place.node) (receivers nat_eq world group)) number m in
+          let heard : (x : Mount ℕ) × Among x (receivers nat_eq world group)
+          × (goes_at nat_eq world place.node x ≡ Some gone.0) =
           among-from_filter_map (goes_at nat_eq world place.node) (receivers nat_eq world group) gone.0 gone.1 in
-          let child : (child_at nat_eq world.mounts (record { mount = heard.0.number; node = place.node }) ≡ Some gone.0) × (may_go nat_eq world gone.0 ≡ true) =
+          let child : (child_at nat_eq world.mounts (record { mount = heard.0.number; node = place.node })
+          ≡ Some gone.0) × (may_go nat_eq world gone.0 ≡ true) =
           child_goes world place.node heard.0 gone.0 heard.2 in
           let hears : Contains world.mounts heard.0 × Receives world group heard.0 =
           (receivers_receive world group heard.0 live).0 (contains_from_among _ heard.0 heard.1) in
-          subst (Goes world mount) (sym gone.2) (at_receiver place group heard.0 gone.0 e f hears.0 hears.1 child.0 child.1)
+          subst (Goes world mount) (sym gone.2)
+          (at_receiver place group heard.0 gone.0 e f hears.0 hears.1 child.0 child.1)
 
       at_place : (place : Location ℕ) → mount.mount_point ≡ Some place → (kind : Propagation ℕ)
           → (mount_at nat_eq world place).propagation ≡ kind → Goes world mount number
@@ -104,7 +118,8 @@ module _ (world : World ℕ) (live : GroupsLive world) (mount : Mount ℕ) where
       ap (λ ns. is_going nat_eq ns mount.number) (ap (going_at nat_eq world mount) e)
       ∙ is_among_numbers (mount.number ∷ []) mount.number (inl refl)
   goes_so_named number (alone place e f) =
-      ap (λ ns. is_going nat_eq ns mount.number) (ap (going_at nat_eq world mount) e ∙ ap (going_from nat_eq world mount place) f)
+      ap (λ ns. is_going nat_eq ns mount.number)
+      (ap (going_at nat_eq world mount) e ∙ ap (going_from nat_eq world mount place) f)
       ∙ is_among_numbers (mount.number ∷ []) mount.number (inl refl)
   goes_so_named number (at_receiver place group receiver child e f contained hears found may) =
       let heard : Among receiver (receivers nat_eq world group) =
@@ -120,8 +135,11 @@ module _ (world : World ℕ) (live : GroupsLive world) (mount : Mount ℕ) where
       (child_goes_so world place.node receiver child found may)))
 
 pub what_goes_is_named : WhatGoesIsNamed
-what_goes_is_named world one number live =
-    (is_named world live (mount_numbered nat_eq world one) number, goes_so_named world live (mount_numbered nat_eq world one) number)
+what_goes_is_named world one number live = (
+  is_named world live (mount_numbered nat_eq world one) number,
+  goes_so_named world live
+      (mount_numbered nat_eq world one) number,
+)
 
 -- a granted umount has unmounted
 umount_granted : (world : World ℕ) (task : Task ℕ) (path : List ℕ) (here : Here ℕ)
@@ -131,10 +149,13 @@ umount_granted : (world : World ℕ) (task : Task ℕ) (path : List ℕ) (here :
 unfolding umount_outcome
 umount_granted world task path here ends e =
     let walked : after world (walk_end (directory_walk nat_eq world task path))
-    (λ h. judged world (umount_rules nat_eq world task h.location) (granted Done (unmounted nat_eq world h.location.mount)))
-    ≡ judged world (umount_rules nat_eq world task here.location) (granted Done (unmounted nat_eq world here.location.mount)) =
+    (λ h. judged world (umount_rules nat_eq world task h.location)
+    (granted Done (unmounted nat_eq world h.location.mount)))
+    ≡ judged world (umount_rules nat_eq world task here.location)
+    (granted Done (unmounted nat_eq world here.location.mount)) =
     ap (λ r. after world r
-    (λ h. judged world (umount_rules nat_eq world task h.location) (granted Done (unmounted nat_eq world h.location.mount)))) ends in
+    (λ h. judged world (umount_rules nat_eq world task h.location)
+    (granted Done (unmounted nat_eq world h.location.mount)))) ends in
     let first = judged_granted Done world (admin_rules task) _ e in
     let second =
     judged_granted Done world (umount_rules nat_eq world task here.location)

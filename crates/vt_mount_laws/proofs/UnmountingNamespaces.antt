@@ -20,7 +20,8 @@ last_longer next zero a e = ap (last_or a) (chain_ends next zero a e)
 last_longer next (suc n) a e = by (next a) refl (last_longer next n)
   where
     by : (found : Option _) → next a ≡ found
-        → ((b : _) → next (last_or b (chain n next b)) ≡ None → last_or b (chain (suc n) next b) ≡ last_or b (chain n next b))
+        → ((b : _) → next (last_or b (chain n next b)) ≡ None
+        → last_or b (chain (suc n) next b) ≡ last_or b (chain n next b))
         → last_or a (chain (suc (suc n)) next a) ≡ last_or a (chain (suc n) next a)
     by None f later = ap (last_or a) (chain_ends next (suc n) a f) ∙ sym (ap (last_or a) (chain_ends next n a f))
     by (Some b) f later =
@@ -53,7 +54,8 @@ module _ (world : World ℕ) (ends : PlacesEnd world) where
       by (Some place) f = absurd (true≢false f)
 
   parts : (mount : Mount ℕ) → Among mount world.mounts
-      → (is_some (last_parent nat_eq world mount).mount_point ≡ false) × (mount.namespace ≡ (last_parent nat_eq world mount).namespace)
+      → (is_some (last_parent nat_eq world mount).mount_point ≡ false)
+      × (mount.namespace ≡ (last_parent nat_eq world mount).namespace)
   parts mount m =
       let both : (not (is_some (last_parent nat_eq world mount).mount_point) ≡ true)
       × (same_option nat_eq mount.namespace (last_parent nat_eq world mount).namespace ≡ true) =
@@ -71,10 +73,12 @@ module _ (world : World ℕ) (ends : PlacesEnd world) where
       let other = parts on n in
       let shorter : last_parent nat_eq world x ≡ last_or on (chain size.0 under on) =
       ap (λ k. last_or x (chain k under x)) size.1
-      ∙ ap (last_or x) (chain_goes_on under size.0 x on (ap (option_map (mount_at nat_eq world)) e)) ∙ last_of_chain under size.0 on x in
+      ∙ ap (last_or x) (chain_goes_on under size.0 x on (ap (option_map (mount_at nat_eq world)) e))
+      ∙ last_of_chain under size.0 on x in
       let same : last_parent nat_eq world on ≡ last_parent nat_eq world x =
       ap (λ k. last_or on (chain k under on)) size.1
-      ∙ last_longer under size.0 on (no_more (last_or on (chain size.0 under on)) (ap (λ l. is_some l.mount_point) (sym shorter) ∙ first.0))
+      ∙ last_longer under size.0 on (no_more (last_or on (chain size.0 under on))
+      (ap (λ l. is_some l.mount_point) (sym shorter) ∙ first.0))
       ∙ sym shorter in
       first.1 ∙ sym (other.1 ∙ ap (λ l. l.namespace) same)
 
@@ -88,9 +92,11 @@ ended_closed world ends one x place m e goes =
     among-from_map (λ (mount : Mount ℕ). mount.number) (filter (is_in_ended nat_eq world) world.mounts) place.mount
     (among_numbers (in_ended world) place.mount goes) in
     let end = among-from_filter (is_in_ended nat_eq world) world.mounts from.0 from.1 in
-    let it : mount_at nat_eq world place ≡ from.0 = ap (mount_in nat_eq world.mounts) from.2 ∙ found_itself world.mounts one from.0 end.0 in
+    let it : mount_at nat_eq world place ≡ from.0 =
+    ap (mount_in nat_eq world.mounts) from.2 ∙ found_itself world.mounts one from.0 end.0 in
     let there : Among (mount_at nat_eq world place) world.mounts = subst (λ z. Among z world.mounts) (sym it) end.0 in
-    let namespace : x.namespace ≡ from.0.namespace = same_namespace world ends x place m e there ∙ ap (λ z. z.namespace) it in
+    let namespace : x.namespace ≡ from.0.namespace =
+    same_namespace world ends x place m e there ∙ ap (λ z. z.namespace) it in
     is_among_numbers (in_ended world) x.number
     (among-map (λ (mount : Mount ℕ). mount.number) (filter (is_in_ended nat_eq world) world.mounts) x
     (among-filter (is_in_ended nat_eq world) world.mounts x m

@@ -43,7 +43,8 @@ module _ (world : World ℕ) (gone : List ℕ) where
           → Falls world gone a (last_or next (chain n (mount_point_of_parent nat_eq world gone) next)))
           → Falls world gone a (last_or place (chain (suc n) (mount_point_of_parent nat_eq world gone) place))
       by None e later =
-          subst (λ ps. Falls world gone a (last_or place ps)) (sym (chain_ends (mount_point_of_parent nat_eq world gone) n place e)) fall
+          subst (λ ps. Falls world gone a (last_or place ps))
+          (sym (chain_ends (mount_point_of_parent nat_eq world gone) n place e)) fall
       by (Some next) e later =
           subst (Falls world gone a)
           (sym (ap (last_or place) (chain_goes_on (mount_point_of_parent nat_eq world gone) n place next e)
@@ -55,19 +56,24 @@ module _ (world : World ℕ) (gone : List ℕ) where
       → (is_going nat_eq gone a.number ≡ false) × Falls world gone a rest
   stood a rest e = by (is_going nat_eq gone a.number) refl
     where
-      at : (place : Option (Location ℕ)) → a.mount_point ≡ place → option_map (mount_point_left nat_eq world gone) place ≡ Some rest
+      at : (place : Option (Location ℕ)) → a.mount_point ≡ place
+          → option_map (mount_point_left nat_eq world gone) place ≡ Some rest
           → Falls world gone a rest
       at None f g = cc
       at (Some place) f g =
-          let same : mount_point_left nat_eq world gone place ≡ rest = same_Some (mount_point_left nat_eq world gone place) rest g in
+          let same : mount_point_left nat_eq world gone place ≡ rest =
+          same_Some (mount_point_left nat_eq world gone place) rest g in
           subst (Falls world gone a) same (falls_down a (length world.mounts) place (direct place f))
 
-      by : (b : Bool) → is_going nat_eq gone a.number ≡ b → (is_going nat_eq gone a.number ≡ false) × Falls world gone a rest
-      by true f = absurd (true≢false (sym (ap is_some e) ∙ ap (λ m. is_some m.mount_point) (going_is_detached world gone a f)))
+      by : (b : Bool) → is_going nat_eq gone a.number ≡ b
+          → (is_going nat_eq gone a.number ≡ false) × Falls world gone a rest
+      by true f = absurd (true≢false
+          (sym (ap is_some e) ∙ ap (λ m. is_some m.mount_point) (going_is_detached world gone a f)))
       by false f = (f, at a.mount_point refl (sym (ap (λ m. m.mount_point) (staying_is_placed world gone a f)) ∙ e))
 
 -- one child alone
-one_child_alone : (mount : Mount ℕ) (list : List (Mount ℕ)) → only_cover nat_eq mount list ≡ true → (a b : Mount ℕ) → Among a list
+one_child_alone : (mount : Mount ℕ) (list : List (Mount ℕ)) → only_cover nat_eq mount list ≡ true → (a b : Mount ℕ)
+    → Among a list
     → Among b list → a ≡ b
 one_child_alone mount [] h a b m n = absurd m
 one_child_alone mount (child ∷ []) h a b m n = only a m ∙ sym (only b n)
@@ -83,7 +89,8 @@ module _ (world : World ℕ) (gone : List ℕ) (apart_all : AreApart world)
   stander : (a : Mount ℕ) (place : Location ℕ) → Among a world.mounts → Falls world gone a place
       → (x : Mount ℕ) × Among x world.mounts × (x.mount_point ≡ Some place)
   stander a place m (direct rest e) = (a, m, e)
-  stander a place m (down at rest fall goes under) = (mount_at nat_eq world at, placed_among world.mounts at.mount rest under, under)
+  stander a place m (down at rest fall goes under) =
+      (mount_at nat_eq world at, placed_among world.mounts at.mount rest under, under)
 
   -- two that stand on a mount that goes stand at one place
   one_root : (x y : Mount ℕ) (p q : Location ℕ) → Among x world.mounts → Among y world.mounts → x.mount_point ≡ Some p
@@ -92,18 +99,22 @@ module _ (world : World ℕ) (gone : List ℕ) (apart_all : AreApart world)
   one_root x y p q m n e f goes same =
       let under = mount_at nat_eq world p in
       let number : under.number ≡ p.mount = number_found world.mounts p.mount in
-      let on_it : (z : Mount ℕ) (r : Location ℕ) → z.mount_point ≡ Some r → r.mount ≡ p.mount → stands_on nat_eq under.number z ≡ true =
-      λ z r g h. ap (holds_of (λ place. nat_eq under.number place.mount)) g ∙ eq-eqb under.number r.mount (number ∙ sym h) in
+      let on_it : (z : Mount ℕ) (r : Location ℕ) → z.mount_point ≡ Some r → r.mount ≡ p.mount
+      → stands_on nat_eq under.number z ≡ true =
+      λ z r g h. ap (holds_of (λ place. nat_eq under.number place.mount)) g
+      ∙ eq-eqb under.number r.mount (number ∙ sym h) in
       let both : x ≡ y = one_child_alone under (children nat_eq world.mounts under.number) (may x p m e goes) x y
       (among-filter (stands_on nat_eq under.number) world.mounts x m (on_it x p e refl))
       (among-filter (stands_on nat_eq under.number) world.mounts y n (on_it y q f same)) in
       same_Some p q (sym e ∙ ap (λ z. z.mount_point) both ∙ f)
 
   -- what stays is no mount that goes
-  not_both : (a : Mount ℕ) (place : Location ℕ) → is_going nat_eq gone a.number ≡ false → is_going nat_eq gone place.mount ≡ true
+  not_both : (a : Mount ℕ) (place : Location ℕ) → is_going nat_eq gone a.number ≡ false
+      → is_going nat_eq gone place.mount ≡ true
       → mount_at nat_eq world place ≡ a → ⊥
   not_both a place stays goes same =
-      true≢false (sym goes ∙ ap (is_going nat_eq gone) (sym (number_found world.mounts place.mount) ∙ ap (λ z. z.number) same) ∙ stays)
+      true≢false (sym goes ∙ ap (is_going nat_eq gone)
+      (sym (number_found world.mounts place.mount) ∙ ap (λ z. z.number) same) ∙ stays)
 
   -- two that stay fall to one place only where they are one
   one_falls : (a b : Mount ℕ) → Among a world.mounts → Among b world.mounts → is_going nat_eq gone a.number ≡ false
@@ -125,13 +136,16 @@ module _ (world : World ℕ) (gone : List ℕ) (apart_all : AreApart world)
       (placed_among world.mounts at.mount rest under) (placed_among world.mounts at_too.mount end under_too) rest under
       (under_too ∙ ap Some same) in
       let number : at_too.mount ≡ at.mount =
-      sym (number_found world.mounts at_too.mount) ∙ ap (λ z. z.number) (sym on_one) ∙ number_found world.mounts at.mount in
+      sym (number_found world.mounts at_too.mount) ∙ ap (λ z. z.number) (sym on_one)
+      ∙ number_found world.mounts at.mount in
       let x = stander a at m fall in
       let y = stander b at_too n fall_too in
-      one_falls a b m n stays also at fall at_too fall_too (sym (one_root x.0 y.0 at at_too x.1 y.1 x.2 y.2 goes number))
+      one_falls a b m n stays also at fall at_too fall_too
+      (sym (one_root x.0 y.0 at at_too x.1 y.1 x.2 y.2 goes number))
 
   -- no two come to one place
-  pub one_place_left : (a b : Mount ℕ) → Among a world.mounts → Among b world.mounts → share_a_mount_point nat_eq a b ≡ false
+  pub one_place_left : (a b : Mount ℕ) → Among a world.mounts → Among b world.mounts
+      → share_a_mount_point nat_eq a b ≡ false
       → share_a_mount_point nat_eq (after_going nat_eq world gone a) (after_going nat_eq world gone b) ≡ false
   one_place_left a b m n differ = false_from_ne_true _ (λ together.
       let place = place_of_both (after_going nat_eq world gone a) (after_going nat_eq world gone b) together in
@@ -141,7 +155,8 @@ module _ (world : World ℕ) (gone : List ℕ) (apart_all : AreApart world)
       let had = had_place a place.0 first.1 in
       true≢false (sym (one_place_of_two had.0 a b had.1 (ap (λ x. x.mount_point) (sym same) ∙ had.1)) ∙ differ))
     where
-      had_place : (x : Mount ℕ) (place : Location ℕ) → Falls world gone x place → (at : Location ℕ) × (x.mount_point ≡ Some at)
+      had_place : (x : Mount ℕ) (place : Location ℕ) → Falls world gone x place
+          → (at : Location ℕ) × (x.mount_point ≡ Some at)
       had_place x place (direct rest e) = (rest, e)
       had_place x place (down at rest fall goes under) = had_place x at fall
 
@@ -155,7 +170,8 @@ module _ (world : World ℕ) (gone : List ℕ) (apart_all : AreApart world)
 
 -- At an unmount
 -- what goes is the mount itself, or one that stands at a place and may go
-pub goes_or_may : (world : World ℕ) (mount : Mount ℕ) (number : ℕ) → is_going nat_eq (going nat_eq world mount) number ≡ true
+pub goes_or_may : (world : World ℕ) (mount : Mount ℕ) (number : ℕ)
+    → is_going nat_eq (going nat_eq world mount) number ≡ true
     → (number ≡ mount.number)
     ⊎ ((child : Mount ℕ) × Among child world.mounts × (may_go nat_eq world child ≡ true) × (number ≡ child.number)
     × (is_some child.mount_point ≡ true))
@@ -176,7 +192,8 @@ goes_or_may world mount number h = by mount.mount_point refl
         × (is_some child.mount_point ≡ true))
     on place true m =
         let receiving = receivers_of nat_eq world (mount_at nat_eq world place) in
-        let gone = among-from_map (λ (x : Mount ℕ). x.number) (filter_map (goes_at nat_eq world place.node) receiving) number m in
+        let gone = among-from_map (λ (x : Mount ℕ). x.number)
+        (filter_map (goes_at nat_eq world place.node) receiving) number m in
         let heard = among-from_filter_map (goes_at nat_eq world place.node) receiving gone.0 gone.1 in
         let child = child_goes world place.node heard.0 gone.0 heard.2 in
         let at : Location ℕ = record { mount = heard.0.number; node = place.node } in
@@ -197,7 +214,8 @@ goes_or_may world mount number h = by mount.mount_point refl
 pub unmount_leaves_one_mount_a_place : UnmountLeavesOneMountAPlace
 unmount_leaves_one_mount_a_place world one apart_all childless = record {
   by_number = unmount_keeps_numbers world one apart_all.by_number;
-  by_place = taking_away_leaves_one world (going nat_eq world (mount_numbered nat_eq world one)) apart_all (λ x place m e goes.
+  by_place = taking_away_leaves_one world (going nat_eq world (mount_numbered nat_eq world one)) apart_all
+      (λ x place m e goes.
       ⊎_elim
       (λ itself. absurd (no_child x place m e (itself ∙ number_found world.mounts one)))
       (λ t.
@@ -206,7 +224,8 @@ unmount_leaves_one_mount_a_place world one apart_all childless = record {
       (goes_or_may world (mount_numbered nat_eq world one) place.mount goes));
 }
   where
-    no_child : (x : Mount ℕ) (place : Location ℕ) → Among x world.mounts → x.mount_point ≡ Some place → place.mount ≡ one → ⊥
+    no_child : (x : Mount ℕ) (place : Location ℕ) → Among x world.mounts → x.mount_point ≡ Some place
+        → place.mount ≡ one → ⊥
     no_child x place m e same =
         true≢false (sym (ap (holds_of (λ p. nat_eq one p.mount)) e ∙ eq-eqb one place.mount (sym same))
         ∙ none_among (stands_on nat_eq one) world.mounts childless x m)

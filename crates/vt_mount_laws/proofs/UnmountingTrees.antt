@@ -24,7 +24,8 @@ AreClosed world gone =
 
 module _ (world : World ℕ) (gone : List ℕ) (closed : AreClosed world gone) where
   -- then what stays stands where it stood
-  stood_there : (a : Mount ℕ) (rest : Location ℕ) → Among a world.mounts → (after_going nat_eq world gone a).mount_point ≡ Some rest
+  stood_there : (a : Mount ℕ) (rest : Location ℕ) → Among a world.mounts
+      → (after_going nat_eq world gone a).mount_point ≡ Some rest
       → a.mount_point ≡ Some rest
   stood_there a rest m e = by (is_going nat_eq gone a.number) refl
     where
@@ -32,7 +33,8 @@ module _ (world : World ℕ) (gone : List ℕ) (closed : AreClosed world gone) w
           → is_going nat_eq gone a.number ≡ false
           → option_map (mount_point_left nat_eq world gone) (Some place) ≡ Some rest → a.mount_point ≡ Some rest
       on place true goes f stays g = absurd (true≢false (sym (closed a place m f goes) ∙ stays))
-      on place false stays_too f stays g = f ∙ ap Some (sym (left_at_rest world gone (length world.mounts) place stays_too)) ∙ g
+      on place false stays_too f stays g =
+          f ∙ ap Some (sym (left_at_rest world gone (length world.mounts) place stays_too)) ∙ g
 
       at : (place : Option (Location ℕ)) → a.mount_point ≡ place → is_going nat_eq gone a.number ≡ false
           → option_map (mount_point_left nat_eq world gone) place ≡ Some rest → a.mount_point ≡ Some rest
@@ -40,7 +42,8 @@ module _ (world : World ℕ) (gone : List ℕ) (closed : AreClosed world gone) w
       at (Some place) f stays g = on place (is_going nat_eq gone place.mount) refl f stays g
 
       by : (b : Bool) → is_going nat_eq gone a.number ≡ b → a.mount_point ≡ Some rest
-      by true f = absurd (true≢false (sym (ap is_some e) ∙ ap (λ m. is_some m.mount_point) (going_is_detached world gone a f)))
+      by true f = absurd (true≢false
+          (sym (ap is_some e) ∙ ap (λ m. is_some m.mount_point) (going_is_detached world gone a f)))
       by false f = at a.mount_point refl f (sym (ap (λ m. m.mount_point) (staying_is_placed world gone a f)) ∙ e)
 
   pub closed_keeps_apart : AreApart world → AreApart (taken_away nat_eq world gone)
@@ -52,7 +55,8 @@ module _ (world : World ℕ) (gone : List ℕ) (closed : AreClosed world gone) w
         (pair-map (share_a_mount_point nat_eq) (share_a_mount_point nat_eq) (after_going nat_eq world gone) world.mounts
         (λ a b m n differ. false_from_ne_true _ (λ together.
         let place = place_of_both (after_going nat_eq world gone a) (after_going nat_eq world gone b) together in
-        true≢false (sym (one_place_of_two place.0 a b (stood_there a place.0 m place.1) (stood_there b place.0 n place.2)) ∙ differ)))
+        true≢false (sym (one_place_of_two place.0 a b (stood_there a place.0 m place.1)
+        (stood_there b place.0 n place.2)) ∙ differ)))
         both.by_place);
   }
 
@@ -70,7 +74,8 @@ module _ (world : World ℕ) where
 
   one_more : (n : ℕ) (mount end : Mount ℕ) (place : Location ℕ) → Reaches n mount end → end.mount_point ≡ Some place
       → Reaches (suc n) mount (mount_at nat_eq world place)
-  one_more n mount end place (arrived it) e = down zero it (mount_at nat_eq world place) place e (arrived (mount_at nat_eq world place))
+  one_more n mount end place (arrived it) e =
+      down zero it (mount_at nat_eq world place) place e (arrived (mount_at nat_eq world place))
   one_more n mount end place (down k it last at f later) e =
       down (suc k) it (mount_at nat_eq world place) at f (one_more k (mount_at nat_eq world at) last place later e)
 
@@ -81,7 +86,8 @@ module _ (world : World ℕ) where
   not_ended zero k mount end (down j it last at f later) e = ap is_some f
   not_ended (suc n) k mount end (down j it last at f later) e =
       ap (λ m. is_some m.mount_point)
-      (ap (last_or it) (chain_goes_on mount_below n it (mount_at nat_eq world at) (ap (option_map (mount_at nat_eq world)) f))
+      (ap (last_or it) (chain_goes_on mount_below n it (mount_at nat_eq world at)
+      (ap (option_map (mount_at nat_eq world)) f))
       ∙ last_of_chain mount_below n (mount_at nat_eq world at) it)
       ∙ not_ended n j (mount_at nat_eq world at) last later (omega (arith, e))
 
@@ -90,12 +96,15 @@ module _ (world : World ℕ) where
     ended mount end m r =
         true≢false
         (sym (not_ended (length world.mounts) (suc (length world.mounts)) mount end r refl)
-        ∙ not-true _ (and_parts _ _ (among_from_list_all (stands_in_its_namespace nat_eq world) world.mounts ends mount m)).0)
+        ∙ not-true _ (and_parts _ _ (among_from_list_all
+        (stands_in_its_namespace nat_eq world) world.mounts ends mount m)).0)
 
     -- what stands on a mount of a tree is in it, or lies so deep
-    in_tree : (depth : ℕ) (top under x : Mount ℕ) (place : Location ℕ) → Among under (tree_from nat_eq depth world.mounts top)
+    in_tree : (depth : ℕ) (top under x : Mount ℕ) (place : Location ℕ)
+        → Among under (tree_from nat_eq depth world.mounts top)
         → Among x world.mounts → x.mount_point ≡ Some place → place.mount ≡ under.number
-        → Among x (tree_from nat_eq depth world.mounts top) ⊎ Reaches (suc depth) x (mount_numbered nat_eq world top.number)
+        → Among x (tree_from nat_eq depth world.mounts top)
+        ⊎ Reaches (suc depth) x (mount_numbered nat_eq world top.number)
     in_tree zero top under x place m n e same =
         let number : place.mount ≡ top.number = ⊎_elim (λ f. same ∙ ap (λ z. z.number) f) (λ none. absurd none) m in
         inr (subst (λ k. Reaches 1 x (mount_numbered nat_eq world k)) number
@@ -109,13 +118,16 @@ module _ (world : World ℕ) where
         ∙ eq-eqb top.number place.mount (sym number)))
         (top_among depth x))))
         (λ later.
-        let from = among-from_flat_map (tree_from nat_eq depth world.mounts) (children nat_eq world.mounts top.number) under later in
+        let from = among-from_flat_map (tree_from nat_eq depth world.mounts)
+        (children nat_eq world.mounts top.number) under later in
         let child = among-from_filter (stands_on nat_eq top.number) world.mounts from.0 from.1 in
         ⊎_elim
         (λ found. inl
-        (inr (among-flat_map (tree_from nat_eq depth world.mounts) (children nat_eq world.mounts top.number) from.0 x from.1 found)))
+        (inr (among-flat_map (tree_from nat_eq depth world.mounts)
+        (children nat_eq world.mounts top.number) from.0 x from.1 found)))
         (λ deep. inr
-        (deeper depth x from.0 child.0 child.1 (subst (Reaches (suc depth) x) (found_itself world.mounts one from.0 child.0) deep)))
+        (deeper depth x from.0 child.0 child.1
+        (subst (Reaches (suc depth) x) (found_itself world.mounts one from.0 child.0) deep)))
         (in_tree depth from.0 under x place from.2 n e same))
         m
       where
@@ -133,7 +145,8 @@ module _ (world : World ℕ) where
             by (Some p) f =
                 let number : top.number ≡ p.mount =
                 eqb-true top.number p.mount (sym (ap (holds_of (λ q. nat_eq top.number q.mount)) f) ∙ on) in
-                subst (λ k. Reaches (suc (suc d)) z (mount_numbered nat_eq world k)) (sym number) (one_more (suc d) z child p r f)
+                subst (λ k. Reaches (suc (suc d)) z (mount_numbered nat_eq world k)) (sym number)
+                (one_more (suc d) z child p r f)
 
     pub trees_closed : (tops : List (Mount ℕ))
         → AreClosed world (map (λ (mount : Mount ℕ). mount.number) (flat_map (mount_tree nat_eq world.mounts) tops))

@@ -18,7 +18,8 @@ module _ {A : Type 0} where
 
   pub among_from_all : (P : A → Type 0) (xs : List A) → All P xs → (x : A) → Among x xs → P x
   among_from_all P [] h x m = absurd m
-  among_from_all P (y ∷ ys) h x m = ⊎_elim (λ e. subst P (sym e) (All-head P y ys h)) (λ l. among_from_all P ys (All-tail P y ys h) x l) m
+  among_from_all P (y ∷ ys) h x m =
+      ⊎_elim (λ e. subst P (sym e) (All-head P y ys h)) (λ l. among_from_all P ys (All-tail P y ys h) x l) m
 
   pub among_from_list_all : (p : A → Bool) (xs : List A) → list_all p xs ≡ true → (x : A) → Among x xs → p x ≡ true
   among_from_list_all p [] h x m = absurd m
@@ -67,19 +68,23 @@ module _ {A : Type 0} where
     where
       by : (b : Bool) → p y ≡ b → (Among x (filter p ys) → Among x ys × (p x ≡ true)) → Among x (y ∷ ys) × (p x ≡ true)
       by true e next =
-          ⊎_elim (λ same. (inl same, ap p same ∙ e)) (λ l. let found : Among x ys × (p x ≡ true) = next l in (inr found.0, found.1))
+          ⊎_elim (λ same. (inl same, ap p same ∙ e))
+          (λ l. let found : Among x ys × (p x ≡ true) = next l in (inr found.0, found.1))
           (subst (Among x) (filter_here p y ys e) m)
-      by false e next = let found : Among x ys × (p x ≡ true) = next (subst (Among x) (filter_skip p y ys e) m) in (inr found.0, found.1)
+      by false e next = let found : Among x ys × (p x ≡ true) =
+          next (subst (Among x) (filter_skip p y ys e) m) in (inr found.0, found.1)
 
 module _ {A : Type 0} where
   -- two tests that agree find the same
   pub find_agrees : (p q : A → Bool) → ((x : A) → p x ≡ q x) → (xs : List A) → find p xs ≡ find q xs
   find_agrees p q h [] = refl
-  find_agrees p q h (y ∷ ys) = ap (λ b. cond b (Some y) (find p ys)) (h y) ∙ ap (λ rest. cond (q y) (Some y) rest) (find_agrees p q h ys)
+  find_agrees p q h (y ∷ ys) = ap (λ b. cond b (Some y) (find p ys)) (h y)
+      ∙ ap (λ rest. cond (q y) (Some y) rest) (find_agrees p q h ys)
 
   pub map_same : (f : A → A) (xs : List A) → ((x : A) → Among x xs → f x ≡ x) → map f xs ≡ xs
   map_same f [] h = refl
-  map_same f (y ∷ ys) h = ap (λ x. x ∷ map f ys) (h y (inl refl)) ∙ ap (λ rest. y ∷ rest) (map_same f ys (λ x m. h x (inr m)))
+  map_same f (y ∷ ys) h = ap (λ x. x ∷ map f ys) (h y (inl refl))
+      ∙ ap (λ rest. y ∷ rest) (map_same f ys (λ x m. h x (inr m)))
 
 -- what a list is made of
 module _ {A B : Type 0} where
@@ -90,9 +95,11 @@ module _ {A B : Type 0} where
   pub among-from_map : (f : A → B) (xs : List A) (b : B) → Among b (map f xs) → (x : A) × Among x xs × (b ≡ f x)
   among-from_map f [] b m = absurd m
   among-from_map f (y ∷ ys) b m =
-      ⊎_elim (λ e. (y, inl refl, e)) (λ l. let t : (x : A) × Among x ys × (b ≡ f x) = among-from_map f ys b l in (t.0, inr t.1, t.2)) m
+      ⊎_elim (λ e. (y, inl refl, e))
+      (λ l. let t : (x : A) × Among x ys × (b ≡ f x) = among-from_map f ys b l in (t.0, inr t.1, t.2)) m
 
-  pub among-filter_map : (h : A → Option B) (xs : List A) (x : A) (b : B) → Among x xs → h x ≡ Some b → Among b (filter_map h xs)
+  pub among-filter_map : (h : A → Option B) (xs : List A) (x : A) (b : B) → Among x xs → h x ≡ Some b
+      → Among b (filter_map h xs)
   among-filter_map h [] x b m e = absurd m
   among-filter_map h (y ∷ ys) x b m e =
       ⊎_elim
@@ -103,12 +110,14 @@ module _ {A B : Type 0} where
       later None l = l
       later (Some c) l = inr l
 
-  pub among-from_filter_map : (h : A → Option B) (xs : List A) (b : B) → Among b (filter_map h xs) → (x : A) × Among x xs × (h x ≡ Some b)
+  pub among-from_filter_map : (h : A → Option B) (xs : List A) (b : B) → Among b (filter_map h xs)
+      → (x : A) × Among x xs × (h x ≡ Some b)
   among-from_filter_map h [] b m = absurd m
   among-from_filter_map h (y ∷ ys) b m = by (h y) refl m (among-from_filter_map h ys b)
     where
       by : (o : Option B) → h y ≡ o → Among b (cons_option o (filter_map h ys))
-          → (Among b (filter_map h ys) → (x : A) × Among x ys × (h x ≡ Some b)) → (x : A) × Among x (y ∷ ys) × (h x ≡ Some b)
+          → (Among b (filter_map h ys) → (x : A) × Among x ys × (h x ≡ Some b))
+          → (x : A) × Among x (y ∷ ys) × (h x ≡ Some b)
       by None e l next = let t : (x : A) × Among x ys × (h x ≡ Some b) = next l in (t.0, inr t.1, t.2)
       by (Some c) e l next =
           ⊎_elim (λ same. (y, inl refl, e ∙ ap Some (sym same)))
@@ -125,7 +134,8 @@ module _ {A : Type 0} where
   pub any_from_among : (p : A → Bool) (xs : List A) (x : A) → Among x xs → p x ≡ true → list_any p xs ≡ true
   any_from_among p [] x m e = absurd m
   any_from_among p (y ∷ ys) x m e =
-      ⊎_elim (λ same. ap (λ b. b || list_any p ys) (ap p (sym same) ∙ e)) (λ l. later (p y) (any_from_among p ys x l e)) m
+      ⊎_elim (λ same. ap (λ b. b || list_any p ys) (ap p (sym same) ∙ e))
+      (λ l. later (p y) (any_from_among p ys x l e)) m
     where
       later : (b : Bool) → list_any p ys ≡ true → (b || list_any p ys) ≡ true
       later true h = refl
@@ -133,7 +143,8 @@ module _ {A : Type 0} where
 
   pub among-append : (xs ys : List A) (x : A) → Among x (xs ++ ys) → Among x xs ⊎ Among x ys
   among-append [] ys x m = inr m
-  among-append (y ∷ xs) ys x m = ⊎_elim (λ e. inl (inl e)) (λ l. ⊎_elim (λ a. inl (inr a)) inr (among-append xs ys x l)) m
+  among-append (y ∷ xs) ys x m =
+      ⊎_elim (λ e. inl (inl e)) (λ l. ⊎_elim (λ a. inl (inr a)) inr (among-append xs ys x l)) m
 
   pub among-append_left : (xs ys : List A) (x : A) → Among x xs → Among x (xs ++ ys)
   among-append_left [] ys x m = absurd m
@@ -144,12 +155,15 @@ module _ {A : Type 0} where
   among-append_right (y ∷ xs) ys x m = inr (among-append_right xs ys x m)
 
 module _ {A B : Type 0} where
-  pub among-flat_map : (f : A → List B) (xs : List A) (x : A) (b : B) → Among x xs → Among b (f x) → Among b (flat_map f xs)
+  pub among-flat_map : (f : A → List B) (xs : List A) (x : A) (b : B) → Among x xs → Among b (f x)
+      → Among b (flat_map f xs)
   among-flat_map f [] x b m n = absurd m
   among-flat_map f (y ∷ ys) x b m n =
-      ⊎_elim (λ e. among-append_left (f y) (flat_map f ys) b (subst (λ z. Among b (f z)) e n)) (λ l. among-append_right (f y) (flat_map f ys) b (among-flat_map f ys x b l n)) m
+      ⊎_elim (λ e. among-append_left (f y) (flat_map f ys) b (subst (λ z. Among b (f z)) e n))
+      (λ l. among-append_right (f y) (flat_map f ys) b (among-flat_map f ys x b l n)) m
 
-  pub among-from_flat_map : (f : A → List B) (xs : List A) (b : B) → Among b (flat_map f xs) → (x : A) × Among x xs × Among b (f x)
+  pub among-from_flat_map : (f : A → List B) (xs : List A) (b : B) → Among b (flat_map f xs)
+      → (x : A) × Among x xs × Among b (f x)
   among-from_flat_map f [] b m = absurd m
   among-from_flat_map f (x ∷ xs) b m =
       ⊎_elim (λ here. (x, inl refl, here))
@@ -159,11 +173,15 @@ module _ {A B : Type 0} where
 -- a number among numbers
 pub among_numbers : (numbers : List ℕ) (number : ℕ) → is_among nat_eq number numbers ≡ true → Among number numbers
 among_numbers [] number h = absurd (true≢false (sym h))
-among_numbers (first ∷ rest) number h = ⊎_elim (λ e. inl (eqb-true number first e)) (λ later. inr (among_numbers rest number later)) (or_cases (nat_eq number first) (is_among nat_eq number rest) h)
+among_numbers (first ∷ rest) number h =
+    ⊎_elim (λ e. inl (eqb-true number first e)) (λ later. inr (among_numbers rest number later))
+    (or_cases (nat_eq number first) (is_among nat_eq number rest) h)
 
 pub is_among_numbers : (numbers : List ℕ) (number : ℕ) → Among number numbers → is_among nat_eq number numbers ≡ true
 is_among_numbers [] number m = absurd m
-is_among_numbers (first ∷ rest) number m = ⊎_elim (λ e. head_first first number rest e) (λ later. later_first (nat_eq number first) (is_among_numbers rest number later)) m
+is_among_numbers (first ∷ rest) number m =
+    ⊎_elim (λ e. head_first first number rest e)
+    (λ later. later_first (nat_eq number first) (is_among_numbers rest number later)) m
   where
     head_first : (other one : ℕ) (others : List ℕ) → one ≡ other → is_among nat_eq one (other ∷ others) ≡ true
     head_first other one others e = ap (λ b. b || is_among nat_eq one others) (eq-eqb one other e)
@@ -175,7 +193,8 @@ is_among_numbers (first ∷ rest) number m = ⊎_elim (λ e. head_first first nu
 pub head_among : (number other : ℕ) (rest : List ℕ) → number ≡ other → is_among nat_eq number (other ∷ rest) ≡ true
 head_among number other rest same = ap (λ b. b || is_among nat_eq number rest) (eq-eqb number other same)
 
-pub tail_among : (number other : ℕ) (rest : List ℕ) → is_among nat_eq number rest ≡ true → is_among nat_eq number (other ∷ rest) ≡ true
+pub tail_among : (number other : ℕ) (rest : List ℕ) → is_among nat_eq number rest ≡ true
+    → is_among nat_eq number (other ∷ rest) ≡ true
 tail_among number other rest later = by (nat_eq number other)
   where
     by : (b : Bool) → (b || is_among nat_eq number rest) ≡ true
@@ -184,7 +203,8 @@ tail_among number other rest later = by (nat_eq number other)
 
 pub among_cases : (number other : ℕ) (rest : List ℕ) → is_among nat_eq number (other ∷ rest) ≡ true
     → (number ≡ other) ⊎ (is_among nat_eq number rest ≡ true)
-among_cases number other rest h = ⊎_elim (λ e. inl (eqb-true number other e)) inr (or_cases (nat_eq number other) (is_among nat_eq number rest) h)
+among_cases number other rest h =
+    ⊎_elim (λ e. inl (eqb-true number other e)) inr (or_cases (nat_eq number other) (is_among nat_eq number rest) h)
 
 -- Chains
 module _ {A : Type 0} (next : A → Option A) where
@@ -207,10 +227,13 @@ module _ {A : Type 0} (next : A → Option A) where
 module _ {A : Type 0} where
   pub none-filter : (q p : A → Bool) (xs : List A) → list_any q xs ≡ false → list_any q (filter p xs) ≡ false
   none-filter q p [] h = refl
-  none-filter q p (y ∷ ys) h = by (p y) refl (or_parts (q y) (list_any q ys) h).0 (none-filter q p ys (or_parts (q y) (list_any q ys) h).1)
+  none-filter q p (y ∷ ys) h = by (p y) refl (or_parts (q y) (list_any q ys) h).0
+      (none-filter q p ys (or_parts (q y) (list_any q ys) h).1)
     where
-      by : (b : Bool) → p y ≡ b → q y ≡ false → list_any q (filter p ys) ≡ false → list_any q (filter p (y ∷ ys)) ≡ false
-      by true e here later = ap (list_any q) (filter_here p y ys e) ∙ ap (λ b. b || list_any q (filter p ys)) here ∙ later
+      by : (b : Bool) → p y ≡ b → q y ≡ false → list_any q (filter p ys) ≡ false
+          → list_any q (filter p (y ∷ ys)) ≡ false
+      by true e here later = ap (list_any q) (filter_here p y ys e) ∙ ap (λ b. b || list_any q (filter p ys)) here
+          ∙ later
       by false e here later = ap (list_any q) (filter_skip p y ys e) ∙ later
 
   pub filter_none : (p : A → Bool) (xs : List A) → list_any p xs ≡ false → filter p xs ≡ []
@@ -219,33 +242,42 @@ module _ {A : Type 0} where
       let parts : (p y ≡ false) × (list_any p ys ≡ false) = or_parts (p y) (list_any p ys) h in
       filter_skip p y ys parts.0 ∙ filter_none p ys parts.1
 
-  pub pair-filter : (test : A → A → Bool) (p : A → Bool) (xs : List A) → any_pair test xs ≡ false → any_pair test (filter p xs) ≡ false
+  pub pair-filter : (test : A → A → Bool) (p : A → Bool) (xs : List A) → any_pair test xs ≡ false
+      → any_pair test (filter p xs) ≡ false
   pair-filter test p [] h = refl
-  pair-filter test p (y ∷ ys) h = by (p y) refl (none-filter (test y) p ys (or_parts (list_any (test y) ys) (any_pair test ys) h).0) (pair-filter test p ys (or_parts (list_any (test y) ys) (any_pair test ys) h).1)
+  pair-filter test p (y ∷ ys) h =
+      by (p y) refl (none-filter (test y) p ys (or_parts (list_any (test y) ys) (any_pair test ys) h).0)
+      (pair-filter test p ys (or_parts (list_any (test y) ys) (any_pair test ys) h).1)
     where
       by : (b : Bool) → p y ≡ b → list_any (test y) (filter p ys) ≡ false → any_pair test (filter p ys) ≡ false
           → any_pair test (filter p (y ∷ ys)) ≡ false
-      by true e here later = ap (any_pair test) (filter_here p y ys e) ∙ ap (λ b. b || any_pair test (filter p ys)) here ∙ later
+      by true e here later = ap (any_pair test) (filter_here p y ys e)
+          ∙ ap (λ b. b || any_pair test (filter p ys)) here ∙ later
       by false e here later = ap (any_pair test) (filter_skip p y ys e) ∙ later
 
   pub all-filter : (q p : A → Bool) (xs : List A) → list_all q xs ≡ true → list_all q (filter p xs) ≡ true
   all-filter q p [] h = refl
-  all-filter q p (y ∷ ys) h = by (p y) refl (and_parts (q y) (list_all q ys) h).0 (all-filter q p ys (and_parts (q y) (list_all q ys) h).1)
+  all-filter q p (y ∷ ys) h = by (p y) refl (and_parts (q y) (list_all q ys) h).0
+      (all-filter q p ys (and_parts (q y) (list_all q ys) h).1)
     where
       by : (b : Bool) → p y ≡ b → q y ≡ true → list_all q (filter p ys) ≡ true → list_all q (filter p (y ∷ ys)) ≡ true
-      by true e here later = ap (list_all q) (filter_here p y ys e) ∙ ap (λ b. b && list_all q (filter p ys)) here ∙ later
+      by true e here later = ap (list_all q) (filter_here p y ys e) ∙ ap (λ b. b && list_all q (filter p ys)) here
+          ∙ later
       by false e here later = ap (list_all q) (filter_skip p y ys e) ∙ later
 
   pub list_all_from_among : (q : A → Bool) (xs : List A) → ((x : A) → Among x xs → q x ≡ true) → list_all q xs ≡ true
   list_all_from_among q [] h = refl
-  list_all_from_among q (y ∷ ys) h = ap (λ b. b && list_all q ys) (h y (inl refl)) ∙ list_all_from_among q ys (λ x m. h x (inr m))
+  list_all_from_among q (y ∷ ys) h =
+      ap (λ b. b && list_all q ys) (h y (inl refl)) ∙ list_all_from_among q ys (λ x m. h x (inr m))
 
   pub none_from_among : (q : A → Bool) (xs : List A) → ((x : A) → Among x xs → q x ≡ false) → list_any q xs ≡ false
   none_from_among q [] h = refl
-  none_from_among q (y ∷ ys) h = ap (λ b. b || list_any q ys) (h y (inl refl)) ∙ none_from_among q ys (λ x m. h x (inr m))
+  none_from_among q (y ∷ ys) h =
+      ap (λ b. b || list_any q ys) (h y (inl refl)) ∙ none_from_among q ys (λ x m. h x (inr m))
 
 module _ {A B : Type 0} where
-  pub all-map : (q : B → Bool) {p : A → Bool} (f : A → B) → ((x : A) → p x ≡ true → q (f x) ≡ true) → (xs : List A) → list_all p xs ≡ true
+  pub all-map : (q : B → Bool) {p : A → Bool} (f : A → B) → ((x : A) → p x ≡ true → q (f x) ≡ true) → (xs : List A)
+      → list_all p xs ≡ true
       → list_all q (map f xs) ≡ true
   all-map q f h [] e = refl
   all-map q {p = p} f h (y ∷ ys) e =
@@ -258,7 +290,8 @@ module _ {A B : Type 0} where
       → any_pair later (map f xs) ≡ false
   pair-map test later f [] h e = refl
   pair-map test later f (y ∷ ys) h e =
-      let parts : (list_any (test y) ys ≡ false) × (any_pair test ys ≡ false) = or_parts (list_any (test y) ys) (any_pair test ys) e in
+      let parts : (list_any (test y) ys ≡ false) × (any_pair test ys ≡ false) =
+      or_parts (list_any (test y) ys) (any_pair test ys) e in
       ap (λ b. b || any_pair later (map f ys))
       (none_from_among (later (f y)) (map f ys) (λ b m.
       let from = among-from_map f ys b m in

@@ -29,14 +29,17 @@ passes true t = refl
 passes false t = absurd t
 
 -- a name added to entries leads to its number, and the other names lead to where they led
-pub entry_named-with_entry : (q name : List ℕ) (number : ℕ) (entries : Entries ℕ) → entry_named q (with_entry name number entries) ≡ cond (eq_by_cmp name_cmp q name) (Some number) (entry_named q entries)
+pub entry_named-with_entry : (q name : List ℕ) (number : ℕ) (entries : Entries ℕ)
+    → entry_named q (with_entry name number entries)
+    ≡ cond (eq_by_cmp name_cmp q name) (Some number) (entry_named q entries)
 entry_named-with_entry q name number entries = find-put name_cmp nat_list_cmp_total q name number entries
 
 -- entries without a name lead by the others where they led
 pub entry_named-without_entry : (q name : List ℕ) (entries : Entries ℕ)
     → entry_named q (without_entry name entries) ≡ cond (not (bytes_eq q name)) (entry_named q entries) None
 entry_named-without_entry q name entries =
-    find-where_key name_cmp (λ x. not (bytes_eq x name)) q (λ x tied. ap (λ y. not (bytes_eq y name)) (sym (same_name q x (ap is_eq tied)))) entries
+    find-where_key name_cmp (λ x. not (bytes_eq x name)) q
+    (λ x tied. ap (λ y. not (bytes_eq y name)) (sym (same_name q x (ap is_eq tied)))) entries
 
 -- a directory is there
 pub directory_used : (tree : Tree ℕ) (number : ℕ) → IsDirectory tree number → is_some (tree.node number) ≡ true
@@ -50,22 +53,27 @@ directory_used tree number d = by (tree.node number) d
 
 module _ (name : List ℕ) (number : ℕ) where
   -- it stays of its kind
-  pub is_directory-node_with_entry : (o : Option (Node ℕ)) → is_directory_node (node_with_entry name number o) ≡ is_directory_node o
+  pub is_directory-node_with_entry : (o : Option (Node ℕ))
+      → is_directory_node (node_with_entry name number o) ≡ is_directory_node o
   is_directory-node_with_entry None = refl
   is_directory-node_with_entry (Some node) = by node.content
     where
-      by : (content : Content ℕ) → is_directory (kind_of (with_entries content (with_entry name number (entries_of content)))) ≡ is_directory (kind_of content)
+      by : (content : Content ℕ) → is_directory
+          (kind_of (with_entries content (with_entry name number (entries_of content))))
+          ≡ is_directory (kind_of content)
       by (Directory parent entries opaque) = refl
       by (Regular bytes) = refl
       by (Symlink text) = refl
       by Whiteout = refl
 
   -- it keeps its parent
-  pub parent-node_with_entry : (own : ℕ) (o : Option (Node ℕ)) → parent_in own (node_with_entry name number o) ≡ parent_in own o
+  pub parent-node_with_entry : (own : ℕ) (o : Option (Node ℕ))
+      → parent_in own (node_with_entry name number o) ≡ parent_in own o
   parent-node_with_entry own None = refl
   parent-node_with_entry own (Some node) = by node.content
     where
-      by : (content : Content ℕ) → parent_of own (with_entries content (with_entry name number (entries_of content))) ≡ parent_of own content
+      by : (content : Content ℕ) → parent_of own (with_entries content (with_entry name number (entries_of content)))
+          ≡ parent_of own content
       by (Directory parent entries opaque) = refl
       by (Regular bytes) = refl
       by (Symlink text) = refl
@@ -77,11 +85,14 @@ module _ (name : List ℕ) (number : ℕ) where
   is_some-node_with_entry (Some node) = refl
 
   -- and has that entry beside its own
-  pub entries-node_with_entry : (o : Option (Node ℕ)) → is_directory_node o ≡ true → entries_in (node_with_entry name number o) ≡ with_entry name number (entries_in o)
+  pub entries-node_with_entry : (o : Option (Node ℕ)) → is_directory_node o ≡ true
+      → entries_in (node_with_entry name number o) ≡ with_entry name number (entries_in o)
   entries-node_with_entry None d = absurd (true≢false (sym d))
   entries-node_with_entry (Some node) d = by node.content d
     where
-      by : (content : Content ℕ) → is_directory (kind_of content) ≡ true → entries_of (with_entries content (with_entry name number (entries_of content))) ≡ with_entry name number (entries_of content)
+      by : (content : Content ℕ) → is_directory (kind_of content) ≡ true
+          → entries_of (with_entries content (with_entry name number (entries_of content)))
+          ≡ with_entry name number (entries_of content)
       by (Directory parent entries opaque) e = refl
       by (Regular bytes) e = absurd (true≢false (sym e))
       by (Symlink text) e = absurd (true≢false (sym e))
@@ -90,7 +101,8 @@ module _ (name : List ℕ) (number : ℕ) where
 -- a file with other bytes is what it was but for its bytes
 
 module _ (bytes : List ℕ) where
-  pub is_directory-node_with_bytes : (o : Option (Node ℕ)) → is_directory_node (node_with_bytes bytes o) ≡ is_directory_node o
+  pub is_directory-node_with_bytes : (o : Option (Node ℕ))
+      → is_directory_node (node_with_bytes bytes o) ≡ is_directory_node o
   is_directory-node_with_bytes None = refl
   is_directory-node_with_bytes (Some node) = by node.content
     where
@@ -100,7 +112,8 @@ module _ (bytes : List ℕ) where
       by (Symlink text) = refl
       by Whiteout = refl
 
-  pub parent-node_with_bytes : (own : ℕ) (o : Option (Node ℕ)) → parent_in own (node_with_bytes bytes o) ≡ parent_in own o
+  pub parent-node_with_bytes : (own : ℕ) (o : Option (Node ℕ))
+      → parent_in own (node_with_bytes bytes o) ≡ parent_in own o
   parent-node_with_bytes own None = refl
   parent-node_with_bytes own (Some node) = by node.content
     where
@@ -136,7 +149,9 @@ module _ (tree : Tree ℕ) (number : ℕ) (node : Option (Node ℕ)) where
   node_other other differ = ap (λ b. cond b node (tree.node other)) (ne_eqb other number differ)
 
 -- A part of a node that a change of the node keeps is kept at every number.
-pub part_kept : {A : Type 0} (part : Option (Node ℕ) → A) (tree : Tree ℕ) (number : ℕ) (node : Option (Node ℕ)) → part node ≡ part (tree.node number) → (other : ℕ) → part ((with_node nat_eq tree number node).node other) ≡ part (tree.node other)
+pub part_kept : {A : Type 0} (part : Option (Node ℕ) → A) (tree : Tree ℕ) (number : ℕ) (node : Option (Node ℕ))
+    → part node ≡ part (tree.node number) → (other : ℕ)
+    → part ((with_node nat_eq tree number node).node other) ≡ part (tree.node other)
 part_kept part tree number node same other =
     ⊎_elim
     (λ t. ap (λ b. part (cond b node (tree.node other))) t.0 ∙ same ∙ ap (λ n. part (tree.node n)) (sym t.1))

@@ -43,7 +43,8 @@ new_tree_is root = record {
 }
   where
     listed : (b : Bool)
-        → (b || false) ≡ is_some {T = Node ℕ} (cond b (Some (record { attr = root_attr; content = new_directory root })) None)
+        → (b || false) ≡ is_some {T = Node ℕ}
+        (cond b (Some (record { attr = root_attr; content = new_directory root })) None)
     listed true = refl
     listed false = refl
 
@@ -75,7 +76,8 @@ used_plain world true filesystem plain = by _
     by false = mapped filesystem.overlay plain
 used_plain world false filesystem plain = plain
 
-pub without_dead_plain : (chosen : Filesystem ℕ → Bool) (world : World ℕ) → All (λ f. is_overlay f ≡ false) world.filesystems
+pub without_dead_plain : (chosen : Filesystem ℕ → Bool) (world : World ℕ)
+    → All (λ f. is_overlay f ≡ false) world.filesystems
     → All (λ f. is_overlay f ≡ false) (without_dead_in nat_eq chosen world).filesystems
 without_dead_plain chosen world plain =
     All-map (λ f. is_overlay f ≡ false) (λ f. only_used nat_eq world (chosen f) f) world.filesystems
@@ -96,9 +98,11 @@ settled_keeps world conditions =
     }
 
 -- each call
-module _ (fresh : Fresh ℕ) (world : World ℕ) (task : Task ℕ) (conditions : IsWorldOfTrees world) (standing : IsStanding world)
+module _ (fresh : Fresh ℕ) (world : World ℕ) (task : Task ℕ) (conditions : IsWorldOfTrees world)
+    (standing : IsStanding world)
     (new : AreNew fresh world) where
-  pub outcome_keeps : (call : Call) → mounts_overlay call ≡ false → IsWorldOfTrees (call_outcome nat_eq fresh world task call).world
+  pub outcome_keeps : (call : Call) → mounts_overlay call ≡ false
+      → IsWorldOfTrees (call_outcome nat_eq fresh world task call).world
   outcome_keeps (Ls path) other = list_keeps IsWorldOfTrees same_filesystems fresh world task conditions path
   outcome_keeps (Stat path) other = stat_keeps IsWorldOfTrees same_filesystems fresh world task conditions path
   outcome_keeps (Lstat path) other = lstat_keeps IsWorldOfTrees same_filesystems fresh world task conditions path
@@ -119,8 +123,10 @@ module _ (fresh : Fresh ℕ) (world : World ℕ) (task : Task ℕ) (conditions :
   outcome_keeps (OpenFile path access creation) other = open_keeps fresh world task conditions new path access creation
   outcome_keeps (Pread descriptor offset size) other =
       pread_keeps IsWorldOfTrees same_filesystems fresh world task conditions descriptor offset size
-  outcome_keeps (Pwrite descriptor offset bytes) other = pwrite_keeps fresh world task conditions new descriptor offset bytes
-  outcome_keeps (Close descriptor) other = close_keeps IsWorldOfTrees same_filesystems fresh world task conditions descriptor
+  outcome_keeps (Pwrite descriptor offset bytes) other =
+      pwrite_keeps fresh world task conditions new descriptor offset bytes
+  outcome_keeps (Close descriptor) other =
+      close_keeps IsWorldOfTrees same_filesystems fresh world task conditions descriptor
   outcome_keeps (Chdir path) other = chdir_keeps IsWorldOfTrees same_filesystems fresh world task conditions path
   outcome_keeps (Chroot path) other = chroot_keeps IsWorldOfTrees same_filesystems fresh world task conditions path
   outcome_keeps (Umask mode) other = umask_keeps IsWorldOfTrees same_filesystems fresh world task conditions mode
@@ -136,16 +142,20 @@ module _ (fresh : Fresh ℕ) (world : World ℕ) (task : Task ℕ) (conditions :
   outcome_keeps (MountOverlay path options flags) other = absurd (true≢false other)
   outcome_keeps (Bind source path recursive) other =
       bind_keeps IsWorldOfTrees same_filesystems fresh world task conditions source path recursive
-  outcome_keeps (MoveMount source path) other = move_keeps IsWorldOfTrees same_filesystems fresh world task conditions source path
+  outcome_keeps (MoveMount source path) other =
+      move_keeps IsWorldOfTrees same_filesystems fresh world task conditions source path
   outcome_keeps (Umount path) other = umount_keeps IsWorldOfTrees same_filesystems fresh world task conditions path
   outcome_keeps (Lazy path) other = lazy_keeps IsWorldOfTrees same_filesystems fresh world task conditions path
-  outcome_keeps (Remount path flags) other = remount_keeps IsWorldOfTrees same_filesystems fresh world task conditions path flags
+  outcome_keeps (Remount path flags) other =
+      remount_keeps IsWorldOfTrees same_filesystems fresh world task conditions path flags
   outcome_keeps (SetType path word recursive) other =
       type_keeps IsWorldOfTrees same_filesystems fresh world task conditions path word recursive
-  outcome_keeps (PivotRoot root put) other = pivot_keeps IsWorldOfTrees same_filesystems fresh world task conditions root put
+  outcome_keeps (PivotRoot root put) other =
+      pivot_keeps IsWorldOfTrees same_filesystems fresh world task conditions root put
   outcome_keeps ListMounts other = mounts_keeps IsWorldOfTrees same_filesystems fresh world task conditions
 
-finished_keeps : (before : World ℕ) (name : TaskName) (changed : List ℕ) (outcome : Outcome ℕ) (b : Bool) → IsWorldOfTrees outcome.world
+finished_keeps : (before : World ℕ) (name : TaskName) (changed : List ℕ) (outcome : Outcome ℕ) (b : Bool)
+    → IsWorldOfTrees outcome.world
     → IsWorldOfTrees (finished_by nat_eq b before name changed outcome).world
 finished_keeps before name changed outcome true conditions = conditions
 finished_keeps before name changed outcome false conditions =
@@ -163,14 +173,16 @@ calls_keep_trees world fresh name call conditions standing new other =
 pub opening_has_trees : OpeningHasTrees
 opening_has_trees fresh = (
   record {
-    plain = All-cons (λ f. is_overlay f ≡ false) (new_plain nat_eq (fresh 2) (fresh 3)) [] refl (All-nil (λ f. is_overlay f ≡ false));
+    plain = All-cons (λ f. is_overlay f ≡ false) (new_plain nat_eq (fresh 2) (fresh 3)) [] refl
+        (All-nil (λ f. is_overlay f ≡ false));
     trees =
         All-cons (λ f. IsFileTree f.files) (new_plain nat_eq (fresh 2) (fresh 3)) [] (new_tree_is (fresh 3))
         (All-nil (λ f. IsFileTree f.files));
   },
   record {
     roots = All-cons HasRoot (first_mount nat_eq fresh) [] root_there (All-nil HasRoot);
-    places = All-cons HasPlace (first_mount nat_eq fresh) [] (λ place e. none_is_not None place refl e) (All-nil HasPlace);
+    places = All-cons HasPlace (first_mount nat_eq fresh) [] (λ place e. none_is_not None place refl e)
+        (All-nil HasPlace);
   },
 )
   where
@@ -181,9 +193,11 @@ opening_has_trees fresh = (
     HasPlace mount = (place : Location ℕ) → mount.mount_point ≡ Some place → is_directory_at nat_eq (opening nat_eq fresh) place ≡ true
 
     the_mount : mount_in nat_eq (first_mount nat_eq fresh ∷ []) (fresh 0) ≡ first_mount nat_eq fresh
-    the_mount = ap (λ b. unwrap_or (cond b (Some (first_mount nat_eq fresh)) None) (no_mount (fresh 0))) (eq-eqb (fresh 0) (fresh 0) refl)
+    the_mount = ap (λ b. unwrap_or (cond b (Some (first_mount nat_eq fresh)) None) (no_mount (fresh 0)))
+        (eq-eqb (fresh 0) (fresh 0) refl)
 
-    the_filesystem : numbered (fresh 2) (new_plain nat_eq (fresh 2) (fresh 3) ∷ []) ≡ new_plain nat_eq (fresh 2) (fresh 3)
+    the_filesystem : numbered (fresh 2) (new_plain nat_eq (fresh 2) (fresh 3) ∷ [])
+        ≡ new_plain nat_eq (fresh 2) (fresh 3)
     the_filesystem =
         ap (λ b. unwrap_or (cond b (Some (new_plain nat_eq (fresh 2) (fresh 3))) None) (no_filesystem (fresh 2)))
         (eq-eqb (fresh 2) (fresh 2) refl)
@@ -193,4 +207,6 @@ opening_has_trees fresh = (
         ap (λ (m : Mount ℕ). is_directory_node
         ((numbered m.filesystem (new_plain nat_eq (fresh 2) (fresh 3) ∷ [])).files.tree.node (fresh 3))) the_mount
         ∙ ap (λ (f : Filesystem ℕ). is_directory_node (f.files.tree.node (fresh 3))) the_filesystem
-        ∙ ap (λ b. is_directory_node {N = ℕ} (cond b (Some (record { attr = root_attr; content = new_directory (fresh 3) })) None)) (eq-eqb (fresh 3) (fresh 3) refl)
+        ∙ ap (λ b. is_directory_node {N = ℕ}
+        (cond b (Some (record { attr = root_attr; content = new_directory (fresh 3) })) None))
+        (eq-eqb (fresh 3) (fresh 3) refl)

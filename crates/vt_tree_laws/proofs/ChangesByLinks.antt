@@ -18,7 +18,8 @@ use Rattle.vt_tree_laws.proofs.TreesEntered.{ends_link_walk}
 use Rattle.vt_tree_laws.proofs.TreesOfWorlds.{change_keeps_world}
 use Rattle.vt_tree_laws.proofs.TreesWalked.{IsNewPlace, Passed, after_ends, ends_new_leaf_walk, judged_holds, not_true, place_is_file}
 
-module _ (world : World ℕ) (task : Task ℕ) (old : Location ℕ) (place : Place ℕ) (there : is_some (node_at nat_eq world old) ≡ true)
+module _ (world : World ℕ) (task : Task ℕ) (old : Location ℕ) (place : Place ℕ)
+    (there : is_some (node_at nat_eq world old) ≡ true)
     (is : IsNewPlace world task place) (plain : is_special place.last ≡ false)
     (passed : Passed (hard_link_rules nat_eq world task old place (linking old place))) where
   one_mount : old.mount ≡ place.parent.mount
@@ -30,12 +31,14 @@ module _ (world : World ℕ) (task : Task ℕ) (old : Location ℕ) (place : Pla
   pub may_link : IsFileTree (files_at nat_eq world place.parent)
       → MayAddName (files_at nat_eq world place.parent).tree place.parent.node (name_of place.last) old.node
   may_link trees = record {
-    name_is_free = place_is_free world place (place_is_file world place.parent place.last place.object is.0) plain passed.0 is.1 trees;
+    name_is_free = place_is_free world place
+        (place_is_file world place.parent place.last place.object is.0) plain passed.0 is.1 trees;
     is_there = ap is_some (sym same_node) ∙ there;
     no_directory = ap is_directory_node (sym same_node) ∙ passed.1.0;
   }
 
-pub link_keeps : (fresh : Fresh ℕ) (world : World ℕ) (task : Task ℕ) → IsWorldOfTrees world → IsStanding world → (old new : List ℕ)
+pub link_keeps : (fresh : Fresh ℕ) (world : World ℕ) (task : Task ℕ) → IsWorldOfTrees world → IsStanding world
+    → (old new : List ℕ)
     → IsWorldOfTrees (hard_link_outcome nat_eq fresh world task old new).world
 unfolding hard_link_outcome
 link_keeps fresh world task conditions standing old new =
@@ -44,7 +47,8 @@ link_keeps fresh world task conditions standing old new =
     after_ends (IsNewPlace world task) IsWorldOfTrees world (new_leaf_walk nat_eq world task new) _ conditions
     (ends_new_leaf_walk world task new) (λ place is.
     judged_holds IsWorldOfTrees world ((is_special place.last, E1) ∷ []) _ conditions (λ plain.
-    judged_holds IsWorldOfTrees world (hard_link_rules nat_eq world task from.location place (linking from.location place))
+    judged_holds IsWorldOfTrees world
+    (hard_link_rules nat_eq world task from.location place (linking from.location place))
     (granted Done (with_change nat_eq fresh world place.parent (linking from.location place))) conditions (λ passed.
     change_keeps_world fresh world place.parent (linking from.location place) conditions
     (may_link world task from.location place there is plain.0 passed)))))

@@ -46,7 +46,8 @@ typed_filesystems fresh world number word recursive =
 module _ (P : World ℕ → Type 0) (alike : (a b : World ℕ) → a.filesystems ≡ b.filesystems → P b → P a)
     (fresh : Fresh ℕ) (world : World ℕ) (task : Task ℕ) (conditions : P world) where
   ended_keeps : (after_call : World ℕ) → P after_call → P (namespaces_ended nat_eq after_call)
-  ended_keeps after_call kept = alike (namespaces_ended nat_eq after_call) after_call (taken_filesystems after_call _) kept
+  ended_keeps after_call kept = alike (namespaces_ended nat_eq after_call) after_call
+      (taken_filesystems after_call _) kept
 
   -- calls that look
   pub list_keeps : (path : List ℕ) → P (list_outcome nat_eq world task path).world
@@ -84,7 +85,8 @@ module _ (P : World ℕ → Type 0) (alike : (a b : World ℕ) → a.filesystems
   pub pread_keeps : (number offset size : ℕ) → P (pread_outcome nat_eq world task number offset size).world
   unfolding pread_outcome
   pread_keeps number offset size =
-      after_holds P world (descriptor_at task number (λ descriptor. descriptor.reads)) _ conditions (λ descriptor found. conditions)
+      after_holds P world (descriptor_at task number (λ descriptor. descriptor.reads)) _ conditions
+      (λ descriptor found. conditions)
 
   pub mounts_keeps : P (mounts_outcome nat_eq world task).world
   unfolding mounts_outcome
@@ -126,7 +128,8 @@ module _ (P : World ℕ → Type 0) (alike : (a b : World ℕ) → a.filesystems
   unfolding fork_outcome
   fork_keeps words =
       judged_holds P world (fork_rules task (child_credentials task.credentials words)) _ conditions
-      (λ passed. alike (with_child world task (child_of task (child_credentials task.credentials words))) world refl conditions)
+      (λ passed. alike (with_child world task
+      (child_of task (child_credentials task.credentials words))) world refl conditions)
 
   pub exit_keeps : P (exit_outcome nat_eq world task).world
   unfolding exit_outcome
@@ -137,7 +140,8 @@ module _ (P : World ℕ → Type 0) (alike : (a b : World ℕ) → a.filesystems
   unshare_keeps =
       judged_holds P world ((lacks task cap_sys_admin, K1) ∷ [])
       (granted Done (namespaces_ended nat_eq (unshared nat_eq world fresh task))) conditions
-      (λ passed. ended_keeps (unshared nat_eq world fresh task) (alike (unshared nat_eq world fresh task) world refl conditions))
+      (λ passed. ended_keeps (unshared nat_eq world fresh task)
+      (alike (unshared nat_eq world fresh task) world refl conditions))
 
   pub setns_keeps : (name : TaskName) → P (setns_outcome nat_eq world task name).world
   unfolding setns_outcome
@@ -150,7 +154,8 @@ module _ (P : World ℕ → Type 0) (alike : (a b : World ℕ) → a.filesystems
 
   -- calls on mounts
   pub mount_plain_keeps :
-      ((after_call : World ℕ) → after_call.filesystems ≡ world.filesystems ++ (plain_filesystem nat_eq fresh ∷ []) → P after_call)
+      ((after_call : World ℕ) → after_call.filesystems ≡ world.filesystems ++ (plain_filesystem nat_eq fresh ∷ [])
+      → P after_call)
       → (path : List ℕ) (flags : MountFlags) → P (mount_plain_outcome nat_eq fresh world task path flags).world
   unfolding mount_plain_outcome
   mount_plain_keeps more path flags =
@@ -162,14 +167,16 @@ module _ (P : World ℕ → Type 0) (alike : (a b : World ℕ) → a.filesystems
       (granted Done (mounted nat_eq (odds fresh) world here.location (plain_filesystem nat_eq fresh) flags)) conditions
       (λ passed. more (mounted nat_eq (odds fresh) world here.location (plain_filesystem nat_eq fresh) flags) refl)))
 
-  pub bind_keeps : (source path : List ℕ) (recursive : Bool) → P (bind_outcome nat_eq fresh world task source path recursive).world
+  pub bind_keeps : (source path : List ℕ) (recursive : Bool)
+      → P (bind_outcome nat_eq fresh world task source path recursive).world
   unfolding bind_outcome
   bind_keeps source path recursive =
       judged_holds P world (admin_rules task) _ conditions (λ capable.
       after_any P world (source_walk nat_eq world task source) _ conditions (λ from.
       after_any P world (destination_walk nat_eq world task path) _ conditions (λ here.
       judged_holds P world
-      (bind_rules nat_eq world task from.location here.location (bound_at nat_eq fresh world from.location here.location recursive))
+      (bind_rules nat_eq world task from.location here.location
+      (bound_at nat_eq fresh world from.location here.location recursive))
       (granted Done (bound_at nat_eq fresh world from.location here.location recursive)) conditions
       (λ passed. alike (bound_at nat_eq fresh world from.location here.location recursive) world refl conditions))))
 
@@ -180,7 +187,8 @@ module _ (P : World ℕ → Type 0) (alike : (a b : World ℕ) → a.filesystems
       after_any P world (source_walk nat_eq world task source) _ conditions (λ from.
       after_any P world (destination_walk nat_eq world task path) _ conditions (λ here.
       judged_holds P world
-      (move_rules nat_eq world task from.location here.location (moved_to nat_eq fresh world from.location here.location))
+      (move_rules nat_eq world task from.location here.location
+      (moved_to nat_eq fresh world from.location here.location))
       (granted Done (moved_to nat_eq fresh world from.location here.location)) conditions
       (λ passed. alike (moved_to nat_eq fresh world from.location here.location) world refl conditions))))
 
@@ -202,7 +210,8 @@ module _ (P : World ℕ → Type 0) (alike : (a b : World ℕ) → a.filesystems
       (granted Done (lazily_unmounted nat_eq world here.location.mount)) conditions
       (λ passed. alike (lazily_unmounted nat_eq world here.location.mount) world
       (lazily_filesystems
-      (deepest_first nat_eq world (mount_tree nat_eq world.mounts (mount_numbered nat_eq world here.location.mount))) world) conditions)))
+      (deepest_first nat_eq world (mount_tree nat_eq world.mounts
+      (mount_numbered nat_eq world here.location.mount))) world) conditions)))
 
   pub remount_keeps : (path : List ℕ) (flags : MountFlags) → P (remount_outcome nat_eq world task path flags).world
   unfolding remount_outcome
@@ -213,7 +222,8 @@ module _ (P : World ℕ → Type 0) (alike : (a b : World ℕ) → a.filesystems
       (granted Done (with_flags nat_eq world here.location flags)) conditions
       (λ passed. alike (with_flags nat_eq world here.location flags) world refl conditions)))
 
-  pub type_keeps : (path : List ℕ) (word : TypeWord) (recursive : Bool) → P (type_outcome nat_eq fresh world task path word recursive).world
+  pub type_keeps : (path : List ℕ) (word : TypeWord) (recursive : Bool)
+      → P (type_outcome nat_eq fresh world task path word recursive).world
   unfolding type_outcome
   type_keeps path word recursive =
       judged_holds P world (admin_rules task) _ conditions (λ capable.

@@ -51,7 +51,8 @@ shown world mount = files_at nat_eq world (record { mount = mount; node = 0 })
 module _ (world : World ℕ) (parent : Location ℕ) (name : List ℕ) where
   -- what a name leads to is seen through the mount of its directory, and is what the entry leads to
   named_by : (object : Location ℕ) → Some object ≡ entry_location nat_eq world parent name
-      → (object.mount ≡ parent.mount) × (entry_at (files_at nat_eq world parent).tree parent.node name ≡ Some object.node)
+      → (object.mount ≡ parent.mount)
+      × (entry_at (files_at nat_eq world parent).tree parent.node name ≡ Some object.node)
   named_by object e = by (entry_named name (entries_in (node_at nat_eq world parent))) e
     where
       by : (o : Option ℕ) → Some object ≡ option_map (λ number. record { mount = parent.mount; node = number }) o
@@ -96,11 +97,14 @@ module _ (fresh : Fresh ℕ) (world : World ℕ) (task : Task ℕ) (conditions :
       (ends_old_leaf_walk world task path) (λ place is.
       judged_holds IsWorldOfTrees world ((is_special place.last, E2) ∷ []) _ conditions (λ plain.
       judged_holds IsWorldOfTrees world (unlink_rules nat_eq world task place (object_there place))
-      (granted Done (with_change nat_eq fresh world place.parent (removing place (object_there place)))) conditions (λ passed.
+      (granted Done (with_change nat_eq fresh world place.parent (removing place (object_there place)))) conditions
+      (λ passed.
       change_keeps_world fresh world place.parent (removing place (object_there place)) conditions (λ trees.
-      old_removable world place plain.0 is.0 is.1 (no_directory_empty (node_at nat_eq world (object_there place)) passed.0)))))
+      old_removable world place plain.0 is.0 is.1
+      (no_directory_empty (node_at nat_eq world (object_there place)) passed.0)))))
 
-  no_special : (last : LastWord) → is_dot_dot last ≡ false → is_dot last ≡ false → is_no_word last ≡ false → is_special last ≡ false
+  no_special : (last : LastWord) → is_dot_dot last ≡ false → is_dot last ≡ false → is_no_word last ≡ false
+      → is_special last ≡ false
   no_special NoWord a b c = c
   no_special Dot a b c = b
   no_special DotDot a b c = a
@@ -138,7 +142,8 @@ module _ (fresh : Fresh ℕ) (world : World ℕ) (task : Task ℕ) (conditions :
       → Ends IsNewNamePlace (rename_new_walk nat_eq world task path old_is_directory)
   ends_rename_new_walk path old_is_directory =
       ends_then IsNewNamePlace IsNewNamePlace (new_walk nat_eq world task path) _ (ends_new_walk world task path)
-      (λ place is. ends_unless IsNewNamePlace place.steps ((place.slash && not old_is_directory, W3) ∷ []) place (λ passed. is))
+      (λ place is. ends_unless IsNewNamePlace place.steps ((place.slash && not old_is_directory, W3) ∷ []) place
+      (λ passed. is))
 
   replaced_after : (o : Option (Location ℕ)) (location : Location ℕ) (change : Change ℕ)
       → (IsFileTree (files_at nat_eq world location) → IsProper (files_at nat_eq world location).tree change)
@@ -149,7 +154,8 @@ module _ (fresh : Fresh ℕ) (world : World ℕ) (task : Task ℕ) (conditions :
 -- A rename, where its rules pass
 module _ (world : World ℕ) (task : Task ℕ) (from to : Place ℕ)
     (from_plain : is_special from.last ≡ false) (from_is : IsPlace world from) (from_there : is_some from.object ≡ true)
-    (to_plain : is_special to.last ≡ false) (to_is : IsPlace world to) (to_new : Passed (new_name_rules nat_eq world to))
+    (to_plain : is_special to.last ≡ false) (to_is : IsPlace world to)
+    (to_new : Passed (new_name_rules nat_eq world to))
     (other : is_one_object nat_eq world (object_there from) to.object ≡ false)
     (passed : Passed (rename_rules nat_eq world task from to (object_there from)))
     (trees : IsFileTree (files_at nat_eq world from.parent)) where
@@ -168,12 +174,14 @@ module _ (world : World ℕ) (task : Task ℕ) (from to : Place ℕ)
   not_different false e = sym e
 
   one_mount : from.parent.mount ≡ to.parent.mount
-  one_mount = eqb-true from.parent.mount to.parent.mount (not_different (nat_eq from.parent.mount to.parent.mount) passed.1.1.1.1.1.1.1.1.0)
+  one_mount = eqb-true from.parent.mount to.parent.mount
+      (not_different (nat_eq from.parent.mount to.parent.mount) passed.1.1.1.1.1.1.1.1.0)
 
   to_files : files_at nat_eq world to.parent ≡ files
   to_files = ap (shown world) (sym one_mount)
 
-  to_named : (is_directory_at nat_eq world to.parent ≡ true) × (to.object ≡ entry_location nat_eq world to.parent (name_of to.last))
+  to_named : (is_directory_at nat_eq world to.parent ≡ true)
+      × (to.object ≡ entry_location nat_eq world to.parent (name_of to.last))
   to_named = place_named world to.parent to.last to.object to_plain to_is
 
   to_directory : IsDirectory files.tree to.parent.node
@@ -209,7 +217,8 @@ module _ (world : World ℕ) (task : Task ℕ) (from to : Place ℕ)
   moves_not_under names e = by (is_directory_at nat_eq world old) refl
     where
       same : same_filesystem nat_eq world old to.parent ≡ true
-      same = eq-eqb _ _ (ap (λ m. (mount_at nat_eq world (record { mount = m; node = 0 })).filesystem) (old_is.0 ∙ one_mount))
+      same = eq-eqb _ _ (ap (λ m. (mount_at nat_eq world (record { mount = m; node = 0 })).filesystem)
+          (old_is.0 ∙ one_mount))
 
       under : is_directory_under nat_eq (files_at nat_eq world old) old.node to.parent.node ≡ true
       under =
@@ -219,7 +228,8 @@ module _ (world : World ℕ) (task : Task ℕ) (from to : Place ℕ)
       three : (a b c : Bool) → a ≡ true → b ≡ true → c ≡ true → (a && b && c) ≡ true
       three a b c x y z = ap (λ d. d && b && c) x ∙ ap (λ d. d && c) y ∙ z
 
-      start_directory : (list : List (List ℕ)) → led files.tree old.node list ≡ Some to.parent.node → IsDirectory files.tree old.node
+      start_directory : (list : List (List ℕ)) → led files.tree old.node list ≡ Some to.parent.node
+          → IsDirectory files.tree old.node
       start_directory [] h = subst (IsDirectory files.tree) (sym (same_Some old.node to.parent.node h)) to_directory
       start_directory (name ∷ list) h =
           let step = found (λ next. led files.tree next list) (entry_at files.tree old.node name) to.parent.node h in
@@ -232,14 +242,16 @@ module _ (world : World ℕ) (task : Task ℕ) (from to : Place ℕ)
   moves_other : entry_at files.tree to.parent.node (name_of to.last) ≢ Some old.node
   moves_other entry =
       true≢false (sym (both _ _
-      (eq-eqb _ _ (ap (λ m. (mount_at nat_eq world (record { mount = m; node = 0 })).filesystem) (old_is.0 ∙ one_mount)))
+      (eq-eqb _ _ (ap (λ m. (mount_at nat_eq world (record { mount = m; node = 0 })).filesystem)
+      (old_is.0 ∙ one_mount)))
       (eq-eqb old.node old.node refl))
       ∙ ap (is_one_object nat_eq world old) (sym (new_object old.node entry)) ∙ other)
     where
       both : (a b : Bool) → a ≡ true → b ≡ true → (a && b) ≡ true
       both a b x y = ap (λ c. c && b) x ∙ y
 
-  moves_empty : (number : ℕ) → entry_at files.tree to.parent.node (name_of to.last) ≡ Some number → entries_in (files.tree.node number) ≡ []
+  moves_empty : (number : ℕ) → entry_at files.tree to.parent.node (name_of to.last) ≡ Some number
+      → entries_in (files.tree.node number) ≡ []
   moves_empty number entry = by (is_directory_at nat_eq world old) refl
     where
       here : to.object ≡ Some (record { mount = to.parent.mount; node = number })
@@ -258,7 +270,8 @@ module _ (world : World ℕ) (task : Task ℕ) (from to : Place ℕ)
           ap entries_in (sym seen)
           ∙ no_directory_empty (node_at nat_eq world (record { mount = to.parent.mount; node = number }))
           (ap (λ b. not b && is_directory_at nat_eq world (record { mount = to.parent.mount; node = number })) (sym is)
-          ∙ ap (λ o. not (is_directory_at nat_eq world old) && holds_of (is_directory_at nat_eq world) o) (sym here) ∙ passed.0)
+          ∙ ap (λ o. not (is_directory_at nat_eq world old) && holds_of (is_directory_at nat_eq world) o) (sym here)
+          ∙ passed.0)
 
   pub may_move : MayMove files.tree from.parent.node (name_of from.last) to.parent.node (name_of to.last) old.node
   may_move = record {
@@ -271,14 +284,17 @@ module _ (world : World ℕ) (task : Task ℕ) (from to : Place ℕ)
   }
 
 module _ (fresh : Fresh ℕ) (world : World ℕ) (task : Task ℕ) (conditions : IsWorldOfTrees world) where
-  renamed_keeps : (from to : Place ℕ) → is_special from.last ≡ false → IsOldPlace world task from → is_special to.last ≡ false
+  renamed_keeps : (from to : Place ℕ) → is_special from.last ≡ false → IsOldPlace world task from
+      → is_special to.last ≡ false
       → IsNewPlace world task to
       → (b : Bool) → is_one_object nat_eq world (object_there from) to.object ≡ b
       → IsWorldOfTrees (renamed_by nat_eq b fresh world task from to (object_there from)).world
   renamed_keeps from to from_plain from_is to_plain to_is true same =
-      judged_holds IsWorldOfTrees world (same_object_rules nat_eq world from to) (granted Done world) conditions (λ passed. conditions)
+      judged_holds IsWorldOfTrees world (same_object_rules nat_eq world from to) (granted Done world) conditions
+      (λ passed. conditions)
   renamed_keeps from to from_plain from_is to_plain to_is false other =
-      judged_holds IsWorldOfTrees world (rename_rules nat_eq world task from to (object_there from)) _ conditions (λ passed.
+      judged_holds IsWorldOfTrees world (rename_rules nat_eq world task from to (object_there from)) _ conditions
+      (λ passed.
       replaced_after fresh world task conditions to.object from.parent (moving from to (object_there from)) (λ trees.
       may_move world task from to from_plain from_is.0 from_is.1 to_plain to_is.0 to_is.1 other passed trees))
 
@@ -294,4 +310,5 @@ module _ (fresh : Fresh ℕ) (world : World ℕ) (task : Task ℕ) (conditions :
       judged_holds IsWorldOfTrees world (old_word_rules to)
       (renamed_by nat_eq (is_one_object nat_eq world (object_there from) to.object) fresh world task from to
       (object_there from)) conditions (λ to_plain.
-      renamed_keeps from to from_plain.0 from_is to_plain.0 to_is (is_one_object nat_eq world (object_there from) to.object) refl))))
+      renamed_keeps from to from_plain.0 from_is to_plain.0 to_is
+      (is_one_object nat_eq world (object_there from) to.object) refl))))

@@ -25,7 +25,8 @@ bytes_keep_place bytes = record {
 }
 
 -- A new inode, and then its name, are the new object under its name
-module _ (files : FileTree ℕ) (directory : ℕ) (name : List ℕ) (number : ℕ) (node : Node ℕ) (differ : directory ≢ number) where
+module _ (files : FileTree ℕ) (directory : ℕ) (name : List ℕ) (number : ℕ) (node : Node ℕ)
+    (differ : directory ≢ number) where
   abbrev in_turn : Tree ℕ
   in_turn = (with_name nat_eq (with_inode nat_eq files number node) directory name number).tree
 
@@ -39,7 +40,8 @@ module _ (files : FileTree ℕ) (directory : ℕ) (name : List ℕ) (number : �
 
   directory_first : (with_inode nat_eq files number node).tree.node directory ≡ files.tree.node directory
   directory_first =
-      ⊎_elim (λ t. absurd (differ t.1)) (λ t. ap (λ b. cond b (Some node) (files.tree.node directory)) t.0) (eqb_tells directory number)
+      ⊎_elim (λ t. absurd (differ t.1)) (λ t. ap (λ b. cond b (Some node) (files.tree.node directory)) t.0)
+      (eqb_tells directory number)
 
   nodes_alike : (k : ℕ) → (with_object nat_eq files.tree directory name number node).node k ≡ in_turn.node k
   nodes_alike k =
@@ -54,7 +56,8 @@ module _ (files : FileTree ℕ) (directory : ℕ) (name : List ℕ) (number : �
     (conditions : IsTree files.tree) (may : MayMake files.tree directory name number node) where
   directory_differs : directory ≢ number
   directory_differs = used_differs files.tree directory name number node conditions may.name_is_free.in_directory may.name_is_free.reached
-      may.name_is_free.free may.number_is_new may.fits directory (directory_used files.tree directory may.name_is_free.in_directory)
+      may.name_is_free.free may.number_is_new may.fits directory
+      (directory_used files.tree directory may.name_is_free.in_directory)
 
   pub made_is_tree : IsTree (changed nat_eq files (Make directory name number node)).tree
   made_is_tree =
@@ -62,7 +65,8 @@ module _ (files : FileTree ℕ) (directory : ℕ) (name : List ℕ) (number : �
       (is_tree-with_object files.tree directory name number node conditions may.name_is_free.in_directory may.name_is_free.reached
       may.name_is_free.free may.number_is_new may.fits)
 
-  grown_own_parents : HasOwnParents files.tree → HasOwnParents (with_object nat_eq files.tree directory name number node)
+  grown_own_parents : HasOwnParents files.tree
+      → HasOwnParents (with_object nat_eq files.tree directory name number node)
   grown_own_parents own k is unnamed =
       ⊎_elim
       (λ t. absurd (unnamed (
@@ -77,7 +81,8 @@ module _ (files : FileTree ℕ) (directory : ℕ) (name : List ℕ) (number : �
       may.name_is_free.free may.number_is_new may.fits k k t.1
       ∙ own k
       (sym (kept_beside files.tree directory name number node conditions may.name_is_free.in_directory may.name_is_free.reached
-      may.name_is_free.free may.number_is_new may.fits is_directory_node (is_directory-node_with_entry name number) k t.1) ∙ is)
+      may.name_is_free.free may.number_is_new may.fits is_directory_node
+      (is_directory-node_with_entry name number) k t.1) ∙ is)
       (λ named. unnamed (
         named.0,
         named.1,
@@ -86,14 +91,18 @@ module _ (files : FileTree ℕ) (directory : ℕ) (name : List ℕ) (number : �
       )))
       (eqb_tells k number)
 
-  pub made_own_parents : HasOwnParents files.tree → HasOwnParents (changed nat_eq files (Make directory name number node)).tree
-  made_own_parents own = subst HasOwnParents (made_alike files directory name number node directory_differs) (grown_own_parents own)
+  pub made_own_parents : HasOwnParents files.tree
+      → HasOwnParents (changed nat_eq files (Make directory name number node)).tree
+  made_own_parents own = subst HasOwnParents (made_alike files directory name number node directory_differs)
+      (grown_own_parents own)
 
 -- trees
 pub changes_keep_trees : ChangesKeepTrees
-changes_keep_trees files (Make directory name number node) conditions may = made_is_tree files directory name number node conditions may
+changes_keep_trees files (Make directory name number node) conditions may =
+    made_is_tree files directory name number node conditions may
 changes_keep_trees files (AddName directory name object) conditions may =
-    is_tree-rearranged files.tree (changed nat_eq files (AddName directory name object)).tree.node Nobody Nowhere conditions
+    is_tree-rearranged files.tree (changed nat_eq files
+    (AddName directory name object)).tree.node Nobody Nowhere conditions
     (linked_rearranged files directory name object conditions may)
 changes_keep_trees files (Remove directory name object) conditions may =
     is_tree-rearranged files.tree (changed nat_eq files (Remove directory name object)).tree.node _ Nowhere conditions
@@ -118,10 +127,12 @@ pub changes_keep_own_parents : ChangesKeepOwnParents
 changes_keep_own_parents files (Make directory name number node) conditions own may =
     made_own_parents files directory name number node conditions may own
 changes_keep_own_parents files (AddName directory name object) conditions own may =
-    own_parent-rearranged files.tree (changed nat_eq files (AddName directory name object)).tree.node Nobody Nowhere conditions
+    own_parent-rearranged files.tree
+    (changed nat_eq files (AddName directory name object)).tree.node Nobody Nowhere conditions
     (linked_rearranged files directory name object conditions may) own
 changes_keep_own_parents files (Remove directory name object) conditions own may =
-    own_parent-rearranged files.tree (changed nat_eq files (Remove directory name object)).tree.node _ Nowhere conditions
+    own_parent-rearranged files.tree
+    (changed nat_eq files (Remove directory name object)).tree.node _ Nowhere conditions
     (removed_rearranged files directory name object conditions may) own
 changes_keep_own_parents files (Move from old to new object) conditions own may =
     subst HasOwnParents (moved_alike files from old to new object conditions may)
@@ -134,7 +145,8 @@ changes_keep_own_parents files (SetAttr object attr) conditions own may =
     own_parent-rearranged files.tree (changed nat_eq files (SetAttr object attr)).tree.node Nobody Nowhere conditions
     (still_rearranged files object (node_with_attr attr) (attr_keeps_place attr) conditions) own
 changes_keep_own_parents files (SetMark directory opaque) conditions own may =
-    own_parent-rearranged files.tree (changed nat_eq files (SetMark directory opaque)).tree.node Nobody Nowhere conditions
+    own_parent-rearranged files.tree
+    (changed nat_eq files (SetMark directory opaque)).tree.node Nobody Nowhere conditions
     (still_rearranged files directory (node_with_mark opaque) (mark_keeps_place opaque) conditions) own
 changes_keep_own_parents files (CopyUp object) conditions own may = own
 
@@ -147,7 +159,8 @@ numbers_stay files number change same lists k = lists k ∙ sym (part_stays file
 pub numbers_unparented : (files : FileTree ℕ) (o : Option ℕ) → ListsNumbers nat_eq files
     → ListsNumbers nat_eq (without_parent nat_eq files o)
 numbers_unparented files None lists = lists
-numbers_unparented files (Some object) lists = numbers_stay files object (node_with_parent object) (used-node_with_parent object) lists
+numbers_unparented files (Some object) lists =
+    numbers_stay files object (node_with_parent object) (used-node_with_parent object) lists
 
 pub numbers_with_inode : (files : FileTree ℕ) (number : ℕ) (node : Node ℕ) → ListsNumbers nat_eq files
     → ListsNumbers nat_eq (with_inode nat_eq files number node)
@@ -159,7 +172,8 @@ numbers_with_inode files number node lists k = by (nat_eq k number)
 
 pub changes_keep_numbers : ChangesKeepNumbers
 changes_keep_numbers files (Make directory name number node) lists =
-    numbers_stay (with_inode nat_eq files number node) directory (node_with_entry name number) (is_some-node_with_entry name number)
+    numbers_stay (with_inode nat_eq files number node) directory (node_with_entry name number)
+    (is_some-node_with_entry name number)
     (numbers_with_inode files number node lists)
 changes_keep_numbers files (AddName directory name object) lists =
     numbers_stay files directory (node_with_entry name object) (is_some-node_with_entry name object) lists

@@ -19,19 +19,22 @@ module _ (files : FileTree ℕ) (directory : ℕ) (name : List ℕ) where
   entries_there : entries_in ((without_name nat_eq files directory name).tree.node directory) ≡ without_entry name
       (entries_in (files.tree.node directory))
   entries_there =
-      ap entries_in (there files directory (node_without_entry name)) ∙ entries-node_without_entry name (files.tree.node directory)
+      ap entries_in (there files directory (node_without_entry name))
+      ∙ entries-node_without_entry name (files.tree.node directory)
 
   entries_elsewhere : (other : ℕ) → other ≢ directory
       → entries_in ((without_name nat_eq files directory name).tree.node other) ≡ entries_in (files.tree.node other)
   entries_elsewhere other differ = ap entries_in (elsewhere files directory (node_without_entry name) other differ)
 
   -- what is left was there
-  pub untaken_told : (d : ℕ) (n : List ℕ) (k : ℕ) → entry_at (without_name nat_eq files directory name).tree d n ≡ Some k
+  pub untaken_told : (d : ℕ) (n : List ℕ) (k : ℕ)
+      → entry_at (without_name nat_eq files directory name).tree d n ≡ Some k
       → (entry_at files.tree d n ≡ Some k) × ¬ ((d ≡ directory) × (n ≡ name))
   untaken_told d n k e =
       ⊎_elim
       (λ t. by (bytes_eq n name) refl t.1
-      (sym (entry_named-without_entry n name (entries_in (files.tree.node directory))) ∙ sym (ap (entry_named n) entries_there)
+      (sym (entry_named-without_entry n name (entries_in (files.tree.node directory)))
+      ∙ sym (ap (entry_named n) entries_there)
       ∙ ap (λ m. entry_at (without_name nat_eq files directory name).tree m n) (sym t.1) ∙ e))
       (λ t. (sym (ap (entry_named n) (entries_elsewhere d t.1)) ∙ e, λ same. t.1 same.0))
       (eqb_tells d directory)
@@ -85,7 +88,8 @@ module _ (files : FileTree ℕ) (directory : ℕ) (name : List ℕ) where
       (eqb_tells d directory)
 
 -- A name given
-module _ (files : FileTree ℕ) (directory : ℕ) (name : List ℕ) (number : ℕ) (in_directory : IsDirectory files.tree directory) where
+module _ (files : FileTree ℕ) (directory : ℕ) (name : List ℕ) (number : ℕ)
+    (in_directory : IsDirectory files.tree directory) where
   given_there : entries_in ((with_name nat_eq files directory name number).tree.node directory) ≡ with_entry name number
       (entries_in (files.tree.node directory))
   given_there =
@@ -105,23 +109,28 @@ module _ (files : FileTree ℕ) (directory : ℕ) (name : List ℕ) (number : �
       (tied_itself nat_list_cmp_total name)
 
   -- every entry is that one, or was there under another name
-  pub given_told : (d : ℕ) (n : List ℕ) (k : ℕ) → entry_at (with_name nat_eq files directory name number).tree d n ≡ Some k
-      → ((d ≡ directory) × (n ≡ name) × (k ≡ number)) ⊎ ((entry_at files.tree d n ≡ Some k) × ¬ ((d ≡ directory) × (n ≡ name)))
+  pub given_told : (d : ℕ) (n : List ℕ) (k : ℕ)
+      → entry_at (with_name nat_eq files directory name number).tree d n ≡ Some k
+      → ((d ≡ directory) × (n ≡ name) × (k ≡ number))
+      ⊎ ((entry_at files.tree d n ≡ Some k) × ¬ ((d ≡ directory) × (n ≡ name)))
   given_told d n k e =
       ⊎_elim
       (λ t. by (eq_by_cmp name_cmp n name) refl t.1
-      (sym (entry_named-with_entry n name number (entries_in (files.tree.node directory))) ∙ sym (ap (entry_named n) given_there)
+      (sym (entry_named-with_entry n name number (entries_in (files.tree.node directory)))
+      ∙ sym (ap (entry_named n) given_there)
       ∙ ap (λ m. entry_at (with_name nat_eq files directory name number).tree m n) (sym t.1) ∙ e))
       (λ t. inr (sym (ap (entry_named n) (given_elsewhere d t.1)) ∙ e, λ same. t.1 same.0))
       (eqb_tells d directory)
     where
       by : (b : Bool) → eq_by_cmp name_cmp n name ≡ b → d ≡ directory
           → cond b (Some number) (entry_named n (entries_in (files.tree.node directory))) ≡ Some k
-          → ((d ≡ directory) × (n ≡ name) × (k ≡ number)) ⊎ ((entry_at files.tree d n ≡ Some k) × ¬ ((d ≡ directory) × (n ≡ name)))
+          → ((d ≡ directory) × (n ≡ name) × (k ≡ number))
+          ⊎ ((entry_at files.tree d n ≡ Some k) × ¬ ((d ≡ directory) × (n ≡ name)))
       by true tie here is = inl (here, same_name n name tie, cc)
       by false apart here is = inr (
         ap (λ m. entry_at files.tree m n) here ∙ is,
-        λ both. true≢false (sym (ap (λ x. eq_by_cmp name_cmp x name) both.1 ∙ ap is_eq (tied_itself nat_list_cmp_total name)) ∙ apart),
+        λ both. true≢false (sym (ap (λ x. eq_by_cmp name_cmp x name) both.1
+            ∙ ap is_eq (tied_itself nat_list_cmp_total name)) ∙ apart),
       )
 
   -- every entry stays, but for what had that name

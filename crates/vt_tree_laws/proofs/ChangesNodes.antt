@@ -16,7 +16,8 @@ pub record KeepsPlace (change : Option (Node ℕ) → Option (Node ℕ)) : Type 
   pub parent : (own : ℕ) (o : Option (Node ℕ)) → parent_in own (change o) ≡ parent_in own o
 
 -- what a change of one inode keeps of it is kept at every inode
-pub part_stays : {A : Type 0} (files : FileTree ℕ) (number : ℕ) (change : Option (Node ℕ) → Option (Node ℕ)) (part : Option (Node ℕ) → A)
+pub part_stays : {A : Type 0} (files : FileTree ℕ) (number : ℕ) (change : Option (Node ℕ) → Option (Node ℕ))
+    (part : Option (Node ℕ) → A)
     → ((o : Option (Node ℕ)) → part (change o) ≡ part o)
     → (other : ℕ) → part ((changed_node nat_eq files number change).tree.node other) ≡ part (files.tree.node other)
 part_stays files number change part same other =
@@ -27,7 +28,8 @@ pub there : (files : FileTree ℕ) (number : ℕ) (change : Option (Node ℕ) �
     → (changed_node nat_eq files number change).tree.node number ≡ change (files.tree.node number)
 there files number change = node_set files.tree number (change (files.tree.node number))
 
-pub elsewhere : (files : FileTree ℕ) (number : ℕ) (change : Option (Node ℕ) → Option (Node ℕ)) (other : ℕ) → other ≢ number
+pub elsewhere : (files : FileTree ℕ) (number : ℕ) (change : Option (Node ℕ) → Option (Node ℕ)) (other : ℕ)
+    → other ≢ number
     → (changed_node nat_eq files number change).tree.node other ≡ files.tree.node other
 elsewhere files number change other differ = node_other files.tree number (change (files.tree.node number)) other differ
 
@@ -53,7 +55,8 @@ attr_keeps_place attr = record { kind = kind; used = used; entries = entries; pa
 
 -- another mark
 module _ (opaque : Bool) where
-  mark_kind : (content : Content ℕ) → is_directory (kind_of (content_with_mark opaque content)) ≡ is_directory (kind_of content)
+  mark_kind : (content : Content ℕ)
+      → is_directory (kind_of (content_with_mark opaque content)) ≡ is_directory (kind_of content)
   mark_kind (Directory parent entries old) = refl
   mark_kind (Regular bytes) = refl
   mark_kind (Symlink text) = refl
@@ -65,7 +68,8 @@ module _ (opaque : Bool) where
   mark_entries (Symlink text) = refl
   mark_entries Whiteout = refl
 
-  mark_parent : (own : ℕ) (content : Content ℕ) → parent_of own (content_with_mark opaque content) ≡ parent_of own content
+  mark_parent : (own : ℕ) (content : Content ℕ)
+      → parent_of own (content_with_mark opaque content) ≡ parent_of own content
   mark_parent own (Directory parent entries old) = refl
   mark_parent own (Regular bytes) = refl
   mark_parent own (Symlink text) = refl
@@ -92,11 +96,13 @@ module _ (opaque : Bool) where
 
 -- another parent
 module _ (parent : ℕ) where
-  pub kind-node_with_parent : (o : Option (Node ℕ)) → is_directory_node (node_with_parent parent o) ≡ is_directory_node o
+  pub kind-node_with_parent : (o : Option (Node ℕ))
+      → is_directory_node (node_with_parent parent o) ≡ is_directory_node o
   kind-node_with_parent None = refl
   kind-node_with_parent (Some node) = by node.content
     where
-      by : (content : Content ℕ) → is_directory (kind_of (content_with_parent parent content)) ≡ is_directory (kind_of content)
+      by : (content : Content ℕ) → is_directory (kind_of (content_with_parent parent content))
+          ≡ is_directory (kind_of content)
       by (Directory old entries opaque) = refl
       by (Regular bytes) = refl
       by (Symlink text) = refl
@@ -122,7 +128,8 @@ module _ (parent : ℕ) where
   parent-node_with_parent own None is = absurd (true≢false (sym is))
   parent-node_with_parent own (Some node) is = by node.content is
     where
-      by : (content : Content ℕ) → is_directory (kind_of content) ≡ true → parent_of own (content_with_parent parent content) ≡ parent
+      by : (content : Content ℕ) → is_directory (kind_of content) ≡ true
+          → parent_of own (content_with_parent parent content) ≡ parent
       by (Directory old entries opaque) d = refl
       by (Regular bytes) d = absurd (true≢false (sym d))
       by (Symlink text) d = absurd (true≢false (sym d))
@@ -141,12 +148,14 @@ own_parent-node_with_parent own (Some node) = by node.content
 
 -- an entry less
 module _ (name : List ℕ) where
-  pub kind-node_without_entry : (o : Option (Node ℕ)) → is_directory_node (node_without_entry name o) ≡ is_directory_node o
+  pub kind-node_without_entry : (o : Option (Node ℕ))
+      → is_directory_node (node_without_entry name o) ≡ is_directory_node o
   kind-node_without_entry None = refl
   kind-node_without_entry (Some node) = by node.content
     where
       by : (content : Content ℕ)
-          → is_directory (kind_of (with_entries content (without_entry name (entries_of content)))) ≡ is_directory (kind_of content)
+          → is_directory (kind_of (with_entries content (without_entry name (entries_of content))))
+          ≡ is_directory (kind_of content)
       by (Directory parent entries opaque) = refl
       by (Regular bytes) = refl
       by (Symlink text) = refl
@@ -156,22 +165,26 @@ module _ (name : List ℕ) where
   used-node_without_entry None = refl
   used-node_without_entry (Some node) = refl
 
-  pub parent-node_without_entry : (own : ℕ) (o : Option (Node ℕ)) → parent_in own (node_without_entry name o) ≡ parent_in own o
+  pub parent-node_without_entry : (own : ℕ) (o : Option (Node ℕ))
+      → parent_in own (node_without_entry name o) ≡ parent_in own o
   parent-node_without_entry own None = refl
   parent-node_without_entry own (Some node) = by node.content
     where
-      by : (content : Content ℕ) → parent_of own (with_entries content (without_entry name (entries_of content))) ≡ parent_of own content
+      by : (content : Content ℕ) → parent_of own (with_entries content (without_entry name (entries_of content)))
+          ≡ parent_of own content
       by (Directory parent entries opaque) = refl
       by (Regular bytes) = refl
       by (Symlink text) = refl
       by Whiteout = refl
 
-  pub entries-node_without_entry : (o : Option (Node ℕ)) → entries_in (node_without_entry name o) ≡ without_entry name (entries_in o)
+  pub entries-node_without_entry : (o : Option (Node ℕ))
+      → entries_in (node_without_entry name o) ≡ without_entry name (entries_in o)
   entries-node_without_entry None = refl
   entries-node_without_entry (Some node) = by node.content
     where
       by : (content : Content ℕ)
-          → entries_of (with_entries content (without_entry name (entries_of content))) ≡ without_entry name (entries_of content)
+          → entries_of (with_entries content (without_entry name (entries_of content)))
+          ≡ without_entry name (entries_of content)
       by (Directory parent entries opaque) = refl
       by (Regular bytes) = refl
       by (Symlink text) = refl

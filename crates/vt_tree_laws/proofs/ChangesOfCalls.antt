@@ -35,7 +35,8 @@ mapped_none f (Some a) e = absurd (true≢false (ap is_some e))
 
 module _ (world : World ℕ) where
   -- a name that is missing, in a directory that is not removed, is free
-  pub place_is_free : (place : Place ℕ) → IsFilePlace world place → is_special place.last ≡ false → is_some place.object ≡ false
+  pub place_is_free : (place : Place ℕ) → IsFilePlace world place → is_special place.last ≡ false
+      → is_some place.object ≡ false
       → Passed (new_name_rules nat_eq world place)
       → IsFileTree (files_at nat_eq world place.parent)
       → IsFree (files_at nat_eq world place.parent).tree place.parent.node (name_of place.last)
@@ -43,19 +44,23 @@ module _ (world : World ℕ) where
       let named = file_named world place.parent place.last place.object plain is in
       record {
         in_directory = named.0;
-        reached = not_removed_reached (files_at nat_eq world place.parent).tree conditions.tree place.parent.node named.0
+        reached = not_removed_reached
+            (files_at nat_eq world place.parent).tree conditions.tree place.parent.node named.0
             (ap (λ b. not b && is_removed_at nat_eq world place.parent) (sym missing) ∙ passed.0);
-        free = mapped_none (λ object. record { mount = place.parent.mount; node = object }) (entry_named (name_of place.last) (entries_in (node_at nat_eq world place.parent)))
+        free = mapped_none (λ object. record { mount = place.parent.mount; node = object })
+            (entry_named (name_of place.last) (entries_in (node_at nat_eq world place.parent)))
             (named.1 (no_some place.object missing));
       }
 
-module _ (fresh : Fresh ℕ) (world : World ℕ) (task : Task ℕ) (conditions : IsWorldOfTrees world) (new : AreNew fresh world) where
+module _ (fresh : Fresh ℕ) (world : World ℕ) (task : Task ℕ) (conditions : IsWorldOfTrees world)
+    (new : AreNew fresh world) where
   -- a new object under a free name
   new_keeps : (place : Place ℕ) (node : Node ℕ) → IsNewIn place.parent.node node → IsFilePlace world place
       → is_special place.last ≡ false → is_some place.object ≡ false
       → Passed (new_name_rules nat_eq world place) → IsWorldOfTrees (with_new nat_eq fresh world place node)
   new_keeps place node fits is plain missing passed =
-      change_keeps_world (odds fresh) world place.parent (making place (evens fresh 0) node) conditions (λ trees. record {
+      change_keeps_world (odds fresh) world place.parent (making place (evens fresh 0) node) conditions
+      (λ trees. record {
         name_is_free = place_is_free world place is plain missing passed trees;
         number_is_new = new_at fresh world place.parent new (2 * 0);
         fits = fits;
@@ -74,19 +79,28 @@ module _ (fresh : Fresh ℕ) (world : World ℕ) (task : Task ℕ) (conditions :
       (granted Done (with_new nat_eq fresh world place node)) conditions
       (λ passed. new_place_keeps place node fits is passed.0 passed.1.0)
 
-  pub mkdir_keeps : (path : List ℕ) (mode : Option ℕ) → IsWorldOfTrees (mkdir_outcome nat_eq fresh world task path mode).world
+  pub mkdir_keeps : (path : List ℕ) (mode : Option ℕ)
+      → IsWorldOfTrees (mkdir_outcome nat_eq fresh world task path mode).world
   unfolding mkdir_outcome
   mkdir_keeps path mode =
-      after_ends (IsNewPlace world task) IsWorldOfTrees world (new_walk nat_eq world task path) _ conditions (ends_new_walk world task path)
-      (λ place is. made_keeps place (record { attr = new_attr task (unwrap_or mode directory_mode); content = new_directory place.parent.node }) (inl refl) is)
+      after_ends (IsNewPlace world task) IsWorldOfTrees world (new_walk nat_eq world task path) _ conditions
+      (ends_new_walk world task path)
+      (λ place is. made_keeps place (record {
+        attr = new_attr task
+            (unwrap_or mode directory_mode);
+        content = new_directory place.parent.node;
+      }) (inl refl) is)
 
   pub symlink_keeps : (text path : List ℕ) → IsWorldOfTrees (symlink_outcome nat_eq fresh world task text path).world
   unfolding symlink_outcome
   symlink_keeps text path =
       judged_holds IsWorldOfTrees world (symlink_text_rules text) _ conditions (λ passed.
       after_ends (IsNewPlace world task) IsWorldOfTrees world (new_leaf_walk nat_eq world task path)
-      (λ place. made_at nat_eq fresh world task place (record { attr = exact_attr task symlink_mode; content = Symlink text })) conditions (ends_new_leaf_walk world task path)
-      (λ place is. made_keeps place (record { attr = exact_attr task symlink_mode; content = Symlink text }) (inr refl) is))
+      (λ place. made_at nat_eq fresh world task place
+      (record { attr = exact_attr task symlink_mode; content = Symlink text })) conditions
+      (ends_new_leaf_walk world task path)
+      (λ place is. made_keeps place (record { attr = exact_attr task symlink_mode; content = Symlink text })
+      (inr refl) is))
 
   pub whiteout_keeps : (path : List ℕ) → IsWorldOfTrees (whiteout_outcome nat_eq fresh world task path).world
   unfolding whiteout_outcome
@@ -100,7 +114,8 @@ module _ (fresh : Fresh ℕ) (world : World ℕ) (task : Task ℕ) (conditions :
       (λ passed. new_place_keeps place node (inr refl) is passed.0 passed.1.0))
 
   -- a file that is there, with other bytes
-  bytes_keep : (file : Location ℕ) (bytes : List ℕ) → IsWorldOfTrees (with_change nat_eq fresh world file (SetBytes file.node bytes))
+  bytes_keep : (file : Location ℕ) (bytes : List ℕ)
+      → IsWorldOfTrees (with_change nat_eq fresh world file (SetBytes file.node bytes))
   bytes_keep file bytes = change_keeps_world fresh world file (SetBytes file.node bytes) conditions (λ trees. tt)
 
   written_keeps : (place : Place ℕ) (bytes : List ℕ) → IsNewFilePlace world task place → is_special place.last ≡ false
@@ -112,7 +127,8 @@ module _ (fresh : Fresh ℕ) (world : World ℕ) (task : Task ℕ) (conditions :
       (λ passed. bytes_keep file bytes)
   written_keeps place bytes is plain None e =
       judged_holds IsWorldOfTrees world ((nat_lt largest_file (length bytes), E6) ∷ []) _ conditions (λ small.
-      judged_holds IsWorldOfTrees world (make_rules nat_eq world task place (making place (evens fresh 0) (new_file task file_mode bytes)))
+      judged_holds IsWorldOfTrees world
+      (make_rules nat_eq world task place (making place (evens fresh 0) (new_file task file_mode bytes)))
       (granted Done (with_new nat_eq fresh world place (new_file task file_mode bytes))) conditions (λ passed.
       new_keeps place (new_file task file_mode bytes) (inr refl) is.0 plain (ap is_some e) is.1))
 
@@ -123,30 +139,38 @@ module _ (fresh : Fresh ℕ) (world : World ℕ) (task : Task ℕ) (conditions :
       (ends_file_walk world task path)
       (λ place is. judged_holds IsWorldOfTrees world (file_word_rules place)
       (written nat_eq fresh world task place bytes place.object) conditions
-      (λ passed. written_keeps place bytes is (first_false (is_special place.last) place.slash passed.0) place.object refl))
+      (λ passed. written_keeps place bytes is
+      (first_false (is_special place.last) place.slash passed.0) place.object refl))
 
   -- open(2)
   copy_keeps : (b : Bool) (file : Location ℕ) → IsWorldOfTrees (with_copy nat_eq b fresh world file)
   copy_keeps true file = change_keeps_world fresh world file (CopyUp file.node) conditions (λ trees. tt)
   copy_keeps false file = conditions
 
-  opened_file_keeps : (file : Location ℕ) (access : Access) → IsWorldOfTrees (open_file nat_eq fresh world task file access).world
+  opened_file_keeps : (file : Location ℕ) (access : Access)
+      → IsWorldOfTrees (open_file nat_eq fresh world task file access).world
   opened_file_keeps file access =
       judged_holds IsWorldOfTrees world (open_rules nat_eq world task file access)
       (opened (with_copy nat_eq (is_copied_up nat_eq world file access) fresh world file) task file access) conditions
       (λ passed.
       same_filesystems
-      (with_task (with_copy nat_eq (is_copied_up nat_eq world file access) fresh world file) (with_descriptor task file access))
+      (with_task (with_copy nat_eq (is_copied_up nat_eq world file access) fresh world file)
+      (with_descriptor task file access))
       (with_copy nat_eq (is_copied_up nat_eq world file access) fresh world file) refl
       (copy_keeps (is_copied_up nat_eq world file access) file))
 
-  created_keeps : (place : Place ℕ) (access : Access) (mode : ℕ) → IsFilePlace world place → is_special place.last ≡ false
+  created_keeps : (place : Place ℕ) (access : Access) (mode : ℕ) → IsFilePlace world place
+      → is_special place.last ≡ false
       → is_some place.object ≡ false
-      → Passed (new_name_rules nat_eq world place) → IsWorldOfTrees (create_file nat_eq fresh world task place access mode).world
+      → Passed (new_name_rules nat_eq world place)
+      → IsWorldOfTrees (create_file nat_eq fresh world task place access mode).world
   created_keeps place access mode is plain missing passed =
-      judged_holds IsWorldOfTrees world (make_rules nat_eq world task place (making place (evens fresh 0) (new_file task mode [])))
-      (opened (with_new nat_eq fresh world place (new_file task mode [])) task (record { mount = place.parent.mount; node = evens fresh 0 }) access) conditions (λ made.
-      same_filesystems (with_task (with_new nat_eq fresh world place (new_file task mode [])) (with_descriptor task (record { mount = place.parent.mount; node = evens fresh 0 }) access))
+      judged_holds IsWorldOfTrees world
+      (make_rules nat_eq world task place (making place (evens fresh 0) (new_file task mode [])))
+      (opened (with_new nat_eq fresh world place (new_file task mode [])) task
+      (record { mount = place.parent.mount; node = evens fresh 0 }) access) conditions (λ made.
+      same_filesystems (with_task (with_new nat_eq fresh world place (new_file task mode []))
+      (with_descriptor task (record { mount = place.parent.mount; node = evens fresh 0 }) access))
       (with_new nat_eq fresh world place (new_file task mode [])) refl
       (new_keeps place (new_file task mode []) (inr refl) is plain missing passed))
 
@@ -154,7 +178,8 @@ module _ (fresh : Fresh ℕ) (world : World ℕ) (task : Task ℕ) (conditions :
       → is_special place.last ≡ false → (object : Option (Location ℕ)) → place.object ≡ object
       → IsWorldOfTrees (opened_or_created nat_eq fresh world task place access mode object).world
   opened_or_created_keeps place access mode is plain (Some file) e = opened_file_keeps file access
-  opened_or_created_keeps place access mode is plain None e = created_keeps place access mode is.0 plain (ap is_some e) is.1
+  opened_or_created_keeps place access mode is plain None e =
+      created_keeps place access mode is.0 plain (ap is_some e) is.1
 
   open_by_keeps : (path : List ℕ) (access : Access) (creation : Creation)
       → IsWorldOfTrees (open_by nat_eq fresh world task path access creation).world
@@ -167,9 +192,11 @@ module _ (fresh : Fresh ℕ) (world : World ℕ) (task : Task ℕ) (conditions :
       (ends_file_walk world task path)
       (λ place is. judged_holds IsWorldOfTrees world (file_word_rules place)
       (opened_or_created nat_eq fresh world task place access mode place.object) conditions
-      (λ passed. opened_or_created_keeps place access mode is (first_false (is_special place.last) place.slash passed.0) place.object refl))
+      (λ passed. opened_or_created_keeps place access mode is
+      (first_false (is_special place.last) place.slash passed.0) place.object refl))
   open_by_keeps path access (Exclusive mode) =
-      after_ends (IsNewPlace world task) IsWorldOfTrees world (new_walk nat_eq world task path) _ conditions (ends_new_walk world task path)
+      after_ends (IsNewPlace world task) IsWorldOfTrees world (new_walk nat_eq world task path) _ conditions
+      (ends_new_walk world task path)
       (λ place is. judged_holds IsWorldOfTrees world (exclusive_word_rules place)
       (create_file nat_eq fresh world task place access mode) conditions
       (λ passed. created_keeps place access mode
@@ -183,7 +210,8 @@ module _ (fresh : Fresh ℕ) (world : World ℕ) (task : Task ℕ) (conditions :
       (open_by nat_eq fresh world task path access creation) conditions (λ passed. open_by_keeps path access creation)
 
   -- pwrite(2)
-  pwritten_keeps : (file : Location ℕ) (offset : ℕ) (bytes : List ℕ) → IsWorldOfTrees (pwritten nat_eq fresh world file offset bytes)
+  pwritten_keeps : (file : Location ℕ) (offset : ℕ) (bytes : List ℕ)
+      → IsWorldOfTrees (pwritten nat_eq fresh world file offset bytes)
   pwritten_keeps file offset [] = conditions
   pwritten_keeps file offset (byte ∷ bytes) = bytes_keep file _
 
@@ -191,7 +219,8 @@ module _ (fresh : Fresh ℕ) (world : World ℕ) (task : Task ℕ) (conditions :
       → IsWorldOfTrees (pwrite_outcome nat_eq fresh world task number offset bytes).world
   unfolding pwrite_outcome
   pwrite_keeps number offset bytes =
-      after_holds IsWorldOfTrees world (descriptor_at task number (λ descriptor. descriptor.writes)) _ conditions (λ descriptor found.
+      after_holds IsWorldOfTrees world (descriptor_at task number (λ descriptor. descriptor.writes)) _ conditions
+      (λ descriptor found.
       judged_holds IsWorldOfTrees world (pwrite_rules nat_eq world descriptor.location offset bytes)
       (granted Done (pwritten nat_eq fresh world descriptor.location offset bytes)) conditions
       (λ passed. pwritten_keeps descriptor.location offset bytes))
@@ -212,21 +241,25 @@ module _ (fresh : Fresh ℕ) (world : World ℕ) (task : Task ℕ) (conditions :
       (λ here any. attr_set_keeps here.location (owns task.credentials (attr_at nat_eq world here.location))
       (attr_with_mode (attr_at nat_eq world here.location) mode))
 
-  pub chown_keeps : (path : List ℕ) (uid gid : Option ℕ) → IsWorldOfTrees (chown_outcome nat_eq fresh world task path uid gid).world
+  pub chown_keeps : (path : List ℕ) (uid gid : Option ℕ)
+      → IsWorldOfTrees (chown_outcome nat_eq fresh world task path uid gid).world
   unfolding chown_outcome
   chown_keeps path uid gid =
       after_ends (λ here. ⊤) IsWorldOfTrees world (object_walk nat_eq world task path) _ conditions
       (ends_anyhow (object_walk nat_eq world task path))
       (λ here any. attr_set_keeps here.location
-      (may_chown task.credentials (attr_at nat_eq world here.location) (attr_with_owner (attr_at nat_eq world here.location) uid gid))
+      (may_chown task.credentials (attr_at nat_eq world here.location)
+      (attr_with_owner (attr_at nat_eq world here.location) uid gid))
       (attr_with_owner (attr_at nat_eq world here.location) uid gid))
 
-  pub opaque_keeps : (path : List ℕ) (mark : Bool) → IsWorldOfTrees (opaque_outcome nat_eq fresh world task path mark).world
+  pub opaque_keeps : (path : List ℕ) (mark : Bool)
+      → IsWorldOfTrees (opaque_outcome nat_eq fresh world task path mark).world
   unfolding opaque_outcome
   opaque_keeps path mark =
       judged_holds IsWorldOfTrees world ((lacks task cap_sys_admin, K1) ∷ []) _ conditions (λ passed.
       after_ends (λ here. ⊤) IsWorldOfTrees world (directory_walk nat_eq world task path) _ conditions
       (ends_anyhow (directory_walk nat_eq world task path)) (λ here any.
       judged_holds IsWorldOfTrees world (opaque_rules nat_eq world here.location)
-      (granted Done (with_change nat_eq fresh world here.location (SetMark here.location.node mark))) conditions (λ plain.
+      (granted Done (with_change nat_eq fresh world here.location (SetMark here.location.node mark))) conditions
+      (λ plain.
       change_keeps_world fresh world here.location (SetMark here.location.node mark) conditions (λ trees. tt))))

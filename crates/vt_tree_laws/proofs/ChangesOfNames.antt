@@ -23,13 +23,15 @@ Nowhere directory name number = ⊥
 -- an option is this number or it is not
 pub decided_some : (o : Option ℕ) (number : ℕ) → (o ≡ Some number) ⊎ (o ≢ Some number)
 decided_some None number = inr (λ e. none_is_not None number refl e)
-decided_some (Some other) number = ⊎_elim (λ t. inl (ap Some t.1)) (λ t. inr (λ e. t.1 (same_Some other number e))) (eqb_tells other number)
+decided_some (Some other) number =
+    ⊎_elim (λ t. inl (ap Some t.1)) (λ t. inr (λ e. t.1 (same_Some other number e))) (eqb_tells other number)
 
 -- Other attributes, bytes or marks
 module _ (files : FileTree ℕ) (number : ℕ) (change : Option (Node ℕ) → Option (Node ℕ)) (keeps : KeepsPlace change)
     (conditions : IsTree files.tree) where
   still_entries : (directory : ℕ)
-      → entries_in ((changed_node nat_eq files number change).tree.node directory) ≡ entries_in (files.tree.node directory)
+      → entries_in ((changed_node nat_eq files number change).tree.node directory)
+      ≡ entries_in (files.tree.node directory)
   still_entries directory = part_stays files number change entries_in keeps.entries directory
 
   still_entry : (directory : ℕ) (name : List ℕ)
@@ -40,7 +42,8 @@ module _ (files : FileTree ℕ) (number : ℕ) (change : Option (Node ℕ) → O
   still_rearranged = record {
     directories = part_stays files number change is_directory_node keeps.kind;
     in_order = λ d. ap (is_sorted name_cmp) (still_entries d) ∙ conditions.in_order d;
-    alive = λ d n k e. part_stays files number change is_some keeps.used k ∙ conditions.alive d n k (sym (still_entry d n) ∙ e);
+    alive = λ d n k e. part_stays files number change is_some keeps.used k
+        ∙ conditions.alive d n k (sym (still_entry d n) ∙ e);
     kept = λ d n k e is. inr (still_entry d n ∙ e);
     told = λ d n k e is. inr (sym (still_entry d n) ∙ e, λ nobody. nobody);
     decided = λ k. inr (λ nobody. nobody);
@@ -62,14 +65,17 @@ module _ (files : FileTree ℕ) (directory : ℕ) (name : List ℕ) (object : �
   linked = with_name nat_eq files directory name object
 
   linked_told : (d : ℕ) (n : List ℕ) (k : ℕ) → entry_at linked.tree d n ≡ Some k
-      → ((d ≡ directory) × (n ≡ name) × (k ≡ object)) ⊎ ((entry_at files.tree d n ≡ Some k) × ¬ ((d ≡ directory) × (n ≡ name)))
+      → ((d ≡ directory) × (n ≡ name) × (k ≡ object))
+      ⊎ ((entry_at files.tree d n ≡ Some k) × ¬ ((d ≡ directory) × (n ≡ name)))
   linked_told d n k e = given_told files directory name object may.name_is_free.in_directory d n k e
 
   pub linked_rearranged : IsRearranged files.tree linked.tree.node Nobody Nowhere
   linked_rearranged = record {
-    directories = part_stays files directory (node_with_entry name object) is_directory_node (is_directory-node_with_entry name object);
+    directories = part_stays files directory (node_with_entry name object) is_directory_node
+        (is_directory-node_with_entry name object);
     in_order = given_in_order files directory name object may.name_is_free.in_directory conditions.in_order;
-    alive = λ d n k e. part_stays files directory (node_with_entry name object) is_some (is_some-node_with_entry name object) k
+    alive = λ d n k e. part_stays files directory (node_with_entry name object) is_some
+        (is_some-node_with_entry name object) k
         ∙ ⊎_elim
         (λ new. ap (λ m. is_some (files.tree.node m)) new.2 ∙ may.is_there)
         (λ old. conditions.alive d n k old.0)
@@ -90,7 +96,8 @@ module _ (files : FileTree ℕ) (directory : ℕ) (name : List ℕ) (object : �
     arrives_reached = λ d n k nobody. absurd nobody;
     arrives_parent = λ d n k nobody is. absurd nobody;
     stays_parent =
-        λ k is stays. part_stays files directory (node_with_entry name object) (parent_in k) (parent-node_with_entry name object k) k;
+        λ k is stays. part_stays files directory (node_with_entry name object) (parent_in k)
+        (parent-node_with_entry name object k) k;
     leaves_how = λ k is nobody. absurd nobody;
     root_stays = λ nobody. nobody;
     fills = λ k empty. ⊎_elim
@@ -102,10 +109,12 @@ module _ (files : FileTree ℕ) (directory : ℕ) (name : List ℕ) (object : �
 -- An object that has this name has no other, if it is a directory.
 module _ (tree : Tree ℕ) (conditions : IsTree tree) (directory : ℕ) (name : List ℕ) (object : ℕ)
     (named : entry_at tree directory name ≡ Some object) where
-  pub only_name : (d : ℕ) (n : List ℕ) (k : ℕ) → entry_at tree d n ≡ Some k → IsDirectory tree k → k ≡ object → (d ≡ directory) × (n ≡ name)
+  pub only_name : (d : ℕ) (n : List ℕ) (k : ℕ) → entry_at tree d n ≡ Some k → IsDirectory tree k → k ≡ object
+      → (d ≡ directory) × (n ≡ name)
   only_name d n k e is same =
       let here : entry_at tree directory name ≡ Some k = named ∙ ap Some (sym same) in
-      let one : d ≡ directory = sym (conditions.one_parent d n k e is) ∙ conditions.one_parent directory name k here is in
+      let one : d ≡ directory = sym (conditions.one_parent d n k e is)
+      ∙ conditions.one_parent directory name k here is in
       (one, conditions.one_name directory n name k (ap (λ m. entry_at tree m n) (sym one) ∙ e) here is)
 
   pub not_root : tree.root ≢ object
@@ -145,7 +154,8 @@ module _ (files : FileTree ℕ) (directory : ℕ) (name : List ℕ) (object : �
 
   removed_own : parent_in object (removed.tree.node object) ≡ object
   removed_own =
-      ap (parent_in object) (there untaken object (node_with_parent object)) ∙ own_parent-node_with_parent object (untaken.tree.node object)
+      ap (parent_in object) (there untaken object (node_with_parent object))
+      ∙ own_parent-node_with_parent object (untaken.tree.node object)
 
   removed_parent : (k : ℕ) → k ≢ object → parent_in k (removed.tree.node k) ≡ parent_in k (files.tree.node k)
   removed_parent k differ =
@@ -162,16 +172,22 @@ module _ (files : FileTree ℕ) (directory : ℕ) (name : List ℕ) (object : �
   pub removed_rearranged : IsRearranged files.tree removed.tree.node IsObject Nowhere
   removed_rearranged = record {
     directories = removed_kind;
-    in_order = λ d. ap (is_sorted name_cmp) (removed_entries d) ∙ untaken_in_order files directory name conditions.in_order d;
+    in_order = λ d. ap (is_sorted name_cmp) (removed_entries d)
+        ∙ untaken_in_order files directory name conditions.in_order d;
     alive = λ d n k e. removed_used k ∙ conditions.alive d n k (removed_told d n k e).0;
     kept = λ d n k e is. ⊎_elim
         (λ same. inl
-        (same_Some k object (sym e ∙ ap (λ m. entry_at files.tree m n) same.0 ∙ ap (entry_at files.tree directory) same.1 ∙ may.named)))
+        (same_Some k object (sym e ∙ ap (λ m. entry_at files.tree m n) same.0
+        ∙ ap (entry_at files.tree directory) same.1 ∙ may.named)))
         (λ entry. inr (removed_entry d n ∙ entry))
         (untaken_kept files directory name d n k e);
     told = λ d n k e is.
         let old = removed_told d n k e in
-        inr (old.0, λ same. old.1 (only_name files.tree conditions directory name object may.named d n k old.0 is same));
+        inr (
+          old.0,
+          λ same. old.1
+              (only_name files.tree conditions directory name object may.named d n k old.0 is same),
+        );
     decided = λ k. ⊎_elim (λ t. inl t.1) (λ t. inr t.1) (eqb_tells k object);
     arrives_entry = λ d n k nobody. absurd nobody;
     arrives_leaves = λ d n k nobody. absurd nobody;
@@ -179,7 +195,8 @@ module _ (files : FileTree ℕ) (directory : ℕ) (name : List ℕ) (object : �
     arrives_reached = λ d n k nobody. absurd nobody;
     arrives_parent = λ d n k nobody is. absurd nobody;
     stays_parent = λ k is stays. removed_parent k stays;
-    leaves_how = λ k is same. inr (subst (λ m. Vanishes (files.tree.node m) (removed.tree.node m) m) (sym same) removed_vanishes);
+    leaves_how = λ k is same. inr (subst (λ m. Vanishes (files.tree.node m) (removed.tree.node m) m)
+        (sym same) removed_vanishes);
     root_stays = not_root files.tree conditions directory name object may.named;
     fills = λ k empty. inl (removed_entries k ∙ untaken_empty files directory name k empty);
   }
@@ -193,22 +210,28 @@ module _ (files : FileTree ℕ) where
   pub unparented_kind : (o : Option ℕ) (k : ℕ)
       → is_directory_node ((without_parent nat_eq files o).tree.node k) ≡ is_directory_node (files.tree.node k)
   unparented_kind None k = refl
-  unparented_kind (Some object) k = part_stays files object (node_with_parent object) is_directory_node (kind-node_with_parent object) k
+  unparented_kind (Some object) k =
+      part_stays files object (node_with_parent object) is_directory_node (kind-node_with_parent object) k
 
-  pub unparented_used : (o : Option ℕ) (k : ℕ) → is_some ((without_parent nat_eq files o).tree.node k) ≡ is_some (files.tree.node k)
+  pub unparented_used : (o : Option ℕ) (k : ℕ)
+      → is_some ((without_parent nat_eq files o).tree.node k) ≡ is_some (files.tree.node k)
   unparented_used None k = refl
-  unparented_used (Some object) k = part_stays files object (node_with_parent object) is_some (used-node_with_parent object) k
+  unparented_used (Some object) k =
+      part_stays files object (node_with_parent object) is_some (used-node_with_parent object) k
 
   pub unparented_entries : (o : Option ℕ) (k : ℕ)
       → entries_in ((without_parent nat_eq files o).tree.node k) ≡ entries_in (files.tree.node k)
   unparented_entries None k = refl
-  unparented_entries (Some object) k = part_stays files object (node_with_parent object) entries_in (entries-node_with_parent object) k
+  unparented_entries (Some object) k =
+      part_stays files object (node_with_parent object) entries_in (entries-node_with_parent object) k
 
-  pub unparented_own : (o : Option ℕ) (k : ℕ) → o ≡ Some k → parent_in k ((without_parent nat_eq files o).tree.node k) ≡ k
+  pub unparented_own : (o : Option ℕ) (k : ℕ) → o ≡ Some k
+      → parent_in k ((without_parent nat_eq files o).tree.node k) ≡ k
   unparented_own None k e = none_is_not None k refl e
   unparented_own (Some object) k e =
       subst (λ m. parent_in m ((without_parent nat_eq files (Some object)).tree.node m) ≡ m) (same_Some object k e)
-      (ap (parent_in object) (there files object (node_with_parent object)) ∙ own_parent-node_with_parent object (files.tree.node object))
+      (ap (parent_in object) (there files object (node_with_parent object))
+      ∙ own_parent-node_with_parent object (files.tree.node object))
 
   pub unparented_parent : (o : Option ℕ) (k : ℕ) → o ≢ Some k
       → parent_in k ((without_parent nat_eq files o).tree.node k) ≡ parent_in k (files.tree.node k)

@@ -39,7 +39,11 @@ module _ (files : FileTree ℕ) (from : ℕ) (old : List ℕ) (to : ℕ) (new : 
   }
 
   pub moved_alike : moved.tree ≡ (with_moved nat_eq files from old to new object).tree
-  moved_alike = λ i. record { root = sym (unparented_root files replaced) i; node = (with_moved nat_eq files from old to new object).tree.node }
+  moved_alike = λ i. record {
+    root = sym (unparented_root files replaced) i;
+    node =
+        (with_moved nat_eq files from old to new object).tree.node;
+  }
 
   -- the object leaves its name, and what had the new one
   abbrev LeavesName : ℕ → Type 0
@@ -89,11 +93,13 @@ module _ (files : FileTree ℕ) (from : ℕ) (old : List ℕ) (to : ℕ) (new : 
       (given_told untaken to new object to_there d n k (sym (moved_entry d n) ∙ e))
 
   -- each entry stays, but for those of the old and the new name
-  moved_kept : (d : ℕ) (n : List ℕ) (k : ℕ) → entry_at files.tree d n ≡ Some k → LeavesName k ⊎ (entry_at moved.tree d n ≡ Some k)
+  moved_kept : (d : ℕ) (n : List ℕ) (k : ℕ) → entry_at files.tree d n ≡ Some k
+      → LeavesName k ⊎ (entry_at moved.tree d n ≡ Some k)
   moved_kept d n k e =
       ⊎_elim
       (λ same. inl
-      (inl (same_Some k object (sym e ∙ ap (λ m. entry_at files.tree m n) same.0 ∙ ap (entry_at files.tree from) same.1 ∙ may.named))))
+      (inl (same_Some k object (sym e ∙ ap (λ m. entry_at files.tree m n) same.0 ∙ ap (entry_at files.tree from) same.1
+      ∙ may.named))))
       (λ first. ⊎_elim
       (λ same. inl (inr (sym (ap (λ m. entry_at files.tree m n) same.0 ∙ ap (entry_at files.tree to) same.1) ∙ e)))
       (λ second. inr (moved_entry d n ∙ second))
@@ -134,14 +140,16 @@ module _ (files : FileTree ℕ) (from : ℕ) (old : List ℕ) (to : ℕ) (new : 
       (λ gone. no_entries files.tree to new to (may.replaced_empty to gone) gone)
       (λ reached. reached)
       rest)
-      (led_closed files.tree Remains remains_along files.tree.root may.reached.0 to (inr (inr (root_reached moved.tree))) may.reached.1)
+      (led_closed files.tree Remains remains_along files.tree.root may.reached.0 to
+      (inr (inr (root_reached moved.tree))) may.reached.1)
 
   -- parents
   moved_object_parent : IsDirectory files.tree object → parent_in object (moved.tree.node object) ≡ to
   moved_object_parent is =
       ap (parent_in object) (there given object (node_with_parent to))
       ∙ parent-node_with_parent to object (given.tree.node object)
-      (part_stays untaken to (node_with_entry new object) is_directory_node (is_directory-node_with_entry new object) object
+      (part_stays untaken to (node_with_entry new object) is_directory_node
+      (is_directory-node_with_entry new object) object
       ∙ untaken_kind object ∙ is)
 
   moved_first_parent : (k : ℕ) → k ≢ object → parent_in k (moved.tree.node k) ≡ parent_in k (unparented.tree.node k)
@@ -160,9 +168,11 @@ module _ (files : FileTree ℕ) (from : ℕ) (old : List ℕ) (to : ℕ) (new : 
     was_empty = may.replaced_empty k gone;
     is_empty =
         moved_empty k
-        (λ same. no_entries files.tree k new k (may.replaced_empty k gone) (ap (λ m. entry_at files.tree m new) same ∙ gone))
+        (λ same. no_entries files.tree k new k (may.replaced_empty k gone)
+        (ap (λ m. entry_at files.tree m new) same ∙ gone))
         (may.replaced_empty k gone);
-    own_parent = moved_first_parent k (λ same. may.replaced_other (gone ∙ ap Some same)) ∙ unparented_own files replaced k gone;
+    own_parent = moved_first_parent k (λ same. may.replaced_other (gone ∙ ap Some same))
+        ∙ unparented_own files replaced k gone;
   }
 
   moved_decided : (k : ℕ) → LeavesName k ⊎ (¬ (LeavesName k))
@@ -204,9 +214,12 @@ module _ (files : FileTree ℕ) (from : ℕ) (old : List ℕ) (to : ℕ) (new : 
         ap (λ m. parent_in m (moved.tree.node m)) arrives.2
         ∙ moved_object_parent (ap (λ m. is_directory_node (files.tree.node m)) (sym arrives.2) ∙ is) ∙ sym arrives.0;
     stays_parent =
-        λ k is stays. moved_first_parent k (λ same. stays (inl same)) ∙ unparented_parent files replaced k (λ gone. stays (inr gone));
-    leaves_how = λ k is leaves. ⊎_elim (λ same. inl (to, new, (refl, refl, same))) (λ gone. inr (moved_vanishes k gone)) leaves;
-    root_stays = ⊎_elim (not_root files.tree conditions from old object may.named) (λ gone. conditions.root_unnamed to new gone);
+        λ k is stays. moved_first_parent k (λ same. stays (inl same))
+        ∙ unparented_parent files replaced k (λ gone. stays (inr gone));
+    leaves_how = λ k is leaves. ⊎_elim (λ same. inl (to, new, (refl, refl, same)))
+        (λ gone. inr (moved_vanishes k gone)) leaves;
+    root_stays = ⊎_elim (not_root files.tree conditions from old object may.named)
+        (λ gone. conditions.root_unnamed to new gone);
     fills = λ k empty. ⊎_elim
         (λ t. inr (subst (IsReached files.tree) (sym t.1) may.reached))
         (λ t. inl (moved_empty k t.1 empty))

@@ -29,16 +29,19 @@ fits o =
 
 -- names of entries
 put_fits : (name : List ℕ) (number : ℕ) (entries : Entries ℕ) → is_fit_name name ≡ true
-    → list_all is_fit_name (map (λ e. e.0) entries) ≡ true → list_all is_fit_name (map (λ e. e.0) (with_entry name number entries)) ≡ true
+    → list_all is_fit_name (map (λ e. e.0) entries) ≡ true
+    → list_all is_fit_name (map (λ e. e.0) (with_entry name number entries)) ≡ true
 put_fits name number [] h k = both (is_fit_name name) true h refl
 put_fits name number (entry ∷ entries) h k =
     by (name_cmp name entry.0)
-    (put_fits name number entries h ((and_parts (is_fit_name entry.0) (list_all is_fit_name (map (λ e. e.0) entries)) k).1))
+    (put_fits name number entries h
+    ((and_parts (is_fit_name entry.0) (list_all is_fit_name (map (λ e. e.0) entries)) k).1))
   where
     by : (o : Ordering) → list_all is_fit_name (map (λ e. e.0) (with_entry name number entries)) ≡ true
         → list_all is_fit_name
         (map (λ e. e.0)
-        (by_order o ((name, number) ∷ entry ∷ entries) ((entry.0, number) ∷ entries) (entry ∷ with_entry name number entries))) ≡ true
+        (by_order o ((name, number) ∷ entry ∷ entries) ((entry.0, number) ∷ entries)
+        (entry ∷ with_entry name number entries))) ≡ true
     by Less rest = both (is_fit_name name) (list_all is_fit_name (map (λ e. e.0) (entry ∷ entries))) h k
     by Equal rest = k
     by Greater rest =
@@ -49,7 +52,8 @@ filter_fits : (stays : List ℕ × ℕ → Bool) (entries : Entries ℕ) → lis
     → list_all is_fit_name (map (λ e. e.0) (filter stays entries)) ≡ true
 filter_fits stays [] k = refl
 filter_fits stays (entry ∷ entries) k =
-    by (stays entry) (filter_fits stays entries ((and_parts (is_fit_name entry.0) (list_all is_fit_name (map (λ e. e.0) entries)) k).1))
+    by (stays entry) (filter_fits stays entries
+    ((and_parts (is_fit_name entry.0) (list_all is_fit_name (map (λ e. e.0) entries)) k).1))
   where
     by : (b : Bool) → list_all is_fit_name (map (λ e. e.0) (filter stays entries)) ≡ true
         → list_all is_fit_name (map (λ e. e.0) (cond b (entry ∷ filter stays entries) (filter stays entries))) ≡ true
@@ -89,7 +93,8 @@ no_entry_fits name (Some node) k = by node.attr node.content k
         → fits (node_without_entry name (Some (record { attr = attr; content = content }))) ≡ true
     by attr (Directory parent entries opaque) g =
         of_directory (list_all is_fit_name (map (λ e. e.0) (without_entry name entries)))
-        (filter_fits (λ entry. not (bytes_eq entry.0 name)) entries (names_of_directory (list_all is_fit_name (map (λ e. e.0) entries)) g))
+        (filter_fits (λ entry. not (bytes_eq entry.0 name)) entries
+        (names_of_directory (list_all is_fit_name (map (λ e. e.0) entries)) g))
     by attr (Regular bytes) g = g
     by attr (Symlink text) g = g
     by attr Whiteout g = g
@@ -133,7 +138,8 @@ bytes_fit bytes h (Some node) k = by node.attr node.content k
     by attr Whiteout g = g
 
 -- Trees
-all_alike : (test other : ℕ → Bool) → ((n : ℕ) → test n ≡ true → other n ≡ true) → (list : List ℕ) → list_all test list ≡ true
+all_alike : (test other : ℕ → Bool) → ((n : ℕ) → test n ≡ true → other n ≡ true) → (list : List ℕ)
+    → list_all test list ≡ true
     → list_all other list ≡ true
 all_alike test other keeps [] h = refl
 all_alike test other keeps (n ∷ list) h =
@@ -144,12 +150,15 @@ pub changed_fits_there : (files : FileTree ℕ) (number : ℕ) (change : Option 
     → (fits (files.tree.node number) ≡ true → fits (change (files.tree.node number)) ≡ true)
     → is_fit_tree files ≡ true → is_fit_tree (changed_node nat_eq files number change) ≡ true
 changed_fits_there files number change keeps h =
-    all_alike (λ n. fits (files.tree.node n)) (λ n. fits ((changed_node nat_eq files number change).tree.node n)) one files.numbers h
+    all_alike (λ n. fits (files.tree.node n))
+    (λ n. fits ((changed_node nat_eq files number change).tree.node n)) one files.numbers h
   where
-    one : (n : ℕ) → fits (files.tree.node n) ≡ true → fits ((changed_node nat_eq files number change).tree.node n) ≡ true
+    one : (n : ℕ) → fits (files.tree.node n) ≡ true
+        → fits ((changed_node nat_eq files number change).tree.node n) ≡ true
     one n k = by (nat_eq n number) refl
       where
-        by : (b : Bool) → nat_eq n number ≡ b → fits (cond b (change (files.tree.node number)) (files.tree.node n)) ≡ true
+        by : (b : Bool) → nat_eq n number ≡ b
+            → fits (cond b (change (files.tree.node number)) (files.tree.node n)) ≡ true
         by true e = keeps (ap (λ m. fits (files.tree.node m)) (sym (eqb-true n number e)) ∙ k)
         by false e = k
 
@@ -158,7 +167,8 @@ changed_fits : (files : FileTree ℕ) (number : ℕ) (change : Option (Node ℕ)
     → is_fit_tree files ≡ true → is_fit_tree (changed_node nat_eq files number change) ≡ true
 changed_fits files number change keeps h = changed_fits_there files number change (keeps (files.tree.node number)) h
 
-unparented_fits : (files : FileTree ℕ) (o : Option ℕ) → is_fit_tree files ≡ true → is_fit_tree (without_parent nat_eq files o) ≡ true
+unparented_fits : (files : FileTree ℕ) (o : Option ℕ) → is_fit_tree files ≡ true
+    → is_fit_tree (without_parent nat_eq files o) ≡ true
 unparented_fits files None h = h
 unparented_fits files (Some object) h = changed_fits files object (node_with_parent object) (parent_fits object) h
 
@@ -168,7 +178,8 @@ inode_fits files number node k h =
     both (fits ((with_inode nat_eq files number node).tree.node number))
     (list_all (λ n. fits ((with_inode nat_eq files number node).tree.node n)) files.numbers)
     (ap (λ b. fits (cond b (Some node) (files.tree.node number))) (eq-eqb number number refl) ∙ k)
-    (all_alike (λ n. fits (files.tree.node n)) (λ n. fits ((with_inode nat_eq files number node).tree.node n)) one files.numbers h)
+    (all_alike (λ n. fits (files.tree.node n))
+    (λ n. fits ((with_inode nat_eq files number node).tree.node n)) one files.numbers h)
   where
     one : (n : ℕ) → fits (files.tree.node n) ≡ true → fits ((with_inode nat_eq files number node).tree.node n) ≡ true
     one n g = by (nat_eq n number)
@@ -179,7 +190,8 @@ inode_fits files number node k h =
 
 pub changes_keep_sizes : ChangesKeepSizes
 changes_keep_sizes files (Make directory name number node) h fit =
-    changed_fits (with_inode nat_eq files number node) directory (node_with_entry name number) (entry_fits name number fit.0)
+    changed_fits (with_inode nat_eq files number node) directory (node_with_entry name number)
+    (entry_fits name number fit.0)
     (inode_fits files number node fit.1 h)
 changes_keep_sizes files (AddName directory name object) h fit =
     changed_fits files directory (node_with_entry name object) (entry_fits name object fit) h
@@ -193,16 +205,21 @@ changes_keep_sizes files (Move from old to new object) h fit =
     (changed_fits untaken to (node_with_entry new object) (entry_fits new object fit)
     (changed_fits unparented from (node_without_entry old) (no_entry_fits old)
     (unparented_fits files (entry_named new (entries_in (files.tree.node to))) h)))
-changes_keep_sizes files (SetBytes file bytes) h fit = changed_fits files file (node_with_bytes bytes) (bytes_fit bytes fit) h
-changes_keep_sizes files (SetAttr object attr) h fit = changed_fits files object (node_with_attr attr) (attr_fits attr) h
-changes_keep_sizes files (SetMark directory opaque) h fit = changed_fits files directory (node_with_mark opaque) (mark_fits opaque) h
+changes_keep_sizes files (SetBytes file bytes) h fit =
+    changed_fits files file (node_with_bytes bytes) (bytes_fit bytes fit) h
+changes_keep_sizes files (SetAttr object attr) h fit =
+    changed_fits files object (node_with_attr attr) (attr_fits attr) h
+changes_keep_sizes files (SetMark directory opaque) h fit =
+    changed_fits files directory (node_with_mark opaque) (mark_fits opaque) h
 changes_keep_sizes files (CopyUp object) h fit = h
 
 -- What nothing uses goes
-among_fits : (used : List ℕ) (files : FileTree ℕ) → is_fit_tree files ≡ true → is_fit_tree (only_among nat_eq used files) ≡ true
+among_fits : (used : List ℕ) (files : FileTree ℕ) → is_fit_tree files ≡ true
+    → is_fit_tree (only_among nat_eq used files) ≡ true
 among_fits used files h =
     all-filter (λ n. fits ((only_among nat_eq used files).tree.node n)) (λ n. is_among nat_eq n used) files.numbers
-    (all_alike (λ n. fits (files.tree.node n)) (λ n. fits ((only_among nat_eq used files).tree.node n)) one files.numbers h)
+    (all_alike (λ n. fits (files.tree.node n))
+    (λ n. fits ((only_among nat_eq used files).tree.node n)) one files.numbers h)
   where
     one : (n : ℕ) → fits (files.tree.node n) ≡ true → fits ((only_among nat_eq used files).tree.node n) ≡ true
     one n k = by (is_among nat_eq n used)
@@ -223,7 +240,8 @@ used_fits world false filesystem h = h
 round_fits : (chosen : Filesystem ℕ → Bool) (world : World ℕ) → list_all is_fit_filesystem world.filesystems ≡ true
     → list_all is_fit_filesystem (without_dead_in nat_eq chosen world).filesystems ≡ true
 round_fits chosen world h =
-    all_mapped is_fit_filesystem (λ f. only_used nat_eq world (chosen f) f) (λ f k. used_fits world (chosen f) f k) world.filesystems h
+    all_mapped is_fit_filesystem (λ f. only_used nat_eq world (chosen f) f)
+    (λ f k. used_fits world (chosen f) f k) world.filesystems h
 
 pub settling_keeps_sizes : SettlingKeepsSizes
 settling_keeps_sizes world h =

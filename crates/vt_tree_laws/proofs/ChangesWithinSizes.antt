@@ -50,7 +50,8 @@ use Rattle.vt_tree_laws.proofs.TreesWalked.{Ends, Passed, after_any, after_ends,
 new_plain_fits : (number root : ℕ) → is_fit_filesystem (new_plain nat_eq number root) ≡ true
 new_plain_fits number root =
     both (fits ((new_plain nat_eq number root).files.tree.node root)) true
-    (ap (λ b. fits (cond b (Some (record { attr = root_attr; content = new_directory root })) None)) (eq-eqb root root refl)) refl
+    (ap (λ b. fits (cond b (Some (record { attr = root_attr; content = new_directory root })) None))
+    (eq-eqb root root refl)) refl
 
 -- worlds with the same filesystems
 pub alike_fit : (a b : World ℕ) → a.filesystems ≡ b.filesystems → IsFitWorld b → IsFitWorld a
@@ -70,28 +71,34 @@ module _ (fresh : Fresh ℕ) (world : World ℕ) (location : Location ℕ) (chan
   no_overlay : IsFitWorld world → old.overlay ≡ None
   no_overlay conditions =
       no_some old.overlay
-      (numbered_anyhow (λ f. is_overlay f ≡ false) (mount_at nat_eq world location).filesystem world.filesystems conditions.plain refl)
+      (numbered_anyhow (λ f. is_overlay f ≡ false)
+      (mount_at nat_eq world location).filesystem world.filesystems conditions.plain refl)
 
   pub change_fits : IsFitWorld world
-      → (is_fit_tree (files_at nat_eq world location) ≡ true → is_fit_tree (changed nat_eq (files_at nat_eq world location) change) ≡ true)
+      → (is_fit_tree (files_at nat_eq world location) ≡ true
+      → is_fit_tree (changed nat_eq (files_at nat_eq world location) change) ≡ true)
       → IsFitWorld (with_change nat_eq fresh world location change)
   change_fits conditions keeps =
-      subst IsFitWorld (sym (ap (λ o. filesystem_changed nat_eq fresh world old o change) (no_overlay conditions))) (record {
-        plain = replaced_all (λ f. is_overlay f ≡ false) new world.filesystems conditions.plain (inl (ap is_some (no_overlay conditions)));
+      subst IsFitWorld (sym (ap (λ o. filesystem_changed nat_eq fresh world old o change) (no_overlay conditions)))
+      (record {
+        plain = replaced_all (λ f. is_overlay f ≡ false) new world.filesystems conditions.plain
+            (inl (ap is_some (no_overlay conditions)));
         fit = list_all-from_AllPass is_fit_filesystem (with_filesystem nat_eq world new).filesystems
             (replaced_all (λ f. is_fit_filesystem f ≡ true) new world.filesystems fitting
             (⊎_elim
             (λ is. inl (keeps is))
             (λ missing. inr (subst (λ n. All (λ f. nat_eq n f.number ≡ false) world.filesystems)
             (sym (number_numbered (mount_at nat_eq world location).filesystem world.filesystems)) missing.1))
-            (numbered_all (λ f. is_fit_filesystem f ≡ true) (mount_at nat_eq world location).filesystem world.filesystems fitting)));
+            (numbered_all (λ f. is_fit_filesystem f ≡ true)
+            (mount_at nat_eq world location).filesystem world.filesystems fitting)));
       })
     where
       fitting : All (λ f. is_fit_filesystem f ≡ true) world.filesystems
       fitting = AllPass-from_list_all is_fit_filesystem world.filesystems conditions.fit
 
 -- bytes written into a file end where they end, or where it ended
-pub overwritten_length : (offset : ℕ) (more bytes : List ℕ) (most : ℕ) → offset + length more ≤ most → length bytes ≤ most
+pub overwritten_length : (offset : ℕ) (more bytes : List ℕ) (most : ℕ) → offset + length more ≤ most
+    → length bytes ≤ most
     → length (overwritten offset more bytes) ≤ most
 overwritten_length offset more bytes most short old =
     omega (
@@ -104,20 +111,23 @@ overwritten_length offset more bytes most short old =
       old,
     )
 
-overwritten_fits : (offset : ℕ) (more : List ℕ) → offset + length more ≤ largest_file → (o : Option (Node ℕ)) → fits o ≡ true
+overwritten_fits : (offset : ℕ) (more : List ℕ) → offset + length more ≤ largest_file → (o : Option (Node ℕ))
+    → fits o ≡ true
     → fits (node_with_bytes (overwritten offset more (bytes_in o)) o) ≡ true
 overwritten_fits offset more short None k = k
 overwritten_fits offset more short (Some node) k = by node.attr node.content k
   where
     by : (attr : Attr) (content : Content ℕ) → fits (Some (record { attr = attr; content = content })) ≡ true
-        → fits (node_with_bytes (overwritten offset more (bytes_in (Some (record { attr = attr; content = content })))) (Some (record { attr = attr; content = content }))) ≡ true
+        → fits (node_with_bytes (overwritten offset more (bytes_in (Some (record { attr = attr; content = content }))))
+        (Some (record { attr = attr; content = content }))) ≡ true
     by attr (Directory parent entries opaque) g = g
     by attr (Regular bytes) g =
         ap (λ b. b && true && true)
         (le-leb (length (overwritten offset more bytes)) largest_file
         (overwritten_length offset more bytes largest_file short
         (leb-true (length bytes) largest_file
-        ((and_parts (nat_le (length bytes) largest_file) true ((and_parts (nat_le (length bytes) largest_file && true) true g).0)).0))))
+        ((and_parts (nat_le (length bytes) largest_file) true
+        ((and_parts (nat_le (length bytes) largest_file && true) true g).0)).0))))
     by attr (Symlink text) g = g
     by attr Whiteout g = g
 
@@ -126,15 +136,18 @@ module _ (fresh : Fresh ℕ) (world : World ℕ) (task : Task ℕ) (conditions :
   fit_change : (any : Fresh ℕ) (location : Location ℕ) (change : Change ℕ) → IsFitChange change
       → IsFitWorld (with_change nat_eq any world location change)
   fit_change any location change fit =
-      change_fits any world location change conditions (λ small. changes_keep_sizes (files_at nat_eq world location) change small fit)
+      change_fits any world location change conditions
+      (λ small. changes_keep_sizes (files_at nat_eq world location) change small fit)
 
   fit_change_after : (any : Fresh ℕ) (before : World ℕ) → before.filesystems ≡ world.filesystems
-      → (location : Location ℕ) (change : Change ℕ) → IsFitChange change → IsFitWorld (with_change nat_eq any before location change)
+      → (location : Location ℕ) (change : Change ℕ) → IsFitChange change
+      → IsFitWorld (with_change nat_eq any before location change)
   fit_change_after any before same location change fit =
       change_fits any before location change (alike_fit before world same conditions)
       (λ small. changes_keep_sizes (files_at nat_eq before location) change small fit)
 
-  fit_new : (place : Place ℕ) (node : Node ℕ) → HasFitLast world task place → is_special place.last ≡ false → is_fit_node node ≡ true
+  fit_new : (place : Place ℕ) (node : Node ℕ) → HasFitLast world task place → is_special place.last ≡ false
+      → is_fit_node node ≡ true
       → IsFitWorld (with_new nat_eq fresh world place node)
   fit_new place node last plain fit =
       fit_change (odds fresh) place.parent (making place (evens fresh 0) node) (fit_name_of place.last plain last, fit)
@@ -149,35 +162,47 @@ module _ (fresh : Fresh ℕ) (world : World ℕ) (task : Task ℕ) (conditions :
   fit_mkdir : (path : List ℕ) (mode : Option ℕ) → IsFitWorld (mkdir_outcome nat_eq fresh world task path mode).world
   unfolding mkdir_outcome
   fit_mkdir path mode =
-      after_ends (HasFitLast world task) IsFitWorld world (new_walk nat_eq world task path) _ conditions (fit_new_walk world task path)
-      (λ place last. fit_made place (record { attr = new_attr task (unwrap_or mode directory_mode); content = new_directory place.parent.node }) last refl)
+      after_ends (HasFitLast world task) IsFitWorld world (new_walk nat_eq world task path) _ conditions
+      (fit_new_walk world task path)
+      (λ place last. fit_made place (record {
+        attr = new_attr task
+            (unwrap_or mode directory_mode);
+        content = new_directory place.parent.node;
+      }) last refl)
 
   fit_symlink : (text path : List ℕ) → IsFitWorld (symlink_outcome nat_eq fresh world task text path).world
   unfolding symlink_outcome
   fit_symlink text path =
       judged_holds IsFitWorld world (symlink_text_rules text) _ conditions (λ passed.
       after_ends (HasFitLast world task) IsFitWorld world (new_leaf_walk nat_eq world task path)
-      (λ place. made_at nat_eq fresh world task place (record { attr = exact_attr task symlink_mode; content = Symlink text })) conditions (fit_new_leaf_walk world task path)
+      (λ place. made_at nat_eq fresh world task place
+      (record { attr = exact_attr task symlink_mode; content = Symlink text })) conditions
+      (fit_new_leaf_walk world task path)
       (λ place last. fit_made place (record { attr = exact_attr task symlink_mode; content = Symlink text }) last
       (ap (λ b. b && true)
-      (both (not (is_empty text)) (nat_le (length text) longest_path) (ap not passed.0) (no_longer longest_path text passed.1.0)))))
+      (both (not (is_empty text)) (nat_le (length text) longest_path) (ap not passed.0)
+      (no_longer longest_path text passed.1.0)))))
 
   fit_whiteout : (path : List ℕ) → IsFitWorld (whiteout_outcome nat_eq fresh world task path).world
   unfolding whiteout_outcome
   fit_whiteout path =
       after_ends (HasFitLast world task) IsFitWorld world (new_leaf_walk nat_eq world task path) _ conditions
       (fit_new_leaf_walk world task path) (λ place last.
-      judged_holds IsFitWorld world (whiteout_rules nat_eq world task place) (granted Done (with_new nat_eq fresh world place (record { attr = exact_attr task 0; content = Whiteout }))) conditions
+      judged_holds IsFitWorld world (whiteout_rules nat_eq world task place)
+      (granted Done (with_new nat_eq fresh world place
+      (record { attr = exact_attr task 0; content = Whiteout }))) conditions
       (λ passed. fit_new place (record { attr = exact_attr task 0; content = Whiteout }) last passed.0 refl))
 
-  fit_link : (before after_call : List ℕ) → IsFitWorld (hard_link_outcome nat_eq fresh world task before after_call).world
+  fit_link : (before after_call : List ℕ)
+      → IsFitWorld (hard_link_outcome nat_eq fresh world task before after_call).world
   unfolding hard_link_outcome
   fit_link before after_call =
       after_any IsFitWorld world (symlink_walk nat_eq world task before) _ conditions (λ from.
       after_ends (HasFitLast world task) IsFitWorld world (new_leaf_walk nat_eq world task after_call) _ conditions
       (fit_new_leaf_walk world task after_call) (λ place last.
       judged_holds IsFitWorld world ((is_special place.last, E1) ∷ []) _ conditions (λ plain.
-      judged_holds IsFitWorld world (hard_link_rules nat_eq world task from.location place (linking from.location place))
+      judged_holds IsFitWorld world (hard_link_rules nat_eq world task from.location place
+      (linking from.location place))
       (granted Done (with_change nat_eq fresh world place.parent (linking from.location place))) conditions
       (λ passed. fit_change fresh place.parent (linking from.location place) (fit_name_of place.last plain.0 last)))))
 
@@ -209,20 +234,25 @@ module _ (fresh : Fresh ℕ) (world : World ℕ) (task : Task ℕ) (conditions :
   fit_renamed : (from to : Place ℕ) → HasFitLast world task to → is_special to.last ≡ false → (b : Bool)
       → IsFitWorld (renamed_by nat_eq b fresh world task from to (object_there from)).world
   fit_renamed from to last plain true =
-      judged_holds IsFitWorld world (same_object_rules nat_eq world from to) (granted Done world) conditions (λ passed. conditions)
+      judged_holds IsFitWorld world (same_object_rules nat_eq world from to) (granted Done world) conditions
+      (λ passed. conditions)
   fit_renamed from to last plain false =
       judged_holds IsFitWorld world (rename_rules nat_eq world task from to (object_there from)) _ conditions
-      (λ passed. fit_change_after fresh (without_replaced nat_eq world to.object) (replaced_filesystems to.object) from.parent
+      (λ passed. fit_change_after fresh (without_replaced nat_eq world to.object)
+      (replaced_filesystems to.object) from.parent
       (moving from to (object_there from)) (fit_name_of to.last plain last))
 
   fit_rename_walk : (path : List ℕ) (old_is_directory : Bool)
       → Ends (HasFitLast world task) (rename_new_walk nat_eq world task path old_is_directory)
   fit_rename_walk path old_is_directory =
-      ends_then (HasFitLast world task) (HasFitLast world task) (new_walk nat_eq world task path) _ (fit_new_walk world task path)
-      (λ place last. ends_unless (HasFitLast world task) place.steps ((place.slash && not old_is_directory, W3) ∷ []) place
+      ends_then (HasFitLast world task) (HasFitLast world task) (new_walk nat_eq world task path) _
+      (fit_new_walk world task path)
+      (λ place last. ends_unless (HasFitLast world task) place.steps
+      ((place.slash && not old_is_directory, W3) ∷ []) place
       (λ passed. last))
 
-  fit_rename : (before after_call : List ℕ) → IsFitWorld (rename_outcome nat_eq fresh world task before after_call).world
+  fit_rename : (before after_call : List ℕ)
+      → IsFitWorld (rename_outcome nat_eq fresh world task before after_call).world
   unfolding rename_outcome
   fit_rename before after_call =
       after_any IsFitWorld world (old_leaf_walk nat_eq world task before) _ conditions (λ from.
@@ -231,10 +261,12 @@ module _ (fresh : Fresh ℕ) (world : World ℕ) (task : Task ℕ) (conditions :
       (rename_new_walk nat_eq world task after_call (is_directory_there nat_eq world from)) _ conditions
       (fit_rename_walk after_call (is_directory_there nat_eq world from)) (λ to last.
       judged_holds IsFitWorld world (old_word_rules to)
-      (renamed_by nat_eq (is_one_object nat_eq world (object_there from) to.object) fresh world task from to (object_there from)) conditions
+      (renamed_by nat_eq (is_one_object nat_eq world (object_there from) to.object) fresh world task from to
+      (object_there from)) conditions
       (λ plain. fit_renamed from to last plain.0 (is_one_object nat_eq world (object_there from) to.object)))))
 
-  fit_attr_set : (object : Location ℕ) (allowed : Bool) (attr : Attr) → IsFitWorld (attr_set nat_eq fresh world object allowed attr).world
+  fit_attr_set : (object : Location ℕ) (allowed : Bool) (attr : Attr)
+      → IsFitWorld (attr_set nat_eq fresh world object allowed attr).world
   fit_attr_set object allowed attr =
       judged_holds IsFitWorld world (attr_rules nat_eq world object allowed attr)
       (granted Done (with_change nat_eq fresh world object (SetAttr object.node attr))) conditions
@@ -247,12 +279,14 @@ module _ (fresh : Fresh ℕ) (world : World ℕ) (task : Task ℕ) (conditions :
       (λ here. fit_attr_set here.location (owns task.credentials (attr_at nat_eq world here.location))
       (attr_with_mode (attr_at nat_eq world here.location) mode))
 
-  fit_chown : (path : List ℕ) (uid gid : Option ℕ) → IsFitWorld (chown_outcome nat_eq fresh world task path uid gid).world
+  fit_chown : (path : List ℕ) (uid gid : Option ℕ)
+      → IsFitWorld (chown_outcome nat_eq fresh world task path uid gid).world
   unfolding chown_outcome
   fit_chown path uid gid =
       after_any IsFitWorld world (object_walk nat_eq world task path) _ conditions
       (λ here. fit_attr_set here.location
-      (may_chown task.credentials (attr_at nat_eq world here.location) (attr_with_owner (attr_at nat_eq world here.location) uid gid))
+      (may_chown task.credentials (attr_at nat_eq world here.location)
+      (attr_with_owner (attr_at nat_eq world here.location) uid gid))
       (attr_with_owner (attr_at nat_eq world here.location) uid gid))
 
   fit_opaque : (path : List ℕ) (mark : Bool) → IsFitWorld (opaque_outcome nat_eq fresh world task path mark).world
@@ -273,7 +307,8 @@ module _ (fresh : Fresh ℕ) (world : World ℕ) (task : Task ℕ) (conditions :
       (λ passed. fit_change fresh file (SetBytes file.node bytes) (no_longer largest_file bytes passed.1.0))
   fit_written place bytes None last plain =
       judged_holds IsFitWorld world ((nat_lt largest_file (length bytes), E6) ∷ []) _ conditions (λ small.
-      judged_holds IsFitWorld world (make_rules nat_eq world task place (making place (evens fresh 0) (new_file task file_mode bytes)))
+      judged_holds IsFitWorld world (make_rules nat_eq world task place
+      (making place (evens fresh 0) (new_file task file_mode bytes)))
       (granted Done (with_new nat_eq fresh world place (new_file task file_mode bytes))) conditions
       (λ passed. fit_new place (new_file task file_mode bytes) last plain
       (ap (λ b. b && true && true) (no_longer largest_file bytes small.0))))
@@ -283,10 +318,12 @@ module _ (fresh : Fresh ℕ) (world : World ℕ) (task : Task ℕ) (conditions :
   fit_write path bytes =
       after_ends (HasFitLast world task) IsFitWorld world (file_walk nat_eq world task path) _ conditions
       (fit_file_walk world task path) (λ place last.
-      judged_holds IsFitWorld world (file_word_rules place) (written nat_eq fresh world task place bytes place.object) conditions
+      judged_holds IsFitWorld world (file_word_rules place)
+      (written nat_eq fresh world task place bytes place.object) conditions
       (λ passed. fit_written place bytes place.object last (first_false (is_special place.last) place.slash passed.0)))
 
-  fit_pwritten : (file : Location ℕ) (offset : ℕ) (bytes : List ℕ) → Passed (pwrite_rules nat_eq world file offset bytes)
+  fit_pwritten : (file : Location ℕ) (offset : ℕ) (bytes : List ℕ)
+      → Passed (pwrite_rules nat_eq world file offset bytes)
       → IsFitWorld (pwritten nat_eq fresh world file offset bytes)
   fit_pwritten file offset [] passed = conditions
   fit_pwritten file offset (byte ∷ bytes) passed =
@@ -297,10 +334,12 @@ module _ (fresh : Fresh ℕ) (world : World ℕ) (task : Task ℕ) (conditions :
       (overwritten_fits offset (byte ∷ bytes) (ltb-false largest_file (offset + length (byte ∷ bytes)) passed.0)
       (node_at nat_eq world file)))
 
-  fit_pwrite : (number offset : ℕ) (bytes : List ℕ) → IsFitWorld (pwrite_outcome nat_eq fresh world task number offset bytes).world
+  fit_pwrite : (number offset : ℕ) (bytes : List ℕ)
+      → IsFitWorld (pwrite_outcome nat_eq fresh world task number offset bytes).world
   unfolding pwrite_outcome
   fit_pwrite number offset bytes =
-      after_holds IsFitWorld world (descriptor_at task number (λ descriptor. descriptor.writes)) _ conditions (λ descriptor found.
+      after_holds IsFitWorld world (descriptor_at task number (λ descriptor. descriptor.writes)) _ conditions
+      (λ descriptor found.
       judged_holds IsFitWorld world (pwrite_rules nat_eq world descriptor.location offset bytes)
       (granted Done (pwritten nat_eq fresh world descriptor.location offset bytes)) conditions
       (λ passed. fit_pwritten descriptor.location offset bytes passed))
@@ -310,25 +349,33 @@ module _ (fresh : Fresh ℕ) (world : World ℕ) (task : Task ℕ) (conditions :
   fit_copy true file = fit_change fresh file (CopyUp file.node) tt
   fit_copy false file = conditions
 
-  fit_open_file : (file : Location ℕ) (access : Access) → IsFitWorld (open_file nat_eq fresh world task file access).world
+  fit_open_file : (file : Location ℕ) (access : Access)
+      → IsFitWorld (open_file nat_eq fresh world task file access).world
   fit_open_file file access =
       judged_holds IsFitWorld world (open_rules nat_eq world task file access)
       (opened (with_copy nat_eq (is_copied_up nat_eq world file access) fresh world file) task file access) conditions
       (λ passed. alike_fit
-      (with_task (with_copy nat_eq (is_copied_up nat_eq world file access) fresh world file) (with_descriptor task file access))
+      (with_task (with_copy nat_eq (is_copied_up nat_eq world file access) fresh world file)
+      (with_descriptor task file access))
       (with_copy nat_eq (is_copied_up nat_eq world file access) fresh world file) refl
       (fit_copy (is_copied_up nat_eq world file access) file))
 
-  fit_create : (place : Place ℕ) (access : Access) (mode : ℕ) → HasFitLast world task place → is_special place.last ≡ false
+  fit_create : (place : Place ℕ) (access : Access) (mode : ℕ) → HasFitLast world task place
+      → is_special place.last ≡ false
       → IsFitWorld (create_file nat_eq fresh world task place access mode).world
   fit_create place access mode last plain =
-      judged_holds IsFitWorld world (make_rules nat_eq world task place (making place (evens fresh 0) (new_file task mode [])))
-      (opened (with_new nat_eq fresh world place (new_file task mode [])) task (record { mount = place.parent.mount; node = evens fresh 0 }) access) conditions
-      (λ passed. alike_fit (with_task (with_new nat_eq fresh world place (new_file task mode [])) (with_descriptor task (record { mount = place.parent.mount; node = evens fresh 0 }) access))
+      judged_holds IsFitWorld world (make_rules nat_eq world task place
+      (making place (evens fresh 0) (new_file task mode [])))
+      (opened (with_new nat_eq fresh world place (new_file task mode [])) task
+      (record { mount = place.parent.mount; node = evens fresh 0 }) access) conditions
+      (λ passed. alike_fit (with_task (with_new nat_eq fresh world place (new_file task mode []))
+      (with_descriptor task (record { mount = place.parent.mount; node = evens fresh 0 }) access))
       (with_new nat_eq fresh world place (new_file task mode [])) refl
-      (fit_new place (new_file task mode []) last plain (ap (λ b. b && true && true) (le-leb 0 largest_file (omega arith)))))
+      (fit_new place (new_file task mode []) last plain
+      (ap (λ b. b && true && true) (le-leb 0 largest_file (omega arith)))))
 
-  fit_opened_or_created : (place : Place ℕ) (access : Access) (mode : ℕ) (object : Option (Location ℕ)) → HasFitLast world task place
+  fit_opened_or_created : (place : Place ℕ) (access : Access) (mode : ℕ) (object : Option (Location ℕ))
+      → HasFitLast world task place
       → is_special place.last ≡ false
       → IsFitWorld (opened_or_created nat_eq fresh world task place access mode object).world
   fit_opened_or_created place access mode (Some file) last plain = fit_open_file file access
@@ -338,24 +385,28 @@ module _ (fresh : Fresh ℕ) (world : World ℕ) (task : Task ℕ) (conditions :
       → IsFitWorld (open_by nat_eq fresh world task path access creation).world
   fit_open_by path access NoCreation =
       after_any IsFitWorld world (object_walk nat_eq world task path)
-      (λ here. open_file nat_eq fresh world task here.location access) conditions (λ here. fit_open_file here.location access)
+      (λ here. open_file nat_eq fresh world task here.location access) conditions
+      (λ here. fit_open_file here.location access)
   fit_open_by path access (OrCreate mode) =
       after_ends (HasFitLast world task) IsFitWorld world (file_walk nat_eq world task path) _ conditions
       (fit_file_walk world task path) (λ place last.
       judged_holds IsFitWorld world (file_word_rules place)
       (opened_or_created nat_eq fresh world task place access mode place.object) conditions
-      (λ passed. fit_opened_or_created place access mode place.object last (first_false (is_special place.last) place.slash passed.0)))
+      (λ passed. fit_opened_or_created place access mode place.object last
+      (first_false (is_special place.last) place.slash passed.0)))
   fit_open_by path access (Exclusive mode) =
       after_ends (HasFitLast world task) IsFitWorld world (new_walk nat_eq world task path) _ conditions
       (fit_new_walk world task path) (λ place last.
       judged_holds IsFitWorld world (exclusive_word_rules place)
-      (create_file nat_eq fresh world task place access mode) conditions (λ passed. fit_create place access mode last passed.0))
+      (create_file nat_eq fresh world task place access mode) conditions
+      (λ passed. fit_create place access mode last passed.0))
 
   fit_open : (path : List ℕ) (access : Access) (creation : Creation)
       → IsFitWorld (open_outcome nat_eq fresh world task path access creation).world
   unfolding open_outcome
   fit_open path access creation =
-      judged_holds IsFitWorld world (descriptor_rules task) (open_by nat_eq fresh world task path access creation) conditions
+      judged_holds IsFitWorld world (descriptor_rules task)
+      (open_by nat_eq fresh world task path access creation) conditions
       (λ passed. fit_open_by path access creation)
 
   -- a new plain filesystem
@@ -364,14 +415,16 @@ module _ (fresh : Fresh ℕ) (world : World ℕ) (task : Task ℕ) (conditions :
   fit_more after_call same = record {
     plain = subst (All (λ f. is_overlay f ≡ false)) (sym same)
         (All-append (λ f. is_overlay f ≡ false) world.filesystems (plain_filesystem nat_eq fresh ∷ []) conditions.plain
-        (All-cons (λ f. is_overlay f ≡ false) (plain_filesystem nat_eq fresh) [] refl (All-nil (λ f. is_overlay f ≡ false))));
+        (All-cons (λ f. is_overlay f ≡ false) (plain_filesystem nat_eq fresh) [] refl
+        (All-nil (λ f. is_overlay f ≡ false))));
     fit =
         ap (list_all is_fit_filesystem) same
         ∙ all_appended is_fit_filesystem world.filesystems (plain_filesystem nat_eq fresh) conditions.fit
         (new_plain_fits (evens fresh 0) (evens fresh 1));
   }
 
-  pub outcome_fits : (call : Call) → mounts_overlay call ≡ false → IsFitWorld (call_outcome nat_eq fresh world task call).world
+  pub outcome_fits : (call : Call) → mounts_overlay call ≡ false
+      → IsFitWorld (call_outcome nat_eq fresh world task call).world
   outcome_fits (Ls path) other = list_keeps IsFitWorld alike_fit fresh world task conditions path
   outcome_fits (Stat path) other = stat_keeps IsFitWorld alike_fit fresh world task conditions path
   outcome_fits (Lstat path) other = lstat_keeps IsFitWorld alike_fit fresh world task conditions path
@@ -390,7 +443,8 @@ module _ (fresh : Fresh ℕ) (world : World ℕ) (task : Task ℕ) (conditions :
   outcome_fits (Chown path uid gid) other = fit_chown path uid gid
   outcome_fits (Opaque path mark) other = fit_opaque path mark
   outcome_fits (OpenFile path access creation) other = fit_open path access creation
-  outcome_fits (Pread descriptor offset size) other = pread_keeps IsFitWorld alike_fit fresh world task conditions descriptor offset size
+  outcome_fits (Pread descriptor offset size) other =
+      pread_keeps IsFitWorld alike_fit fresh world task conditions descriptor offset size
   outcome_fits (Pwrite descriptor offset bytes) other = fit_pwrite descriptor offset bytes
   outcome_fits (Close descriptor) other = close_keeps IsFitWorld alike_fit fresh world task conditions descriptor
   outcome_fits (Chdir path) other = chdir_keeps IsFitWorld alike_fit fresh world task conditions path
@@ -401,14 +455,17 @@ module _ (fresh : Fresh ℕ) (world : World ℕ) (task : Task ℕ) (conditions :
   outcome_fits Exit other = exit_keeps IsFitWorld alike_fit fresh world task conditions
   outcome_fits Unshare other = unshare_keeps IsFitWorld alike_fit fresh world task conditions
   outcome_fits (Setns name) other = setns_keeps IsFitWorld alike_fit fresh world task conditions name
-  outcome_fits (MountPlain path flags) other = mount_plain_keeps IsFitWorld alike_fit fresh world task conditions fit_more path flags
+  outcome_fits (MountPlain path flags) other =
+      mount_plain_keeps IsFitWorld alike_fit fresh world task conditions fit_more path flags
   outcome_fits (MountOverlay path options flags) other = absurd (true≢false other)
-  outcome_fits (Bind source path recursive) other = bind_keeps IsFitWorld alike_fit fresh world task conditions source path recursive
+  outcome_fits (Bind source path recursive) other =
+      bind_keeps IsFitWorld alike_fit fresh world task conditions source path recursive
   outcome_fits (MoveMount source path) other = move_keeps IsFitWorld alike_fit fresh world task conditions source path
   outcome_fits (Umount path) other = umount_keeps IsFitWorld alike_fit fresh world task conditions path
   outcome_fits (Lazy path) other = lazy_keeps IsFitWorld alike_fit fresh world task conditions path
   outcome_fits (Remount path flags) other = remount_keeps IsFitWorld alike_fit fresh world task conditions path flags
-  outcome_fits (SetType path word recursive) other = type_keeps IsFitWorld alike_fit fresh world task conditions path word recursive
+  outcome_fits (SetType path word recursive) other =
+      type_keeps IsFitWorld alike_fit fresh world task conditions path word recursive
   outcome_fits (PivotRoot root put) other = pivot_keeps IsFitWorld alike_fit fresh world task conditions root put
   outcome_fits ListMounts other = mounts_keeps IsFitWorld alike_fit fresh world task conditions
 
@@ -432,14 +489,16 @@ fit_raised changed world conditions = record {
   fit = all_mapped is_fit_filesystem (raised_if_changed nat_eq changed) keeps world.filesystems conditions.fit;
 }
   where
-    keeps : (f : Filesystem ℕ) → is_fit_filesystem f ≡ true → is_fit_filesystem (raised_if_changed nat_eq changed f) ≡ true
+    keeps : (f : Filesystem ℕ) → is_fit_filesystem f ≡ true
+        → is_fit_filesystem (raised_if_changed nat_eq changed f) ≡ true
     keeps f h = by (list_any (λ number. nat_eq number f.number) changed)
       where
         by : (b : Bool) → is_fit_filesystem (cond b (record f { change = raised f.change }) f) ≡ true
         by true = h
         by false = h
 
-fit_finished : (before : World ℕ) (name : TaskName) (changed : List ℕ) (outcome : Outcome ℕ) (b : Bool) → IsFitWorld outcome.world
+fit_finished : (before : World ℕ) (name : TaskName) (changed : List ℕ) (outcome : Outcome ℕ) (b : Bool)
+    → IsFitWorld outcome.world
     → IsFitWorld (finished_by nat_eq b before name changed outcome).world
 fit_finished before name changed outcome true conditions = conditions
 fit_finished before name changed outcome false conditions =
@@ -450,10 +509,12 @@ fit_finished before name changed outcome false conditions =
 pub calls_keep_sizes : CallsKeepSizes
 calls_keep_sizes world fresh name call conditions other =
     after_holds IsFitWorld world (ok_or (task_called world name) (denial S2)) _ conditions (λ task found.
-    fit_finished world name _ (call_outcome nat_eq fresh world task call) _ (outcome_fits fresh world task conditions call other))
+    fit_finished world name _ (call_outcome nat_eq fresh world task call) _
+    (outcome_fits fresh world task conditions call other))
 
 pub opening_is_fit : OpeningIsFit
 opening_is_fit fresh = record {
-  plain = All-cons (λ f. is_overlay f ≡ false) (new_plain nat_eq (fresh 2) (fresh 3)) [] refl (All-nil (λ f. is_overlay f ≡ false));
+  plain = All-cons (λ f. is_overlay f ≡ false) (new_plain nat_eq (fresh 2) (fresh 3)) [] refl
+      (All-nil (λ f. is_overlay f ≡ false));
   fit = both (is_fit_filesystem (new_plain nat_eq (fresh 2) (fresh 3))) true (new_plain_fits (fresh 2) (fresh 3)) refl;
 }

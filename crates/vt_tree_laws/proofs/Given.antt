@@ -11,7 +11,8 @@ abbrev pub Gives : {A : Type 0} → (A → Type 0) → Result A Deny → Type 0
 Gives P (Ok a) = P a
 Gives P (Err deny) = ⊤
 
-pub gives_unless : {A : Type 0} (P : A → Type 0) (rules : Rules) (answer : Result A Deny) → (Passed rules → Gives P answer)
+pub gives_unless : {A : Type 0} (P : A → Type 0) (rules : Rules) (answer : Result A Deny)
+    → (Passed rules → Gives P answer)
     → Gives P (unless rules answer)
 gives_unless P [] answer h = h tt
 gives_unless P ((true, rule) ∷ rows) answer h = tt
@@ -31,6 +32,7 @@ pub given_is : {A : Type 0} (P : A → Type 0) (answer : Result A Deny) (a : A) 
 given_is P answer a e = subst (Gives P) e
 
 -- two things that hold where a walk ends
-pub ends_both : {A : Type 0} (Q R : A → Type 0) (walk : Result A (Stop ℕ)) → Ends Q walk → Ends R walk → Ends (λ a. Q a × R a) walk
+pub ends_both : {A : Type 0} (Q R : A → Type 0) (walk : Result A (Stop ℕ)) → Ends Q walk → Ends R walk
+    → Ends (λ a. Q a × R a) walk
 ends_both Q R (Ok a) q r = (q, r)
 ends_both Q R (Err stop) q r = tt

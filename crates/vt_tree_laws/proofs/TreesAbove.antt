@@ -34,7 +34,8 @@ module _ (tree : Tree ℕ) where
     where
       none : (a : ℕ) → 0 + a ≡ a
       none a = omega arith
-  up_plus (suc k) j o = ap (λ n. up tree n o) (later k j) ∙ ap (option_and_then (named_parent nat_eq tree)) (up_plus k j o)
+  up_plus (suc k) j o = ap (λ n. up tree n o) (later k j)
+      ∙ ap (option_and_then (named_parent nat_eq tree)) (up_plus k j o)
     where
       later : (a b : ℕ) → suc a + b ≡ suc (a + b)
       later a b = omega arith
@@ -46,11 +47,13 @@ module _ (tree : Tree ℕ) where
   up_first (suc k) o = ap (option_and_then (named_parent nat_eq tree)) (up_first k o)
 
   -- what has an entry to something is a directory
-  entry_to_directory : (o : Option (Node ℕ)) (k : ℕ) → is_among nat_eq k (targets_in o) ≡ true → is_directory_node o ≡ true
+  entry_to_directory : (o : Option (Node ℕ)) (k : ℕ) → is_among nat_eq k (targets_in o) ≡ true
+      → is_directory_node o ≡ true
   entry_to_directory None k h = absurd (true≢false (sym h))
   entry_to_directory (Some node) k h = by node.content h
     where
-      by : (content : Content ℕ) → is_among nat_eq k (map (λ e. e.1) (entries_of content)) ≡ true → is_directory (kind_of content) ≡ true
+      by : (content : Content ℕ) → is_among nat_eq k (map (λ e. e.1) (entries_of content)) ≡ true
+          → is_directory (kind_of content) ≡ true
       by (Directory parent entries opaque) h = refl
       by (Regular bytes) h = absurd (true≢false (sym h))
       by (Symlink text) h = absurd (true≢false (sym h))
@@ -81,15 +84,18 @@ module _ (tree : Tree ℕ) where
       parent_is_directory step.0 e step.2
 
   -- what is up within so many steps is in the chain
-  in_chain : (most k d e : ℕ) → k ≤ most → up tree k (Some d) ≡ Some e → is_among nat_eq e (chain most (named_parent nat_eq tree) d) ≡ true
+  in_chain : (most k d e : ℕ) → k ≤ most → up tree k (Some d) ≡ Some e
+      → is_among nat_eq e (chain most (named_parent nat_eq tree) d) ≡ true
   unfolding up
   in_chain zero zero d e le h = ap (λ b. b || false) (eq-eqb e d (sym (same_Some d e h)))
   in_chain zero (suc k) d e le h = absurd (omega arith)
   in_chain (suc most) zero d e le h = by (named_parent nat_eq tree d)
     where
-      by : (o : Option ℕ) → is_among nat_eq e (elim o [ None ↦ d ∷ [] | Some b ↦ d ∷ chain most (named_parent nat_eq tree) b ]) ≡ true
+      by : (o : Option ℕ) → is_among nat_eq e
+          (elim o [ None ↦ d ∷ [] | Some b ↦ d ∷ chain most (named_parent nat_eq tree) b ]) ≡ true
       by None = ap (λ b. b || false) (eq-eqb e d (sym (same_Some d e h)))
-      by (Some b) = ap (λ c. c || is_among nat_eq e (chain most (named_parent nat_eq tree) b)) (eq-eqb e d (sym (same_Some d e h)))
+      by (Some b) = ap (λ c. c || is_among nat_eq e (chain most (named_parent nat_eq tree) b))
+          (eq-eqb e d (sym (same_Some d e h)))
   in_chain (suc most) (suc k) d e le h =
       by (named_parent nat_eq tree d) (sym (up_first k (Some d)) ∙ h) (λ b g. in_chain most k b e (omega arith) g)
     where
@@ -97,20 +103,25 @@ module _ (tree : Tree ℕ) where
           → ((b : ℕ) → up tree k (Some b) ≡ Some e → is_among nat_eq e (chain most (named_parent nat_eq tree) b) ≡ true)
           → is_among nat_eq e (elim o [ None ↦ d ∷ [] | Some b ↦ d ∷ chain most (named_parent nat_eq tree) b ]) ≡ true
       by None g rest = none_is_not None e refl (sym (up_none k) ∙ g)
-      by (Some b) g rest = or_right (nat_eq e d) (is_among nat_eq e (chain most (named_parent nat_eq tree) b)) (rest b g)
+      by (Some b) g rest = or_right (nat_eq e d) (is_among nat_eq e (chain most (named_parent nat_eq tree) b))
+          (rest b g)
 
 module _ (tree : Tree ℕ) (conditions : IsTree tree) where
   -- the parent of a directory that has a name is the directory of the name
-  pub parent_named : (directory : ℕ) (name : List ℕ) (number : ℕ) → entry_at tree directory name ≡ Some number → IsDirectory tree number
+  pub parent_named : (directory : ℕ) (name : List ℕ) (number : ℕ) → entry_at tree directory name ≡ Some number
+      → IsDirectory tree number
       → named_parent nat_eq tree number ≡ Some directory
   parent_named directory name number entry is =
       ap (λ b. cond b None
-      (when (has_entry_to nat_eq tree (parent_in number (tree.node number)) number) (parent_in number (tree.node number))))
+      (when (has_entry_to nat_eq tree (parent_in number (tree.node number)) number)
+      (parent_in number (tree.node number))))
       (ne_eqb number tree.root (λ root. conditions.root_unnamed directory name (entry ∙ ap Some root)))
-      ∙ ap (λ parent. when (has_entry_to nat_eq tree parent number) parent) (conditions.one_parent directory name number entry is)
+      ∙ ap (λ parent. when (has_entry_to nat_eq tree parent number) parent)
+      (conditions.one_parent directory name number entry is)
       ∙ ap (λ b. when b directory) (among_targets name (entries_in (tree.node directory)) number entry)
 
-  led_directory : (from : ℕ) (names : List (List ℕ)) (to : ℕ) → led tree from names ≡ Some to → IsDirectory tree to → IsDirectory tree from
+  led_directory : (from : ℕ) (names : List (List ℕ)) (to : ℕ) → led tree from names ≡ Some to → IsDirectory tree to
+      → IsDirectory tree from
   led_directory from [] to e is = subst (IsDirectory tree) (sym (same_Some from to e)) is
   led_directory from (name ∷ names) to e is =
       let step = found (λ next. led tree next names) (entry_at tree from name) to e in
@@ -141,7 +152,8 @@ module _ (files : FileTree ℕ) (conditions : IsFileTree files) (to : ℕ) (is :
       let more = k - suc height in
       let whole : k ≡ more + suc height = omega arith in
       ap (λ n. up files.tree n (Some to)) whole ∙ up_plus files.tree more (suc height) (Some to)
-      ∙ ap (up files.tree more) (ap (option_and_then (named_parent nat_eq files.tree)) at_root ∙ root_above_none files.tree)
+      ∙ ap (up files.tree more) (ap (option_and_then (named_parent nat_eq files.tree)) at_root
+      ∙ root_above_none files.tree)
       ∙ up_none files.tree more
 
   -- what is up is no higher than the root
@@ -160,7 +172,8 @@ module _ (files : FileTree ℕ) (conditions : IsFileTree files) (to : ℕ) (is :
           let more = height - k in
           let whole : height ≡ more + k = omega arith in
           none_is_not None files.tree.root refl
-          (sym (ap (λ n. up files.tree n (Some to)) whole ∙ up_plus files.tree more k (Some to) ∙ ap (up files.tree more) e
+          (sym (ap (λ n. up files.tree n (Some to)) whole ∙ up_plus files.tree more k (Some to)
+          ∙ ap (up files.tree more) e
           ∙ up_none files.tree more) ∙ at_root)
       by (Some x) e = refl
 
@@ -186,7 +199,11 @@ module _ (files : FileTree ℕ) (conditions : IsFileTree files) (to : ℕ) (is :
   line_apart : (i k : ℕ) → k < i → i ≤ height → AllByRecursion (λ y. nat_eq (above i) y ≡ false) (line k)
   unfolding line
   line_apart i zero lt le = (ne_eqb (above i) (above 0) (above_differ 0 i lt le), tt)
-  line_apart i (suc k) lt le = (ne_eqb (above i) (above (suc k)) (above_differ (suc k) i lt le), line_apart i k (omega arith) le)
+  line_apart i (suc k) lt le = (
+    ne_eqb (above i) (above (suc k)) (above_differ (suc k) i lt le),
+    line_apart i k
+        (omega arith) le,
+  )
 
   line_distinct : (k : ℕ) → k ≤ height → IsDistinct nat_eq (line k)
   unfolding line IsDistinct
@@ -195,7 +212,8 @@ module _ (files : FileTree ℕ) (conditions : IsFileTree files) (to : ℕ) (is :
 
   above_listed : (k : ℕ) → k ≤ height → is_among nat_eq (above k) files.numbers ≡ true
   above_listed k le =
-      conditions.numbers (above k) ∙ directory_used files.tree (above k) (up_directory files.tree k to (above k) is (above_there k le))
+      conditions.numbers (above k) ∙ directory_used files.tree (above k)
+      (up_directory files.tree k to (above k) is (above_there k le))
 
   line_listed : (k q : ℕ) → k ≤ height → is_among nat_eq q (line k) ≡ true → is_among nat_eq q files.numbers ≡ true
   unfolding line
@@ -209,7 +227,8 @@ module _ (files : FileTree ℕ) (conditions : IsFileTree files) (to : ℕ) (is :
       by : (b : Bool) → nat_eq q (above (suc k)) ≡ b → (b || is_among nat_eq q (line k)) ≡ true
           → (is_among nat_eq q (line k) ≡ true → is_among nat_eq q files.numbers ≡ true)
           → is_among nat_eq q files.numbers ≡ true
-      by true e g rest = ap (λ n. is_among nat_eq n files.numbers) (eqb-true q (above (suc k)) e) ∙ above_listed (suc k) le
+      by true e g rest = ap (λ n. is_among nat_eq n files.numbers) (eqb-true q (above (suc k)) e)
+          ∙ above_listed (suc k) le
       by false e g rest = rest g
 
   -- there are no more steps than inodes

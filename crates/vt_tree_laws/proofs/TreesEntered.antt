@@ -22,9 +22,11 @@ use Rattle.vt_tree_laws.proofs.TreesOfWorlds.{numbered_all}
 use Rattle.vt_tree_laws.proofs.TreesWalked.{Ends, ends_next, ends_step, ends_then, ends_unless, not_true, ok_same}
 
 -- what is found is one of the list
-pub found_all : {A : Type 0} (P : A → Type 0) (test : A → Bool) (list : List A) (a : A) → All P list → find test list ≡ Some a → P a
+pub found_all : {A : Type 0} (P : A → Type 0) (test : A → Bool) (list : List A) (a : A) → All P list
+    → find test list ≡ Some a → P a
 found_all P test [] a h e = none_is_not None a refl e
-found_all P test (first ∷ rest) a h e = by (test first) e (λ later. found_all P test rest a (All-tail P first rest h) later)
+found_all P test (first ∷ rest) a h e =
+    by (test first) e (λ later. found_all P test rest a (All-tail P first rest h) later)
   where
     by : (b : Bool) → cond b (Some first) (find test rest) ≡ Some a → (find test rest ≡ Some a → P a) → P a
     by true is later = subst P (ap (λ o. unwrap_or o first) is) (All-head P first rest h)
@@ -58,7 +60,8 @@ no_words : (text : List ℕ) → words text ≡ [] → is_empty text ≡ false �
 no_words [] e h = absurd (true≢false h)
 no_words (byte ∷ []) e h = by (byte == 47) refl e
   where
-    by : (b : Bool) → (byte == 47) ≡ b → filter (λ part. not (is_empty part)) (with_byte b byte (parts 47 [])) ≡ [] → (byte == 47) ≡ true
+    by : (b : Bool) → (byte == 47) ≡ b → filter (λ part. not (is_empty part)) (with_byte b byte (parts 47 [])) ≡ []
+        → (byte == 47) ≡ true
     by true is g = is
     by false is g = absurd (one_part byte (parts 47 []) g)
 no_words (byte ∷ next ∷ bytes) e h = by (byte == 47) e (λ g. no_words (next ∷ bytes) g refl)
@@ -92,7 +95,8 @@ module _ (world : World ℕ) (conditions : IsWorldOfTrees world) (standing : IsS
   tree_there : (location : Location ℕ) → IsDirectoryThere location → IsFileTree (files_at nat_eq world location)
   tree_there location is =
       ⊎_elim (λ tree. tree)
-      (λ missing. absurd (true≢false (sym is ∙ ap (λ (f : Filesystem ℕ). is_directory_node (f.files.tree.node location.node)) missing.0)))
+      (λ missing. absurd (true≢false
+      (sym is ∙ ap (λ (f : Filesystem ℕ). is_directory_node (f.files.tree.node location.node)) missing.0)))
       (numbered_all (λ filesystem. IsFileTree filesystem.files)
       (mount_at nat_eq world location).filesystem world.filesystems conditions.trees)
 
@@ -100,11 +104,13 @@ module _ (world : World ℕ) (conditions : IsWorldOfTrees world) (standing : IsS
   child_there : (a b : Location ℕ) → option_map root_of (child_at nat_eq world.mounts a) ≡ Some b → IsDirectoryThere b
   child_there a b e = by (child_at nat_eq world.mounts a) refl e
     where
-      by : (o : Option (Mount ℕ)) → child_at nat_eq world.mounts a ≡ o → option_map root_of o ≡ Some b → IsDirectoryThere b
+      by : (o : Option (Mount ℕ)) → child_at nat_eq world.mounts a ≡ o → option_map root_of o ≡ Some b
+          → IsDirectoryThere b
       by None is h = none_is_not None b refl h
       by (Some mount) is h =
           subst IsDirectoryThere (ap (λ o. unwrap_or o b) h)
-          (found_all (λ m. is_directory_at nat_eq world (root_of m) ≡ true) (stands_at nat_eq a) world.mounts mount standing.roots is)
+          (found_all (λ m. is_directory_at nat_eq world (root_of m) ≡ true)
+          (stands_at nat_eq a) world.mounts mount standing.roots is)
 
   topmost_there : (location : Location ℕ) → IsThere location → IsThere (topmost nat_eq world.mounts location)
   topmost_there location is =
@@ -112,7 +118,8 @@ module _ (world : World ℕ) (conditions : IsWorldOfTrees world) (standing : IsS
       (λ a b there e. directory_there b (child_there a b e)) (length world.mounts) location location is
 
   -- the place of a mount
-  place_there : (number : ℕ) (place : Location ℕ) → (mount_in nat_eq world.mounts number).mount_point ≡ Some place → IsDirectoryThere place
+  place_there : (number : ℕ) (place : Location ℕ) → (mount_in nat_eq world.mounts number).mount_point ≡ Some place
+      → IsDirectoryThere place
   place_there number place e = by (find (λ mount. nat_eq number mount.number) world.mounts) refl e
     where
       by : (o : Option (Mount ℕ)) → find (λ mount. nat_eq number mount.number) world.mounts ≡ o
@@ -126,21 +133,25 @@ module _ (world : World ℕ) (conditions : IsWorldOfTrees world) (standing : IsS
     hop_there : (a b : Location ℕ) → IsDirectoryThere a → hop nat_eq world task a ≡ Some b → IsDirectoryThere b
     hop_there a b is e = by (same_location nat_eq a task.root) (nat_eq a.node (mount_at nat_eq world a).root) e
       where
-        by : (p q : Bool) → cond p None (cond q (mount_at nat_eq world a).mount_point None) ≡ Some b → IsDirectoryThere b
+        by : (p q : Bool) → cond p None (cond q (mount_at nat_eq world a).mount_point None) ≡ Some b
+            → IsDirectoryThere b
         by true q h = none_is_not None b refl h
         by false true h = place_there a.mount b h
         by false false h = none_is_not None b refl h
 
-    parent_there : (location : Location ℕ) → IsDirectoryThere location → IsDirectoryThere (parent_location nat_eq world location)
+    parent_there : (location : Location ℕ) → IsDirectoryThere location
+        → IsDirectoryThere (parent_location nat_eq world location)
     parent_there location is = (tree_there location is).tree.parent_directory location.node is
 
-    up_there : (location reached : Location ℕ) → IsDirectoryThere location → up_from nat_eq world task location ≡ Ok reached
+    up_there : (location reached : Location ℕ) → IsDirectoryThere location
+        → up_from nat_eq world task location ≡ Ok reached
         → IsThere reached
     up_there location reached is e = by (is_top nat_eq world task location) (is_lost nat_eq world location) e
       where
         by : (p q : Bool)
             → cond p (Ok location)
-            (unless ((q, W8) ∷ []) (Ok (topmost nat_eq world.mounts (parent_location nat_eq world location)))) ≡ Ok reached
+            (unless ((q, W8) ∷ []) (Ok (topmost nat_eq world.mounts (parent_location nat_eq world location))))
+            ≡ Ok reached
             → IsThere reached
         by true q h = subst IsThere (ok_same location reached (Ok location) refl h) (directory_there location is)
         by false true h = absurd (true≢false (sym (ap is_ok_result h)))
@@ -149,7 +160,8 @@ module _ (world : World ℕ) (conditions : IsWorldOfTrees world) (standing : IsS
             is_ok_result (Ok l) = true
             is_ok_result (Err d) = false
         by false false h =
-            subst IsThere (ok_same (topmost nat_eq world.mounts (parent_location nat_eq world location)) reached _ refl h)
+            subst IsThere (ok_same (topmost nat_eq world.mounts
+            (parent_location nat_eq world location)) reached _ refl h)
             (topmost_there (parent_location nat_eq world location)
             (directory_there (parent_location nat_eq world location) (parent_there location is)))
 
@@ -166,7 +178,8 @@ module _ (world : World ℕ) (conditions : IsWorldOfTrees world) (standing : IsS
     -- one word
     step_there : (here : Location ℕ) (word : LastWord) (reached : Location ℕ) → IsDirectoryThere here
         → stepped nat_eq world task here word ≡ Ok reached → IsThere reached
-    step_there here NoWord reached is e = subst IsThere (ok_same here reached (Ok here) refl e) (directory_there here is)
+    step_there here NoWord reached is e =
+        subst IsThere (ok_same here reached (Ok here) refl e) (directory_there here is)
     step_there here Dot reached is e = subst IsThere (ok_same here reached (Ok here) refl e) (directory_there here is)
     step_there here DotDot reached is e =
         up_there (last_or here (hops nat_eq world task here)) reached
@@ -192,20 +205,24 @@ module _ (world : World ℕ) (conditions : IsWorldOfTrees world) (standing : IsS
         ends_step (λ next. is_some (node_at nat_eq world next.location) ≡ true) (steps_with nat_eq world task here word)
         (search_rules nat_eq world task here.location) (stepped nat_eq world task here.location word)
         (λ reached. Ok (record { location = reached; left = here.left; steps = steps_with nat_eq world task here word }))
-        (λ passed reached e. step_there here.location word reached (not_true (is_directory_at nat_eq world here.location) passed.0) e)
+        (λ passed reached e. step_there here.location word reached
+        (not_true (is_directory_at nat_eq world here.location) passed.0) e)
 
-    last_there : (here : Here ℕ) (word : LastWord) → is_no_word word ≡ false → EndsThere (last_walked nat_eq world task here word)
+    last_there : (here : Here ℕ) (word : LastWord) → is_no_word word ≡ false
+        → EndsThere (last_walked nat_eq world task here word)
     last_there here NoWord e = absurd (true≢false e)
     last_there here Dot e = word_there here Dot
     last_there here DotDot e = word_there here DotDot
     last_there here (Named name) e = word_there here (Named name)
 
-    words_there : (here : Here ℕ) (list : List (List ℕ)) → list ≢ [] → EndsThere (last_walked nat_eq world task here (final_word list))
+    words_there : (here : Here ℕ) (list : List (List ℕ)) → list ≢ []
+        → EndsThere (last_walked nat_eq world task here (final_word list))
     words_there here [] e = absurd (e refl)
     words_there here (word ∷ front) e = last_there here (last_word word) (is_some_word word)
 
     -- a walk that does not follow its last link
-    link_there_by : (path : List ℕ) (b : Bool) → ends_in_slash path ≡ b → EndsThere (symlink_walk_by nat_eq b world task path)
+    link_there_by : (path : List ℕ) (b : Bool) → ends_in_slash path ≡ b
+        → EndsThere (symlink_walk_by nat_eq b world task path)
     link_there_by path true slash =
         ends_next (λ here. is_some (node_at nat_eq world here.location) ≡ true) (path_walked nat_eq world task path)
         (λ here. walk_unless here.steps (slash_rules nat_eq world path here.location) here)
@@ -217,7 +234,8 @@ module _ (world : World ℕ) (conditions : IsWorldOfTrees world) (standing : IsS
     link_there_by path false slash =
         ends_then (λ text. (ends_in_slash text ≡ false) × (is_empty text ≡ false))
         (λ here. is_some (node_at nat_eq world here.location) ≡ true) (path_text path)
-        (λ text. then_walk (front_walked nat_eq world task (followed nat_eq world task) (walk_start task text) (reverse (words text)))
+        (λ text. then_walk (front_walked nat_eq world task (followed nat_eq world task) (walk_start task text)
+        (reverse (words text)))
         (λ here. last_walked nat_eq world task here (final_word (reverse (words text)))))
         (ends_unless (λ text. (ends_in_slash text ≡ false) × (is_empty text ≡ false)) [] (path_rules path) path
         (λ passed. (slash, passed.0)))
@@ -227,10 +245,12 @@ module _ (world : World ℕ) (conditions : IsWorldOfTrees world) (standing : IsS
         (λ here. last_walked nat_eq world task here (final_word (reverse (words text))))
         (λ here. words_there here (reverse (words text)) (some_words text full)))
       where
-        some_words : (text : List ℕ) → (ends_in_slash text ≡ false) × (is_empty text ≡ false) → reverse (words text) ≢ []
+        some_words : (text : List ℕ) → (ends_in_slash text ≡ false) × (is_empty text ≡ false)
+            → reverse (words text) ≢ []
         some_words text full none =
             true≢false (sym
-            (no_words text (nil_from_length (words text) (sym (length-reverse (words text)) ∙ ap length none)) full.1) ∙ full.0)
+            (no_words text (nil_from_length (words text) (sym (length-reverse (words text)) ∙ ap length none)) full.1)
+            ∙ full.0)
 
     pub ends_link_walk : (path : List ℕ) → EndsThere (symlink_walk nat_eq world task path)
     ends_link_walk path = link_there_by path (ends_in_slash path) refl

@@ -36,7 +36,8 @@ among_right x xs ys h = list_any-append (nat_eq x) xs ys ∙ by (list_any (nat_e
     by true b h = refl
     by false b h = h
 
-pub among_flat_map : (f : ℕ → List ℕ) (xs : List ℕ) (x y : ℕ) → is_among nat_eq x xs ≡ true → is_among nat_eq y (f x) ≡ true
+pub among_flat_map : (f : ℕ → List ℕ) (xs : List ℕ) (x y : ℕ) → is_among nat_eq x xs ≡ true
+    → is_among nat_eq y (f x) ≡ true
     → is_among nat_eq y (flat_map f xs) ≡ true
 among_flat_map f [] x y h k = absurd (true≢false (sym h))
 among_flat_map f (z ∷ zs) x y h k = by (nat_eq x z) refl (λ e. among_flat_map f zs x y e k) h
@@ -44,20 +45,23 @@ among_flat_map f (z ∷ zs) x y h k = by (nat_eq x z) refl (λ e. among_flat_map
     by : (b : Bool) → nat_eq x z ≡ b → (list_any (nat_eq x) zs ≡ true → is_among nat_eq y (flat_map f zs) ≡ true)
         → (b || list_any (nat_eq x) zs) ≡ true
         → is_among nat_eq y (f z ++ flat_map f zs) ≡ true
-    by true same rest e = among_left y (f z) (flat_map f zs) (ap (λ n. is_among nat_eq y (f n)) (sym (eqb-true x z same)) ∙ k)
+    by true same rest e = among_left y (f z) (flat_map f zs)
+        (ap (λ n. is_among nat_eq y (f n)) (sym (eqb-true x z same)) ∙ k)
     by false differ rest e = among_right y (f z) (flat_map f zs) (rest e)
 
 -- where an entry leads is among the targets
 pub among_targets : (name : List ℕ) (entries : Entries ℕ) (number : ℕ) → entry_named name entries ≡ Some number
     → is_among nat_eq number (map (λ e. e.1) entries) ≡ true
 among_targets name [] number e = none_is_not None number refl e
-among_targets name (entry ∷ entries) number e = by (eq_by_cmp name_cmp name entry.0) (among_targets name entries number) e
+among_targets name (entry ∷ entries) number e =
+    by (eq_by_cmp name_cmp name entry.0) (among_targets name entries number) e
   where
     by : (b : Bool) → (entry_named name entries ≡ Some number → is_among nat_eq number (map (λ e. e.1) entries) ≡ true)
         → cond b (Some entry.1) (entry_named name entries) ≡ Some number
         → (nat_eq number entry.1 || is_among nat_eq number (map (λ e. e.1) entries)) ≡ true
     by true rest is =
-        ap (λ b. b || is_among nat_eq number (map (λ e. e.1) entries)) (eq-eqb number entry.1 (sym (same_Some entry.1 number is)))
+        ap (λ b. b || is_among nat_eq number (map (λ e. e.1) entries))
+        (eq-eqb number entry.1 (sym (same_Some entry.1 number is)))
     by false rest is = or_right (nat_eq number entry.1) _ (rest is)
 
 -- the named ones are those that have a name
@@ -65,7 +69,8 @@ pub named_among : (files : FileTree ℕ) → IsFileTree files → (number : ℕ)
     → is_among nat_eq number (named_in files) ≡ true
 named_among files conditions number named =
     among_flat_map (λ directory. targets_in (files.tree.node directory)) files.numbers named.0 number
-    (conditions.numbers named.0 ∙ directory_used files.tree named.0 (node_with_entries named.1 number (files.tree.node named.0) named.2))
+    (conditions.numbers named.0 ∙ directory_used files.tree named.0
+    (node_with_entries named.1 number (files.tree.node named.0) named.2))
     (among_targets named.1 (entries_in (files.tree.node named.0)) number named.2)
 
 module _ (used : List ℕ) (files : FileTree ℕ) (holds : HoldsTree used files) (conditions : IsFileTree files) where
@@ -82,7 +87,8 @@ module _ (used : List ℕ) (files : FileTree ℕ) (holds : HoldsTree used files)
   kept_used : (number : ℕ) → is_some (kept.node number) ≡ true → IsUsed number
   kept_used number there = by (is_among nat_eq number used) refl there
     where
-      by : (b : Bool) → is_among nat_eq number used ≡ b → is_some (cond b (files.tree.node number) None) ≡ true → IsUsed number
+      by : (b : Bool) → is_among nat_eq number used ≡ b → is_some (cond b (files.tree.node number) None) ≡ true
+          → IsUsed number
       by true is h = is
       by false is h = absurd (true≢false (sym h))
 
@@ -96,7 +102,8 @@ module _ (used : List ℕ) (files : FileTree ℕ) (holds : HoldsTree used files)
   is_directory_kept number used_there is = ap is_directory_node (kept_node number used_there) ∙ is
 
   -- a directory with an entry is used: without a name it would be empty
-  pub entry_used : (directory : ℕ) (name : List ℕ) (number : ℕ) → entry_at files.tree directory name ≡ Some number → IsUsed directory
+  pub entry_used : (directory : ℕ) (name : List ℕ) (number : ℕ) → entry_at files.tree directory name ≡ Some number
+      → IsUsed directory
   entry_used directory name number e =
       ⊎_elim (λ is. is)
       (λ unused. no_entries files.tree directory name number
@@ -122,7 +129,8 @@ module _ (used : List ℕ) (files : FileTree ℕ) (holds : HoldsTree used files)
   name_kept : (number : ℕ) → HasName files.tree number → HasName kept number
   name_kept number named = (named.0, named.1, entry_kept named.0 named.1 number named.2)
 
-  parent_kept : (number : ℕ) → IsUsed number → parent_in number (kept.node number) ≡ parent_in number (files.tree.node number)
+  parent_kept : (number : ℕ) → IsUsed number
+      → parent_in number (kept.node number) ≡ parent_in number (files.tree.node number)
   parent_kept number is = ap (parent_in number) (kept_node number is)
 
   kept_in_order : (directory : ℕ) → is_sorted name_cmp (entries_in (kept.node directory)) ≡ true
@@ -133,13 +141,15 @@ module _ (used : List ℕ) (files : FileTree ℕ) (holds : HoldsTree used files)
       by false = refl
 
   -- the parent of a directory that is used is used: it has an entry, or is the directory itself
-  parent_used : (number : ℕ) → IsDirectory files.tree number → IsUsed number → IsUsed (parent_in number (files.tree.node number))
+  parent_used : (number : ℕ) → IsDirectory files.tree number → IsUsed number
+      → IsUsed (parent_in number (files.tree.node number))
   parent_used number is used_there =
       ⊎_elim (λ is_used. is_used)
       (λ unused. absurd (true≢false (sym used_there ∙ ap (λ n. is_among nat_eq n used)
       (sym (conditions.own_parents number is (λ named. true≢false
       (sym (entry_used named.0 named.1 number named.2)
-      ∙ ap (λ n. is_among nat_eq n used) (sym (conditions.tree.one_parent named.0 named.1 number named.2 is)) ∙ unused)))) ∙ unused)))
+      ∙ ap (λ n. is_among nat_eq n used) (sym (conditions.tree.one_parent named.0 named.1 number named.2 is))
+      ∙ unused)))) ∙ unused)))
       (decided (is_among nat_eq (parent_in number (files.tree.node number)) used))
 
   kept_tree : IsTree kept
@@ -148,10 +158,13 @@ module _ (used : List ℕ) (files : FileTree ℕ) (holds : HoldsTree used files)
     root_parent = parent_kept files.tree.root holds.root ∙ conditions.tree.root_parent;
     root_unnamed = λ d n e. conditions.tree.root_unnamed d n (entry_was d n files.tree.root e);
     in_order = kept_in_order;
-    alive = λ d n k e. ap is_some (kept_node k (holds.named k (d, n, entry_was d n k e))) ∙ conditions.tree.alive d n k (entry_was d n k e);
+    alive = λ d n k e. ap is_some (kept_node k (holds.named k (d, n, entry_was d n k e)))
+        ∙ conditions.tree.alive d n k (entry_was d n k e);
     one_parent =
-        λ d n k e is. parent_kept k (kept_directory k is) ∙ conditions.tree.one_parent d n k (entry_was d n k e) (was_directory k is);
-    one_name = λ d n other k e f is. conditions.tree.one_name d n other k (entry_was d n k e) (entry_was d other k f) (was_directory k is);
+        λ d n k e is. parent_kept k (kept_directory k is)
+        ∙ conditions.tree.one_parent d n k (entry_was d n k e) (was_directory k is);
+    one_name = λ d n other k e f is.
+        conditions.tree.one_name d n other k (entry_was d n k e) (entry_was d other k f) (was_directory k is);
     parent_directory = λ k is. subst (IsDirectory kept) (sym (parent_kept k (kept_directory k is)))
         (is_directory_kept (parent_in k (files.tree.node k)) (parent_used k (was_directory k is) (kept_directory k is))
         (conditions.tree.parent_directory k (was_directory k is)));
@@ -164,9 +177,11 @@ module _ (used : List ℕ) (files : FileTree ℕ) (holds : HoldsTree used files)
 
   kept_own_parents : HasOwnParents kept
   kept_own_parents k is unnamed =
-      parent_kept k (kept_directory k is) ∙ conditions.own_parents k (was_directory k is) (λ named. unnamed (name_kept k named))
+      parent_kept k (kept_directory k is)
+      ∙ conditions.own_parents k (was_directory k is) (λ named. unnamed (name_kept k named))
 
-  kept_numbers : (k : ℕ) → is_among nat_eq k (filter (λ m. is_among nat_eq m used) files.numbers) ≡ is_some (kept.node k)
+  kept_numbers : (k : ℕ) → is_among nat_eq k (filter (λ m. is_among nat_eq m used) files.numbers)
+      ≡ is_some (kept.node k)
   kept_numbers k =
       any-filter_same (nat_eq k) (λ m. is_among nat_eq m used) (is_among nat_eq k used)
       (λ m same. ap (λ n. is_among nat_eq n used) (sym (eqb-true k m same))) files.numbers
@@ -194,7 +209,8 @@ module _ (world : World ℕ) (filesystem : Filesystem ℕ) where
   among_named_or_located number h =
       or_right (nat_eq number filesystem.files.tree.root) (is_among nat_eq number used_under_root)
       (among_left number
-      (named_in filesystem.files ++ located_in nat_eq world filesystem.number ++ layers_in nat_eq world filesystem.number)
+      (named_in filesystem.files ++ located_in nat_eq world filesystem.number
+      ++ layers_in nat_eq world filesystem.number)
       (flat_map (objects_of_overlay nat_eq filesystem.number) world.filesystems)
       (among_left number (named_in filesystem.files ++ located_in nat_eq world filesystem.number)
       (layers_in nat_eq world filesystem.number) h))
@@ -202,7 +218,8 @@ module _ (world : World ℕ) (filesystem : Filesystem ℕ) where
   pub among_located : (number : ℕ) → is_among nat_eq number (located_in nat_eq world filesystem.number) ≡ true
       → is_among nat_eq number (used_in nat_eq world filesystem) ≡ true
   among_located number h =
-      among_named_or_located number (among_right number (named_in filesystem.files) (located_in nat_eq world filesystem.number) h)
+      among_named_or_located number (among_right number (named_in filesystem.files)
+      (located_in nat_eq world filesystem.number) h)
 
   pub named_is_used : IsFileTree filesystem.files → HoldsTree (used_in nat_eq world filesystem) filesystem.files
   named_is_used conditions = record {
@@ -214,7 +231,8 @@ module _ (world : World ℕ) (filesystem : Filesystem ℕ) where
         (named_among filesystem.files conditions number named));
   }
 
-pub only_used_of_is : (used : List ℕ) (filesystem : Filesystem ℕ) → HoldsTree used filesystem.files → IsFileTree filesystem.files
+pub only_used_of_is : (used : List ℕ) (filesystem : Filesystem ℕ) → HoldsTree used filesystem.files
+    → IsFileTree filesystem.files
     → IsFileTree (only_used_of nat_eq used filesystem).files
 only_used_of_is used filesystem holds conditions = by _
   where
@@ -251,16 +269,19 @@ pub used_stays : UsedStays
 used_stays world filesystem number is = by _
   where
     by : (b : Bool)
-        → (only_used_by nat_eq b (used_in nat_eq world filesystem) filesystem).files.tree.node number ≡ filesystem.files.tree.node number
+        → (only_used_by nat_eq b (used_in nat_eq world filesystem) filesystem).files.tree.node number
+        ≡ filesystem.files.tree.node number
     by true = refl
     by false = ap (λ b. cond b (filesystem.files.tree.node number) None) is
 
 -- a list of which each passes has none that does not
-all_pass : (test : ℕ → Bool) (xs : List ℕ) (x : ℕ) → list_all test xs ≡ true → test x ≡ false → is_among nat_eq x xs ≡ false
+all_pass : (test : ℕ → Bool) (xs : List ℕ) (x : ℕ) → list_all test xs ≡ true → test x ≡ false
+    → is_among nat_eq x xs ≡ false
 all_pass test [] x h k = refl
 all_pass test (y ∷ ys) x h k = by (nat_eq x y) refl (test y) refl (λ e. all_pass test ys x e k) h
   where
-    by : (b : Bool) → nat_eq x y ≡ b → (c : Bool) → test y ≡ c → (list_all test ys ≡ true → is_among nat_eq x ys ≡ false)
+    by : (b : Bool) → nat_eq x y ≡ b → (c : Bool) → test y ≡ c
+        → (list_all test ys ≡ true → is_among nat_eq x ys ≡ false)
         → (c && list_all test ys) ≡ true
         → (b || is_among nat_eq x ys) ≡ false
     by b e false f rest h = absurd (true≢false (sym h))
@@ -278,5 +299,6 @@ unused_is_gone world filesystem number conditions unused = by _ refl
         → (only_used_by nat_eq b (used_in nat_eq world filesystem) filesystem).files.tree.node number ≡ None
     by true all = none_there (filesystem.files.tree.node number)
         (sym (conditions.numbers number)
-        ∙ all_pass (λ m. is_among nat_eq m (used_in nat_eq world filesystem)) filesystem.files.numbers number all unused)
+        ∙ all_pass (λ m. is_among nat_eq m
+        (used_in nat_eq world filesystem)) filesystem.files.numbers number all unused)
     by false all = ap (λ b. cond b (filesystem.files.tree.node number) None) unused

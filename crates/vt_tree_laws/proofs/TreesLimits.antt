@@ -53,7 +53,8 @@ pub changed_tasks : (fresh : Fresh ℕ) (world : World ℕ) (location : Location
 changed_tasks fresh world location change = by (filesystem_at nat_eq world location).overlay
   where
     by_upper : (overlay : Overlay ℕ) (o : Option (Layer ℕ))
-        → (overlay_changed nat_eq fresh world (filesystem_at nat_eq world location) overlay o change).tasks ≡ world.tasks
+        → (overlay_changed nat_eq fresh world (filesystem_at nat_eq world location) overlay o change).tasks
+        ≡ world.tasks
     by_upper overlay None = refl
     by_upper overlay (Some upper) = refl
 
@@ -72,7 +73,8 @@ regrouped_tasks world = by _
 pub taken_tasks : (world : World ℕ) (gone : List ℕ) → (taken_away nat_eq world gone).tasks ≡ world.tasks
 taken_tasks world gone = regrouped_tasks (with_mounts world (map (after_going nat_eq world gone) world.mounts))
 
-pub lazily_tasks : (mounts : List (Mount ℕ)) (world : World ℕ) → (folded (unmounted_if_there nat_eq) world mounts).tasks ≡ world.tasks
+pub lazily_tasks : (mounts : List (Mount ℕ)) (world : World ℕ)
+    → (folded (unmounted_if_there nat_eq) world mounts).tasks ≡ world.tasks
 lazily_tasks [] world = refl
 lazily_tasks (mount ∷ mounts) world = lazily_tasks mounts (unmounted_if_there nat_eq world mount) ∙ by _
   where
@@ -91,7 +93,8 @@ typed_tasks fresh world number word recursive =
     })
 
 -- a task in the place of the one with its name
-task_keeps : (world : World ℕ) (task : Task ℕ) → is_within_limits task ≡ true → HasSmallTasks world → HasSmallTasks (with_task world task)
+task_keeps : (world : World ℕ) (task : Task ℕ) → is_within_limits task ≡ true → HasSmallTasks world
+    → HasSmallTasks (with_task world task)
 task_keeps world task is small =
     all_mapped is_within_limits (replaced_if_called task) (λ old h. replaced_within task old is h) world.tasks small
 
@@ -99,25 +102,31 @@ ended_keeps : (world : World ℕ) → HasSmallTasks world → HasSmallTasks (nam
 ended_keeps world small = same_tasks (namespaces_ended nat_eq world) world (taken_tasks world _) small
 
 -- the task that is found is one of the world
-found_within : (world : World ℕ) (name : TaskName) (list : List (Task ℕ)) (task : Task ℕ) → list_all is_within_limits list ≡ true
+found_within : (world : World ℕ) (name : TaskName) (list : List (Task ℕ)) (task : Task ℕ)
+    → list_all is_within_limits list ≡ true
     → find (λ other. same_name name other.name) list ≡ Some task → is_within_limits task ≡ true
 found_within world name [] task h e = none_is_not None task refl e
 found_within world name (first ∷ list) task h e =
     by (same_name name first.name) e
-    (λ g. found_within world name list task ((and_parts (is_within_limits first) (list_all is_within_limits list) h).1) g)
+    (λ g. found_within world name list task
+    ((and_parts (is_within_limits first) (list_all is_within_limits list) h).1) g)
   where
     by : (b : Bool) → cond b (Some first) (find (λ other. same_name name other.name) list) ≡ Some task
-        → (find (λ other. same_name name other.name) list ≡ Some task → is_within_limits task ≡ true) → is_within_limits task ≡ true
+        → (find (λ other. same_name name other.name) list ≡ Some task → is_within_limits task ≡ true)
+        → is_within_limits task ≡ true
     by true g rest =
         ap is_within_limits (sym (ap (λ o. unwrap_or o first) g))
         ∙ (and_parts (is_within_limits first) (list_all is_within_limits list) h).0
     by false g rest = rest g
 
-module _ (fresh : Fresh ℕ) (world : World ℕ) (task : Task ℕ) (small : HasSmallTasks world) (is : is_within_limits task ≡ true) where
-  change_small : (any : Fresh ℕ) (before : World ℕ) → before.tasks ≡ world.tasks → (location : Location ℕ) (change : Change ℕ)
+module _ (fresh : Fresh ℕ) (world : World ℕ) (task : Task ℕ) (small : HasSmallTasks world)
+    (is : is_within_limits task ≡ true) where
+  change_small : (any : Fresh ℕ) (before : World ℕ) → before.tasks ≡ world.tasks
+      → (location : Location ℕ) (change : Change ℕ)
       → HasSmallTasks (with_change nat_eq any before location change)
   change_small any before same location change =
-      same_tasks (with_change nat_eq any before location change) world (changed_tasks any before location change ∙ same) small
+      same_tasks (with_change nat_eq any before location change) world
+      (changed_tasks any before location change ∙ same) small
 
   new_small : (place : Place ℕ) (node : Node ℕ) → HasSmallTasks (with_new nat_eq fresh world place node)
   new_small place node = change_small (odds fresh) world refl place.parent (making place (evens fresh 0) node)
@@ -165,7 +174,8 @@ module _ (fresh : Fresh ℕ) (world : World ℕ) (task : Task ℕ) (small : HasS
   pread_small : (number offset size : ℕ) → HasSmallTasks (pread_outcome nat_eq world task number offset size).world
   unfolding pread_outcome
   pread_small number offset size =
-      after_holds HasSmallTasks world (descriptor_at task number (λ descriptor. descriptor.reads)) _ small (λ descriptor found. small)
+      after_holds HasSmallTasks world (descriptor_at task number (λ descriptor. descriptor.reads)) _ small
+      (λ descriptor found. small)
 
   mounts_small : HasSmallTasks (mounts_outcome nat_eq world task).world
   unfolding mounts_outcome
@@ -173,24 +183,33 @@ module _ (fresh : Fresh ℕ) (world : World ℕ) (task : Task ℕ) (small : HasS
       small
 
   -- calls on files
-  mkdir_small : (path : List ℕ) (mode : Option ℕ) → HasSmallTasks (mkdir_outcome nat_eq fresh world task path mode).world
+  mkdir_small : (path : List ℕ) (mode : Option ℕ)
+      → HasSmallTasks (mkdir_outcome nat_eq fresh world task path mode).world
   unfolding mkdir_outcome
   mkdir_small path mode =
       after_any HasSmallTasks world (new_walk nat_eq world task path) _ small
-      (λ place. made_small place (record { attr = new_attr task (unwrap_or mode directory_mode); content = new_directory place.parent.node }))
+      (λ place. made_small place (record {
+        attr = new_attr task
+            (unwrap_or mode directory_mode);
+        content = new_directory place.parent.node;
+      }))
 
   symlink_small : (text path : List ℕ) → HasSmallTasks (symlink_outcome nat_eq fresh world task text path).world
   unfolding symlink_outcome
   symlink_small text path =
       judged_holds HasSmallTasks world (symlink_text_rules text) _ small (λ passed.
-      after_any HasSmallTasks world (new_leaf_walk nat_eq world task path) (λ place. made_at nat_eq fresh world task place (record { attr = exact_attr task symlink_mode; content = Symlink text })) small
+      after_any HasSmallTasks world (new_leaf_walk nat_eq world task path)
+      (λ place. made_at nat_eq fresh world task place
+      (record { attr = exact_attr task symlink_mode; content = Symlink text })) small
       (λ place. made_small place (record { attr = exact_attr task symlink_mode; content = Symlink text })))
 
   whiteout_small : (path : List ℕ) → HasSmallTasks (whiteout_outcome nat_eq fresh world task path).world
   unfolding whiteout_outcome
   whiteout_small path =
       after_any HasSmallTasks world (new_leaf_walk nat_eq world task path) _ small (λ place.
-      judged_holds HasSmallTasks world (whiteout_rules nat_eq world task place) (granted Done (with_new nat_eq fresh world place (record { attr = exact_attr task 0; content = Whiteout }))) small
+      judged_holds HasSmallTasks world (whiteout_rules nat_eq world task place)
+      (granted Done (with_new nat_eq fresh world place
+      (record { attr = exact_attr task 0; content = Whiteout }))) small
       (λ passed. new_small place (record { attr = exact_attr task 0; content = Whiteout })))
 
   link_small : (old new : List ℕ) → HasSmallTasks (hard_link_outcome nat_eq fresh world task old new).world
@@ -199,7 +218,8 @@ module _ (fresh : Fresh ℕ) (world : World ℕ) (task : Task ℕ) (small : HasS
       after_any HasSmallTasks world (symlink_walk nat_eq world task old) _ small (λ from.
       after_any HasSmallTasks world (new_leaf_walk nat_eq world task new) _ small (λ place.
       judged_holds HasSmallTasks world ((is_special place.last, E1) ∷ []) _ small (λ plain.
-      judged_holds HasSmallTasks world (hard_link_rules nat_eq world task from.location place (linking from.location place))
+      judged_holds HasSmallTasks world
+      (hard_link_rules nat_eq world task from.location place (linking from.location place))
       (granted Done (with_change nat_eq fresh world place.parent (linking from.location place))) small
       (λ passed. change_small fresh world refl place.parent (linking from.location place)))))
 
@@ -221,16 +241,19 @@ module _ (fresh : Fresh ℕ) (world : World ℕ) (task : Task ℕ) (small : HasS
       (granted Done
       (with_change nat_eq fresh (without_mounts_on nat_eq world (object_there place)) place.parent
       (removing place (object_there place)))) small
-      (λ passed. change_small fresh (without_mounts_on nat_eq world (object_there place)) (taken_tasks world _) place.parent
+      (λ passed. change_small fresh (without_mounts_on nat_eq world (object_there place))
+      (taken_tasks world _) place.parent
       (removing place (object_there place)))))
 
   replaced_tasks : (o : Option (Location ℕ)) → (without_replaced nat_eq world o).tasks ≡ world.tasks
   replaced_tasks None = refl
   replaced_tasks (Some new) = taken_tasks world _
 
-  renamed_small : (from to : Place ℕ) (b : Bool) → HasSmallTasks (renamed_by nat_eq b fresh world task from to (object_there from)).world
+  renamed_small : (from to : Place ℕ) (b : Bool)
+      → HasSmallTasks (renamed_by nat_eq b fresh world task from to (object_there from)).world
   renamed_small from to true =
-      judged_holds HasSmallTasks world (same_object_rules nat_eq world from to) (granted Done world) small (λ passed. small)
+      judged_holds HasSmallTasks world (same_object_rules nat_eq world from to) (granted Done world) small
+      (λ passed. small)
   renamed_small from to false =
       judged_holds HasSmallTasks world (rename_rules nat_eq world task from to (object_there from)) _ small
       (λ passed. change_small fresh (without_replaced nat_eq world to.object) (replaced_tasks to.object) from.parent
@@ -241,9 +264,11 @@ module _ (fresh : Fresh ℕ) (world : World ℕ) (task : Task ℕ) (small : HasS
   rename_small old new =
       after_any HasSmallTasks world (old_leaf_walk nat_eq world task old) _ small (λ from.
       judged_holds HasSmallTasks world (old_word_rules from) _ small (λ from_plain.
-      after_any HasSmallTasks world (rename_new_walk nat_eq world task new (is_directory_there nat_eq world from)) _ small (λ to.
+      after_any HasSmallTasks world (rename_new_walk nat_eq world task new
+      (is_directory_there nat_eq world from)) _ small (λ to.
       judged_holds HasSmallTasks world (old_word_rules to)
-      (renamed_by nat_eq (is_one_object nat_eq world (object_there from) to.object) fresh world task from to (object_there from)) small
+      (renamed_by nat_eq (is_one_object nat_eq world (object_there from) to.object) fresh world task from to
+      (object_there from)) small
       (λ to_plain. renamed_small from to (is_one_object nat_eq world (object_there from) to.object)))))
 
   attr_set_small : (object : Location ℕ) (allowed : Bool) (attr : Attr)
@@ -260,13 +285,15 @@ module _ (fresh : Fresh ℕ) (world : World ℕ) (task : Task ℕ) (small : HasS
       (λ here. attr_set_small here.location (owns task.credentials (attr_at nat_eq world here.location))
       (attr_with_mode (attr_at nat_eq world here.location) mode))
 
-  chown_small : (path : List ℕ) (uid gid : Option ℕ) → HasSmallTasks (chown_outcome nat_eq fresh world task path uid gid).world
+  chown_small : (path : List ℕ) (uid gid : Option ℕ)
+      → HasSmallTasks (chown_outcome nat_eq fresh world task path uid gid).world
   unfolding chown_outcome
   chown_small path uid gid =
       after_any HasSmallTasks world (object_walk nat_eq world task path) _ small
       (λ here. attr_set_small here.location
       (may_chown task.credentials (attr_at nat_eq world here.location)
-      (attr_with_owner (attr_at nat_eq world here.location) uid gid)) (attr_with_owner (attr_at nat_eq world here.location) uid gid))
+      (attr_with_owner (attr_at nat_eq world here.location) uid gid))
+      (attr_with_owner (attr_at nat_eq world here.location) uid gid))
 
   opaque_small : (path : List ℕ) (mark : Bool) → HasSmallTasks (opaque_outcome nat_eq fresh world task path mark).world
   unfolding opaque_outcome
@@ -285,7 +312,8 @@ module _ (fresh : Fresh ℕ) (world : World ℕ) (task : Task ℕ) (small : HasS
       (λ passed. change_small fresh world refl file (SetBytes file.node bytes))
   written_small place bytes None =
       judged_holds HasSmallTasks world ((nat_lt largest_file (length bytes), E6) ∷ []) _ small (λ fit.
-      judged_holds HasSmallTasks world (make_rules nat_eq world task place (making place (evens fresh 0) (new_file task file_mode bytes)))
+      judged_holds HasSmallTasks world
+      (make_rules nat_eq world task place (making place (evens fresh 0) (new_file task file_mode bytes)))
       (granted Done (with_new nat_eq fresh world place (new_file task file_mode bytes))) small
       (λ passed. new_small place (new_file task file_mode bytes)))
 
@@ -293,17 +321,21 @@ module _ (fresh : Fresh ℕ) (world : World ℕ) (task : Task ℕ) (small : HasS
   unfolding write_outcome
   write_small path bytes =
       after_any HasSmallTasks world (file_walk nat_eq world task path) _ small (λ place.
-      judged_holds HasSmallTasks world (file_word_rules place) (written nat_eq fresh world task place bytes place.object) small
+      judged_holds HasSmallTasks world (file_word_rules place)
+      (written nat_eq fresh world task place bytes place.object) small
       (λ passed. written_small place bytes place.object))
 
-  pwritten_small : (file : Location ℕ) (offset : ℕ) (bytes : List ℕ) → HasSmallTasks (pwritten nat_eq fresh world file offset bytes)
+  pwritten_small : (file : Location ℕ) (offset : ℕ) (bytes : List ℕ)
+      → HasSmallTasks (pwritten nat_eq fresh world file offset bytes)
   pwritten_small file offset [] = small
   pwritten_small file offset (byte ∷ bytes) = change_small fresh world refl file _
 
-  pwrite_small : (number offset : ℕ) (bytes : List ℕ) → HasSmallTasks (pwrite_outcome nat_eq fresh world task number offset bytes).world
+  pwrite_small : (number offset : ℕ) (bytes : List ℕ)
+      → HasSmallTasks (pwrite_outcome nat_eq fresh world task number offset bytes).world
   unfolding pwrite_outcome
   pwrite_small number offset bytes =
-      after_holds HasSmallTasks world (descriptor_at task number (λ descriptor. descriptor.writes)) _ small (λ descriptor found.
+      after_holds HasSmallTasks world (descriptor_at task number (λ descriptor. descriptor.writes)) _ small
+      (λ descriptor found.
       judged_holds HasSmallTasks world (pwrite_rules nat_eq world descriptor.location offset bytes)
       (granted Done (pwritten nat_eq fresh world descriptor.location offset bytes)) small
       (λ passed. pwritten_small descriptor.location offset bytes))
@@ -312,7 +344,8 @@ module _ (fresh : Fresh ℕ) (world : World ℕ) (task : Task ℕ) (small : HasS
   abbrev HasRoom : Type 0
   HasRoom = nat_le most_descriptors (length task.descriptors) ≡ false
 
-  opened_small : HasRoom → (after_call : World ℕ) → after_call.tasks ≡ world.tasks → (file : Location ℕ) (access : Access)
+  opened_small : HasRoom → (after_call : World ℕ) → after_call.tasks ≡ world.tasks
+      → (file : Location ℕ) (access : Access)
       → HasSmallTasks (with_task after_call (with_descriptor task file access))
   opened_small room after_call same file access =
       task_keeps after_call (with_descriptor task file access) (opened_within task file access is room)
@@ -322,7 +355,8 @@ module _ (fresh : Fresh ℕ) (world : World ℕ) (task : Task ℕ) (small : HasS
   copy_tasks true file = changed_tasks fresh world file (CopyUp file.node)
   copy_tasks false file = refl
 
-  open_file_small : HasRoom → (file : Location ℕ) (access : Access) → HasSmallTasks (open_file nat_eq fresh world task file access).world
+  open_file_small : HasRoom → (file : Location ℕ) (access : Access)
+      → HasSmallTasks (open_file nat_eq fresh world task file access).world
   open_file_small room file access =
       judged_holds HasSmallTasks world (open_rules nat_eq world task file access)
       (opened (with_copy nat_eq (is_copied_up nat_eq world file access) fresh world file) task file access) small
@@ -332,10 +366,13 @@ module _ (fresh : Fresh ℕ) (world : World ℕ) (task : Task ℕ) (small : HasS
   create_small : HasRoom → (place : Place ℕ) (access : Access) (mode : ℕ)
       → HasSmallTasks (create_file nat_eq fresh world task place access mode).world
   create_small room place access mode =
-      judged_holds HasSmallTasks world (make_rules nat_eq world task place (making place (evens fresh 0) (new_file task mode [])))
-      (opened (with_new nat_eq fresh world place (new_file task mode [])) task (record { mount = place.parent.mount; node = evens fresh 0 }) access) small
+      judged_holds HasSmallTasks world
+      (make_rules nat_eq world task place (making place (evens fresh 0) (new_file task mode [])))
+      (opened (with_new nat_eq fresh world place (new_file task mode [])) task
+      (record { mount = place.parent.mount; node = evens fresh 0 }) access) small
       (λ passed. opened_small room (with_new nat_eq fresh world place (new_file task mode []))
-      (changed_tasks (odds fresh) world place.parent (making place (evens fresh 0) (new_file task mode []))) (record { mount = place.parent.mount; node = evens fresh 0 }) access)
+      (changed_tasks (odds fresh) world place.parent (making place (evens fresh 0) (new_file task mode [])))
+      (record { mount = place.parent.mount; node = evens fresh 0 }) access)
 
   opened_or_created_small : HasRoom → (place : Place ℕ) (access : Access) (mode : ℕ) (object : Option (Location ℕ))
       → HasSmallTasks (opened_or_created nat_eq fresh world task place access mode object).world
@@ -346,7 +383,8 @@ module _ (fresh : Fresh ℕ) (world : World ℕ) (task : Task ℕ) (small : HasS
       → HasSmallTasks (open_by nat_eq fresh world task path access creation).world
   open_by_small room path access NoCreation =
       after_any HasSmallTasks world (object_walk nat_eq world task path)
-      (λ here. open_file nat_eq fresh world task here.location access) small (λ here. open_file_small room here.location access)
+      (λ here. open_file nat_eq fresh world task here.location access) small
+      (λ here. open_file_small room here.location access)
   open_by_small room path access (OrCreate mode) =
       after_any HasSmallTasks world (file_walk nat_eq world task path) _ small (λ place.
       judged_holds HasSmallTasks world (file_word_rules place)
@@ -361,7 +399,8 @@ module _ (fresh : Fresh ℕ) (world : World ℕ) (task : Task ℕ) (small : HasS
       → HasSmallTasks (open_outcome nat_eq fresh world task path access creation).world
   unfolding open_outcome
   open_small path access creation =
-      judged_holds HasSmallTasks world (descriptor_rules task) (open_by nat_eq fresh world task path access creation) small
+      judged_holds HasSmallTasks world (descriptor_rules task)
+      (open_by nat_eq fresh world task path access creation) small
       (λ passed. open_by_small passed.0 path access creation)
 
   -- calls on tasks
@@ -398,7 +437,8 @@ module _ (fresh : Fresh ℕ) (world : World ℕ) (task : Task ℕ) (small : HasS
   drop_small which =
       task_keeps world _ is small
 
-  fork_small : (words : Option ForkWords) (given : (some : ForkWords) → words ≡ Some some → nat_le (length some.groups) 32 ≡ true)
+  fork_small : (words : Option ForkWords)
+      (given : (some : ForkWords) → words ≡ Some some → nat_le (length some.groups) 32 ≡ true)
       → HasSmallTasks (fork_outcome world task words).world
   unfolding fork_outcome
   fork_small words given =
@@ -406,8 +446,10 @@ module _ (fresh : Fresh ℕ) (world : World ℕ) (task : Task ℕ) (small : HasS
       all_appended is_within_limits (map (replaced_if_called (record task { forks = task.forks + 1 })) world.tasks)
       (child_of task (child_credentials task.credentials words))
       (task_keeps world (record task { forks = task.forks + 1 })
-      (parent_within task is (first_false (nat_le most_forks task.forks) (nat_le deepest_name (length task.name)) passed.0)) small)
-      (child_within task words is ((or_parts (nat_le most_forks task.forks) (nat_le deepest_name (length task.name)) passed.0).1) given))
+      (parent_within task is (first_false (nat_le most_forks task.forks)
+      (nat_le deepest_name (length task.name)) passed.0)) small)
+      (child_within task words is ((or_parts (nat_le most_forks task.forks)
+      (nat_le deepest_name (length task.name)) passed.0).1) given))
 
   exit_small : HasSmallTasks (exit_outcome nat_eq world task).world
   unfolding exit_outcome
@@ -431,7 +473,8 @@ module _ (fresh : Fresh ℕ) (world : World ℕ) (task : Task ℕ) (small : HasS
       (λ passed. ended_keeps (namespace_entered nat_eq world task target.namespace) (task_keeps world _ is small)))
 
   -- calls on mounts
-  mount_plain_small : (path : List ℕ) (flags : MountFlags) → HasSmallTasks (mount_plain_outcome nat_eq fresh world task path flags).world
+  mount_plain_small : (path : List ℕ) (flags : MountFlags)
+      → HasSmallTasks (mount_plain_outcome nat_eq fresh world task path flags).world
   unfolding mount_plain_outcome
   mount_plain_small path flags =
       judged_holds HasSmallTasks world (admin_rules task) _ small (λ capable.
@@ -440,14 +483,16 @@ module _ (fresh : Fresh ℕ) (world : World ℕ) (task : Task ℕ) (small : HasS
       (new_mount_rules nat_eq world task here.location
       (mounted nat_eq (odds fresh) world here.location (plain_filesystem nat_eq fresh) flags))
       (granted Done (mounted nat_eq (odds fresh) world here.location (plain_filesystem nat_eq fresh) flags)) small
-      (λ passed. same_tasks (mounted nat_eq (odds fresh) world here.location (plain_filesystem nat_eq fresh) flags) world refl small)))
+      (λ passed. same_tasks (mounted nat_eq (odds fresh) world here.location
+      (plain_filesystem nat_eq fresh) flags) world refl small)))
 
   overlay_by_small : (place : Location ℕ) (options : Option OverlayWords) (flags : MountFlags)
       → HasSmallTasks (overlay_by nat_eq fresh world task place options flags).world
   overlay_by_small place None flags = small
   overlay_by_small place (Some words) flags =
       after_holds HasSmallTasks world (layers_walked nat_eq world task words) _ small (λ places found.
-      judged_holds HasSmallTasks world (layer_rules nat_eq world places (overlay_at nat_eq world task places)) _ small (λ laid.
+      judged_holds HasSmallTasks world (layer_rules nat_eq world places (overlay_at nat_eq world task places)) _ small
+      (λ laid.
       judged_holds HasSmallTasks world
       (new_mount_rules nat_eq world task place (overlay_mounted nat_eq fresh world task place places flags))
       (granted Done (overlay_mounted nat_eq fresh world task place places flags)) small
@@ -459,16 +504,19 @@ module _ (fresh : Fresh ℕ) (world : World ℕ) (task : Task ℕ) (small : HasS
   mount_overlay_small path options flags =
       judged_holds HasSmallTasks world (admin_rules task) _ small (λ capable.
       after_any HasSmallTasks world (destination_walk nat_eq world task path)
-      (λ here. overlay_by nat_eq fresh world task here.location options flags) small (λ here. overlay_by_small here.location options flags))
+      (λ here. overlay_by nat_eq fresh world task here.location options flags) small
+      (λ here. overlay_by_small here.location options flags))
 
-  bind_small : (source path : List ℕ) (recursive : Bool) → HasSmallTasks (bind_outcome nat_eq fresh world task source path recursive).world
+  bind_small : (source path : List ℕ) (recursive : Bool)
+      → HasSmallTasks (bind_outcome nat_eq fresh world task source path recursive).world
   unfolding bind_outcome
   bind_small source path recursive =
       judged_holds HasSmallTasks world (admin_rules task) _ small (λ capable.
       after_any HasSmallTasks world (source_walk nat_eq world task source) _ small (λ from.
       after_any HasSmallTasks world (destination_walk nat_eq world task path) _ small (λ here.
       judged_holds HasSmallTasks world
-      (bind_rules nat_eq world task from.location here.location (bound_at nat_eq fresh world from.location here.location recursive)) _ small
+      (bind_rules nat_eq world task from.location here.location
+      (bound_at nat_eq fresh world from.location here.location recursive)) _ small
       (λ passed. same_tasks (bound_at nat_eq fresh world from.location here.location recursive) world refl small))))
 
   move_small : (source path : List ℕ) → HasSmallTasks (move_outcome nat_eq fresh world task source path).world
@@ -478,7 +526,8 @@ module _ (fresh : Fresh ℕ) (world : World ℕ) (task : Task ℕ) (small : HasS
       after_any HasSmallTasks world (source_walk nat_eq world task source) _ small (λ from.
       after_any HasSmallTasks world (destination_walk nat_eq world task path) _ small (λ here.
       judged_holds HasSmallTasks world
-      (move_rules nat_eq world task from.location here.location (moved_to nat_eq fresh world from.location here.location)) _ small
+      (move_rules nat_eq world task from.location here.location
+      (moved_to nat_eq fresh world from.location here.location)) _ small
       (λ passed. same_tasks (moved_to nat_eq fresh world from.location here.location) world refl small))))
 
   umount_small : (path : List ℕ) → HasSmallTasks (umount_outcome nat_eq world task path).world
@@ -499,9 +548,11 @@ module _ (fresh : Fresh ℕ) (world : World ℕ) (task : Task ℕ) (small : HasS
       (granted Done (lazily_unmounted nat_eq world here.location.mount)) small
       (λ passed. same_tasks (lazily_unmounted nat_eq world here.location.mount) world
       (lazily_tasks
-      (deepest_first nat_eq world (mount_tree nat_eq world.mounts (mount_numbered nat_eq world here.location.mount))) world) small)))
+      (deepest_first nat_eq world (mount_tree nat_eq world.mounts
+      (mount_numbered nat_eq world here.location.mount))) world) small)))
 
-  remount_small : (path : List ℕ) (flags : MountFlags) → HasSmallTasks (remount_outcome nat_eq world task path flags).world
+  remount_small : (path : List ℕ) (flags : MountFlags)
+      → HasSmallTasks (remount_outcome nat_eq world task path flags).world
   unfolding remount_outcome
   remount_small path flags =
       judged_holds HasSmallTasks world (admin_rules task) _ small (λ capable.
@@ -521,14 +572,18 @@ module _ (fresh : Fresh ℕ) (world : World ℕ) (task : Task ℕ) (small : HasS
       (λ passed. same_tasks (with_type nat_eq fresh world here.location.mount word recursive) world
       (typed_tasks fresh world here.location.mount word recursive) small)))
 
-  pivoted_small : (root new : Mount ℕ) (put : Location ℕ) → HasSmallTasks (pivoted nat_eq world task.namespace root new put)
-  pivoted_small root new put = all_mapped is_within_limits (pivoted_task nat_eq task.namespace root new) keeps world.tasks small
+  pivoted_small : (root new : Mount ℕ) (put : Location ℕ)
+      → HasSmallTasks (pivoted nat_eq world task.namespace root new put)
+  pivoted_small root new put = all_mapped is_within_limits
+      (pivoted_task nat_eq task.namespace root new) keeps world.tasks small
     where
-      keeps : (other : Task ℕ) → is_within_limits other ≡ true → is_within_limits (pivoted_task nat_eq task.namespace root new other) ≡ true
+      keeps : (other : Task ℕ) → is_within_limits other ≡ true
+          → is_within_limits (pivoted_task nat_eq task.namespace root new other) ≡ true
       keeps other h = by (nat_eq task.namespace other.namespace)
         where
           by : (b : Bool)
-              → is_within_limits (cond b (record other { root = pivoted_location nat_eq root new other.root; directory = pivoted_location nat_eq root new other.directory }) other) ≡ true
+              → is_within_limits (cond b
+              (record other { root = pivoted_location nat_eq root new other.root; directory = pivoted_location nat_eq root new other.directory }) other) ≡ true
           by true = h
           by false = h
 
@@ -542,13 +597,17 @@ module _ (fresh : Fresh ℕ) (world : World ℕ) (task : Task ℕ) (small : HasS
       (λ passed. pivoted_small (mount_at nat_eq world task.root) (mount_at nat_eq world from.location) here.location))))
 
 -- each call
-fork_given : (words : Option ForkWords) → names_few_groups (Fork words) ≡ true → (given : ForkWords) → words ≡ Some given
+fork_given : (words : Option ForkWords) → names_few_groups (Fork words) ≡ true → (given : ForkWords)
+    → words ≡ Some given
     → nat_le (length given.groups) 32 ≡ true
 fork_given None few given e = none_is_not None given refl e
-fork_given (Some words) few given e = ap (λ (w : ForkWords). nat_le (length w.groups) 32) (sym (ap (λ o. unwrap_or o words) e)) ∙ few
+fork_given (Some words) few given e =
+    ap (λ (w : ForkWords). nat_le (length w.groups) 32) (sym (ap (λ o. unwrap_or o words) e)) ∙ few
 
-module _ (fresh : Fresh ℕ) (world : World ℕ) (task : Task ℕ) (small : HasSmallTasks world) (is : is_within_limits task ≡ true) where
-  pub outcome_small : (call : Call) → names_few_groups call ≡ true → HasSmallTasks (call_outcome nat_eq fresh world task call).world
+module _ (fresh : Fresh ℕ) (world : World ℕ) (task : Task ℕ) (small : HasSmallTasks world)
+    (is : is_within_limits task ≡ true) where
+  pub outcome_small : (call : Call) → names_few_groups call ≡ true
+      → HasSmallTasks (call_outcome nat_eq fresh world task call).world
   outcome_small (Ls path) few = list_small fresh world task small is path
   outcome_small (Stat path) few = stat_small fresh world task small is path
   outcome_small (Lstat path) few = lstat_small fresh world task small is path
@@ -589,10 +648,12 @@ module _ (fresh : Fresh ℕ) (world : World ℕ) (task : Task ℕ) (small : HasS
   outcome_small (PivotRoot new put) few = pivot_small fresh world task small is new put
   outcome_small ListMounts few = mounts_small fresh world task small is
 
-finished_small : (before : World ℕ) (name : TaskName) (changed : List ℕ) (outcome : Outcome ℕ) (b : Bool) → HasSmallTasks outcome.world
+finished_small : (before : World ℕ) (name : TaskName) (changed : List ℕ) (outcome : Outcome ℕ) (b : Bool)
+    → HasSmallTasks outcome.world
     → HasSmallTasks (finished_by nat_eq b before name changed outcome).world
 finished_small before name changed outcome true small = small
-finished_small before name changed outcome false small = all_mapped is_within_limits (raised_task name) keeps outcome.world.tasks small
+finished_small before name changed outcome false small =
+    all_mapped is_within_limits (raised_task name) keeps outcome.world.tasks small
   where
     keeps : (other : Task ℕ) → is_within_limits other ≡ true → is_within_limits (raised_task name other) ≡ true
     keeps other h = by (same_name name other.name)

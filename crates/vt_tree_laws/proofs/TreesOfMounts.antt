@@ -15,7 +15,8 @@ use Rattle.vt_spec.proofs.Nodes.{none_is_not}
 use Rattle.vt_tree_laws.specs.Trees.Calls.{WorldsAreStanding}
 use Rattle.vt_tree_laws.proofs.TreesWalked.{first_false}
 
-none_passes : {A : Type 0} (test : A → Bool) (list : List A) → list_any test list ≡ false → All (λ a. test a ≡ false) list
+none_passes : {A : Type 0} (test : A → Bool) (list : List A) → list_any test list ≡ false
+    → All (λ a. test a ≡ false) list
 none_passes test [] h = All-nil (λ a. test a ≡ false)
 none_passes test (a ∷ list) h =
     All-cons (λ x. test x ≡ false) a list (first_false (test a) (list_any test list) h)
@@ -28,10 +29,12 @@ found_by_number [] h = All-nil (λ mount. mount_in nat_eq [] mount.number ≡ mo
 found_by_number (first ∷ mounts) h =
     let apart =
     none_passes (λ b. nat_eq first.number b.number) mounts
-    (first_false (list_any (λ b. nat_eq first.number b.number) mounts) (any_pair (λ a b. nat_eq a.number b.number) mounts) h) in
+    (first_false (list_any (λ b. nat_eq first.number b.number) mounts)
+    (any_pair (λ a b. nat_eq a.number b.number) mounts) h) in
     let rest =
     found_by_number mounts
-    ((or_parts (list_any (λ b. nat_eq first.number b.number) mounts) (any_pair (λ a b. nat_eq a.number b.number) mounts) h).1) in
+    ((or_parts (list_any (λ b. nat_eq first.number b.number) mounts)
+    (any_pair (λ a b. nat_eq a.number b.number) mounts) h).1) in
     All-cons (λ mount. mount_in nat_eq (first ∷ mounts) mount.number ≡ mount) first mounts
     (ap (λ b. unwrap_or (cond b (Some first) (find (λ m. nat_eq first.number m.number) mounts)) (no_mount first.number))
     (eq-eqb first.number first.number refl))
@@ -40,11 +43,14 @@ found_by_number (first ∷ mounts) h =
     later : (mount : Mount ℕ) → nat_eq first.number mount.number ≡ false → mount_in nat_eq mounts mount.number ≡ mount
         → mount_in nat_eq (first ∷ mounts) mount.number ≡ mount
     later mount apart found =
-        ap (λ b. unwrap_or (cond b (Some first) (find (λ m. nat_eq mount.number m.number) mounts)) (no_mount mount.number))
-        (ne_eqb mount.number first.number (λ same. true≢false (sym (eq-eqb first.number mount.number (sym same)) ∙ apart)))
+        ap (λ b. unwrap_or (cond b (Some first) (find (λ m. nat_eq mount.number m.number) mounts))
+        (no_mount mount.number))
+        (ne_eqb mount.number first.number
+        (λ same. true≢false (sym (eq-eqb first.number mount.number (sym same)) ∙ apart)))
         ∙ found
 
-listed_place : (test : Location ℕ → Bool) (o : Option (Location ℕ)) (place : Location ℕ) → list_all test (option_to_list o) ≡ true
+listed_place : (test : Location ℕ → Bool) (o : Option (Location ℕ)) (place : Location ℕ)
+    → list_all test (option_to_list o) ≡ true
     → o ≡ Some place → test place ≡ true
 listed_place test None place h e = none_is_not None place refl e
 listed_place test (Some l) place h e = ap test (sym (ap (λ o. unwrap_or o l) e)) ∙ (and_parts (test l) true h).0
@@ -58,11 +64,14 @@ worlds_are_standing world conditions =
       places = λ k d lt. place (slice_index_or world.mounts k d) (rooted k d lt);
     }
   where
-    root : (mount : Mount ℕ) → has_its_root nat_eq world mount ≡ true → mount_in nat_eq world.mounts mount.number ≡ mount
+    root : (mount : Mount ℕ) → has_its_root nat_eq world mount ≡ true
+        → mount_in nat_eq world.mounts mount.number ≡ mount
         → is_directory_at nat_eq world (root_of mount) ≡ true
     root mount has found =
-        ap (λ (m : Mount ℕ). is_directory_node ((filesystem_numbered nat_eq world m.filesystem).files.tree.node mount.root)) found
-        ∙ (and_parts (is_directory_node ((filesystem_numbered nat_eq world mount.filesystem).files.tree.node mount.root))
+        ap (λ (m : Mount ℕ). is_directory_node
+        ((filesystem_numbered nat_eq world m.filesystem).files.tree.node mount.root)) found
+        ∙ (and_parts (is_directory_node
+        ((filesystem_numbered nat_eq world mount.filesystem).files.tree.node mount.root))
         (list_all (is_directory_at nat_eq world) (option_to_list mount.mount_point)) has).0
 
     place : (mount : Mount ℕ) → has_its_root nat_eq world mount ≡ true → (at : Location ℕ) → mount.mount_point ≡ Some at

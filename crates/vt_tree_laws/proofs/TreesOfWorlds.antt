@@ -30,7 +30,8 @@ numbered_all P number (filesystem ∷ list) h =
     by : (b : Bool) → nat_eq number filesystem.number ≡ b
         → P (numbered number list)
         ⊎ ((numbered number list ≡ no_filesystem number) × All (λ other. nat_eq number other.number ≡ false) list)
-        → P (unwrap_or (cond b (Some filesystem) (find (λ other. nat_eq number other.number) list)) (no_filesystem number))
+        → P (unwrap_or (cond b (Some filesystem) (find (λ other. nat_eq number other.number) list))
+        (no_filesystem number))
         ⊎ ((unwrap_or (cond b (Some filesystem) (find (λ other. nat_eq number other.number) list))
         (no_filesystem number) ≡ no_filesystem number)
         × All (λ other. nat_eq number other.number ≡ false) (filesystem ∷ list))
@@ -39,9 +40,11 @@ numbered_all P number (filesystem ∷ list) h =
         (λ none. inr (none.0, All-cons (λ other. nat_eq number other.number ≡ false) filesystem list e none.1)) rest
 
 -- what holds of a filesystem by its number in any case
-pub numbered_anyhow : (P : Filesystem ℕ → Type 0) (number : ℕ) (list : List (Filesystem ℕ)) → All P list → P (no_filesystem number)
+pub numbered_anyhow : (P : Filesystem ℕ → Type 0) (number : ℕ) (list : List (Filesystem ℕ)) → All P list
+    → P (no_filesystem number)
     → P (numbered number list)
-numbered_anyhow P number list h none = ⊎_elim (λ is. is) (λ missing. subst P (sym missing.0) none) (numbered_all P number list h)
+numbered_anyhow P number list h none =
+    ⊎_elim (λ is. is) (λ missing. subst P (sym missing.0) none) (numbered_all P number list h)
 
 -- its number is the one it is found by
 pub number_numbered : (number : ℕ) (list : List (Filesystem ℕ)) → (numbered number list).number ≡ number
@@ -49,13 +52,15 @@ number_numbered number [] = refl
 number_numbered number (filesystem ∷ list) = by (nat_eq number filesystem.number) refl (number_numbered number list)
   where
     by : (b : Bool) → nat_eq number filesystem.number ≡ b → (numbered number list).number ≡ number
-        → (unwrap_or (cond b (Some filesystem) (find (λ other. nat_eq number other.number) list)) (no_filesystem number)).number ≡ number
+        → (unwrap_or (cond b (Some filesystem) (find (λ other. nat_eq number other.number) list))
+        (no_filesystem number)).number ≡ number
     by true e rest = sym (eqb-true number filesystem.number e)
     by false e rest = rest
 
 -- one filesystem replaced
 pub replaced_all : (P : Filesystem ℕ → Type 0) (new : Filesystem ℕ) (list : List (Filesystem ℕ)) → All P list
-    → P new ⊎ All (λ filesystem. nat_eq new.number filesystem.number ≡ false) list → All P (map (replaced_if_numbered nat_eq new) list)
+    → P new ⊎ All (λ filesystem. nat_eq new.number filesystem.number ≡ false) list
+    → All P (map (replaced_if_numbered nat_eq new) list)
 replaced_all P new [] h either = All-nil P
 replaced_all P new (filesystem ∷ list) h either =
     All-cons P (replaced_if_numbered nat_eq new filesystem) (map (replaced_if_numbered nat_eq new) list)
@@ -66,7 +71,8 @@ replaced_all P new (filesystem ∷ list) h either =
     by : (b : Bool) → nat_eq new.number filesystem.number ≡ b
         → P new ⊎ All (λ other. nat_eq new.number other.number ≡ false) (filesystem ∷ list) → P (cond b new filesystem)
     by true e (inl is) = is
-    by true e (inr none) = absurd (true≢false (sym e ∙ All-head (λ other. nat_eq new.number other.number ≡ false) filesystem list none))
+    by true e (inr none) = absurd (true≢false
+        (sym e ∙ All-head (λ other. nat_eq new.number other.number ≡ false) filesystem list none))
     by false e either = All-head P filesystem list h
 
 -- change numbers of some raised
@@ -86,8 +92,10 @@ raised_all P changed keeps (filesystem ∷ list) h =
 pub raised_keeps_world : (changed : List ℕ) (world : World ℕ) → IsWorldOfTrees world
     → IsWorldOfTrees (filesystems_raised nat_eq changed world)
 raised_keeps_world changed world conditions = record {
-  plain = raised_all (λ filesystem. is_overlay filesystem ≡ false) changed (λ filesystem is. is) world.filesystems conditions.plain;
-  trees = raised_all (λ filesystem. IsFileTree filesystem.files) changed (λ filesystem is. is) world.filesystems conditions.trees;
+  plain = raised_all (λ filesystem. is_overlay filesystem ≡ false) changed
+      (λ filesystem is. is) world.filesystems conditions.plain;
+  trees = raised_all (λ filesystem. IsFileTree filesystem.files) changed
+      (λ filesystem is. is) world.filesystems conditions.trees;
 }
 
 -- A change
@@ -104,7 +112,8 @@ module _ (fresh : Fresh ℕ) (world : World ℕ) (location : Location ℕ) (chan
       (numbered_anyhow (λ filesystem. is_overlay filesystem ≡ false)
       (mount_at nat_eq world location).filesystem world.filesystems conditions.plain refl)
 
-  change_of_plain : IsWorldOfTrees world → with_change nat_eq fresh world location change ≡ with_filesystem nat_eq world new
+  change_of_plain : IsWorldOfTrees world
+      → with_change nat_eq fresh world location change ≡ with_filesystem nat_eq world new
   change_of_plain conditions = ap (λ o. filesystem_changed nat_eq fresh world old o change) (no_overlay conditions)
 
   new_is_tree : IsFileTree old.files → IsProper old.files.tree change → IsFileTree new.files
@@ -139,7 +148,8 @@ new_at fresh world location new k =
     (mount_at nat_eq world location).filesystem world.filesystems new (λ j. refl) k
 
 -- Mounts taken away: the filesystems stay, and each mount shows the one that it showed
-going_number : (world : World ℕ) (gone : List ℕ) (mount : Mount ℕ) → (after_going nat_eq world gone mount).number ≡ mount.number
+going_number : (world : World ℕ) (gone : List ℕ) (mount : Mount ℕ)
+    → (after_going nat_eq world gone mount).number ≡ mount.number
 going_number world gone mount = by _
   where
     by : (b : Bool)
@@ -148,7 +158,8 @@ going_number world gone mount = by _
     by true = refl
     by false = refl
 
-going_filesystem : (world : World ℕ) (gone : List ℕ) (mount : Mount ℕ) → (after_going nat_eq world gone mount).filesystem ≡ mount.filesystem
+going_filesystem : (world : World ℕ) (gone : List ℕ) (mount : Mount ℕ)
+    → (after_going nat_eq world gone mount).filesystem ≡ mount.filesystem
 going_filesystem world gone mount = by _
   where
     by : (b : Bool)
@@ -169,7 +180,8 @@ mapped_filesystem f same_number same_filesystem (mount ∷ mounts) number =
     ∙ by (nat_eq number mount.number) (mapped_filesystem f same_number same_filesystem mounts number)
   where
     by : (b : Bool) → (mount_in nat_eq (map f mounts) number).filesystem ≡ (mount_in nat_eq mounts number).filesystem
-        → (unwrap_or (cond b (Some (f mount)) (find (λ m. nat_eq number m.number) (map f mounts))) (no_mount number)).filesystem
+        → (unwrap_or (cond b (Some (f mount)) (find (λ m. nat_eq number m.number) (map f mounts)))
+        (no_mount number)).filesystem
         ≡ (unwrap_or (cond b (Some mount) (find (λ m. nat_eq number m.number) mounts)) (no_mount number)).filesystem
     by true rest = same_filesystem mount
     by false rest = rest
@@ -182,27 +194,33 @@ regrouped_filesystems world = by _
     by false = refl
 
 regrouped_shows : (world : World ℕ) (number : ℕ)
-    → (mount_in nat_eq (regrouped nat_eq world).mounts number).filesystem ≡ (mount_in nat_eq world.mounts number).filesystem
+    → (mount_in nat_eq (regrouped nat_eq world).mounts number).filesystem
+    ≡ (mount_in nat_eq world.mounts number).filesystem
 regrouped_shows world number = by _
   where
     by : (b : Bool)
-        → (mount_in nat_eq (regrouped_by nat_eq b world).mounts number).filesystem ≡ (mount_in nat_eq world.mounts number).filesystem
+        → (mount_in nat_eq (regrouped_by nat_eq b world).mounts number).filesystem
+        ≡ (mount_in nat_eq world.mounts number).filesystem
     by true = mapped_filesystem (inheriting nat_eq world) (λ mount. refl) (λ mount. refl) world.mounts number
     by false = refl
 
-pub taken_filesystems : (world : World ℕ) (gone : List ℕ) → (taken_away nat_eq world gone).filesystems ≡ world.filesystems
-taken_filesystems world gone = regrouped_filesystems (with_mounts world (map (after_going nat_eq world gone) world.mounts))
+pub taken_filesystems : (world : World ℕ) (gone : List ℕ)
+    → (taken_away nat_eq world gone).filesystems ≡ world.filesystems
+taken_filesystems world gone =
+    regrouped_filesystems (with_mounts world (map (after_going nat_eq world gone) world.mounts))
 
 pub taken_shows : (world : World ℕ) (gone : List ℕ) (location : Location ℕ)
     → (mount_at nat_eq (taken_away nat_eq world gone) location).filesystem ≡ (mount_at nat_eq world location).filesystem
 taken_shows world gone location =
     regrouped_shows (with_mounts world (map (after_going nat_eq world gone) world.mounts)) location.mount
-    ∙ mapped_filesystem (after_going nat_eq world gone) (going_number world gone) (going_filesystem world gone) world.mounts location.mount
+    ∙ mapped_filesystem (after_going nat_eq world gone) (going_number world gone)
+    (going_filesystem world gone) world.mounts location.mount
 
 -- so the trees seen at each location stay
 pub taken_files : (world : World ℕ) (gone : List ℕ) (location : Location ℕ)
     → files_at nat_eq (taken_away nat_eq world gone) location ≡ files_at nat_eq world location
-taken_files world gone location = λ i. (numbered (taken_shows world gone location i) (taken_filesystems world gone i)).files
+taken_files world gone location =
+    λ i. (numbered (taken_shows world gone location i) (taken_filesystems world gone i)).files
 
 -- a world with the filesystems of a world of trees is one
 pub same_filesystems : (a b : World ℕ) → a.filesystems ≡ b.filesystems → IsWorldOfTrees b → IsWorldOfTrees a

@@ -20,7 +20,8 @@ use Rattle.std.proofs.lemmas.Bool.{and_parts}
 below_missing : (name : List ℕ) (entries : Entries ℕ) (number : ℕ) → below_all name_cmp name entries ≡ true
     → entry_named name entries ≡ Some number → ⊥
 below_missing name [] number below e = none_is_not None number refl e
-below_missing name (entry ∷ entries) number below e = by (name_cmp name entry.0) below e (λ b h. below_missing name entries number b h)
+below_missing name (entry ∷ entries) number below e =
+    by (name_cmp name entry.0) below e (λ b h. below_missing name entries number b h)
   where
     by : (o : Ordering) → (is_lt o && below_all name_cmp name entries) ≡ true
         → cond (is_eq o) (Some entry.1) (entry_named name entries) ≡ Some number
@@ -36,7 +37,8 @@ listed_entry : (entries : Entries ℕ) (number : ℕ) → is_sorted name_cmp ent
 listed_entry [] number sorted h = absurd (true≢false (sym h))
 listed_entry (entry ∷ entries) number sorted h =
     by (nat_eq number entry.1) refl h
-    (λ g. listed_entry entries number ((and_parts (below_all name_cmp entry.0 entries) (is_sorted name_cmp entries) sorted).1) g)
+    (λ g. listed_entry entries number
+    ((and_parts (below_all name_cmp entry.0 entries) (is_sorted name_cmp entries) sorted).1) g)
   where
     later : (name : List ℕ) → entry_named name entries ≡ Some number → (b : Bool) → eq_by_cmp name_cmp name entry.0 ≡ b
         → cond b (Some entry.1) (entry_named name entries) ≡ Some number
@@ -47,7 +49,8 @@ listed_entry (entry ∷ entries) number sorted h =
     later name e false tie = e
 
     by : (b : Bool) → nat_eq number entry.1 ≡ b → (b || is_among nat_eq number (map (λ e. e.1) entries)) ≡ true
-        → (is_among nat_eq number (map (λ e. e.1) entries) ≡ true → (name : List ℕ) × (entry_named name entries ≡ Some number))
+        → (is_among nat_eq number (map (λ e. e.1) entries) ≡ true
+        → (name : List ℕ) × (entry_named name entries ≡ Some number))
         → (name : List ℕ) × (entry_named name (entry ∷ entries) ≡ Some number)
     by true e g rest = (
       entry.0,
@@ -62,11 +65,13 @@ module _ (tree : Tree ℕ) (conditions : IsTree tree) (directory : ℕ) (is : Is
   -- not removed is the root, or has a name
   pub not_removed_reached : is_removed nat_eq tree directory ≡ false → IsReached tree directory
   not_removed_reached stays =
-      by (nat_eq directory tree.root) (has_entry_to nat_eq tree (parent_in directory (tree.node directory)) directory) refl refl stays
+      by (nat_eq directory tree.root)
+      (has_entry_to nat_eq tree (parent_in directory (tree.node directory)) directory) refl refl stays
     where
       by : (a b : Bool) → nat_eq directory tree.root ≡ a
           → has_entry_to nat_eq tree (parent_in directory (tree.node directory)) directory ≡ b
-          → not (a || is_some (cond a None (when b (parent_in directory (tree.node directory))))) ≡ false → IsReached tree directory
+          → not (a || is_some (cond a None (when b (parent_in directory (tree.node directory))))) ≡ false
+          → IsReached tree directory
       by true b e f h = subst (IsReached tree) (sym (eqb-true directory tree.root e)) (root_reached tree)
       by false true e f h =
           let parent = parent_in directory (tree.node directory) in
@@ -75,7 +80,8 @@ module _ (tree : Tree ℕ) (conditions : IsTree tree) (directory : ℕ) (is : Is
       by false false e f h = absurd (true≢false h)
 
   -- removed is without a name, and so empty
-  pub filled_reached : (name : List ℕ) (number : ℕ) → entry_at tree directory name ≡ Some number → IsReached tree directory
+  pub filled_reached : (name : List ℕ) (number : ℕ) → entry_at tree directory name ≡ Some number
+      → IsReached tree directory
   filled_reached name number entry = by (is_removed nat_eq tree directory) refl
     where
       no_root : (a b : Bool) → not (a || b) ≡ true → a ≡ false

@@ -1,4 +1,5 @@
--- A tree in which names are taken away, given, and given in exchange: what has to be seen of the inodes for it to be a tree again.
+-- A tree in which names are taken away, given, and given in exchange: what has to be seen of the inodes for it to be a
+-- tree again.
 use Rattle.std.proofs.Common.{◌≡◌, ◌≢◌, refl, sym, ap, subst, ◌∙◌, ℕ, true, List, [], ◌∷◌, ◌⊎◌, inl, inr, ⊎_elim, Option, Some, None, is_some}
 use Rattle.std.specs.FinMap.Entries.{is_sorted}
 use Rattle.vt_spec.specs.Tree.{Tree, Node, Content, name_cmp, entry_named, entries_of, kind_of, is_directory_node, entries_in, parent_in}
@@ -11,7 +12,8 @@ use Rattle.std.proofs.lemmas.Option.{same_Some}
 
 -- what holds where a list of names begins, and goes on along each entry, holds where they lead
 pub led_closed : (tree : Tree ℕ) (P : ℕ → Type 0)
-    → ((directory : ℕ) (name : List ℕ) (number : ℕ) → P directory → entry_at tree directory name ≡ Some number → P number)
+    → ((directory : ℕ) (name : List ℕ) (number : ℕ) → P directory → entry_at tree directory name ≡ Some number
+    → P number)
     → (from : ℕ) (names : List (List ℕ)) (number : ℕ) → P from → led tree from names ≡ Some number → P number
 led_closed tree P step from [] number p e = subst P (same_Some from number e) p
 led_closed tree P step from (name ∷ names) number p e =
@@ -19,21 +21,25 @@ led_closed tree P step from (name ∷ names) number p e =
     led_closed tree P step first.0 names number (step from name first.0 p first.1) first.2
 
 -- what has an entry is a directory
-pub node_with_entries : (name : List ℕ) (number : ℕ) (o : Option (Node ℕ)) → entry_named name (entries_in o) ≡ Some number
+pub node_with_entries : (name : List ℕ) (number : ℕ) (o : Option (Node ℕ))
+    → entry_named name (entries_in o) ≡ Some number
     → is_directory_node o ≡ true
 node_with_entries name number None e = none_is_not None number refl e
 node_with_entries name number (Some node) e = by node.content e
   where
-    by : (content : Content ℕ) → entry_named name (entries_of content) ≡ Some number → is_directory (kind_of content) ≡ true
+    by : (content : Content ℕ) → entry_named name (entries_of content) ≡ Some number
+        → is_directory (kind_of content) ≡ true
     by (Directory parent entries opaque) h = refl
     by (Regular bytes) h = none_is_not None number refl h
     by (Symlink text) h = none_is_not None number refl h
     by Whiteout h = none_is_not None number refl h
 
 -- what has no entries has none of this name
-pub no_entries : {P : Type 0} (tree : Tree ℕ) (directory : ℕ) (name : List ℕ) (number : ℕ) → entries_in (tree.node directory) ≡ []
+pub no_entries : {P : Type 0} (tree : Tree ℕ) (directory : ℕ) (name : List ℕ) (number : ℕ)
+    → entries_in (tree.node directory) ≡ []
     → entry_at tree directory name ≡ Some number → P
-no_entries tree directory name number empty e = none_is_not (entry_at tree directory name) number (ap (entry_named name) empty) e
+no_entries tree directory name number empty e =
+    none_is_not (entry_at tree directory name) number (ap (entry_named name) empty) e
 
 -- an object that gets no other name is gone: it has no entries, and is its own parent
 pub record Vanishes (before after : Option (Node ℕ)) (number : ℕ) : Type 0 where
@@ -46,9 +52,11 @@ pub record IsRearranged (tree : Tree ℕ) (node : ℕ → Option (Node ℕ)) (Le
     (Arrives : ℕ → List ℕ → ℕ → Type 0) : Type 0 where
   pub directories : (number : ℕ) → is_directory_node (node number) ≡ is_directory_node (tree.node number)
   pub in_order : (directory : ℕ) → is_sorted name_cmp (entries_in (node directory)) ≡ true
-  pub alive : (directory : ℕ) (name : List ℕ) (number : ℕ) → entry_named name (entries_in (node directory)) ≡ Some number
+  pub alive : (directory : ℕ) (name : List ℕ) (number : ℕ)
+      → entry_named name (entries_in (node directory)) ≡ Some number
       → is_some (node number) ≡ true
-  pub kept : (directory : ℕ) (name : List ℕ) (number : ℕ) → entry_at tree directory name ≡ Some number → IsDirectory tree number
+  pub kept : (directory : ℕ) (name : List ℕ) (number : ℕ) → entry_at tree directory name ≡ Some number
+      → IsDirectory tree number
       → Leaves number ⊎ (entry_named name (entries_in (node directory)) ≡ Some number)
   pub told : (directory : ℕ) (name : List ℕ) (number : ℕ) → entry_named name (entries_in (node directory)) ≡ Some number
       → IsDirectory tree number
@@ -61,14 +69,17 @@ pub record IsRearranged (tree : Tree ℕ) (node : ℕ → Option (Node ℕ)) (Le
       → Arrives other again number → name ≡ again
   pub arrives_reached : (directory : ℕ) (name : List ℕ) (number : ℕ) → Arrives directory name number
       → IsReached (record { root = tree.root; node = node }) directory
-  pub arrives_parent : (directory : ℕ) (name : List ℕ) (number : ℕ) → Arrives directory name number → IsDirectory tree number
+  pub arrives_parent : (directory : ℕ) (name : List ℕ) (number : ℕ) → Arrives directory name number
+      → IsDirectory tree number
       → parent_in number (node number) ≡ directory
   pub stays_parent : (number : ℕ) → IsDirectory tree number → ¬ (Leaves number)
       → parent_in number (node number) ≡ parent_in number (tree.node number)
   pub leaves_how : (number : ℕ) → IsDirectory tree number → Leaves number
-      → ((directory : ℕ) × (name : List ℕ) × Arrives directory name number) ⊎ Vanishes (tree.node number) (node number) number
+      → ((directory : ℕ) × (name : List ℕ) × Arrives directory name number)
+      ⊎ Vanishes (tree.node number) (node number) number
   pub root_stays : ¬ (Leaves tree.root)
-  pub fills : (number : ℕ) → entries_in (tree.node number) ≡ [] → (entries_in (node number) ≡ []) ⊎ IsReached tree number
+  pub fills : (number : ℕ) → entries_in (tree.node number) ≡ []
+      → (entries_in (node number) ≡ []) ⊎ IsReached tree number
 
 module _ (tree : Tree ℕ) (node : ℕ → Option (Node ℕ)) (Leaves : ℕ → Type 0) (Arrives : ℕ → List ℕ → ℕ → Type 0)
     (conditions : IsTree tree) (moves : IsRearranged tree node Leaves Arrives) where
@@ -83,9 +94,11 @@ module _ (tree : Tree ℕ) (node : ℕ → Option (Node ℕ)) (Leaves : ℕ → 
 
   -- a directory that was reached is, unless it is gone
   abbrev Remains : ℕ → Type 0
-  Remains number = IsDirectory tree number → IsReached after number ⊎ (Leaves number × (entries_in (tree.node number) ≡ []))
+  Remains number = IsDirectory tree number
+      → IsReached after number ⊎ (Leaves number × (entries_in (tree.node number) ≡ []))
 
-  remains_along : (directory : ℕ) (name : List ℕ) (number : ℕ) → Remains directory → entry_at tree directory name ≡ Some number
+  remains_along : (directory : ℕ) (name : List ℕ) (number : ℕ) → Remains directory
+      → entry_at tree directory name ≡ Some number
       → Remains number
   remains_along directory name number remains e is =
       ⊎_elim
@@ -133,18 +146,21 @@ module _ (tree : Tree ℕ) (node : ℕ → Option (Node ℕ)) (Leaves : ℕ → 
   after_parent_directory number is =
       ⊎_elim
       (λ leaves. ⊎_elim
-      (λ arrives. subst (IsDirectory after) (sym (moves.arrives_parent arrives.0 arrives.1 number arrives.2 (before_directory number is)))
+      (λ arrives. subst (IsDirectory after)
+      (sym (moves.arrives_parent arrives.0 arrives.1 number arrives.2 (before_directory number is)))
       (node_with_entries arrives.1 number (node arrives.0) (moves.arrives_entry arrives.0 arrives.1 number arrives.2)))
       (λ gone. subst (IsDirectory after) (sym gone.own_parent) is)
       (moves.leaves_how number (before_directory number is) leaves))
       (λ stays. subst (IsDirectory after) (sym (moves.stays_parent number (before_directory number is) stays))
-      (after_directory (parent_in number (tree.node number)) (conditions.parent_directory number (before_directory number is))))
+      (after_directory (parent_in number (tree.node number))
+      (conditions.parent_directory number (before_directory number is))))
       (moves.decided number)
 
   after_reached : (number : ℕ) → IsDirectory after number → HasName after number → IsReached after number
   after_reached number is named =
       ⊎_elim
-      (λ arrives. entry_reached after named.0 named.1 number (moves.arrives_reached named.0 named.1 number arrives) named.2)
+      (λ arrives. entry_reached after named.0 named.1 number
+      (moves.arrives_reached named.0 named.1 number arrives) named.2)
       (λ old. ⊎_elim
       (λ reached. reached)
       (λ gone. absurd (old.1 gone.0))
@@ -153,7 +169,8 @@ module _ (tree : Tree ℕ) (node : ℕ → Option (Node ℕ)) (Leaves : ℕ → 
       (moves.told named.0 named.1 number named.2 (before_directory number is))
 
   -- what stays and has no name had none
-  was_unnamed : (number : ℕ) → IsDirectory tree number → ¬ (Leaves number) → ¬ (HasName after number) → ¬ (HasName tree number)
+  was_unnamed : (number : ℕ) → IsDirectory tree number → ¬ (Leaves number) → ¬ (HasName after number)
+      → ¬ (HasName tree number)
   was_unnamed number is stays unnamed named =
       ⊎_elim stays (λ entry. unnamed (named.0, named.1, entry)) (moves.kept named.0 named.1 number named.2 is)
 

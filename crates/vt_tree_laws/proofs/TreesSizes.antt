@@ -30,7 +30,8 @@ parts_fit (part ∷ list) h = by (is_empty part) refl h (λ g. parts_fit list g)
         (cond (not b) (part ∷ filter (λ p. not (is_empty p)) list) (filter (λ p. not (is_empty p)) list)) ≡ false
         → (list_any (λ word. nat_lt longest_name (length word)) (filter (λ p. not (is_empty p)) list) ≡ false
         → list_all is_fit_name (filter (λ p. not (is_empty p)) list) ≡ true)
-        → list_all is_fit_name (cond (not b) (part ∷ filter (λ p. not (is_empty p)) list) (filter (λ p. not (is_empty p)) list)) ≡ true
+        → list_all is_fit_name (cond (not b) (part ∷ filter (λ p. not (is_empty p)) list)
+        (filter (λ p. not (is_empty p)) list)) ≡ true
     by true e g rest = rest g
     by false e g rest =
         let short =
@@ -40,7 +41,8 @@ parts_fit (part ∷ list) h = by (is_empty part) refl h (λ g. parts_fit list g)
         (or_parts (nat_lt longest_name (length part))
         (list_any (λ word. nat_lt longest_name (length word)) (filter (λ p. not (is_empty p)) list)) g).1 in
         both (is_fit_name part) (list_all is_fit_name (filter (λ p. not (is_empty p)) list))
-        (both (not (is_empty part)) (nat_le (length part) longest_name) (ap not e) (no_longer longest_name part short)) (rest later)
+        (both (not (is_empty part)) (nat_le (length part) longest_name) (ap not e) (no_longer longest_name part short))
+        (rest later)
 
 all_turned : (test : List ℕ → Bool) (list done : List (List ℕ)) → list_all test list ≡ true → list_all test done ≡ true
     → list_all test (reverse_aux list done) ≡ true
@@ -49,7 +51,8 @@ all_turned test (x ∷ list) done h k =
     all_turned test list (x ∷ done) ((and_parts (test x) (list_all test list) h).1)
     (both (test x) (list_all test done) ((and_parts (test x) (list_all test list) h).0) k)
 
-all_reversed : (test : List ℕ → Bool) (list : List (List ℕ)) → list_all test list ≡ true → list_all test (reverse list) ≡ true
+all_reversed : (test : List ℕ → Bool) (list : List (List ℕ)) → list_all test list ≡ true
+    → list_all test (reverse list) ≡ true
 all_reversed test list h = all_turned test list [] h refl
 
 -- a last word that is a name is within the limits
@@ -79,7 +82,8 @@ abbrev pub HasFitWords : List ℕ → Type 0
 HasFitWords text = list_any (λ word. nat_lt longest_name (length word)) (words text) ≡ false
 
 last_fits : (text : List ℕ) → HasFitWords text → IsFitWord (final_word (reverse (words text)))
-last_fits text h = final_fits (reverse (words text)) (all_reversed is_fit_name (words text) (parts_fit (parts 47 text) h))
+last_fits text h = final_fits (reverse (words text))
+    (all_reversed is_fit_name (words text) (parts_fit (parts 47 text) h))
 
 module _ (world : World ℕ) (task : Task ℕ) where
   abbrev pub HasFitLast : Place ℕ → Type 0
@@ -107,7 +111,8 @@ module _ (world : World ℕ) (task : Task ℕ) where
   fit_place_walk : (path : List ℕ) → Ends HasFitLast (place_walk nat_eq world task path)
   fit_place_walk path =
       ends_then HasFitWords HasFitLast (path_text path) _ (fit_text path) (λ text fit.
-      ends_next HasFitLast (front_walked nat_eq world task (followed nat_eq world task) (walk_start task text) (reverse (words text)))
+      ends_next HasFitLast (front_walked nat_eq world task (followed nat_eq world task) (walk_start task text)
+      (reverse (words text)))
       (λ here. placed nat_eq world task here (final_word (reverse (words text))) (ends_in_slash text))
       (λ here. fit_placed here (final_word (reverse (words text))) (ends_in_slash text) (last_fits text fit)))
 
@@ -119,7 +124,8 @@ module _ (world : World ℕ) (task : Task ℕ) where
   pub fit_new_leaf_walk : (path : List ℕ) → Ends HasFitLast (new_leaf_walk nat_eq world task path)
   fit_new_leaf_walk path =
       ends_then HasFitLast HasFitLast (new_walk nat_eq world task path) _ (fit_new_walk path)
-      (λ place fit. ends_unless HasFitLast place.steps ((place.slash && not (is_some place.object), W6) ∷ []) place (λ passed. fit))
+      (λ place fit. ends_unless HasFitLast place.steps ((place.slash && not (is_some place.object), W6) ∷ []) place
+      (λ passed. fit))
 
   -- files: each link's text has been looked at too
   abbrev linked_file : ℕ → List ℕ → Bool → Here ℕ → Place ℕ → List ℕ → Result (Place ℕ) (Stop ℕ)
@@ -128,7 +134,8 @@ module _ (world : World ℕ) (task : Task ℕ) where
       (symlink_start nat_eq world task here.location (symlink_of here place) inner))
       (λ next. file_walked nat_eq depth world task next inner (slash || ends_in_slash text))
 
-  fit_file_or_link : (place : Place ℕ) (text : Option (List ℕ)) (follow : List ℕ → Result (Place ℕ) (Stop ℕ)) → HasFitLast place
+  fit_file_or_link : (place : Place ℕ) (text : Option (List ℕ)) (follow : List ℕ → Result (Place ℕ) (Stop ℕ))
+      → HasFitLast place
       → ((inner : List ℕ) → Ends HasFitLast (follow inner))
       → Ends HasFitLast (file_or_symlink nat_eq world place text follow)
   fit_file_or_link place None follow fit rest = fit
@@ -139,11 +146,16 @@ module _ (world : World ℕ) (task : Task ℕ) where
   fit_file_walked zero start text slash fit = tt
   fit_file_walked (suc depth) start text slash fit =
       ends_next HasFitLast (front_walked nat_eq world task (followed nat_eq world task) start (reverse (words text)))
-      (λ here. then_walk (placed nat_eq world task here (final_word (reverse (words text))) (slash || ends_in_slash text))
-      (λ place. file_or_symlink nat_eq world place (symlink_there nat_eq world place) (linked_file depth text slash here place))) (λ here.
-      ends_then HasFitLast HasFitLast (placed nat_eq world task here (final_word (reverse (words text))) (slash || ends_in_slash text))
-      (λ place. file_or_symlink nat_eq world place (symlink_there nat_eq world place) (linked_file depth text slash here place))
-      (fit_placed here (final_word (reverse (words text))) (slash || ends_in_slash text) (last_fits text fit)) (λ place last.
+      (λ here. then_walk (placed nat_eq world task here (final_word (reverse (words text)))
+      (slash || ends_in_slash text))
+      (λ place. file_or_symlink nat_eq world place (symlink_there nat_eq world place)
+      (linked_file depth text slash here place))) (λ here.
+      ends_then HasFitLast HasFitLast
+      (placed nat_eq world task here (final_word (reverse (words text))) (slash || ends_in_slash text))
+      (λ place. file_or_symlink nat_eq world place (symlink_there nat_eq world place)
+      (linked_file depth text slash here place))
+      (fit_placed here (final_word (reverse (words text))) (slash || ends_in_slash text) (last_fits text fit))
+      (λ place last.
       fit_file_or_link place (symlink_there nat_eq world place) (linked_file depth text slash here place) last (λ inner.
       ends_then (λ next. HasFitWords inner) HasFitLast
       (walk_unless place.steps (follow_rules nat_eq world (symlink_of here place) inner)
@@ -157,6 +169,7 @@ module _ (world : World ℕ) (task : Task ℕ) where
   pub fit_file_walk : (path : List ℕ) → Ends HasFitLast (file_walk nat_eq world task path)
   fit_file_walk path =
       ends_then HasFitWords HasFitLast (path_text path) _ (fit_text path) (λ text fit.
-      ends_then HasFitLast HasFitLast (file_walked nat_eq (most_symlinks + 1) world task (walk_start task text) text false) _
+      ends_then HasFitLast HasFitLast
+      (file_walked nat_eq (most_symlinks + 1) world task (walk_start task text) text false) _
       (fit_file_walked (most_symlinks + 1) (walk_start task text) text false fit) (λ place last.
       ends_unless HasFitLast place.steps (new_name_rules nat_eq world place) place (λ passed. last)))

@@ -31,7 +31,8 @@ limits_of task is =
     (both _ (nat_le (length task.name) deepest_name)
     (both _ (nat_le task.forks most_forks)
     (both _ (list_all (λ descriptor. nat_lt descriptor.number most_descriptors) task.descriptors)
-    (both (nat_le (length task.descriptors) most_descriptors) (are_ascending_from 0 task.descriptors) is.few is.ascending)
+    (both (nat_le (length task.descriptors) most_descriptors)
+    (are_ascending_from 0 task.descriptors) is.few is.ascending)
     is.low)
     is.forks)
     is.depth)
@@ -63,7 +64,8 @@ within task is =
     }
 
 -- lists of tasks
-pub all_mapped : {A : Type 0} (test : A → Bool) (change : A → A) → ((a : A) → test a ≡ true → test (change a) ≡ true) → (list : List A)
+pub all_mapped : {A : Type 0} (test : A → Bool) (change : A → A) → ((a : A) → test a ≡ true → test (change a) ≡ true)
+    → (list : List A)
     → list_all test list ≡ true → list_all test (map change list) ≡ true
 all_mapped test change keeps [] h = refl
 all_mapped test change keeps (a ∷ list) h =
@@ -119,16 +121,19 @@ inserted_all : (test : Descriptor ℕ → Bool) (new : Descriptor ℕ) (list : L
     → list_all test list ≡ true → list_all test (inserted new list) ≡ true
 inserted_all test new [] h k = both (test new) true h refl
 inserted_all test new (descriptor ∷ list) h k =
-    by (nat_lt new.number descriptor.number) (inserted_all test new list h ((and_parts (test descriptor) (list_all test list) k).1))
+    by (nat_lt new.number descriptor.number)
+    (inserted_all test new list h ((and_parts (test descriptor) (list_all test list) k).1))
   where
     by : (b : Bool) → list_all test (inserted new list) ≡ true
         → list_all test (cond b (new ∷ descriptor ∷ list) (descriptor ∷ inserted new list)) ≡ true
     by true rest = both (test new) (list_all test (descriptor ∷ list)) h k
-    by false rest = both (test descriptor) (list_all test (inserted new list)) ((and_parts (test descriptor) (list_all test list) k).0) rest
+    by false rest = both (test descriptor) (list_all test (inserted new list))
+        ((and_parts (test descriptor) (list_all test list) k).0) rest
 
 inserted_ascending : (least : ℕ) (new : Descriptor ℕ) (list : List (Descriptor ℕ)) → new.number ≡ free_from least list
     → are_ascending_from least list ≡ true → are_ascending_from least (inserted new list) ≡ true
-inserted_ascending least new [] e h = both (nat_le least new.number) true (le-leb least new.number (omega (arith, e))) refl
+inserted_ascending least new [] e h =
+    both (nat_le least new.number) true (le-leb least new.number (omega (arith, e))) refl
 inserted_ascending least new (descriptor ∷ list) e h =
     by (descriptor.number == least) refl e (λ f g. inserted_ascending (least + 1) new list f g)
   where
@@ -148,9 +153,11 @@ inserted_ascending least new (descriptor ∷ list) e h =
         ap (λ b. are_ascending_from least (cond b (new ∷ descriptor ∷ list) (descriptor ∷ inserted new list)))
         (passed (free_above (least + 1) list) is)
         ∙ both (nat_le least descriptor.number) (are_ascending_from (descriptor.number + 1) (inserted new list)) low
-        (ap (λ n. are_ascending_from (n + 1) (inserted new list)) is ∙ later f (ap (λ n. are_ascending_from (n + 1) list) (sym is) ∙ rest))
+        (ap (λ n. are_ascending_from (n + 1) (inserted new list)) is
+        ∙ later f (ap (λ n. are_ascending_from (n + 1) list) (sym is) ∙ rest))
       where
-        passed : least + 1 ≤ free_from (least + 1) list → descriptor.number ≡ least → nat_lt new.number descriptor.number ≡ false
+        passed : least + 1 ≤ free_from (least + 1) list → descriptor.number ≡ least
+            → nat_lt new.number descriptor.number ≡ false
         passed above is = le-ltb new.number descriptor.number (omega (arith, f, above, is))
     by false differ f later =
         ap (λ b. are_ascending_from least (cond b (new ∷ descriptor ∷ list) (descriptor ∷ inserted new list)))
@@ -163,7 +170,8 @@ inserted_ascending least new (descriptor ∷ list) e h =
       where
         below : new.number < descriptor.number
         below =
-            let apart : descriptor.number ≢ least = λ same. true≢false (sym (eq-eqb descriptor.number least same) ∙ differ) in
+            let apart : descriptor.number ≢ least =
+            λ same. true≢false (sym (eq-eqb descriptor.number least same) ∙ differ) in
             let above : least ≤ descriptor.number = leb-true least descriptor.number low in
             omega (arith, f, apart, above)
 
@@ -173,12 +181,14 @@ ascending_lower : (lower least : ℕ) (list : List (Descriptor ℕ)) → lower �
 ascending_lower lower least [] le h = refl
 ascending_lower lower least (descriptor ∷ list) le h =
     let above =
-    leb-true least descriptor.number ((and_parts (nat_le least descriptor.number) (are_ascending_from (descriptor.number + 1) list) h).0) in
+    leb-true least descriptor.number
+    ((and_parts (nat_le least descriptor.number) (are_ascending_from (descriptor.number + 1) list) h).0) in
     both (nat_le lower descriptor.number) (are_ascending_from (descriptor.number + 1) list)
     (le-leb lower descriptor.number (omega (arith, above, le)))
     ((and_parts (nat_le least descriptor.number) (are_ascending_from (descriptor.number + 1) list) h).1)
 
-filtered_ascending : (stays : Descriptor ℕ → Bool) (least : ℕ) (list : List (Descriptor ℕ)) → are_ascending_from least list ≡ true
+filtered_ascending : (stays : Descriptor ℕ → Bool) (least : ℕ) (list : List (Descriptor ℕ))
+    → are_ascending_from least list ≡ true
     → are_ascending_from least (filter stays list) ≡ true
 filtered_ascending stays least [] h = refl
 filtered_ascending stays least (descriptor ∷ list) h =
@@ -191,7 +201,8 @@ filtered_ascending stays least (descriptor ∷ list) h =
 
     by : (b : Bool) → are_ascending_from (descriptor.number + 1) (filter stays list) ≡ true
         → are_ascending_from least (cond b (descriptor ∷ filter stays list) (filter stays list)) ≡ true
-    by true rest = both (nat_le least descriptor.number) (are_ascending_from (descriptor.number + 1) (filter stays list)) low rest
+    by true rest = both (nat_le least descriptor.number)
+        (are_ascending_from (descriptor.number + 1) (filter stays list)) low rest
     by false rest =
         let above = leb-true least descriptor.number low in
         ascending_lower least (descriptor.number + 1) (filter stays list) (omega (arith, above)) rest
@@ -212,9 +223,11 @@ pub opened_within : (task : Task ℕ) (location : Location ℕ) (access : Access
 opened_within task location access is room =
     let limits = within task is in
     let fewer = leb-false most_descriptors (length task.descriptors) room in
-    let new : Descriptor ℕ = record { number = free_number task; location = location; reads = access.reads; writes = access.writes } in
+    let new : Descriptor ℕ =
+    record { number = free_number task; location = location; reads = access.reads; writes = access.writes } in
     limits_of (with_descriptor task location access) (record {
-      few = le-leb (length (inserted new task.descriptors)) most_descriptors (omega (arith, inserted_length new task.descriptors, fewer));
+      few = le-leb (length (inserted new task.descriptors)) most_descriptors
+          (omega (arith, inserted_length new task.descriptors, fewer));
       ascending = inserted_ascending 0 new task.descriptors refl limits.ascending;
       low = inserted_all (λ descriptor. nat_lt descriptor.number most_descriptors) new task.descriptors
           (lt-ltb (free_number task) most_descriptors (omega (arith, free_small 0 task.descriptors, fewer))) limits.low;
@@ -224,14 +237,16 @@ opened_within task location access is room =
       umask = limits.umask;
     })
 
-pub closed_within : (task : Task ℕ) (number : ℕ) → is_within_limits task ≡ true → is_within_limits (without_descriptor task number) ≡ true
+pub closed_within : (task : Task ℕ) (number : ℕ) → is_within_limits task ≡ true
+    → is_within_limits (without_descriptor task number) ≡ true
 closed_within task number is =
     let limits = within task is in
     let few = leb-true (length task.descriptors) most_descriptors limits.few in
     limits_of (without_descriptor task number) (record {
       few = le-leb (length (filter (λ descriptor. not (number == descriptor.number)) task.descriptors)) most_descriptors
           (omega (arith, few, filtered_length (λ descriptor. not (number == descriptor.number)) task.descriptors));
-      ascending = filtered_ascending (λ descriptor. not (number == descriptor.number)) 0 task.descriptors limits.ascending;
+      ascending = filtered_ascending
+          (λ descriptor. not (number == descriptor.number)) 0 task.descriptors limits.ascending;
       low =
           all-filter (λ descriptor. nat_lt descriptor.number most_descriptors)
           (λ descriptor. not (number == descriptor.number)) task.descriptors limits.low;
@@ -275,7 +290,8 @@ child_within task words is room given =
       ascending = refl;
       low = refl;
       forks = le-leb 0 most_forks (omega arith);
-      depth = le-leb (length (child_name task)) deepest_name (omega (arith, length-append task.name ((task.forks + 1) ∷ []), fewer));
+      depth = le-leb (length (child_name task)) deepest_name
+          (omega (arith, length-append task.name ((task.forks + 1) ∷ []), fewer));
       groups = few_groups task words limits.groups given;
       umask = limits.umask;
     })

@@ -34,12 +34,14 @@ pub ends_anyhow : {A : Type 0} (r : Result A (Stop ℕ)) → Ends (λ a. ⊤) r
 ends_anyhow (Ok a) = tt
 ends_anyhow (Err stop) = tt
 
-pub ends_then : {A B : Type 0} (Q : A → Type 0) (R : B → Type 0) (r : Result A (Stop ℕ)) (next : A → Result B (Stop ℕ)) → Ends Q r
+pub ends_then : {A B : Type 0} (Q : A → Type 0) (R : B → Type 0) (r : Result A (Stop ℕ)) (next : A → Result B (Stop ℕ))
+    → Ends Q r
     → ((a : A) → Q a → Ends R (next a)) → Ends R (then_walk r next)
 ends_then Q R (Ok a) next q h = h a q
 ends_then Q R (Err stop) next q h = tt
 
-pub ends_next : {A B : Type 0} (R : B → Type 0) (r : Result A (Stop ℕ)) (next : A → Result B (Stop ℕ)) → ((a : A) → Ends R (next a))
+pub ends_next : {A B : Type 0} (R : B → Type 0) (r : Result A (Stop ℕ)) (next : A → Result B (Stop ℕ))
+    → ((a : A) → Ends R (next a))
     → Ends R (then_walk r next)
 ends_next R (Ok a) next h = h a
 ends_next R (Err stop) next h = tt
@@ -51,7 +53,8 @@ ends_unless Q steps ((true, rule) ∷ rows) a h = tt
 ends_unless Q steps ((false, rule) ∷ rows) a h = ends_unless Q steps rows a (λ rest. h (refl, rest))
 
 -- a step that may be refused by rules, or by itself
-pub ends_step : {A B : Type 0} (Q : B → Type 0) (steps : List (List ℕ)) (rules : Rules) (answer : Result A Deny) (next : A → Result B Deny)
+pub ends_step : {A B : Type 0} (Q : B → Type 0) (steps : List (List ℕ)) (rules : Rules) (answer : Result A Deny)
+    (next : A → Result B Deny)
     → (Passed rules → (a : A) → answer ≡ Ok a → Ends Q (stopped_by steps (next a)))
     → Ends Q (stopped_by steps (and_then (unless rules answer) next))
 ends_step Q steps [] (Ok a) next h = h tt a refl
@@ -59,18 +62,21 @@ ends_step Q steps [] (Err deny) next h = tt
 ends_step Q steps ((true, rule) ∷ rows) answer next h = tt
 ends_step Q steps ((false, rule) ∷ rows) answer next h = ends_step Q steps rows answer next (λ rest. h (refl, rest))
 
-pub after_ends : {A : Type 0} (Q : A → Type 0) (P : World ℕ → Type 0) (world : World ℕ) (r : Result A (Stop ℕ)) (next : A → Outcome ℕ)
+pub after_ends : {A : Type 0} (Q : A → Type 0) (P : World ℕ → Type 0) (world : World ℕ) (r : Result A (Stop ℕ))
+    (next : A → Outcome ℕ)
     → P world → Ends Q r → ((a : A) → Q a → P (next a).world)
     → P (after world (walk_end r) next).world
 after_ends Q P world (Ok a) next p q h = h a q
 after_ends Q P world (Err stop) next p q h = p
 
-pub after_any : {A : Type 0} (P : World ℕ → Type 0) (world : World ℕ) (r : Result A (Stop ℕ)) (next : A → Outcome ℕ) → P world
+pub after_any : {A : Type 0} (P : World ℕ → Type 0) (world : World ℕ) (r : Result A (Stop ℕ)) (next : A → Outcome ℕ)
+    → P world
     → ((a : A) → P (next a).world) → P (after world (walk_end r) next).world
 after_any P world (Ok a) next p h = h a
 after_any P world (Err stop) next p h = p
 
-pub after_holds : {A : Type 0} (P : World ℕ → Type 0) (world : World ℕ) (r : Result A Deny) (next : A → Outcome ℕ) → P world
+pub after_holds : {A : Type 0} (P : World ℕ → Type 0) (world : World ℕ) (r : Result A Deny) (next : A → Outcome ℕ)
+    → P world
     → ((a : A) → r ≡ Ok a → P (next a).world) → P (after world r next).world
 after_holds P world (Ok a) next p h = h a refl
 after_holds P world (Err deny) next p h = p
@@ -113,7 +119,8 @@ IsFileOf world parent (Named name) object =
 abbrev pub IsFilePlace : World ℕ → Place ℕ → Type 0
 IsFilePlace world place = IsFileOf world place.parent place.last place.object
 
-pub place_named : (world : World ℕ) (parent : Location ℕ) (last : LastWord) (object : Option (Location ℕ)) → is_special last ≡ false
+pub place_named : (world : World ℕ) (parent : Location ℕ) (last : LastWord) (object : Option (Location ℕ))
+    → is_special last ≡ false
     → IsPlaceOf world parent last object
     → (is_directory_at nat_eq world parent ≡ true) × (object ≡ entry_location nat_eq world parent (name_of last))
 place_named world parent NoWord object plain is = absurd (true≢false plain)
@@ -121,9 +128,11 @@ place_named world parent Dot object plain is = absurd (true≢false plain)
 place_named world parent DotDot object plain is = absurd (true≢false plain)
 place_named world parent (Named name) object plain is = is
 
-pub file_named : (world : World ℕ) (parent : Location ℕ) (last : LastWord) (object : Option (Location ℕ)) → is_special last ≡ false
+pub file_named : (world : World ℕ) (parent : Location ℕ) (last : LastWord) (object : Option (Location ℕ))
+    → is_special last ≡ false
     → IsFileOf world parent last object
-    → (is_directory_at nat_eq world parent ≡ true) × (object ≡ None → entry_location nat_eq world parent (name_of last) ≡ None)
+    → (is_directory_at nat_eq world parent ≡ true)
+    × (object ≡ None → entry_location nat_eq world parent (name_of last) ≡ None)
 file_named world parent NoWord object plain is = absurd (true≢false plain)
 file_named world parent Dot object plain is = absurd (true≢false plain)
 file_named world parent DotDot object plain is = absurd (true≢false plain)
@@ -137,7 +146,8 @@ place_is_file world parent DotDot object is = tt
 place_is_file world parent (Named name) object is = (is.0, λ none. sym is.1 ∙ none)
 
 module _ (world : World ℕ) (task : Task ℕ) where
-  pub ends_placed : (here : Here ℕ) (word : LastWord) (slash : Bool) → Ends (IsPlace world) (placed nat_eq world task here word slash)
+  pub ends_placed : (here : Here ℕ) (word : LastWord) (slash : Bool)
+      → Ends (IsPlace world) (placed nat_eq world task here word slash)
   ends_placed here NoWord slash = tt
   ends_placed here Dot slash =
       ends_step (IsPlace world) (steps_at nat_eq world task here Dot) (search_rules nat_eq world task here.location)
@@ -146,18 +156,21 @@ module _ (world : World ℕ) (task : Task ℕ) where
       ends_step (IsPlace world) (steps_at nat_eq world task here DotDot) (search_rules nat_eq world task here.location)
       (object_named nat_eq world task here.location DotDot) _ (λ passed object e. tt)
   ends_placed here (Named name) slash =
-      ends_step (IsPlace world) (steps_at nat_eq world task here (Named name)) (search_rules nat_eq world task here.location)
+      ends_step (IsPlace world) (steps_at nat_eq world task here (Named name))
+      (search_rules nat_eq world task here.location)
       (object_named nat_eq world task here.location (Named name)) _
       (λ passed object e. (
         not_true (is_directory_at nat_eq world here.location) passed.0,
         sym
-            (ok_same (entry_location nat_eq world here.location name) object (object_named nat_eq world task here.location (Named name)) refl e),
+            (ok_same (entry_location nat_eq world here.location name) object
+            (object_named nat_eq world task here.location (Named name)) refl e),
       ))
 
   pub ends_place_walk : (path : List ℕ) → Ends (IsPlace world) (place_walk nat_eq world task path)
   ends_place_walk path =
       ends_next (IsPlace world) (path_text path) _ (λ text.
-      ends_next (IsPlace world) (front_walked nat_eq world task (followed nat_eq world task) (walk_start task text) (reverse (words text)))
+      ends_next (IsPlace world) (front_walked nat_eq world task (followed nat_eq world task) (walk_start task text)
+      (reverse (words text)))
       (λ here. placed nat_eq world task here (final_word (reverse (words text))) (ends_in_slash text))
       (λ here. ends_placed here (final_word (reverse (words text))) (ends_in_slash text)))
 
@@ -168,12 +181,14 @@ module _ (world : World ℕ) (task : Task ℕ) where
   pub ends_new_walk : (path : List ℕ) → Ends IsNewPlace (new_walk nat_eq world task path)
   ends_new_walk path =
       ends_then (IsPlace world) IsNewPlace (place_walk nat_eq world task path) _ (ends_place_walk path)
-      (λ place is. ends_unless IsNewPlace place.steps (new_name_rules nat_eq world place) place (λ passed. (is, passed)))
+      (λ place is. ends_unless IsNewPlace place.steps (new_name_rules nat_eq world place) place
+      (λ passed. (is, passed)))
 
   pub ends_new_leaf_walk : (path : List ℕ) → Ends IsNewPlace (new_leaf_walk nat_eq world task path)
   ends_new_leaf_walk path =
       ends_then IsNewPlace IsNewPlace (new_walk nat_eq world task path) _ (ends_new_walk path)
-      (λ place is. ends_unless IsNewPlace place.steps ((place.slash && not (is_some place.object), W6) ∷ []) place (λ passed. is))
+      (λ place is. ends_unless IsNewPlace place.steps ((place.slash && not (is_some place.object), W6) ∷ []) place
+      (λ passed. is))
 
   -- a name that is there
   abbrev pub IsOldPlace : Place ℕ → Type 0
@@ -188,11 +203,13 @@ module _ (world : World ℕ) (task : Task ℕ) where
   pub ends_old_leaf_walk : (path : List ℕ) → Ends IsOldPlace (old_leaf_walk nat_eq world task path)
   ends_old_leaf_walk path =
       ends_then IsOldPlace IsOldPlace (old_walk nat_eq world task path) _ (ends_old_walk path)
-      (λ place is. ends_unless IsOldPlace place.steps ((place.slash && not (is_directory_there nat_eq world place), W3) ∷ []) place
+      (λ place is. ends_unless IsOldPlace place.steps
+      ((place.slash && not (is_directory_there nat_eq world place), W3) ∷ []) place
       (λ passed. is))
 
   -- files
-  entered_file : (parent : Location ℕ) (last : LastWord) (object : Option (Location ℕ)) → IsPlaceOf world parent last object
+  entered_file : (parent : Location ℕ) (last : LastWord) (object : Option (Location ℕ))
+      → IsPlaceOf world parent last object
       → IsFileOf world parent last (option_map (topmost nat_eq world.mounts) object)
   entered_file parent NoWord object is = tt
   entered_file parent Dot object is = tt
@@ -203,7 +220,8 @@ module _ (world : World ℕ) (task : Task ℕ) where
       was_none None e = refl
       was_none (Some x) e = absurd (true≢false (ap is_some e))
 
-  ends_file_or_link : (place : Place ℕ) (text : Option (List ℕ)) (follow : List ℕ → Result (Place ℕ) (Stop ℕ)) → IsPlace world place
+  ends_file_or_link : (place : Place ℕ) (text : Option (List ℕ)) (follow : List ℕ → Result (Place ℕ) (Stop ℕ))
+      → IsPlace world place
       → ((inner : List ℕ) → Ends (IsFilePlace world) (follow inner))
       → Ends (IsFilePlace world) (file_or_symlink nat_eq world place text follow)
   ends_file_or_link place None follow is rest = entered_file place.parent place.last place.object is
@@ -219,17 +237,20 @@ module _ (world : World ℕ) (task : Task ℕ) where
   abbrev file_from : ℕ → List ℕ → Bool → Here ℕ → Result (Place ℕ) (Stop ℕ)
   file_from depth text slash here =
       then_walk (placed nat_eq world task here (final_word (reverse (words text))) (slash || ends_in_slash text))
-      (λ place. file_or_symlink nat_eq world place (symlink_there nat_eq world place) (linked_file depth text slash here place))
+      (λ place. file_or_symlink nat_eq world place (symlink_there nat_eq world place)
+      (linked_file depth text slash here place))
 
   ends_file_walked : (depth : ℕ) (start : Here ℕ) (text : List ℕ) (slash : Bool)
       → Ends (IsFilePlace world) (file_walked nat_eq depth world task start text slash)
   ends_file_walked zero start text slash = tt
   ends_file_walked (suc depth) start text slash =
-      ends_next (IsFilePlace world) (front_walked nat_eq world task (followed nat_eq world task) start (reverse (words text)))
+      ends_next (IsFilePlace world) (front_walked nat_eq world task (followed nat_eq world task) start
+      (reverse (words text)))
       (λ here. file_from depth text slash here) (λ here.
       ends_then (IsPlace world) (IsFilePlace world)
       (placed nat_eq world task here (final_word (reverse (words text))) (slash || ends_in_slash text))
-      (λ place. file_or_symlink nat_eq world place (symlink_there nat_eq world place) (linked_file depth text slash here place))
+      (λ place. file_or_symlink nat_eq world place (symlink_there nat_eq world place)
+      (linked_file depth text slash here place))
       (ends_placed here (final_word (reverse (words text))) (slash || ends_in_slash text)) (λ place is.
       ends_file_or_link place (symlink_there nat_eq world place) (linked_file depth text slash here place) is (λ inner.
       ends_next (IsFilePlace world)
@@ -244,6 +265,7 @@ module _ (world : World ℕ) (task : Task ℕ) where
   pub ends_file_walk : (path : List ℕ) → Ends IsNewFilePlace (file_walk nat_eq world task path)
   ends_file_walk path =
       ends_next IsNewFilePlace (path_text path) _ (λ text.
-      ends_then (IsFilePlace world) IsNewFilePlace (file_walked nat_eq (most_symlinks + 1) world task (walk_start task text) text false) _
+      ends_then (IsFilePlace world) IsNewFilePlace
+      (file_walked nat_eq (most_symlinks + 1) world task (walk_start task text) text false) _
       (ends_file_walked (most_symlinks + 1) (walk_start task text) text false) (λ place is.
       ends_unless IsNewFilePlace place.steps (new_name_rules nat_eq world place) place (λ passed. (is, passed))))

@@ -19,15 +19,19 @@ find_at_start p next (suc n) a e = by (next a)
     by None = ap (λ b. cond b (Some a) None) e
     by (Some b) = ap (λ c. cond c (Some a) (find p (chain n next b))) e
 
-find_after_start : (p : ℕ → Bool) (next : ℕ → Option ℕ) (n a : ℕ) → p a ≡ false → list_all p (option_to_list (next a)) ≡ true
+find_after_start : (p : ℕ → Bool) (next : ℕ → Option ℕ) (n a : ℕ) → p a ≡ false
+    → list_all p (option_to_list (next a)) ≡ true
     → find p (chain (suc n) next a) ≡ next a
 find_after_start p next n a e above = by (next a) above
   where
-    by : (o : Option ℕ) → list_all p (option_to_list o) ≡ true → find p (elim o [ None ↦ a ∷ [] | Some b ↦ a ∷ chain n next b ]) ≡ o
+    by : (o : Option ℕ) → list_all p (option_to_list o) ≡ true
+        → find p (elim o [ None ↦ a ∷ [] | Some b ↦ a ∷ chain n next b ]) ≡ o
     by None h = ap (λ b. cond b (Some a) None) e
-    by (Some b) h = ap (λ c. cond c (Some a) (find p (chain n next b))) e ∙ find_at_start p next n b (and_parts (p b) true h).0
+    by (Some b) h = ap (λ c. cond c (Some a) (find p (chain n next b))) e
+        ∙ find_at_start p next n b (and_parts (p b) true h).0
 
-module _ (world : World ℕ) (group : ℕ) (live : GroupsLiveBut group world) (empty : has_members nat_eq world.mounts group ≡ false) where
+module _ (world : World ℕ) (group : ℕ) (live : GroupsLiveBut group world)
+    (empty : has_members nat_eq world.mounts group ≡ false) where
   abbrev lives : ℕ → Bool
   lives = has_members nat_eq world.mounts
 
@@ -42,7 +46,8 @@ module _ (world : World ℕ) (group : ℕ) (live : GroupsLiveBut group world) (e
       by [] e =
           ap (λ (ms : List (Mount ℕ)). find lives (chain (length ms) world.master group)) e
           ∙ ap (λ b. cond b (Some group) None) empty
-          ∙ none (world.master group) (ap (λ ms. list_all (has_members nat_eq ms) (option_to_list (world.master group))) (sym e)
+          ∙ none (world.master group) (ap
+          (λ ms. list_all (has_members nat_eq ms) (option_to_list (world.master group))) (sym e)
           ∙ live.its_master)
         where
           none : (o : Option ℕ) → list_all (has_members nat_eq []) (option_to_list o) ≡ true → None ≡ o
@@ -57,24 +62,29 @@ module _ (world : World ℕ) (group : ℕ) (live : GroupsLiveBut group world) (e
   heir_handed_on None h = refl
   heir_handed_on (Some other) h = by (nat_eq group other) refl
     where
-      by : (b : Bool) → nat_eq group other ≡ b → heir nat_eq world (Some other) ≡ cond b (world.master group) (Some other)
+      by : (b : Bool) → nat_eq group other ≡ b
+          → heir nat_eq world (Some other) ≡ cond b (world.master group) (Some other)
       by true e = ap (λ n. heir nat_eq world (Some n)) (sym (eqb-true group other e)) ∙ heir_of_group
       by false e =
           ⊎_elim (λ same. absurd (true≢false (sym (eq-eqb group other (sym (eqb-true other group same))) ∙ e)))
           (λ has. heir_itself other has)
           (or_cases (nat_eq other group) (lives other) (and_parts (nat_eq other group || lives other) true h).0)
 
-  inherited_handed_on : (kind : Propagation ℕ) → list_all (is_group_or_lives world group) (option_to_list (source_of kind)) ≡ true
+  inherited_handed_on : (kind : Propagation ℕ)
+      → list_all (is_group_or_lives world group) (option_to_list (source_of kind)) ≡ true
       → inherited nat_eq world kind ≡ handed_on group (world.master group) kind
   inherited_handed_on (Shared own) h = refl
-  inherited_handed_on (Slave master) h = ap slave_of_heir (heir_handed_on (Some master) h) ∙ by (nat_eq group master) refl
+  inherited_handed_on (Slave master) h =
+      ap slave_of_heir (heir_handed_on (Some master) h) ∙ by (nat_eq group master) refl
     where
       by : (b : Bool) → nat_eq group master ≡ b
-          → slave_of_heir (cond b (world.master group) (Some master)) ≡ cond (nat_eq master group) (slave_of_heir (world.master group))
+          → slave_of_heir (cond b (world.master group) (Some master))
+          ≡ cond (nat_eq master group) (slave_of_heir (world.master group))
           (Slave master)
       by true e = ap (λ b. cond b (slave_of_heir (world.master group)) (Slave master))
           (sym (eq-eqb master group (sym (eqb-true group master e))))
-      by false e = ap (λ b. cond b (slave_of_heir (world.master group)) (Slave master)) (sym (differs (nat_eq master group) refl))
+      by false e = ap (λ b. cond b (slave_of_heir (world.master group)) (Slave master))
+          (sym (differs (nat_eq master group) refl))
         where
           differs : (b : Bool) → nat_eq master group ≡ b → b ≡ false
           differs false f = refl
@@ -83,11 +93,13 @@ module _ (world : World ℕ) (group : ℕ) (live : GroupsLiveBut group world) (e
   inherited_handed_on Unbindable h = refl
 
   -- where none lost a group, none was a slave of it, nor was a group below it
-  no_slave : (kind : Propagation ℕ) → is_lost_group nat_eq world (source_of kind) ≡ false → handed_on group (world.master group) kind ≡ kind
+  no_slave : (kind : Propagation ℕ) → is_lost_group nat_eq world (source_of kind) ≡ false
+      → handed_on group (world.master group) kind ≡ kind
   no_slave (Shared own) h = refl
   no_slave (Slave master) h = by (nat_eq master group) refl
     where
-      by : (b : Bool) → nat_eq master group ≡ b → cond b (slave_of_heir (world.master group)) (Slave master) ≡ Slave master
+      by : (b : Bool) → nat_eq master group ≡ b
+          → cond b (slave_of_heir (world.master group)) (Slave master) ≡ Slave master
       by true e = absurd (true≢false (sym (ap not (ap lives (eqb-true master group e) ∙ empty)) ∙ h))
       by false e = refl
   no_slave Private h = refl
@@ -101,7 +113,8 @@ module _ (world : World ℕ) (group : ℕ) (live : GroupsLiveBut group world) (e
       is_it None e = absurd (true≢false (sym e))
       is_it (Some x) e = ap Some (sym (eqb-true group x e))
 
-      member_source : (mount : Mount ℕ) → is_member_of nat_eq other mount ≡ true → source_of mount.propagation ≡ Some other
+      member_source : (mount : Mount ℕ) → is_member_of nat_eq other mount ≡ true
+          → source_of mount.propagation ≡ Some other
       member_source mount e = of mount.propagation e
         where
           of : (kind : Propagation ℕ) → holds_of (nat_eq other) (group_of kind) ≡ true → source_of kind ≡ Some other
@@ -117,7 +130,8 @@ module _ (world : World ℕ) (group : ℕ) (live : GroupsLiveBut group world) (e
           true≢false
           (sym (or_second (is_lost_group nat_eq world (source_of t.0.propagation))
           (is_lost_group nat_eq world (then_some (source_of t.0.propagation) world.master))
-          (ap (λ o. is_lost_group nat_eq world (then_some o world.master)) source ∙ ap (is_lost_group nat_eq world) below ∙ ap not empty))
+          (ap (λ o. is_lost_group nat_eq world (then_some o world.master)) source
+          ∙ ap (is_lost_group nat_eq world) below ∙ ap not empty))
           ∙ fails (lost_a_group nat_eq world) world.mounts none t.0 t.1)
       has below false e =
           ⊎_elim
@@ -137,7 +151,8 @@ module _ (world : World ℕ) (group : ℕ) (live : GroupsLiveBut group world) (e
   one_handed_on : regrouped nat_eq world ≡ hand_on world group
   one_handed_on = by (list_any (lost_a_group nat_eq world) world.mounts) refl
     where
-      by : (b : Bool) → list_any (lost_a_group nat_eq world) world.mounts ≡ b → regrouped_by nat_eq b world ≡ hand_on world group
+      by : (b : Bool) → list_any (lost_a_group nat_eq world) world.mounts ≡ b
+          → regrouped_by nat_eq b world ≡ hand_on world group
       by true e = λ i. record world {
         mounts = map_alike (inheriting nat_eq world) (mount_handed_on group (world.master group)) world.mounts
             (λ mount m. ap (λ kind. record mount { propagation = kind })

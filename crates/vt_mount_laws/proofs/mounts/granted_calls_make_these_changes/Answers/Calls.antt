@@ -31,21 +31,25 @@ stepped : {A : Type 0} (world : World ℕ) (step : Result A Deny) (next : A → 
 stepped world step next a e = ap (λ r. after world r next) e
 
 -- a call whose outcome, where it is granted, is this
-leaves : (fresh : Fresh ℕ) (world : World ℕ) (name : TaskName) (task : Task ℕ) (call : Call) (left : World ℕ) → only_looks call ≡ false
+leaves : (fresh : Fresh ℕ) (world : World ℕ) (name : TaskName) (task : Task ℕ) (call : Call) (left : World ℕ)
+    → only_looks call ≡ false
     → ((call_outcome nat_eq fresh world task call).answer ≡ Ok Done
     → (call_outcome nat_eq fresh world task call).world.mounts ≡ left.mounts)
     → Leaves fresh world name task call left
 leaves fresh world name task call left looks makes is e =
-    subst (HasLiving (policy nat_eq fresh world name call).world) (makes (sym (answered fresh world name task call is) ∙ e))
+    subst (HasLiving (policy nat_eq fresh world name call).world)
+    (makes (sym (answered fresh world name task call is) ∙ e))
     (settles fresh world name task call is Done looks e)
 
 module _ (fresh : Fresh ℕ) (world : World ℕ) (task : Task ℕ) where
   -- one rule table after the other, where none refuses
-  passes : (rules : Rules) (outcome whole : Outcome ℕ) → whole ≡ judged world rules outcome → whole.answer ≡ Ok Done → whole ≡ outcome
+  passes : (rules : Rules) (outcome whole : Outcome ℕ) → whole ≡ judged world rules outcome → whole.answer ≡ Ok Done
+      → whole ≡ outcome
   passes rules outcome whole is e = is ∙ judged_granted Done world rules outcome (sym (ap (λ o. o.answer) is) ∙ e)
 
   bind_made : (source path : List ℕ) (recursive : Bool) (from here : Here ℕ)
-      → walk_end (source_walk nat_eq world task source) ≡ Ok from → walk_end (destination_walk nat_eq world task path) ≡ Ok here
+      → walk_end (source_walk nat_eq world task source) ≡ Ok from
+      → walk_end (destination_walk nat_eq world task path) ≡ Ok here
       → (bind_outcome nat_eq fresh world task source path recursive).answer ≡ Ok Done
       → bind_outcome nat_eq fresh world task source path recursive ≡ granted Done
       (bound_at nat_eq fresh world from.location here.location recursive)
@@ -60,14 +64,17 @@ module _ (fresh : Fresh ℕ) (world : World ℕ) (task : Task ℕ) where
       ∙ stepped world (walk_end (destination_walk nat_eq world task path)) _ here f) h
 
   move_made : (source path : List ℕ) (from here : Here ℕ)
-      → walk_end (source_walk nat_eq world task source) ≡ Ok from → walk_end (destination_walk nat_eq world task path) ≡ Ok here
+      → walk_end (source_walk nat_eq world task source) ≡ Ok from
+      → walk_end (destination_walk nat_eq world task path) ≡ Ok here
       → (move_outcome nat_eq fresh world task source path).answer ≡ Ok Done
-      → move_outcome nat_eq fresh world task source path ≡ granted Done (moved_to nat_eq fresh world from.location here.location)
+      → move_outcome nat_eq fresh world task source path
+      ≡ granted Done (moved_to nat_eq fresh world from.location here.location)
   unfolding move_outcome
   move_made source path from here e f h =
       let whole = move_outcome nat_eq fresh world task source path in
       let one = passes (admin_rules task) _ whole refl h in
-      passes (move_rules nat_eq world task from.location here.location (moved_to nat_eq fresh world from.location here.location)) _ whole
+      passes (move_rules nat_eq world task from.location here.location
+      (moved_to nat_eq fresh world from.location here.location)) _ whole
       (one
       ∙ stepped world (walk_end (source_walk nat_eq world task source)) _ from e
       ∙ stepped world (walk_end (destination_walk nat_eq world task path)) _ here f) h
@@ -136,10 +143,12 @@ module _ (fresh : Fresh ℕ) (world : World ℕ) (task : Task ℕ) where
       (one ∙ stepped world (walk_end (directory_walk nat_eq world task path)) _ here e) h
 
   pivot_made : (new put : List ℕ) (root here : Here ℕ)
-      → walk_end (source_walk nat_eq world task new) ≡ Ok root → walk_end (destination_walk nat_eq world task put) ≡ Ok here
+      → walk_end (source_walk nat_eq world task new) ≡ Ok root
+      → walk_end (destination_walk nat_eq world task put) ≡ Ok here
       → (pivot_outcome nat_eq world task new put).answer ≡ Ok Done
       → pivot_outcome nat_eq world task new put ≡ granted Done
-      (pivoted nat_eq world task.namespace (mount_at nat_eq world task.root) (mount_at nat_eq world root.location) here.location)
+      (pivoted nat_eq world task.namespace (mount_at nat_eq world task.root)
+      (mount_at nat_eq world root.location) here.location)
   unfolding pivot_outcome
   pivot_made new put root here e f h =
       let whole = pivot_outcome nat_eq world task new put in
@@ -153,11 +162,13 @@ module _ (fresh : Fresh ℕ) (world : World ℕ) (task : Task ℕ) where
       → walk_end (old_walk nat_eq world task path) ≡ Ok place
       → (rmdir_outcome nat_eq fresh world task path).answer ≡ Ok Done
       → rmdir_outcome nat_eq fresh world task path ≡ granted Done
-      (with_change nat_eq fresh (without_mounts_on nat_eq world (object_there place)) place.parent (removing place (object_there place)))
+      (with_change nat_eq fresh (without_mounts_on nat_eq world (object_there place)) place.parent
+      (removing place (object_there place)))
   unfolding rmdir_outcome
   rmdir_made path place e h =
       let whole = rmdir_outcome nat_eq fresh world task path in
-      let one = passes (rmdir_word_rules place) _ whole (stepped world (walk_end (old_walk nat_eq world task path)) _ place e) h in
+      let one = passes (rmdir_word_rules place) _ whole
+      (stepped world (walk_end (old_walk nat_eq world task path)) _ place e) h in
       passes (rmdir_rules nat_eq world task place (object_there place)) _ whole one h
 
   exit_made : exit_outcome nat_eq world task ≡ granted Done (namespaces_ended nat_eq (without_task world task.name))
@@ -165,7 +176,8 @@ module _ (fresh : Fresh ℕ) (world : World ℕ) (task : Task ℕ) where
   exit_made = refl
 
   unshare_made : (unshare_outcome nat_eq fresh world task).answer ≡ Ok Done
-      → unshare_outcome nat_eq fresh world task ≡ granted Done (namespaces_ended nat_eq (unshared nat_eq world fresh task))
+      → unshare_outcome nat_eq fresh world task
+      ≡ granted Done (namespaces_ended nat_eq (unshared nat_eq world fresh task))
   unfolding unshare_outcome
   unshare_made h = passes ((lacks task cap_sys_admin, K1) ∷ []) _ (unshare_outcome nat_eq fresh world task) refl h
 
@@ -175,12 +187,14 @@ module _ (fresh : Fresh ℕ) (world : World ℕ) (task : Task ℕ) where
       (namespaces_ended nat_eq (namespace_entered nat_eq world task other.namespace))
   unfolding setns_outcome
   setns_made target other e h =
-      passes ((lacks task cap_sys_admin || lacks task cap_sys_chroot, K1) ∷ []) _ (setns_outcome nat_eq world task target)
+      passes ((lacks task cap_sys_admin || lacks task cap_sys_chroot, K1) ∷ []) _
+      (setns_outcome nat_eq world task target)
       (stepped world (ok_or (task_called world target) (denial S2)) _ other (ap (λ found. ok_or found (denial S2)) e)) h
 
 pub bind_binds : BindBinds
 bind_binds fresh world name task source path recursive from here e f =
-    leaves fresh world name task (Bind source path recursive) (bound_at nat_eq fresh world from.location here.location recursive) refl
+    leaves fresh world name task (Bind source path recursive)
+    (bound_at nat_eq fresh world from.location here.location recursive) refl
     (λ h. ap (λ o. o.world.mounts) (bind_made fresh world task source path recursive from here e f h))
 
 pub move_moves : MoveMoves
@@ -212,13 +226,15 @@ remount_sets_flags fresh world name task path flags here e =
 
 pub type_is_set : TypeIsSet
 type_is_set fresh world name task path word recursive here e =
-    leaves fresh world name task (SetType path word recursive) (with_type nat_eq fresh world here.location.mount word recursive) refl
+    leaves fresh world name task (SetType path word recursive)
+    (with_type nat_eq fresh world here.location.mount word recursive) refl
     (λ h. ap (λ o. o.world.mounts) (type_made fresh world task path word recursive here e h))
 
 pub pivot_pivots : PivotPivots
 pivot_pivots fresh world name task new put root here e f =
     leaves fresh world name task (PivotRoot new put)
-    (pivoted nat_eq world task.namespace (mount_at nat_eq world task.root) (mount_at nat_eq world root.location) here.location) refl
+    (pivoted nat_eq world task.namespace (mount_at nat_eq world task.root)
+    (mount_at nat_eq world root.location) here.location) refl
     (λ h. ap (λ o. o.world.mounts) (pivot_made fresh world task new put root here e f h))
 
 pub rmdir_takes_mounts : RmdirTakesMounts
@@ -226,7 +242,8 @@ rmdir_takes_mounts fresh world name task path place e =
     leaves fresh world name task (Rmdir path) (without_mounts_on nat_eq world (object_there place)) refl
     (λ h.
     ap (λ o. o.world.mounts) (rmdir_made fresh world task path place e h)
-    ∙ mounts-with_change (without_mounts_on nat_eq world (object_there place)) fresh place.parent (removing place (object_there place)))
+    ∙ mounts-with_change (without_mounts_on nat_eq world (object_there place)) fresh place.parent
+    (removing place (object_there place)))
 
 pub exit_ends : ExitEnds
 exit_ends fresh world name task =
@@ -240,7 +257,8 @@ unshare_copies fresh world name task =
 
 pub setns_enters : SetnsEnters
 setns_enters fresh world name target task other e =
-    leaves fresh world name task (Setns target) (namespaces_ended nat_eq (namespace_entered nat_eq world task other.namespace)) refl
+    leaves fresh world name task (Setns target)
+    (namespaces_ended nat_eq (namespace_entered nat_eq world task other.namespace)) refl
     (λ h. ap (λ o. o.world.mounts) (setns_made fresh world task target other e h))
 
 -- Renames
@@ -249,14 +267,17 @@ rename_made : (fresh : Fresh ℕ) (world : World ℕ) (task : Task ℕ) (old new
     → walk_end (rename_new_walk nat_eq world task new (is_directory_there nat_eq world from)) ≡ Ok to
     → (rename_outcome nat_eq fresh world task old new).answer ≡ Ok Done
     → rename_outcome nat_eq fresh world task old new
-    ≡ renamed_by nat_eq (is_one_object nat_eq world (object_there from) to.object) fresh world task from to (object_there from)
+    ≡ renamed_by nat_eq (is_one_object nat_eq world (object_there from) to.object) fresh world task from to
+    (object_there from)
 unfolding rename_outcome
 rename_made fresh world task old new from to e f h =
     let whole = rename_outcome nat_eq fresh world task old new in
     let one =
-    passes fresh world task (old_word_rules from) _ whole (stepped world (walk_end (old_leaf_walk nat_eq world task old)) _ from e) h in
+    passes fresh world task (old_word_rules from) _ whole
+    (stepped world (walk_end (old_leaf_walk nat_eq world task old)) _ from e) h in
     passes fresh world task (old_word_rules to) _ whole
-    (one ∙ stepped world (walk_end (rename_new_walk nat_eq world task new (is_directory_there nat_eq world from))) _ to f) h
+    (one ∙ stepped world (walk_end
+    (rename_new_walk nat_eq world task new (is_directory_there nat_eq world from))) _ to f) h
 
 pub rename_replaces : RenameReplaces
 rename_replaces fresh world name task old new from to e f differ =

@@ -36,11 +36,13 @@ filtered stays number (filesystem ∷ list) h =
         → numbered number (cond c (filesystem ∷ filter (λ f. stays f.number) list) (filter (λ f. stays f.number) list))
         ≡ unwrap_or (cond b (Some filesystem) (find (λ f. nat_eq number f.number) list)) (no_filesystem number)
     by true e true d rest =
-        ap (λ b. unwrap_or (cond b (Some filesystem) (find (λ f. nat_eq number f.number) (filter (λ f. stays f.number) list)))
+        ap (λ b. unwrap_or (cond b (Some filesystem)
+        (find (λ f. nat_eq number f.number) (filter (λ f. stays f.number) list)))
         (no_filesystem number)) e
     by true e false d rest = absurd (true≢false (sym h ∙ ap stays (eqb-true number filesystem.number e) ∙ d))
     by false e true d rest =
-        ap (λ b. unwrap_or (cond b (Some filesystem) (find (λ f. nat_eq number f.number) (filter (λ f. stays f.number) list)))
+        ap (λ b. unwrap_or (cond b (Some filesystem)
+        (find (λ f. nat_eq number f.number) (filter (λ f. stays f.number) list)))
         (no_filesystem number)) e ∙ rest
     by false e false d rest = rest
 
@@ -49,17 +51,20 @@ filtered_mount : (stays : Mount ℕ → Bool) (number : ℕ) (list : List (Mount
     → ((mount : Mount ℕ) → mount.number ≡ number → stays mount ≡ true)
     → mount_in nat_eq (filter stays list) number ≡ mount_in nat_eq list number
 filtered_mount stays number [] h = refl
-filtered_mount stays number (mount ∷ list) h = by (nat_eq number mount.number) refl (stays mount) refl (filtered_mount stays number list h)
+filtered_mount stays number (mount ∷ list) h =
+    by (nat_eq number mount.number) refl (stays mount) refl (filtered_mount stays number list h)
   where
     by : (b : Bool) → nat_eq number mount.number ≡ b → (c : Bool) → stays mount ≡ c
         → mount_in nat_eq (filter stays list) number ≡ mount_in nat_eq list number
         → mount_in nat_eq (cond c (mount ∷ filter stays list) (filter stays list)) number
         ≡ unwrap_or (cond b (Some mount) (find (λ m. nat_eq number m.number) list)) (no_mount number)
     by true e true d rest =
-        ap (λ b. unwrap_or (cond b (Some mount) (find (λ m. nat_eq number m.number) (filter stays list))) (no_mount number)) e
+        ap (λ b. unwrap_or (cond b (Some mount) (find (λ m. nat_eq number m.number) (filter stays list)))
+        (no_mount number)) e
     by true e false d rest = absurd (true≢false (sym (h mount (sym (eqb-true number mount.number e))) ∙ d))
     by false e true d rest =
-        ap (λ b. unwrap_or (cond b (Some mount) (find (λ m. nat_eq number m.number) (filter stays list))) (no_mount number)) e ∙ rest
+        ap (λ b. unwrap_or (cond b (Some mount) (find (λ m. nat_eq number m.number) (filter stays list)))
+        (no_mount number)) e ∙ rest
     by false e false d rest = rest
 
 -- a filesystem of a list of which each was changed, but not its number
@@ -77,12 +82,14 @@ mapped_node change same number object (filesystem ∷ list) h =
     by : (b : Bool)
         → (change (unwrap_or (cond b (Some filesystem) (find (λ f. nat_eq number f.number) list))
         (no_filesystem number))).files.tree.node object
-        ≡ (unwrap_or (cond b (Some filesystem) (find (λ f. nat_eq number f.number) list)) (no_filesystem number)).files.tree.node object
+        ≡ (unwrap_or (cond b (Some filesystem) (find (λ f. nat_eq number f.number) list))
+        (no_filesystem number)).files.tree.node object
         → ((change (numbered number list)).files.tree.node object ≡ (numbered number list).files.tree.node object
         → (numbered number (map change list)).files.tree.node object ≡ (numbered number list).files.tree.node object)
         → (unwrap_or (cond b (Some (change filesystem)) (find (λ f. nat_eq number f.number) (map change list)))
         (no_filesystem number)).files.tree.node object
-        ≡ (unwrap_or (cond b (Some filesystem) (find (λ f. nat_eq number f.number) list)) (no_filesystem number)).files.tree.node object
+        ≡ (unwrap_or (cond b (Some filesystem) (find (λ f. nat_eq number f.number) list))
+        (no_filesystem number)).files.tree.node object
     by true g rest = g
     by false g rest = rest g
 
@@ -101,7 +108,8 @@ module _ (chosen : Filesystem ℕ → Bool) (world : World ℕ) (number object :
       → (filesystem_numbered nat_eq (without_dead_in nat_eq chosen world) number).files.tree.node object ≡
       (filesystem_numbered nat_eq world number).files.tree.node object
   round_keeps used =
-      mapped_node (λ f. only_used nat_eq world (chosen f) f) (λ f. used_number world (chosen f) f) number object world.filesystems
+      mapped_node (λ f. only_used nat_eq world (chosen f) f)
+      (λ f. used_number world (chosen f) f) number object world.filesystems
       (by (chosen (numbered number world.filesystems)))
     where
       by : (b : Bool)
@@ -124,14 +132,16 @@ module _ (world : World ℕ) where
   abbrev stays_by_number : ℕ → Bool
   stays_by_number number =
       is_mounted nat_eq mounted_world number
-      || list_any (λ merged. has_layer_on nat_eq number merged && is_mounted nat_eq mounted_world merged.number) mounted_world.filesystems
+      || list_any (λ merged. has_layer_on nat_eq number merged
+      && is_mounted nat_eq mounted_world merged.number) mounted_world.filesystems
 
   living_numbered : (number : ℕ) → is_mounted nat_eq mounted_world number ≡ true
       → filesystem_numbered nat_eq living number ≡ filesystem_numbered nat_eq world number
   living_numbered number mounted =
       filtered stays_by_number number world.filesystems
       (ap (λ b. b || list_any
-      (λ merged. has_layer_on nat_eq number merged && is_mounted nat_eq mounted_world merged.number) mounted_world.filesystems) mounted)
+      (λ merged. has_layer_on nat_eq number merged
+      && is_mounted nat_eq mounted_world merged.number) mounted_world.filesystems) mounted)
 
   -- a used inode stays through both rounds
   both_rounds : (number object : ℕ) → is_mounted nat_eq mounted_world number ≡ true
@@ -146,7 +156,8 @@ module _ (world : World ℕ) where
 
   -- Names
   named_stays_there : HasFileTrees living → (number object : ℕ) → is_mounted nat_eq mounted_world number ≡ true
-      → HasName (filesystem_numbered nat_eq living number).files.tree object → IsFileTree (filesystem_numbered nat_eq living number).files
+      → HasName (filesystem_numbered nat_eq living number).files.tree object
+      → IsFileTree (filesystem_numbered nat_eq living number).files
       → (filesystem_numbered nat_eq (settled nat_eq world) number).files.tree.node object ≡
       (filesystem_numbered nat_eq world number).files.tree.node object
   named_stays_there trees number object mounted named tree =
@@ -167,20 +178,25 @@ module _ (world : World ℕ) where
       named_second : HasName (filesystem_numbered nat_eq first_round number).files.tree object
       named_second = (named.0, named.1, ap (λ o. entry_named named.1 (entries_in o)) directory_stays ∙ named.2)
 
-      used_second : is_among nat_eq object (used_in nat_eq first_round (filesystem_numbered nat_eq first_round number)) ≡ true
+      used_second : is_among nat_eq object (used_in nat_eq first_round (filesystem_numbered nat_eq first_round number))
+          ≡ true
       used_second =
           ⊎_elim
-          (λ is. (named_is_used first_round (filesystem_numbered nat_eq first_round number) is).named object named_second)
+          (λ is. (named_is_used first_round
+          (filesystem_numbered nat_eq first_round number) is).named object named_second)
           (λ missing. none_is_not None object refl
-          (ap (λ (f : Filesystem ℕ). entry_at f.files.tree named_second.0 named_second.1) (sym missing.0) ∙ named_second.2))
-          (numbered_all (λ f. IsFileTree f.files) number first_round.filesystems (without_dead_in_is is_overlay living trees))
+          (ap (λ (f : Filesystem ℕ). entry_at f.files.tree named_second.0 named_second.1) (sym missing.0)
+          ∙ named_second.2))
+          (numbered_all (λ f. IsFileTree f.files) number first_round.filesystems
+          (without_dead_in_is is_overlay living trees))
 
 pub named_stays : NamedStays
 named_stays world number object trees mounted named =
     ⊎_elim
     (λ is. named_stays_there world living_trees number object mounted named_living
     (subst (λ (f : Filesystem ℕ). IsFileTree f.files) (sym same) is))
-    (λ missing. none_is_not None object refl (ap (λ (f : Filesystem ℕ). entry_at f.files.tree named.0 named.1) (sym missing.0) ∙ named.2))
+    (λ missing. none_is_not None object refl
+    (ap (λ (f : Filesystem ℕ). entry_at f.files.tree named.0 named.1) (sym missing.0) ∙ named.2))
     (numbered_all (λ f. IsFileTree f.files) number world.filesystems trees)
   where
     same : filesystem_numbered nat_eq (living world) number ≡ filesystem_numbered nat_eq world number
@@ -190,7 +206,8 @@ named_stays world number object trees mounted named =
     named_living = subst (λ (f : Filesystem ℕ). HasName f.files.tree object) (sym same) named
 
     living_trees : HasFileTrees (living world)
-    living_trees = All-filter (filesystem_lives nat_eq (mounted_world world)) (λ f. IsFileTree f.files) world.filesystems trees
+    living_trees = All-filter (filesystem_lives nat_eq (mounted_world world))
+        (λ f. IsFileTree f.files) world.filesystems trees
 
 -- Locations
 listed_node : (test : Location ℕ → Bool) (list : List (Location ℕ)) (location : Location ℕ)
@@ -204,28 +221,35 @@ listed_node test (first ∷ list) location h t =
         → (b || list_any (same_location nat_eq location) list) ≡ true
         → (list_any (same_location nat_eq location) list ≡ true
         → is_among nat_eq location.node (map (λ l. l.node) (filter test list)) ≡ true)
-        → is_among nat_eq location.node (map (λ l. l.node) (cond c (first ∷ filter test list) (filter test list))) ≡ true
+        → is_among nat_eq location.node (map (λ l. l.node) (cond c (first ∷ filter test list) (filter test list)))
+        ≡ true
     by true e true d g rest =
         ap (λ b. b || is_among nat_eq location.node (map (λ l. l.node) (filter test list)))
         (eq-eqb location.node first.node (ap (λ (l : Location ℕ). l.node) (one_location location first e)))
     by true e false d g rest = absurd (true≢false (sym t ∙ ap test (one_location location first e) ∙ d))
     by false e true d g rest =
-        or_right (nat_eq location.node first.node) (is_among nat_eq location.node (map (λ l. l.node) (filter test list))) (rest g)
+        or_right (nat_eq location.node first.node)
+        (is_among nat_eq location.node (map (λ l. l.node) (filter test list))) (rest g)
     by false e false d g rest = rest g
 
 -- its mount is located
-located_mount : (list : List (Location ℕ)) (location : Location ℕ) → list_any (same_location nat_eq location) list ≡ true
+located_mount : (list : List (Location ℕ)) (location : Location ℕ)
+    → list_any (same_location nat_eq location) list ≡ true
     → list_any (λ l. nat_eq location.mount l.mount) list ≡ true
 located_mount [] location h = absurd (true≢false (sym h))
-located_mount (first ∷ list) location h = by (same_location nat_eq location first) refl h (λ g. located_mount list location g)
+located_mount (first ∷ list) location h =
+    by (same_location nat_eq location first) refl h (λ g. located_mount list location g)
   where
-    by : (b : Bool) → same_location nat_eq location first ≡ b → (b || list_any (same_location nat_eq location) list) ≡ true
-        → (list_any (same_location nat_eq location) list ≡ true → list_any (λ l. nat_eq location.mount l.mount) list ≡ true)
+    by : (b : Bool) → same_location nat_eq location first ≡ b
+        → (b || list_any (same_location nat_eq location) list) ≡ true
+        → (list_any (same_location nat_eq location) list ≡ true
+        → list_any (λ l. nat_eq location.mount l.mount) list ≡ true)
         → (nat_eq location.mount first.mount || list_any (λ l. nat_eq location.mount l.mount) list) ≡ true
     by true e g rest =
         ap (λ b. b || list_any (λ l. nat_eq location.mount l.mount) list)
         ((and_parts (nat_eq location.mount first.mount) (nat_eq location.node first.node) e).0)
-    by false e g rest = or_right (nat_eq location.mount first.mount) (list_any (λ l. nat_eq location.mount l.mount) list) (rest g)
+    by false e g rest = or_right (nat_eq location.mount first.mount)
+        (list_any (λ l. nat_eq location.mount l.mount) list) (rest g)
 
 -- a listed mount's filesystem is mounted
 listed_mounts : (list : List (Mount ℕ)) (number : ℕ) → is_among nat_eq number (map (λ m. m.number) list) ≡ true
@@ -236,19 +260,23 @@ listed_mounts (mount ∷ list) number h = by (nat_eq number mount.number) h (λ 
     by : (b : Bool) → (b || is_among nat_eq number (map (λ m. m.number) list)) ≡ true
         → (is_among nat_eq number (map (λ m. m.number) list) ≡ true
         → list_any (λ m. nat_eq (mount_in nat_eq list number).filesystem m.filesystem) list ≡ true)
-        → (nat_eq (unwrap_or (cond b (Some mount) (find (λ m. nat_eq number m.number) list)) (no_mount number)).filesystem mount.filesystem
+        → (nat_eq (unwrap_or (cond b (Some mount) (find (λ m. nat_eq number m.number) list))
+        (no_mount number)).filesystem mount.filesystem
         || list_any
         (λ m. nat_eq
-        (unwrap_or (cond b (Some mount) (find (λ m. nat_eq number m.number) list)) (no_mount number)).filesystem m.filesystem) list) ≡ true
+        (unwrap_or (cond b (Some mount) (find (λ m. nat_eq number m.number) list))
+        (no_mount number)).filesystem m.filesystem) list) ≡ true
     by true g rest =
-        ap (λ b. b || list_any (λ m. nat_eq mount.filesystem m.filesystem) list) (eq-eqb mount.filesystem mount.filesystem refl)
+        ap (λ b. b || list_any (λ m. nat_eq mount.filesystem m.filesystem) list)
+        (eq-eqb mount.filesystem mount.filesystem refl)
     by false g rest =
         or_right (nat_eq (mount_in nat_eq list number).filesystem mount.filesystem)
         (list_any (λ m. nat_eq (mount_in nat_eq list number).filesystem m.filesystem) list) (rest g)
 
 still_listed : (stays : Mount ℕ → Bool) (list : List (Mount ℕ)) (number : ℕ)
     → ((mount : Mount ℕ) → mount.number ≡ number → stays mount ≡ true)
-    → is_among nat_eq number (map (λ m. m.number) list) ≡ true → is_among nat_eq number (map (λ m. m.number) (filter stays list)) ≡ true
+    → is_among nat_eq number (map (λ m. m.number) list) ≡ true
+    → is_among nat_eq number (map (λ m. m.number) (filter stays list)) ≡ true
 still_listed stays [] number h g = g
 still_listed stays (mount ∷ list) number h g =
     by (nat_eq number mount.number) refl (stays mount) refl g (λ k. still_listed stays list number h k)
@@ -261,10 +289,12 @@ still_listed stays (mount ∷ list) number h g =
     by true e true d k rest = ap (λ b. b || is_among nat_eq number (map (λ m. m.number) (filter stays list))) e
     by true e false d k rest = absurd (true≢false (sym (h mount (sym (eqb-true number mount.number e))) ∙ d))
     by false e true d k rest =
-        or_right (nat_eq number mount.number) (is_among nat_eq number (map (λ m. m.number) (filter stays list))) (rest k)
+        or_right (nat_eq number mount.number) (is_among nat_eq number (map (λ m. m.number) (filter stays list)))
+        (rest k)
     by false e false d k rest = rest k
 
-module _ (world : World ℕ) (location : Location ℕ) (located : list_any (same_location nat_eq location) (all_locations world) ≡ true)
+module _ (world : World ℕ) (location : Location ℕ)
+    (located : list_any (same_location nat_eq location) (all_locations world) ≡ true)
     (listed : is_among nat_eq location.mount (map (λ m. m.number) world.mounts) ≡ true) where
   mount_stays : (mount : Mount ℕ) → mount.number ≡ location.mount → mount_lives nat_eq world mount ≡ true
   mount_stays mount same =
@@ -275,7 +305,8 @@ module _ (world : World ℕ) (location : Location ℕ) (located : list_any (same
   shown_filesystem = (mount_at nat_eq (mounted_world world) location).filesystem
 
   same_shown : shown_filesystem ≡ (mount_at nat_eq world location).filesystem
-  same_shown = ap (λ (m : Mount ℕ). m.filesystem) (filtered_mount (mount_lives nat_eq world) location.mount world.mounts mount_stays)
+  same_shown = ap (λ (m : Mount ℕ). m.filesystem)
+      (filtered_mount (mount_lives nat_eq world) location.mount world.mounts mount_stays)
 
   shown_mounted : is_mounted nat_eq (mounted_world world) shown_filesystem ≡ true
   shown_mounted =
@@ -285,11 +316,14 @@ module _ (world : World ℕ) (location : Location ℕ) (located : list_any (same
   -- what it is at is used, in a world with these mounts and tasks
   located_used : (filesystems : List (Filesystem ℕ))
       → is_among nat_eq location.node
-      (used_in nat_eq (record (mounted_world world) { filesystems = filesystems }) (numbered shown_filesystem filesystems)) ≡ true
+      (used_in nat_eq (record (mounted_world world) { filesystems = filesystems })
+      (numbered shown_filesystem filesystems)) ≡ true
   located_used filesystems =
-      among_located (record (mounted_world world) { filesystems = filesystems }) (numbered shown_filesystem filesystems) location.node
+      among_located (record (mounted_world world) { filesystems = filesystems })
+      (numbered shown_filesystem filesystems) location.node
       (ap (λ n. is_among nat_eq location.node
-      (located_in nat_eq (record (mounted_world world) { filesystems = filesystems }) n)) (number_numbered shown_filesystem filesystems)
+      (located_in nat_eq (record (mounted_world world) { filesystems = filesystems }) n))
+      (number_numbered shown_filesystem filesystems)
       ∙ listed_node (λ l. nat_eq shown_filesystem (mount_at nat_eq (mounted_world world) l).filesystem)
       (all_locations world ++ map root_of (mounted_world world).mounts ++ filter_map (λ mount. mount.mount_point)
       (mounted_world world).mounts) location
