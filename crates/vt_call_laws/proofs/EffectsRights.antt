@@ -46,7 +46,8 @@ use Rattle.vt_tree_laws.proofs.TreesWalked.{Ends, not_true}
 use Rattle.vt_laws.proofs.GivenPermits.{given}
 
 -- a word that is no word that stands for a directory is a name
-pub no_special : (last : LastWord) → is_dot_dot last ≡ false → is_dot last ≡ false → is_no_word last ≡ false → is_special last ≡ false
+pub no_special : (last : LastWord) → is_dot_dot last ≡ false → is_dot last ≡ false → is_no_word last ≡ false
+    → is_special last ≡ false
 no_special NoWord a b c = c
 no_special Dot a b c = b
 no_special DotDot a b c = a
@@ -56,7 +57,8 @@ module _ (fresh : Fresh ℕ) (world : World ℕ) (task : Task ℕ) (R : Permit �
   abbrev Gives : Judgement ℕ → Type 0
   Gives judgement = IfOk judgement R
 
-  pub ruled : (rows : Rules) (judgement : Judgement ℕ) → (NoneFails rows → Gives judgement) → Gives (unless rows judgement)
+  pub ruled : (rows : Rules) (judgement : Judgement ℕ) → (NoneFails rows → Gives judgement)
+      → Gives (unless rows judgement)
   ruled [] judgement h = h tt
   ruled ((true, rule) ∷ rows) judgement h = tt
   ruled ((false, rule) ∷ rows) judgement h = ruled rows judgement (λ pass. h (refl, pass))
@@ -77,7 +79,8 @@ module _ (fresh : Fresh ℕ) (world : World ℕ) (task : Task ℕ) where
   looks = looks_of nat_eq world
 
   abbrev MayEnter : ℕ → ℕ → Type 0
-  MayEnter filesystem number = MayDo world task filesystem number write_right × MayDo world task filesystem number execute_right
+  MayEnter filesystem number = MayDo world task filesystem number write_right
+      × MayDo world task filesystem number execute_right
 
   -- the directories whose entries a change names may be written and searched
   abbrev NamedRights : Option (Location ℕ × Change ℕ) → Type 0
@@ -113,43 +116,53 @@ module _ (fresh : Fresh ℕ) (world : World ℕ) (task : Task ℕ) where
 
   made_named : (place : Place ℕ) (node : Node ℕ) → Searched place → Gave (made_permit nat_eq looks task place node)
   made_named place node searched =
-      ruled fresh world task HasRights (new_word_rules place ++ make_rules looks task place (unnumbered place node)) _ (λ pass.
+      ruled fresh world task HasRights (new_word_rules place ++ make_rules looks task place (unnumbered place node)) _
+      (λ pass.
       one place.parent (name_of place.last) (not_true _ pass.1.1.1.1.1.0, searched pass.0))
 
   created_named : (place : Place ℕ) (access : Access) (mode : ℕ) → MaySearch world task place.parent
       → Gave (create_file_permit nat_eq looks task place access mode)
   created_named place access mode searched =
-      ruled fresh world task HasRights (make_rules looks task place (unnumbered place (new_file task mode []))) _ (λ pass.
+      ruled fresh world task HasRights (make_rules looks task place (unnumbered place (new_file task mode []))) _
+      (λ pass.
       one place.parent (name_of place.last) (not_true _ pass.1.1.1.0, searched))
 
-  opened_named : (path : List ℕ) (access : Access) (creation : Creation) → Gave (open_by_permit nat_eq looks task path access creation)
+  opened_named : (path : List ℕ) (access : Access) (creation : Creation)
+      → Gave (open_by_permit nat_eq looks task path access creation)
   opened_named path access NoCreation =
       anyhow fresh world task HasRights (walk_end (object_walk nat_eq looks task path)) _ (λ here e.
       ruled fresh world task HasRights (open_rules looks task here.location access) _ (λ pass. tt))
   opened_named path access (OrCreate mode) =
-      walked fresh world task HasRights Searched (file_walk nat_eq looks task path) _ (searched_file_walk world task path)
+      walked fresh world task HasRights Searched (file_walk nat_eq looks task path) _
+      (searched_file_walk world task path)
       (λ place searched.
       ruled fresh world task HasRights (file_word_rules place) _ (λ pass. by place (searched
       (or_parts _ place.slash pass.0).0) place.object))
     where
       by : (place : Place ℕ) → MaySearch world task place.parent → (o : Option (Location ℕ))
           → Gave (opened_or_created_permit nat_eq looks task place access mode o)
-      by place searched (Some file) = ruled fresh world task HasRights (open_rules looks task file access) _ (λ pass. tt)
+      by place searched (Some file) =
+          ruled fresh world task HasRights (open_rules looks task file access) _ (λ pass. tt)
       by place searched None = created_named place access mode searched
   opened_named path access (Exclusive mode) =
-      walked fresh world task HasRights Searched (new_walk nat_eq looks task path) _ (searched_new_walk world task path) (λ place searched.
-      ruled fresh world task HasRights (exclusive_word_rules place) _ (λ pass. created_named place access mode (searched pass.0)))
+      walked fresh world task HasRights Searched (new_walk nat_eq looks task path) _
+      (searched_new_walk world task path) (λ place searched.
+      ruled fresh world task HasRights (exclusive_word_rules place) _
+      (λ pass. created_named place access mode (searched pass.0)))
 
   written_named : (place : Place ℕ) (bytes : List ℕ) → MaySearch world task place.parent → (o : Option (Location ℕ))
       → Gave (written_permit nat_eq looks task place bytes o)
   written_named place bytes searched (Some file) =
-      ruled fresh world task HasRights (rewrite_rules looks task file bytes) _ (λ pass directory name e. absurd (true≢false (sym e)))
+      ruled fresh world task HasRights (rewrite_rules looks task file bytes) _
+      (λ pass directory name e. absurd (true≢false (sym e)))
   written_named place bytes searched None =
       ruled fresh world task HasRights ((nat_lt largest_file (length bytes), E6) ∷ []) _ (λ small.
-      ruled fresh world task HasRights (make_rules looks task place (unnumbered place (new_file task file_mode bytes))) _ (λ pass.
+      ruled fresh world task HasRights
+      (make_rules looks task place (unnumbered place (new_file task file_mode bytes))) _ (λ pass.
       one place.parent (name_of place.last) (not_true _ pass.1.1.1.0, searched)))
 
-  renamed_named : (same : Bool) (from to : Place ℕ) (old : Location ℕ) → MaySearch world task from.parent → MaySearch world task to.parent
+  renamed_named : (same : Bool) (from to : Place ℕ) (old : Location ℕ) → MaySearch world task from.parent
+      → MaySearch world task to.parent
       → Gave (renamed_permit nat_eq same looks task from to old)
   renamed_named true from to old from_searched to_searched =
       ruled fresh world task HasRights (same_object_rules nat_eq looks from to) _ (λ pass. tt)
@@ -170,56 +183,70 @@ module _ (fresh : Fresh ℕ) (world : World ℕ) (task : Task ℕ) where
       by pass directory name false f e =
           let mounts : from.parent.mount ≡ to.parent.mount = eqb-true from.parent.mount to.parent.mount
           (not_true _ pass.1.1.1.1.1.1.1.1.0) in
-          subst (λ m. MayEnter (mount_at nat_eq world (record { mount = m; node = from.parent.node })).filesystem directory) (sym mounts)
-          (one to.parent (name_of to.last) (not_true _ (or_parts _ _ pass.1.1.1.1.1.1.1.1.1.0).1, to_searched) directory name
+          subst (λ m. MayEnter (mount_at nat_eq world
+          (record { mount = m; node = from.parent.node })).filesystem directory) (sym mounts)
+          (one to.parent (name_of to.last)
+          (not_true _ (or_parts _ _ pass.1.1.1.1.1.1.1.1.1.0).1, to_searched) directory name
           (ap (λ b. b || is_among same_entry (directory, name) ((to.parent.node, name_of to.last) ∷ [])) (sym f) ∙ e))
 
   names_by_right : (call : Call) → changes_names call ≡ true → Gave (judge_in nat_eq fresh world task call)
   unfolding mkdir_permit symlink_permit whiteout_permit hard_link_permit write_permit unlink_permit rmdir_permit rename_permit open_permit
   names_by_right (Write path bytes) e =
-      walked fresh world task HasRights Searched (file_walk nat_eq looks task path) _ (searched_file_walk world task path)
+      walked fresh world task HasRights Searched (file_walk nat_eq looks task path) _
+      (searched_file_walk world task path)
       (λ place searched.
       ruled fresh world task HasRights (file_word_rules place) _ (λ pass.
       written_named place bytes (searched (or_parts _ place.slash pass.0).0) place.object))
   names_by_right (Mkdir path mode) e =
-      walked fresh world task HasRights Searched (new_walk nat_eq looks task path) _ (searched_new_walk world task path) (λ place searched.
+      walked fresh world task HasRights Searched (new_walk nat_eq looks task path) _
+      (searched_new_walk world task path) (λ place searched.
       made_named place _ searched)
   names_by_right (SymlinkAt text path) e =
       ruled fresh world task HasRights (symlink_text_rules text) _ (λ fits.
-      walked fresh world task HasRights Searched (new_leaf_walk nat_eq looks task path) _ (searched_new_leaf_walk world task path)
+      walked fresh world task HasRights Searched (new_leaf_walk nat_eq looks task path) _
+      (searched_new_leaf_walk world task path)
       (λ place searched.
       made_named place _ searched))
   names_by_right (MakeWhiteout path) e =
-      walked fresh world task HasRights Searched (new_leaf_walk nat_eq looks task path) _ (searched_new_leaf_walk world task path)
+      walked fresh world task HasRights Searched (new_leaf_walk nat_eq looks task path) _
+      (searched_new_leaf_walk world task path)
       (λ place searched.
       ruled fresh world task HasRights (whiteout_rules looks task place) _ (λ pass.
       one place.parent (name_of place.last) (not_true _ pass.1.1.1.1.1.0, searched pass.0)))
   names_by_right (LinkTo old new) e =
       anyhow fresh world task HasRights (walk_end (symlink_walk nat_eq looks task old)) _ (λ from f.
-      walked fresh world task HasRights Searched (new_leaf_walk nat_eq looks task new) _ (searched_new_leaf_walk world task new)
+      walked fresh world task HasRights Searched (new_leaf_walk nat_eq looks task new) _
+      (searched_new_leaf_walk world task new)
       (λ place searched.
       ruled fresh world task HasRights ((is_special place.last, E1) ∷ []) _ (λ word.
-      ruled fresh world task HasRights (hard_link_rules nat_eq looks task from.location place (linking from.location place)) _ (λ pass.
+      ruled fresh world task HasRights
+      (hard_link_rules nat_eq looks task from.location place (linking from.location place)) _ (λ pass.
       one place.parent (name_of place.last) (not_true _ pass.1.1.1.1.1.1.0, searched word.0)))))
   names_by_right (Unlink path) e =
-      walked fresh world task HasRights Searched (old_leaf_walk nat_eq looks task path) _ (searched_old_leaf_walk world task path)
+      walked fresh world task HasRights Searched (old_leaf_walk nat_eq looks task path) _
+      (searched_old_leaf_walk world task path)
       (λ place searched.
       ruled fresh world task HasRights ((is_special place.last, E2) ∷ []) _ (λ word.
       ruled fresh world task HasRights (unlink_rules looks task place (object_there place)) _ (λ pass.
       one place.parent (name_of place.last) (not_true _ pass.1.1.1.1.0, searched word.0))))
   names_by_right (Rmdir path) e =
-      walked fresh world task HasRights Searched (old_walk nat_eq looks task path) _ (searched_old_walk world task path) (λ place searched.
+      walked fresh world task HasRights Searched (old_walk nat_eq looks task path) _
+      (searched_old_walk world task path) (λ place searched.
       ruled fresh world task HasRights (rmdir_word_rules place) _ (λ word.
       ruled fresh world task HasRights (rmdir_rules nat_eq looks task place (object_there place)) _ (λ pass.
-      one place.parent (name_of place.last) (not_true _ pass.1.1.1.1.1.1.0, searched (no_special place.last word.0 word.1.0 word.1.1.0)))))
+      one place.parent (name_of place.last)
+      (not_true _ pass.1.1.1.1.1.1.0, searched (no_special place.last word.0 word.1.0 word.1.1.0)))))
   names_by_right (Rename old new) e =
-      walked fresh world task HasRights Searched (old_leaf_walk nat_eq looks task old) _ (searched_old_leaf_walk world task old)
+      walked fresh world task HasRights Searched (old_leaf_walk nat_eq looks task old) _
+      (searched_old_leaf_walk world task old)
       (λ from from_searched.
       ruled fresh world task HasRights (old_word_rules from) _ (λ word.
-      walked fresh world task HasRights Searched (rename_new_walk nat_eq looks task new (is_directory_there nat_eq looks from)) _
+      walked fresh world task HasRights Searched
+      (rename_new_walk nat_eq looks task new (is_directory_there nat_eq looks from)) _
       (searched_rename_walk world task new (is_directory_there nat_eq looks from)) (λ to to_searched.
       ruled fresh world task HasRights (old_word_rules to) _ (λ pass.
-      renamed_named (is_one_object nat_eq looks (object_there from) to.object) from to (object_there from) (from_searched word.0)
+      renamed_named (is_one_object nat_eq looks (object_there from) to.object) from to (object_there from)
+      (from_searched word.0)
       (to_searched pass.0)))))
   names_by_right (OpenFile path access creation) e =
       ruled fresh world task HasRights (descriptor_rules task) _ (λ pass. opened_named path access creation)
@@ -240,7 +267,8 @@ open_found (Some descriptor) fits found e = by (fits descriptor) refl e
     by false f g = cc
 
 -- Bytes and attributes
-module _ (fresh : Fresh ℕ) (world : World ℕ) (task : Task ℕ) (filesystem number : ℕ) (handed : IsNotHanded fresh number) where
+module _ (fresh : Fresh ℕ) (world : World ℕ) (task : Task ℕ) (filesystem number : ℕ)
+    (handed : IsNotHanded fresh number) where
   abbrev shown : Looks ℕ
   shown = looks_of nat_eq world
 
@@ -251,7 +279,8 @@ module _ (fresh : Fresh ℕ) (world : World ℕ) (task : Task ℕ) (filesystem n
   head_two false b c e f = absurd (true≢false (sym e))
 
   -- what is said of the inode at a location is said of the one that is named
-  at_location : (P : ℕ → ℕ → Type 0) (location : Location ℕ) → P (mount_at nat_eq world location).filesystem location.node
+  at_location : (P : ℕ → ℕ → Type 0) (location : Location ℕ)
+      → P (mount_at nat_eq world location).filesystem location.node
       → (nat_eq filesystem (mount_at nat_eq world location).filesystem && (nat_eq number location.node || false)) ≡ true
       → P filesystem number
   at_location P location is e =
@@ -264,7 +293,8 @@ module _ (fresh : Fresh ℕ) (world : World ℕ) (task : Task ℕ) (filesystem n
       by true false h = h
       by false b h = h
 
-  at_directory : (P : ℕ → ℕ → Type 0) (location : Location ℕ) → P (mount_at nat_eq world location).filesystem location.node
+  at_directory : (P : ℕ → ℕ → Type 0) (location : Location ℕ)
+      → P (mount_at nat_eq world location).filesystem location.node
       → (nat_eq filesystem (mount_at nat_eq world location).filesystem && (nat_eq number location.node || (nat_eq number
       (fresh 0) || false))) ≡ true
       → P filesystem number
@@ -286,14 +316,17 @@ module _ (fresh : Fresh ℕ) (world : World ℕ) (task : Task ℕ) (filesystem n
       at_location MayWrite file (inl (not_true _ pass.1.1.1.1.1.1.0)) e)
   written_by_right place bytes None =
       ruled fresh world task WrittenByRight ((nat_lt largest_file (length bytes), E6) ∷ []) _ (λ small.
-      ruled fresh world task WrittenByRight (make_rules shown task place (unnumbered place (new_file task file_mode bytes))) _ (λ pass e.
+      ruled fresh world task WrittenByRight
+      (make_rules shown task place (unnumbered place (new_file task file_mode bytes))) _ (λ pass e.
       at_directory MayWrite place.parent (inl (not_true _ pass.1.1.1.0)) e))
 
-  bytes_by_right : (call : Call) → writes_bytes call ≡ true → IfOk (judge_in nat_eq fresh world task call) WrittenByRight
+  bytes_by_right : (call : Call) → writes_bytes call ≡ true
+      → IfOk (judge_in nat_eq fresh world task call) WrittenByRight
   unfolding write_permit pwrite_permit
   bytes_by_right (Write path bytes) e =
       anyhow fresh world task WrittenByRight (walk_end (file_walk nat_eq shown task path)) _ (λ place f.
-      ruled fresh world task WrittenByRight (file_word_rules place) _ (λ pass. written_by_right place bytes place.object))
+      ruled fresh world task WrittenByRight (file_word_rules place) _
+      (λ pass. written_by_right place bytes place.object))
   bytes_by_right (Pwrite which offset bytes) e =
       anyhow fresh world task WrittenByRight (ok_or (find (λ (d : Descriptor ℕ). d.writes) (option_to_list
       (descriptor_numbered task which))) (denial S4)) _
@@ -311,7 +344,8 @@ module _ (fresh : Fresh ℕ) (world : World ℕ) (task : Task ℕ) (filesystem n
   -- attributes
   abbrev OwnedSo : (Node ℕ → Bool) → Permit ℕ → Type 0
   OwnedSo so permit =
-      is_own fresh world permit filesystem number ≡ true → (was : Node ℕ) → inode_in world filesystem number ≡ Some was → so was ≡ true
+      is_own fresh world permit filesystem number ≡ true → (was : Node ℕ) → inode_in world filesystem number ≡ Some was
+      → so was ≡ true
 
   set_so : (so : Node ℕ → Bool) (here : Location ℕ) (allowed : Bool) → (so_attr : Attr → Bool)
       → ((was : Node ℕ) → allowed ≡ true → so_attr (attr_in (node_at nat_eq world here)) ≡ true)
@@ -326,7 +360,8 @@ module _ (fresh : Fresh ℕ) (world : World ℕ) (task : Task ℕ) (filesystem n
       → IfOk (judge_in nat_eq fresh world task call) (OwnedSo (λ was. owns task.credentials was.attr))
   unfolding chmod_permit
   mode_by_right (Chmod path mode) e =
-      anyhow fresh world task (OwnedSo (λ was. owns task.credentials was.attr)) (walk_end (object_walk nat_eq shown task path)) _ (λ here f.
+      anyhow fresh world task (OwnedSo (λ was. owns task.credentials was.attr))
+      (walk_end (object_walk nat_eq shown task path)) _ (λ here f.
       set_so (λ was. owns task.credentials was.attr) here.location (owns task.credentials (attr_at shown here.location))
       (owns task.credentials)
       (λ was h. h) (λ was. refl) (attr_with_mode (attr_at shown here.location) mode))
@@ -350,21 +385,27 @@ module _ (fresh : Fresh ℕ) (world : World ℕ) (task : Task ℕ) (filesystem n
       → IfOk (judge_in nat_eq fresh world task call) (OwnedSo (λ was. chowns was.attr))
   unfolding chown_permit
   owner_by_right (Chown path uid gid) e =
-      anyhow fresh world task (OwnedSo (λ was. chowns was.attr)) (walk_end (object_walk nat_eq shown task path)) _ (λ here f.
+      anyhow fresh world task (OwnedSo (λ was. chowns was.attr)) (walk_end (object_walk nat_eq shown task path)) _
+      (λ here f.
       set_so (λ was. chowns was.attr) here.location
-      (may_chown task.credentials (attr_at shown here.location) (attr_with_owner (attr_at shown here.location) uid gid)) chowns
-      (λ was h. owner_or (attr_at shown here.location) (attr_with_owner (attr_at shown here.location) uid gid) h) (λ was. refl)
+      (may_chown task.credentials (attr_at shown here.location)
+      (attr_with_owner (attr_at shown here.location) uid gid)) chowns
+      (λ was h. owner_or (attr_at shown here.location) (attr_with_owner (attr_at shown here.location) uid gid) h)
+      (λ was. refl)
       (attr_with_owner (attr_at shown here.location) uid gid))
   owner_by_right call e = absurd (true≢false (sym e))
 
   mark_by_right : (call : Call) → sets_mark call ≡ true
-      → IfOk (judge_in nat_eq fresh world task call) (λ permit. has_all task.credentials.capabilities cap_sys_admin ≡ true)
+      → IfOk (judge_in nat_eq fresh world task call)
+      (λ permit. has_all task.credentials.capabilities cap_sys_admin ≡ true)
   unfolding opaque_permit
   mark_by_right (Opaque path mark) e =
-      ruled fresh world task (λ permit. has_all task.credentials.capabilities cap_sys_admin ≡ true) (admin_rules task) _ (λ admin.
+      ruled fresh world task (λ permit. has_all task.credentials.capabilities cap_sys_admin ≡ true)
+      (admin_rules task) _ (λ admin.
       anyhow fresh world task (λ permit. has_all task.credentials.capabilities cap_sys_admin ≡ true) (walk_end
       (directory_walk nat_eq shown task path)) _ (λ here f.
-      ruled fresh world task (λ permit. has_all task.credentials.capabilities cap_sys_admin ≡ true) (opaque_rules shown here.location) _
+      ruled fresh world task (λ permit. has_all task.credentials.capabilities cap_sys_admin ≡ true)
+      (opaque_rules shown here.location) _
       (λ pass.
       not_true _ admin.0)))
   mark_by_right call e = absurd (true≢false (sym e))
@@ -392,15 +433,18 @@ pub changes_are_by_right : ChangesAreByRight
 changes_are_by_right fresh world name call task permit filesystem number was now plain other called judged handed before after =
     record {
       bytes = by_own (λ r. (bytes_of r.content ≡ bytes_of was.content)
-          ⊎ (MayDo world task filesystem number write_right ⊎ HasOpenFor (λ descriptor. descriptor.writes) world task filesystem number))
+          ⊎ (MayDo world task filesystem number write_right
+          ⊎ HasOpenFor (λ descriptor. descriptor.writes) world task filesystem number))
           (inl refl) (λ own. either (writes_bytes call)
           (λ e. inl (stays (λ node. bytes_of node.content) (inode_in world filesystem number) (inode_in
           (policy nat_eq fresh world name call).world filesystem number)
           was now before after
           (only_writes_change_bytes fresh world name call filesystem number plain other e handed)))
-          (λ e. inr (given (WrittenByRight fresh world task filesystem number handed) (judge_in nat_eq fresh world task call) permit judged
+          (λ e. inr (given (WrittenByRight fresh world task filesystem number handed)
+          (judge_in nat_eq fresh world task call) permit judged
           (bytes_by_right fresh world task filesystem number handed call e) own)));
-      mode = by_own (λ r. (r.attr.mode ≡ was.attr.mode) ⊎ (owns task.credentials was.attr ≡ true)) (inl refl) (λ own. either
+      mode = by_own (λ r. (r.attr.mode ≡ was.attr.mode) ⊎ (owns task.credentials was.attr ≡ true)) (inl refl)
+          (λ own. either
           (sets_mode call)
           (λ e. inl (stays (λ node. node.attr.mode) (inode_in world filesystem number) (inode_in
           (policy nat_eq fresh world name call).world filesystem number)
@@ -409,14 +453,16 @@ changes_are_by_right fresh world name call task permit filesystem number was now
           (λ e. inr (given (OwnedSo fresh world task filesystem number handed (λ r. owns task.credentials r.attr))
           (judge_in nat_eq fresh world task call) permit judged
           (mode_by_right fresh world task filesystem number handed call e) own was before)));
-      owner = by_own (λ r. (owner_of r ≡ owner_of was) ⊎ (chowns fresh world task filesystem number handed was.attr ≡ true)) (inl refl)
+      owner = by_own (λ r. (owner_of r ≡ owner_of was)
+          ⊎ (chowns fresh world task filesystem number handed was.attr ≡ true)) (inl refl)
           (λ own. either (sets_owner call)
           (λ e. inl (stays owner_of (inode_in world filesystem number) (inode_in
           (policy nat_eq fresh world name call).world filesystem number)
           was now before after
           (only_chown_changes_owners fresh world name call filesystem number plain other e handed)))
           (λ e. inr (given (OwnedSo fresh world task filesystem number handed
-          (λ r. chowns fresh world task filesystem number handed r.attr)) (judge_in nat_eq fresh world task call) permit judged
+          (λ r. chowns fresh world task filesystem number handed r.attr))
+          (judge_in nat_eq fresh world task call) permit judged
           (owner_by_right fresh world task filesystem number handed call e) own was before)));
       entries = λ entry. entry_by entry (is_own_entry fresh world permit filesystem number entry) refl;
       mark = either (sets_mark call)
@@ -445,12 +491,14 @@ changes_are_by_right fresh world name call task permit filesystem number was now
         was now before after
         (other_entries_stay entry fresh world name call task permit filesystem number plain other called judged e handed))
     entry_by entry true e = either (changes_names call)
-        (λ f. inl (ap (entry_named entry) (stays (λ node. entries_of node.content) (inode_in world filesystem number) (inode_in
+        (λ f. inl (ap (entry_named entry)
+        (stays (λ node. entries_of node.content) (inode_in world filesystem number) (inode_in
         (policy nat_eq fresh world name call).world filesystem number)
         was now before after
         (only_naming_changes_entries fresh world name call filesystem number plain other f handed))))
         (λ f. inr (rights (change_of fresh world permit)
-        (given (λ p. NamedRights fresh world task (change_of fresh world p)) (judge_in nat_eq fresh world task call) permit judged
+        (given (λ p. NamedRights fresh world task (change_of fresh world p))
+        (judge_in nat_eq fresh world task call) permit judged
         (names_by_right fresh world task call f)) e))
       where
         rights : (o : Option (Location ℕ × Change ℕ)) → NamedRights fresh world task o

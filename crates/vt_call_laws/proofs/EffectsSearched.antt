@@ -20,7 +20,8 @@ module _ (world : World ℕ) (task : Task ℕ) where
   abbrev pub IsSearched : Place ℕ → Type 0
   IsSearched place = is_special place.last ≡ false → MaySearch place.parent
 
-  searched_placed : (here : Here ℕ) (word : LastWord) (slash : Bool) → Ends IsSearched (placed nat_eq world task here word slash)
+  searched_placed : (here : Here ℕ) (word : LastWord) (slash : Bool)
+      → Ends IsSearched (placed nat_eq world task here word slash)
   searched_placed here NoWord slash = λ named. absurd (true≢false named)
   searched_placed here Dot slash =
       ends_step IsSearched (steps_at nat_eq world task here Dot) (search_rules nat_eq world task here.location)
@@ -35,7 +36,8 @@ module _ (world : World ℕ) (task : Task ℕ) where
   searched_place_walk : (path : List ℕ) → Ends IsSearched (place_walk nat_eq world task path)
   searched_place_walk path =
       ends_next IsSearched (path_text path) _ (λ text.
-      ends_next IsSearched (front_walked nat_eq world task (followed nat_eq world task) (walk_start task text) (reverse (words text)))
+      ends_next IsSearched (front_walked nat_eq world task (followed nat_eq world task) (walk_start task text)
+      (reverse (words text)))
       (λ here. placed nat_eq world task here (final_word (reverse (words text))) (ends_in_slash text))
       (λ here. searched_placed here (final_word (reverse (words text))) (ends_in_slash text)))
 
@@ -47,7 +49,8 @@ module _ (world : World ℕ) (task : Task ℕ) where
   pub searched_new_leaf_walk : (path : List ℕ) → Ends IsSearched (new_leaf_walk nat_eq world task path)
   searched_new_leaf_walk path =
       ends_then IsSearched IsSearched (new_walk nat_eq world task path) _ (searched_new_walk path)
-      (λ place is. ends_unless IsSearched place.steps ((place.slash && not (is_some place.object), W6) ∷ []) place (λ passed. is))
+      (λ place is. ends_unless IsSearched place.steps ((place.slash && not (is_some place.object), W6) ∷ []) place
+      (λ passed. is))
 
   pub searched_rename_walk : (path : List ℕ) (directory : Bool)
       → Ends IsSearched (rename_new_walk nat_eq (looks_of nat_eq world) task path directory)
@@ -63,12 +66,15 @@ module _ (world : World ℕ) (task : Task ℕ) where
   pub searched_old_leaf_walk : (path : List ℕ) → Ends IsSearched (old_leaf_walk nat_eq world task path)
   searched_old_leaf_walk path =
       ends_then IsSearched IsSearched (old_walk nat_eq world task path) _ (searched_old_walk path)
-      (λ place is. ends_unless IsSearched place.steps ((place.slash && not (is_directory_there nat_eq world place), W3) ∷ []) place
+      (λ place is. ends_unless IsSearched place.steps
+      ((place.slash && not (is_directory_there nat_eq world place), W3) ∷ []) place
       (λ passed. is))
 
   -- files
-  searched_file_or_link : (place : Place ℕ) (text : Option (List ℕ)) (follow : List ℕ → Result (Place ℕ) (Stop ℕ)) → IsSearched place
-      → ((inner : List ℕ) → Ends IsSearched (follow inner)) → Ends IsSearched (file_or_symlink nat_eq world place text follow)
+  searched_file_or_link : (place : Place ℕ) (text : Option (List ℕ)) (follow : List ℕ → Result (Place ℕ) (Stop ℕ))
+      → IsSearched place
+      → ((inner : List ℕ) → Ends IsSearched (follow inner))
+      → Ends IsSearched (file_or_symlink nat_eq world place text follow)
   searched_file_or_link place None follow is rest = is
   searched_file_or_link place (Some text) follow is rest = rest text
 
@@ -81,7 +87,8 @@ module _ (world : World ℕ) (task : Task ℕ) where
   abbrev file_from : ℕ → List ℕ → Bool → Here ℕ → Result (Place ℕ) (Stop ℕ)
   file_from depth text slash here =
       then_walk (placed nat_eq world task here (final_word (reverse (words text))) (slash || ends_in_slash text))
-      (λ place. file_or_symlink nat_eq world place (symlink_there nat_eq world place) (linked_file depth text slash here place))
+      (λ place. file_or_symlink nat_eq world place (symlink_there nat_eq world place)
+      (linked_file depth text slash here place))
 
   searched_file_walked : (depth : ℕ) (start : Here ℕ) (text : List ℕ) (slash : Bool)
       → Ends IsSearched (file_walked nat_eq depth world task start text slash)
@@ -89,10 +96,13 @@ module _ (world : World ℕ) (task : Task ℕ) where
   searched_file_walked (suc depth) start text slash =
       ends_next IsSearched (front_walked nat_eq world task (followed nat_eq world task) start (reverse (words text)))
       (λ here. file_from depth text slash here) (λ here.
-      ends_then IsSearched IsSearched (placed nat_eq world task here (final_word (reverse (words text))) (slash || ends_in_slash text))
-      (λ place. file_or_symlink nat_eq world place (symlink_there nat_eq world place) (linked_file depth text slash here place))
+      ends_then IsSearched IsSearched
+      (placed nat_eq world task here (final_word (reverse (words text))) (slash || ends_in_slash text))
+      (λ place. file_or_symlink nat_eq world place (symlink_there nat_eq world place)
+      (linked_file depth text slash here place))
       (searched_placed here (final_word (reverse (words text))) (slash || ends_in_slash text)) (λ place is.
-      searched_file_or_link place (symlink_there nat_eq world place) (linked_file depth text slash here place) is (λ inner.
+      searched_file_or_link place (symlink_there nat_eq world place) (linked_file depth text slash here place) is
+      (λ inner.
       ends_next IsSearched (walk_unless place.steps (follow_rules nat_eq world (symlink_of here place) inner)
       (symlink_start nat_eq world task here.location (symlink_of here place) inner))
       (λ next. file_walked nat_eq depth world task next inner (slash || ends_in_slash text))
@@ -101,6 +111,7 @@ module _ (world : World ℕ) (task : Task ℕ) where
   pub searched_file_walk : (path : List ℕ) → Ends IsSearched (file_walk nat_eq world task path)
   searched_file_walk path =
       ends_next IsSearched (path_text path) _ (λ text.
-      ends_then IsSearched IsSearched (file_walked nat_eq (most_symlinks + 1) world task (walk_start task text) text false) _
+      ends_then IsSearched IsSearched
+      (file_walked nat_eq (most_symlinks + 1) world task (walk_start task text) text false) _
       (searched_file_walked (most_symlinks + 1) (walk_start task text) text false) (λ place is.
       ends_unless IsSearched place.steps (new_name_rules nat_eq world place) place (λ passed. is)))

@@ -136,7 +136,8 @@ module _ (Q : Option (Node ℕ) → Type 0) (number inode : ℕ) where
         (subst (All (λ filesystem. is_overlay filesystem ≡ false)) (sym (replaced_filesystems world replaced)) plain)
         (same_list (without_replaced nat_eq world replaced).filesystems (replaced_filesystems world replaced))
         (λ same.
-        subst (λ files. Q ((changed nat_eq files change).tree.node inode)) (sym (replaced_files world replaced location))
+        subst (λ files. Q ((changed nat_eq files change).tree.node inode))
+        (sym (replaced_files world replaced location))
         (here (same ∙ replaced_shows world replaced location)))
 
     copied_left : (copies : Bool) (file : Location ℕ)
@@ -181,7 +182,8 @@ module _ (Q : Option (Node ℕ) → Type 0) (number inode : ℕ) where
     inode_left task (ToUnmount mount) here = same_list _ (taken_filesystems world _)
     inode_left task (ToUnmountLazily mount) here =
         same_list _
-        (lazily_filesystems (deepest_first nat_eq world (mount_tree nat_eq world.mounts (mount_numbered nat_eq world mount)))
+        (lazily_filesystems (deepest_first nat_eq world
+        (mount_tree nat_eq world.mounts (mount_numbered nat_eq world mount)))
         world)
     inode_left task (ToSetType mount word recursive) here =
         same_list _ (typed_filesystems fresh world mount word recursive)

@@ -78,7 +78,8 @@ module _ {A : Type 0} (part : Node ℕ → A) where
     at_node files number new here = by (nat_eq other number) refl
       where
         by : (b : Bool) → nat_eq other number ≡ b
-            → Stays (files.tree.node other) (cond (nat_eq other number) (new (files.tree.node number)) (files.tree.node other))
+            → Stays (files.tree.node other)
+            (cond (nat_eq other number) (new (files.tree.node number)) (files.tree.node other))
         by true e =
             let same : other ≡ number = eqb-true other number e in
             subst (λ b. Stays (files.tree.node other) (cond b (new (files.tree.node number)) (files.tree.node other)))
@@ -163,7 +164,8 @@ module _ {A : Type 0} (part : Node ℕ → A) where
           → KeptIn (files_at nat_eq world location) (changed nat_eq (files_at nat_eq world location) change)
           → ChangeHolds (Stays Was) filesystem other world location change
       here location change kept same =
-          subst (λ n. Stays (inode_in world n other) ((changed nat_eq (files_at nat_eq world location) change).tree.node other))
+          subst (λ n. Stays (inode_in world n other)
+          ((changed nat_eq (files_at nat_eq world location) change).tree.node other))
           (sym same) kept
 
       module _ (task : Task ℕ) (call : Call) (no_overlay : mounts_overlay call ≡ false)

@@ -111,6 +111,7 @@ module _ (other : ℕ) where
 
 pub only_unused_inodes_end : OnlyUnusedInodesEnd
 only_unused_inodes_end fresh world call task permit filesystem number plain no_overlay judged =
-    inode_left (Remains (inode_in world filesystem number)) filesystem number fresh world plain (λ there. there) task permit
+    inode_left (Remains (inode_in world filesystem number)) filesystem number fresh world plain
+    (λ there. there) task permit
     (left number fresh world plain filesystem task call no_overlay permit
     (permits_are_for_their_calls fresh world task call permit judged))

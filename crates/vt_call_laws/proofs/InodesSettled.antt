@@ -109,7 +109,8 @@ module _ (Q : Inode → Type 0) (number inode : ℕ) where
                 inside true e' true f' later =
                     absurd (true≢false (sym e' ∙ ap lives (sym (eqb-true number one.number f')) ∙ dead))
                 inside true e' false f' later =
-                    subst (λ c. Q ((found c one (filter (λ filesystem. lives filesystem.number) others)).files.tree.node inode))
+                    subst (λ c. Q ((found c one (filter
+                    (λ filesystem. lives filesystem.number) others)).files.tree.node inode))
                     (sym f') later
                 inside false e' c f' later = later
 
@@ -158,8 +159,8 @@ module _ (Q : Inode → Type 0) (number inode : ℕ) where
         living = without_dead_filesystems nat_eq mounted
 
     module _ (fresh : Fresh ℕ) (world : World ℕ) (name : TaskName) (call : Call) where
-      -- What holds of the inode where nothing happens, and of what each granted permit leaves of it, holds of what the call
-      -- leaves.
+      -- What holds of the inode where nothing happens, and of what each granted permit leaves of it, holds of what the
+      -- call leaves.
       pub inode_after_call : HoldsIn world.filesystems
           → ((task : Task ℕ) (permit : Permit ℕ) → task_called world name ≡ Some task
           → judge_in nat_eq fresh world task call ≡ Ok permit
@@ -171,14 +172,16 @@ module _ (Q : Inode → Type 0) (number inode : ℕ) where
         where
           by_permit : (changed : List ℕ) (task : Task ℕ) → task_called world name ≡ Some task
               → (judgement : Judgement ℕ) → judge_in nat_eq fresh world task call ≡ judgement
-              → HoldsIn (finished nat_eq world name call changed (after world judgement (apply nat_eq fresh world task))).world.filesystems
+              → HoldsIn (finished nat_eq world name call changed
+              (after world judgement (apply nat_eq fresh world task))).world.filesystems
           by_permit changed task is (Ok permit) judged = by_looks _
             where
               left : HoldsIn (apply nat_eq fresh world task permit).world.filesystems
               left = done task permit is judged
 
               by_looks : (b : Bool)
-                  → HoldsIn (finished_by nat_eq b world name changed (apply nat_eq fresh world task permit)).world.filesystems
+                  → HoldsIn (finished_by nat_eq b world name changed
+                  (apply nat_eq fresh world task permit)).world.filesystems
               by_looks true = left
               by_looks false =
                   raised_holds changed (settled nat_eq (apply nat_eq fresh world task permit).world)

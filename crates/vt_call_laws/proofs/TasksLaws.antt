@@ -32,7 +32,8 @@ module _ (fresh : Fresh ℕ) (world : World ℕ) (name : TaskName) (call : Call)
   rights =
       ⊎_elim (λ same. itself_is_no_more was.credentials unraised.credentials (ap (λ t. t.credentials) same))
       (⊎_elim
-      (λ changed. ⊎_elim (λ same. itself_is_no_more was.credentials unraised.credentials same) (λ dropped. dropped.2) changed.1.0)
+      (λ changed. ⊎_elim (λ same. itself_is_no_more was.credentials unraised.credentials same)
+      (λ dropped. dropped.2) changed.1.0)
       (λ pivot. itself_is_no_more was.credentials unraised.credentials (ap (λ t. t.credentials) pivot.2)))
       turned
 
@@ -137,8 +138,14 @@ module _ (fresh : Fresh ℕ) (world : World ℕ) (name : TaskName) (call : Call)
   found : (was now : Found) → task_called world other ≡ was → task_after fresh world name call other ≡ now
       → (left : Found) × Left was left now
   found was now is then_is =
-      let it = becomes fresh world name call other in
-      (it.0, (subst (λ f. Becomes fresh world name call other f it.0) is it.1, subst (IsRaised name other it.0) then_is it.2))
+      let it = becomes fresh world name call other in (
+        it.0,
+        (
+          subst (λ f. Becomes fresh world name call other f it.0) is it.1,
+          subst
+              (IsRaised name other it.0) then_is it.2,
+        ),
+      )
 
 pub other_tasks_stay : OtherTasksStay
 other_tasks_stay fresh world name call other was apart is =

@@ -93,7 +93,8 @@ module _ (fresh : Fresh ℕ) (world : World ℕ) (task : Task ℕ) where
   tasks_left (ToEnterNamespace namespace) = taken_tasks (namespace_entered nat_eq world task namespace) _
   tasks_left (ToUnmount mount) = taken_tasks world _
   tasks_left (ToUnmountLazily mount) =
-      lazily_tasks (deepest_first nat_eq world (mount_tree nat_eq world.mounts (mount_numbered nat_eq world mount))) world
+      lazily_tasks (deepest_first nat_eq world
+      (mount_tree nat_eq world.mounts (mount_numbered nat_eq world mount))) world
   tasks_left (ToSetType mount word recursive) = typed_tasks fresh world mount word recursive
   tasks_left permit = refl
 
@@ -111,7 +112,8 @@ tasks_after_call P fresh world name call same done =
   where
     by_permit : (changed : List ℕ) (task : Task ℕ) → task_called world name ≡ Some task → (judgement : Judgement ℕ)
         → judge_in nat_eq fresh world task call ≡ judgement
-        → P (finished nat_eq world name call changed (after world judgement (apply nat_eq fresh world task))).world.tasks
+        → P (finished nat_eq world name call changed
+        (after world judgement (apply nat_eq fresh world task))).world.tasks
     by_permit changed task is (Ok permit) judged = by_looks _
       where
         left : (apply nat_eq fresh world task permit).world.tasks ≡ left_tasks fresh world task permit

@@ -175,7 +175,8 @@ module _ (fresh : Fresh ℕ) (world : World ℕ) (name : TaskName) (call : Call)
             ∙ none_left task.name world.tasks))
             (gone (task_called world other) (same ∙ sym named))
         by false e =
-            subst (λ found. Becomes (task_called world other) found) (sym (others_left task.name other e world.tasks)) still
+            subst (λ found. Becomes (task_called world other) found)
+            (sym (others_left task.name other e world.tasks)) still
 
     -- a child is added
     forked_becomes : (words : Option ForkWords) (credentials : Credentials) → call ≡ Fork words
@@ -270,7 +271,8 @@ module _ (fresh : Fresh ℕ) (world : World ℕ) (name : TaskName) (call : Call)
         changed_becomes (without_descriptor task descriptor) refl (
           inl refl,
           inl refl,
-          λ held among. inl (among-from_filter (λ found. not (descriptor == found.number)) task.descriptors held among).0,
+          λ held among. inl (among-from_filter
+              (λ found. not (descriptor == found.number)) task.descriptors held among).0,
           inr refl,
           inr refl,
           inr refl,
@@ -367,7 +369,8 @@ module _ (fresh : Fresh ℕ) (world : World ℕ) (name : TaskName) (call : Call)
       (task_called world other, still fresh world name call other, is_itself (task_called world other))
       (λ task permit is judged.
       let so =
-      done fresh world name call other task is permit judged (permits_are_for_their_calls fresh world task call permit judged)
+      done fresh world name call other task is permit judged
+      (permits_are_for_their_calls fresh world task call permit judged)
       in
       let left = left_tasks fresh world task permit in
       ((called other left, so, is_itself (called other left)), (called other left, so, is_raised left)))

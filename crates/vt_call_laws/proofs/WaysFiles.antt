@@ -29,7 +29,8 @@ module _ (world : World ℕ) (task : Task ℕ) where
         subst (λ directory. IsSearchedWayToFile world task start (words text) directory) (sym named.parent)
         (record {
           passed = to_name.passed;
-          way = file_in start here (words text) (final_word (reverse (words text))) place.object to_name.passed to_name.way named.object plain;
+          way = file_in start here (words text)
+              (final_word (reverse (words text))) place.object to_name.passed to_name.way named.object plain;
           searched = to_name.searched;
         })
 
@@ -39,9 +40,11 @@ module _ (world : World ℕ) (task : Task ℕ) where
         record {
           passed = to_name.passed ++ further.passed;
           way =
-              through_symlink start here end.parent (words text) (final_word (reverse (words text))) place.object inner to_name.passed
+              through_symlink start here end.parent (words text)
+              (final_word (reverse (words text))) place.object inner to_name.passed
               further.passed to_name.way named.object linked further.way;
-          searched = All-append (IsSearchable world task) to_name.passed further.passed to_name.searched further.searched;
+          searched = All-append
+              (IsSearchable world task) to_name.passed further.passed to_name.searched further.searched;
         }
 
   abbrev next_text : ℕ → List ℕ → Bool → Here ℕ → Place ℕ → List ℕ → Result (Place ℕ) (Stop ℕ)
@@ -54,7 +57,8 @@ module _ (world : World ℕ) (task : Task ℕ) where
       → Ends (IsFileOf start.location text) (file_walked nat_eq depth world task start text slash)
   file_searched zero start text slash = tt
   file_searched (suc depth) start text slash =
-      ends_then (λ here. IsFront world task start.location (reverse (words text)) here.location) (IsFileOf start.location text)
+      ends_then (λ here. IsFront world task start.location (reverse (words text)) here.location)
+      (IsFileOf start.location text)
       (front_walked nat_eq world task (followed nat_eq world task) start (reverse (words text))) _
       (front_searched world task start (reverse (words text))) (λ here before.
       ends_then (IsNamedAt world task here.location (final_word (reverse (words text)))) (IsFileOf start.location text)
@@ -63,22 +67,28 @@ module _ (world : World ℕ) (task : Task ℕ) where
       by_symlink (λ next inner. file_searched depth next inner (slash || ends_in_slash text)) here before place named
       (symlink_there nat_eq world place) refl))
     where
-      further : (here : Here ℕ) → IsFront world task start.location (reverse (words text)) here.location → (place : Place ℕ)
+      further : (here : Here ℕ) → IsFront world task start.location (reverse (words text)) here.location
+          → (place : Place ℕ)
           → IsNamedAt world task here.location (final_word (reverse (words text))) place → (inner : List ℕ)
-          → symlink_there nat_eq world place ≡ Some inner → (next : Here ℕ) → next.location ≡ start_of task here.location inner
-          → (r : Result (Place ℕ) (Stop ℕ)) → Ends (IsFileOf next.location inner) r → Ends (IsFileOf start.location text) r
+          → symlink_there nat_eq world place ≡ Some inner → (next : Here ℕ)
+          → next.location ≡ start_of task here.location inner
+          → (r : Result (Place ℕ) (Stop ℕ)) → Ends (IsFileOf next.location inner) r
+          → Ends (IsFileOf start.location text) r
       further here before place named inner linked next e (Ok end) found =
           goes_through start.location here.location text place before named inner linked end
           (subst (λ from. IsFileOf from inner end) e found)
       further here before place named inner linked next e (Err stop) found = tt
 
       by_symlink : ((next : Here ℕ) (inner : List ℕ)
-          → Ends (IsFileOf next.location inner) (file_walked nat_eq depth world task next inner (slash || ends_in_slash text)))
+          → Ends (IsFileOf next.location inner)
+          (file_walked nat_eq depth world task next inner (slash || ends_in_slash text)))
           → (here : Here ℕ) → IsFront world task start.location (reverse (words text)) here.location → (place : Place ℕ)
           → IsNamedAt world task here.location (final_word (reverse (words text))) place → (o : Option (List ℕ))
           → symlink_there nat_eq world place ≡ o
-          → Ends (IsFileOf start.location text) (file_or_symlink nat_eq world place o (next_text depth text slash here place))
-      by_symlink rest here before place named None plain = ends_here start.location here.location text place before named plain
+          → Ends (IsFileOf start.location text)
+          (file_or_symlink nat_eq world place o (next_text depth text slash here place))
+      by_symlink rest here before place named None plain =
+          ends_here start.location here.location text place before named plain
       by_symlink rest here before place named (Some inner) linked =
           ends_then (λ next. next.location ≡ start_of task here.location inner) (IsFileOf start.location text)
           (walk_unless place.steps (follow_rules nat_eq world (symlink_of here place) inner)

@@ -20,7 +20,8 @@ use Rattle.vt_spec.specs.Machine.World.{Task, World}
 use Rattle.vt_spec.specs.PathText.{ends_in_slash, words}
 use Rattle.vt_tree_laws.proofs.TreesWalked.{Ends, ends_then, ends_unless}
 
-some_word : (dot dots : Bool) (word : List ℕ) → is_no_word (if dot then Dot else if dots then DotDot else Named word) ≡ false
+some_word : (dot dots : Bool) (word : List ℕ)
+    → is_no_word (if dot then Dot else if dots then DotDot else Named word) ≡ false
 some_word true dots word = refl
 some_word false true word = refl
 some_word false false word = refl
@@ -32,9 +33,11 @@ module _ (world : World ℕ) (task : Task ℕ) where
   IsFront start (word ∷ front) here = IsSearchedWay world task start (reverse front) here
 
   pub front_searched : (start : Here ℕ) (ws : List (List ℕ))
-      → Ends (λ here. IsFront start.location ws here.location) (front_walked nat_eq world task (followed nat_eq world task) start ws)
+      → Ends (λ here. IsFront start.location ws here.location)
+      (front_walked nat_eq world task (followed nat_eq world task) start ws)
   front_searched start [] = refl
-  front_searched start (word ∷ front) = words_searched world task (followed nat_eq world task) (followed_searched world task) start front
+  front_searched start (word ∷ front) =
+      words_searched world task (followed nat_eq world task) (followed_searched world task) start front
 
   -- the last word too, where it was looked up in a directory that may be searched
   pub name_searched : (start here : Location ℕ) (ws : List (List ℕ)) → IsFront start ws here
@@ -57,29 +60,34 @@ module _ (world : World ℕ) (task : Task ℕ) where
       → (is_no_word (final_word (reverse (words text))) ≡ false → IsSearchable world task here)
       → IsSearchedWayToName world task start (words text) here (final_word (reverse (words text)))
   text_name_searched start here text before searched =
-      subst (λ ws. IsSearchedWayToName world task start ws here (final_word (reverse (words text)))) (reverse-reverse (words text))
+      subst (λ ws. IsSearchedWayToName world task start ws here (final_word (reverse (words text))))
+      (reverse-reverse (words text))
       (name_searched start here (reverse (words text)) before searched)
 
   -- where a name is looked up
   abbrev pub IsNameOf : Location ℕ → List ℕ → Place ℕ → Type 0
   IsNameOf start text place = IsSearchedWayToName world task start (words text) place.parent place.last
 
-  pub named_searched : (start here : Location ℕ) (text : List ℕ) (place : Place ℕ) → IsFront start (reverse (words text)) here
+  pub named_searched : (start here : Location ℕ) (text : List ℕ) (place : Place ℕ)
+      → IsFront start (reverse (words text)) here
       → IsNamedAt world task here (final_word (reverse (words text))) place → IsNameOf start text place
   named_searched start here text place before named =
       subst (λ last. IsSearchedWayToName world task start (words text) place.parent last) (sym named.last)
-      (subst (λ directory. IsSearchedWayToName world task start (words text) directory (final_word (reverse (words text)))) (sym named.parent)
+      (subst (λ directory. IsSearchedWayToName world task start (words text) directory
+      (final_word (reverse (words text)))) (sym named.parent)
       (text_name_searched start here text before named.searched))
 
   -- symlinks
   abbrev IsLast : Location ℕ → LastWord → Here ℕ → Type 0
-  IsLast here word next = (is_no_word word ≡ false → IsSearchable world task here) × (stepped nat_eq world task here word ≡ Ok next.location)
+  IsLast here word next = (is_no_word word ≡ false → IsSearchable world task here)
+      × (stepped nat_eq world task here word ≡ Ok next.location)
 
   worded : (here : Here ℕ) (word : LastWord)
       → Ends (λ next. IsLast here.location word next) (word_walked nat_eq world task here word)
   worded here word = by (word_walked nat_eq world task here word) (word_step world task here word)
     where
-      by : (r : Result (Here ℕ) (Stop ℕ)) → Ends (IsStep world task here.location word) r → Ends (λ next. IsLast here.location word next) r
+      by : (r : Result (Here ℕ) (Stop ℕ)) → Ends (IsStep world task here.location word) r
+          → Ends (λ next. IsLast here.location word next) r
       by (Ok next) step = ((λ some. step.0), step.1)
       by (Err stop) step = tt
 
@@ -106,7 +114,8 @@ module _ (world : World ℕ) (task : Task ℕ) where
         (last_searched here (final_word (reverse (words text))))))
       where
         ends_last : (text : List ℕ) → text ≡ path → (here : Here ℕ)
-            → IsFront (walk_start task text).location (reverse (words text)) here.location → (r : Result (Here ℕ) (Stop ℕ))
+            → IsFront (walk_start task text).location (reverse (words text)) here.location
+            → (r : Result (Here ℕ) (Stop ℕ))
             → Ends (λ next. IsLast here.location (final_word (reverse (words text))) next) r → Ends IsNamed r
         ends_last text e here before (Ok next) last = (
           here.location,
@@ -127,11 +136,13 @@ module _ (world : World ℕ) (task : Task ℕ) where
         ends_then (λ here. IsFront (walk_start task text).location (reverse (words text)) here.location) IsNamePlace
         (front_walked nat_eq world task (followed nat_eq world task) (walk_start task text) (reverse (words text))) _
         (front_searched (walk_start task text) (reverse (words text))) (λ here before.
-        ends_placed text e here before (placed nat_eq world task here (final_word (reverse (words text))) (ends_in_slash text))
+        ends_placed text e here before
+        (placed nat_eq world task here (final_word (reverse (words text))) (ends_in_slash text))
         (placed_step world task here (final_word (reverse (words text))) (ends_in_slash text))))
       where
         ends_placed : (text : List ℕ) → text ≡ path → (here : Here ℕ)
-            → IsFront (walk_start task text).location (reverse (words text)) here.location → (r : Result (Place ℕ) (Stop ℕ))
+            → IsFront (walk_start task text).location (reverse (words text)) here.location
+            → (r : Result (Place ℕ) (Stop ℕ))
             → Ends (IsNamedAt world task here.location (final_word (reverse (words text)))) r → Ends IsNamePlace r
         ends_placed text e here before (Ok place) named =
             subst (λ written. IsSearchedToName world task written place.parent place.last) e
@@ -146,7 +157,8 @@ module _ (world : World ℕ) (task : Task ℕ) where
     new_leaf_searched : Ends IsNamePlace (new_leaf_walk nat_eq world task path)
     new_leaf_searched =
         ends_then IsNamePlace IsNamePlace (new_walk nat_eq world task path) _ new_searched (λ place searched.
-        ends_unless IsNamePlace place.steps ((place.slash && not (is_some place.object), W6) ∷ []) place (λ passed. searched))
+        ends_unless IsNamePlace place.steps ((place.slash && not (is_some place.object), W6) ∷ []) place
+        (λ passed. searched))
 
     old_searched : Ends IsNamePlace (old_walk nat_eq world task path)
     old_searched =
@@ -156,10 +168,12 @@ module _ (world : World ℕ) (task : Task ℕ) where
     old_leaf_searched : Ends IsNamePlace (old_leaf_walk nat_eq world task path)
     old_leaf_searched =
         ends_then IsNamePlace IsNamePlace (old_walk nat_eq world task path) _ old_searched (λ place searched.
-        ends_unless IsNamePlace place.steps ((place.slash && not (is_directory_there nat_eq world place), W3) ∷ []) place
+        ends_unless IsNamePlace place.steps
+        ((place.slash && not (is_directory_there nat_eq world place), W3) ∷ []) place
         (λ passed. searched))
 
-    renamed_searched : (directory : Bool) → Ends IsNamePlace (rename_new_walk nat_eq (looks_of nat_eq world) task path directory)
+    renamed_searched : (directory : Bool)
+        → Ends IsNamePlace (rename_new_walk nat_eq (looks_of nat_eq world) task path directory)
     renamed_searched directory =
         ends_then IsNamePlace IsNamePlace (new_walk nat_eq world task path) _ new_searched (λ place searched.
         ends_unless IsNamePlace place.steps ((place.slash && not directory, W3) ∷ []) place (λ passed. searched))
@@ -167,10 +181,12 @@ module _ (world : World ℕ) (task : Task ℕ) where
 pub symlink_ways_are_searched : SymlinkWaysAreSearched
 symlink_ways_are_searched world task path here e = (
   (λ slash.
-      at_end (λ (end : Here ℕ). IsSearchedTo world task path end.location) (symlink_walk_by nat_eq true world task path) here
+      at_end (λ (end : Here ℕ). IsSearchedTo world task path end.location)
+      (symlink_walk_by nat_eq true world task path) here
       (object_searched world task path) (subst (λ b. symlink_walk_by nat_eq b world task path ≡ Ok here) slash e)),
   (λ slash.
-      at_end (IsNamed world task path) (symlink_walk_by nat_eq false world task path) here (symlink_named world task path)
+      at_end (IsNamed world task path) (symlink_walk_by nat_eq false world task path) here
+      (symlink_named world task path)
       (subst (λ b. symlink_walk_by nat_eq b world task path ≡ Ok here) slash e)),
 )
 
@@ -184,7 +200,8 @@ new_name_ways_are_searched world task path place e =
 
 pub new_leaf_ways_are_searched : NewLeafWaysAreSearched
 new_leaf_ways_are_searched world task path place e =
-    at_end (IsNamePlace world task path) (new_leaf_walk nat_eq world task path) place (new_leaf_searched world task path) e
+    at_end (IsNamePlace world task path) (new_leaf_walk nat_eq world task path) place
+    (new_leaf_searched world task path) e
 
 pub old_name_ways_are_searched : OldNameWaysAreSearched
 old_name_ways_are_searched world task path place e =
@@ -192,7 +209,8 @@ old_name_ways_are_searched world task path place e =
 
 pub old_leaf_ways_are_searched : OldLeafWaysAreSearched
 old_leaf_ways_are_searched world task path place e =
-    at_end (IsNamePlace world task path) (old_leaf_walk nat_eq world task path) place (old_leaf_searched world task path) e
+    at_end (IsNamePlace world task path) (old_leaf_walk nat_eq world task path) place
+    (old_leaf_searched world task path) e
 
 pub renamed_ways_are_searched : RenamedWaysAreSearched
 renamed_ways_are_searched directory world task path place e =

@@ -21,9 +21,11 @@ module _ (world : World ℕ) (task : Task ℕ) where
   IsStep here word next =
       IsSearchable world task here × (stepped nat_eq world task here word ≡ Ok next.location)
 
-  pub word_step : (here : Here ℕ) (word : LastWord) → Ends (IsStep here.location word) (word_walked nat_eq world task here word)
+  pub word_step : (here : Here ℕ) (word : LastWord)
+      → Ends (IsStep here.location word) (word_walked nat_eq world task here word)
   word_step here word =
-      ends_step (IsStep here.location word) (steps_with nat_eq world task here word) (search_rules nat_eq world task here.location)
+      ends_step (IsStep here.location word) (steps_with nat_eq world task here word)
+      (search_rules nat_eq world task here.location)
       (stepped nat_eq world task here.location word) _ (λ passed reached e. (searchable here.location passed, e))
 
   -- where the last word of a path was looked up, and what it names there
@@ -38,12 +40,14 @@ module _ (world : World ℕ) (task : Task ℕ) where
   placed_step here NoWord slash =
       record { parent = refl; last = refl; searched = λ some. absurd (true≢false some); object = refl }
   placed_step here Dot slash =
-      ends_step (IsNamedAt here.location Dot) (steps_at nat_eq world task here Dot) (search_rules nat_eq world task here.location)
+      ends_step (IsNamedAt here.location Dot) (steps_at nat_eq world task here Dot)
+      (search_rules nat_eq world task here.location)
       (object_named nat_eq world task here.location Dot) _ (λ passed object e.
       record { parent = refl; last = refl; searched = λ some. searchable here.location passed; object = e })
   placed_step here DotDot slash =
       ends_step (IsNamedAt here.location DotDot) (steps_at nat_eq world task here DotDot)
-      (search_rules nat_eq world task here.location) (object_named nat_eq world task here.location DotDot) _ (λ passed object e.
+      (search_rules nat_eq world task here.location) (object_named nat_eq world task here.location DotDot) _
+      (λ passed object e.
       record { parent = refl; last = refl; searched = λ some. searchable here.location passed; object = e })
   placed_step here (Named name) slash =
       ends_step (IsNamedAt here.location (Named name)) (steps_at nat_eq world task here (Named name))

@@ -27,7 +27,8 @@ module _ (world : World ℕ) (task : Task ℕ) where
       goes_on here next _ word _ _ step plain (way_append before after)
   way_append {end = end} {rest = rest} {further = further}
       (follows here link inside middle word text front in_text passed step linked inner before) after =
-      subst (λ list. Way world task here (word ∷ (front ++ rest)) (here ∷ list) end) (sym (append_assoc in_text passed further))
+      subst (λ list. Way world task here (word ∷ (front ++ rest)) (here ∷ list) end)
+      (sym (append_assoc in_text passed further))
       (follows here link inside _ word text _ in_text _ step linked inner (way_append before after))
 
   abbrev pub IsSearched : Location ℕ → List (List ℕ) → Location ℕ → Type 0
@@ -62,7 +63,8 @@ module _ (world : World ℕ) (task : Task ℕ) where
     link_searched here word next (Some text) linked step =
         further (follow here next text) (are here next text)
       where
-        further : (r : Result (Here ℕ) (Stop ℕ)) → Ends (λ end. IsSearched (start_of task here text) (words text) end.location) r
+        further : (r : Result (Here ℕ) (Stop ℕ))
+            → Ends (λ end. IsSearched (start_of task here text) (words text) end.location) r
             → Ends (λ end. IsSearched here (word ∷ []) end.location) r
         further (Ok end) inner =
             record {
@@ -71,25 +73,30 @@ module _ (world : World ℕ) (task : Task ℕ) where
                   follows here next.location end.location end.location word text [] inner.passed [] step.1 linked inner.way
                   (arrives end.location);
               searched = All-cons (IsSearchable world task) here (inner.passed ++ []) step.0
-                  (All-append (IsSearchable world task) inner.passed [] inner.searched (All-nil (IsSearchable world task)));
+                  (All-append (IsSearchable world task) inner.passed [] inner.searched
+                  (All-nil (IsSearchable world task)));
             }
         further (Err stop) inner = tt
 
     pub words_searched : (start : Here ℕ) (ws : List (List ℕ))
-        → Ends (λ end. IsSearched start.location (reverse ws) end.location) (words_walked nat_eq world task follow start ws)
+        → Ends (λ end. IsSearched start.location (reverse ws) end.location)
+        (words_walked nat_eq world task follow start ws)
     words_searched start [] =
         record { passed = []; way = arrives start.location; searched = All-nil (IsSearchable world task) }
     words_searched start (word ∷ front) =
         ends_then (λ reached. IsSearched start.location (reverse front) reached.location)
         (λ end. IsSearched start.location (reverse (word ∷ front)) end.location)
         (words_walked nat_eq world task follow start front) _ (words_searched start front) (λ reached before.
-        ends_then (IsStep world task reached.location (last_word word)) (λ end. IsSearched start.location (reverse (word ∷ front)) end.location)
-        (word_walked nat_eq world task reached (last_word word)) _ (word_step world task reached (last_word word)) (λ next step.
+        ends_then (IsStep world task reached.location (last_word word))
+        (λ end. IsSearched start.location (reverse (word ∷ front)) end.location)
+        (word_walked nat_eq world task reached (last_word word)) _ (word_step world task reached (last_word word))
+        (λ next step.
         joined reached.location before
         (if_symlink next (symlink_text (node_at nat_eq world next.location)) (follow reached.location next))
         (link_searched reached.location word next (symlink_text (node_at nat_eq world next.location)) refl step)))
       where
-        joined : (reached : Location ℕ) → IsSearched start.location (reverse front) reached → (r : Result (Here ℕ) (Stop ℕ))
+        joined : (reached : Location ℕ) → IsSearched start.location (reverse front) reached
+            → (r : Result (Here ℕ) (Stop ℕ))
             → Ends (λ end. IsSearched reached (word ∷ []) end.location) r
             → Ends (λ end. IsSearched start.location (reverse (word ∷ front)) end.location) r
         joined reached before (Ok end) last =
@@ -99,7 +106,8 @@ module _ (world : World ℕ) (task : Task ℕ) where
 
   -- the words of a text from where it starts
   pub text_searched : (follow : Follow ℕ) → FollowsSearched follow → (start : Here ℕ) (text : List ℕ)
-      → Ends (λ end. IsSearched start.location (words text) end.location) (words_walked nat_eq world task follow start (reverse (words text)))
+      → Ends (λ end. IsSearched start.location (words text) end.location)
+      (words_walked nat_eq world task follow start (reverse (words text)))
   text_searched follow are start text =
       subst (λ ws. Ends (λ end. IsSearched start.location ws end.location) (words_walked nat_eq world task follow start
       (reverse (words text)))) (reverse-reverse (words text))
@@ -110,14 +118,18 @@ module _ (world : World ℕ) (task : Task ℕ) where
   symlink_searched (suc depth) directory link text =
       ends_then (λ start. start.location ≡ start_of task directory text)
       (λ end. IsSearched (start_of task directory text) (words text) end.location)
-      (walk_unless link.steps (follow_rules nat_eq world link text) (symlink_start nat_eq world task directory link text)) _
-      (ends_unless (λ (start : Here ℕ). start.location ≡ start_of task directory text) link.steps (follow_rules nat_eq world link text)
+      (walk_unless link.steps (follow_rules nat_eq world link text)
+      (symlink_start nat_eq world task directory link text)) _
+      (ends_unless (λ (start : Here ℕ). start.location ≡ start_of task directory text) link.steps
+      (follow_rules nat_eq world link text)
       (symlink_start nat_eq world task directory link text) (λ passed. refl))
       (λ start e.
       ends_then (λ reached. IsSearched start.location (words text) reached.location)
       (λ end. IsSearched (start_of task directory text) (words text) end.location)
-      (words_walked nat_eq world task (λ inside next inner. symlink_walked nat_eq depth world task inside next inner) start (reverse (words text))) _
-      (text_searched (λ inside next inner. symlink_walked nat_eq depth world task inside next inner) (symlink_searched depth) start text)
+      (words_walked nat_eq world task
+      (λ inside next inner. symlink_walked nat_eq depth world task inside next inner) start (reverse (words text))) _
+      (text_searched (λ inside next inner. symlink_walked nat_eq depth world task inside next inner)
+      (symlink_searched depth) start text)
       (λ reached searched.
       ends_unless (λ (end : Here ℕ). IsSearched (start_of task directory text) (words text) end.location) reached.steps
       (slash_rules nat_eq world text reached.location) reached
@@ -126,9 +138,11 @@ module _ (world : World ℕ) (task : Task ℕ) where
   pub followed_searched : FollowsSearched (followed nat_eq world task)
   followed_searched directory link text = symlink_searched (most_symlinks + 1) directory link text
 
-  pub path_searched : (path : List ℕ) → Ends (λ end. IsSearchedTo world task path end.location) (path_walked nat_eq world task path)
+  pub path_searched : (path : List ℕ)
+      → Ends (λ end. IsSearchedTo world task path end.location) (path_walked nat_eq world task path)
   path_searched path =
-      ends_then (λ text. text ≡ path) (λ end. IsSearchedTo world task path end.location) (path_text path) _ (path_text_same path) (λ text e.
+      ends_then (λ text. text ≡ path) (λ end. IsSearchedTo world task path end.location) (path_text path) _
+      (path_text_same path) (λ text e.
       subst (λ written. Ends (λ end. IsSearchedTo world task written end.location)
       (words_walked nat_eq world task (followed nat_eq world task) (walk_start task text) (reverse (words text)))) e
       (text_searched (followed nat_eq world task) followed_searched (walk_start task text) text))

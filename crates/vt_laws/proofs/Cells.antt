@@ -23,7 +23,8 @@ numbers_before-sum row place = ap (λ n. n + row) (sum (row + place))
         let longer : suc diagonal * (suc diagonal + 1) ≡ diagonal * (suc diagonal + 1) + (suc diagonal + 1) =
         suc-mul diagonal (suc diagonal + 1) in
         let wider : diagonal * (suc diagonal + 1) ≡ diagonal * (diagonal + 1) + diagonal =
-        ap (λ n. diagonal * n) (let more : suc diagonal + 1 ≡ suc (diagonal + 1) = omega arith in more) ∙ mul-suc diagonal (diagonal + 1) in
+        ap (λ n. diagonal * n) (let more : suc diagonal + 1 ≡ suc (diagonal + 1) = omega arith in more)
+        ∙ mul-suc diagonal (diagonal + 1) in
         omega arith
 
 next : ℕ → ℕ → ℕ × ℕ

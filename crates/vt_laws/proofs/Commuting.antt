@@ -36,8 +36,10 @@ pub record Named (T : Type 0 → Type 0) : Type 1 where
 
 -- By univalence: what is said of every equivalence need be shown for the identity alone. So whatever is made, for every
 -- type of numbers, out of what has numbers in it, commutes with each renaming.
-module _ (S T : Type 0 → Type 0) (given : Named S) (made : Named T) (make : (A : Type 0) → (A → A → Bool) → S A → T A) where
-  commutes : {M N : Type 0} (e : M ≃ N) (eq : N → N → Bool) (back : N → M) → ((number : N) → e.0 (back number) ≡ number) → (s : S M)
+module _ (S T : Type 0 → Type 0) (given : Named S) (made : Named T)
+    (make : (A : Type 0) → (A → A → Bool) → S A → T A) where
+  commutes : {M N : Type 0} (e : M ≃ N) (eq : N → N → Bool) (back : N → M)
+      → ((number : N) → e.0 (back number) ≡ number) → (s : S M)
       → make N eq (given.rename M N e.0 back s) ≡ made.rename M N e.0 back (make M (λ a b. eq (e.0 a) (e.0 b)) s)
   unfolding id_equiv
   commutes {M} {N} e eq =
@@ -62,11 +64,14 @@ same_test renaming a b =
     (eqb_tells a b)
 
 -- So does what is made for the numbers that the definitions are run with.
-pub commutes_nat : (S T : Type 0 → Type 0) (given : Named S) (made : Named T) (make : (A : Type 0) → (A → A → Bool) → S A → T A)
+pub commutes_nat : (S T : Type 0 → Type 0) (given : Named S) (made : Named T)
+    (make : (A : Type 0) → (A → A → Bool) → S A → T A)
     → (renaming : Renaming ℕ ℕ) (s : S ℕ)
-    → make ℕ nat_eq (given.rename ℕ ℕ renaming.there renaming.back s) ≡ made.rename ℕ ℕ renaming.there renaming.back (make ℕ nat_eq s)
+    → make ℕ nat_eq (given.rename ℕ ℕ renaming.there renaming.back s)
+    ≡ made.rename ℕ ℕ renaming.there renaming.back (make ℕ nat_eq s)
 commutes_nat S T given made make renaming s =
     commutes S T given made make
     (iso_to_equiv (record { fun = renaming.there; inv = renaming.back; rinv = renaming.there_back; linv = renaming.back_there }))
     nat_eq renaming.back renaming.there_back s
-    ∙ ap (λ (eq : ℕ → ℕ → Bool). made.rename ℕ ℕ renaming.there renaming.back (make ℕ eq s)) (λ i a b. same_test renaming a b i)
+    ∙ ap (λ (eq : ℕ → ℕ → Bool). made.rename ℕ ℕ renaming.there renaming.back (make ℕ eq s))
+    (λ i a b. same_test renaming a b i)

@@ -17,14 +17,17 @@ swapped_second a b =
     (eqb_tells b a)
 
 pub swapped_other : (a b k : ℕ) → k ≢ a → k ≢ b → swapped a b k ≡ k
-swapped_other a b k first second = ap (λ t. cond t b (cond (nat_eq k b) a k)) (ne_eqb k a first) ∙ ap (λ t. cond t a k) (ne_eqb k b second)
+swapped_other a b k first second =
+    ap (λ t. cond t b (cond (nat_eq k b) a k)) (ne_eqb k a first) ∙ ap (λ t. cond t a k) (ne_eqb k b second)
 
 pub swapped_twice : (a b k : ℕ) → swapped a b (swapped a b k) ≡ k
 swapped_twice a b k =
     ⊎_elim
-    (λ t. ap (λ n. swapped a b (swapped a b n)) t.1 ∙ ap (swapped a b) (swapped_first a b) ∙ swapped_second a b ∙ sym t.1)
+    (λ t. ap (λ n. swapped a b (swapped a b n)) t.1 ∙ ap (swapped a b) (swapped_first a b) ∙ swapped_second a b
+    ∙ sym t.1)
     (λ t. ⊎_elim
-    (λ s. ap (λ n. swapped a b (swapped a b n)) s.1 ∙ ap (swapped a b) (swapped_second a b) ∙ swapped_first a b ∙ sym s.1)
+    (λ s. ap (λ n. swapped a b (swapped a b n)) s.1 ∙ ap (swapped a b) (swapped_second a b) ∙ swapped_first a b
+    ∙ sym s.1)
     (λ s. ap (swapped a b) (swapped_other a b k t.1 s.1) ∙ swapped_other a b k t.1 s.1)
     (eqb_tells k b))
     (eqb_tells k a)

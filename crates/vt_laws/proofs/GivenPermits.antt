@@ -270,7 +270,8 @@ module _ (looks : Looks ℕ) (too_many : Permit ℕ → Bool) (task : Task ℕ) 
   judged_leads ListMounts h = h ToListMounts refl
 
 -- what is known of a judgement's permit is known of the one that is given
-pub given : (P : Permit ℕ → Type 0) (judgement : Judgement ℕ) (permit : Permit ℕ) → judgement ≡ Ok permit → IfOk judgement P
+pub given : (P : Permit ℕ → Type 0) (judgement : Judgement ℕ) (permit : Permit ℕ) → judgement ≡ Ok permit
+    → IfOk judgement P
     → P permit
 given P (Ok other) permit e h = let same : other ≡ permit = cc in subst P same h
 given P (Err deny) permit e h = cc

@@ -26,7 +26,8 @@ option_left : {A : Type 0} (f : A → A) (test : A → Bool) → ((a : A) → te
 option_left f test same None e = refl
 option_left f test same (Some a) e = λ i. Some (same a e i)
 
-all_left : {A : Type 0} (f : A → A) (P : A → Type 0) → ((a : A) → P a → f a ≡ a) → (list : List A) → All P list → map f list ≡ list
+all_left : {A : Type 0} (f : A → A) (P : A → Type 0) → ((a : A) → P a → f a ≡ a) → (list : List A) → All P list
+    → map f list ≡ list
 all_left f P same [] all = refl
 all_left f P same (a ∷ rest) all =
     λ i. same a (all zero a (omega arith)) i ∷ all_left f P same rest (λ k d short. all (suc k) d (omega arith)) i
@@ -56,15 +57,19 @@ module _ (named : ℕ → Bool) (renaming : Renaming ℕ ℕ) (leaves : Leaves r
   found_left f test same find found number = by (named number) refl
     where
       by : (b : Bool) → named number ≡ b → option_map f (find (back number)) ≡ find number
-      by true e = ap (λ n. option_map f (find n)) (back_leaves number e) ∙ option_left f test same (find number) (found.has_only number)
-      by false e = ap (option_map f) (found.nowhere_else (back number) (back_out number e)) ∙ sym (found.nowhere_else number e)
+      by true e = ap (λ n. option_map f (find n)) (back_leaves number e)
+          ∙ option_left f test same (find number) (found.has_only number)
+      by false e = ap (option_map f) (found.nowhere_else (back number) (back_out number e))
+          ∙ sym (found.nowhere_else number e)
 
-  location_left : (location : Location ℕ) → location_named named location ≡ true → renamed_location there back location ≡ location
+  location_left : (location : Location ℕ) → location_named named location ≡ true
+      → renamed_location there back location ≡ location
   location_left location e =
       let parts = and_parts (named location.mount) (named location.node) e in
       λ i. record { mount = leaves location.mount parts.0 i; node = leaves location.node parts.1 i }
 
-  propagation_left : (kind : Propagation ℕ) → propagation_named named kind ≡ true → renamed_propagation there back kind ≡ kind
+  propagation_left : (kind : Propagation ℕ) → propagation_named named kind ≡ true
+      → renamed_propagation there back kind ≡ kind
   propagation_left (Shared group) e = ap Shared (leaves group e)
   propagation_left (Slave master) e = ap Slave (leaves master e)
   propagation_left Private e = refl
@@ -90,7 +95,8 @@ module _ (named : ℕ → Bool) (renaming : Renaming ℕ ℕ) (leaves : Leaves r
   entry_left : (entry : List ℕ × ℕ) → named entry.1 ≡ true → renamed_entry there back entry ≡ entry
   entry_left entry e = λ i. (entry.0, leaves entry.1 e i)
 
-  content_left : (content : Content ℕ) → content_named named content ≡ true → renamed_content there back content ≡ content
+  content_left : (content : Content ℕ) → content_named named content ≡ true
+      → renamed_content there back content ≡ content
   content_left (Directory parent entries opaque) e =
       let parts = and_parts (named parent) (list_all (λ (entry : List ℕ × ℕ). named entry.1) entries) e in
       λ i. Directory (leaves parent parts.0 i)
@@ -125,13 +131,15 @@ module _ (named : ℕ → Bool) (renaming : Renaming ℕ ℕ) (leaves : Leaves r
   overlay_if_any_left None h = refl
   overlay_if_any_left (Some overlay) h = ap Some (overlay_left overlay h)
 
-  filesystem_left : (filesystem : Filesystem ℕ) → FilesystemNamed named filesystem → renamed_filesystem there back filesystem ≡ filesystem
+  filesystem_left : (filesystem : Filesystem ℕ) → FilesystemNamed named filesystem
+      → renamed_filesystem there back filesystem ≡ filesystem
   filesystem_left filesystem h = λ i. record {
     number = leaves filesystem.number h.number i;
     files = record {
       tree = record {
         root = leaves filesystem.files.tree.root h.root i;
-        node = λ number. found_left (renamed_node there back) (node_named named) node_left filesystem.files.tree.node h.nodes number i;
+        node = λ number. found_left (renamed_node there back)
+            (node_named named) node_left filesystem.files.tree.node h.nodes number i;
       };
       numbers = list_left there named leaves filesystem.files.numbers h.numbers i;
     };
@@ -139,7 +147,8 @@ module _ (named : ℕ → Bool) (renaming : Renaming ℕ ℕ) (leaves : Leaves r
     change = filesystem.change;
   }
 
-  namespace_left : (namespace : Namespace ℕ) → namespace_named named namespace ≡ true → renamed_namespace there back namespace ≡ namespace
+  namespace_left : (namespace : Namespace ℕ) → namespace_named named namespace ≡ true
+      → renamed_namespace there back namespace ≡ namespace
   namespace_left namespace e = λ i. record { number = leaves namespace.number e i; change = namespace.change }
 
   descriptor_left : (descriptor : Descriptor ℕ) → descriptor_named named descriptor ≡ true
@@ -159,7 +168,8 @@ module _ (named : ℕ → Bool) (renaming : Renaming ℕ ℕ) (leaves : Leaves r
         namespace = leaves task.namespace first.0 i;
         root = location_left task.root first.1 i;
         directory = location_left task.directory directory.1 i;
-        descriptors = list_left (renamed_descriptor there back) (descriptor_named named) descriptor_left task.descriptors last.1 i;
+        descriptors = list_left (renamed_descriptor there back)
+            (descriptor_named named) descriptor_left task.descriptors last.1 i;
         forks = task.forks;
         change = task.change;
       }
@@ -168,8 +178,10 @@ module _ (named : ℕ → Bool) (renaming : Renaming ℕ ℕ) (leaves : Leaves r
   world_left world h = λ i. record {
     mounts = list_left (renamed_mount there back) (mount_named named) mount_left world.mounts h.mounts i;
     master = λ group. found_left there named leaves world.master h.masters group i;
-    filesystems = all_left (renamed_filesystem there back) (FilesystemNamed named) filesystem_left world.filesystems h.filesystems i;
-    namespaces = list_left (renamed_namespace there back) (namespace_named named) namespace_left world.namespaces h.namespaces i;
+    filesystems = all_left (renamed_filesystem there back)
+        (FilesystemNamed named) filesystem_left world.filesystems h.filesystems i;
+    namespaces = list_left (renamed_namespace there back)
+        (namespace_named named) namespace_left world.namespaces h.namespaces i;
     tasks = list_left (renamed_task there back) (task_named named) task_left world.tasks h.tasks i;
     change = world.change;
   }

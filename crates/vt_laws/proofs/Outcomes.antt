@@ -13,12 +13,14 @@ use Rattle.vt_spec.specs.Language.Calls.{TaskName}
 use Rattle.vt_spec.specs.Machine.World.{World}
 
 -- what is told of the error of a result is told of it in every form
-pub error_is : {A : Type 0} (P : Deny → Type 0) (result : Result A Deny) (deny : Deny) → result ≡ Err deny → IfErr result P → P deny
+pub error_is : {A : Type 0} (P : Deny → Type 0) (result : Result A Deny) (deny : Deny) → result ≡ Err deny
+    → IfErr result P → P deny
 error_is P (Ok a) deny e h = cc
 error_is P (Err other) deny e h = let same : other ≡ deny = cc in subst P same h
 
 -- a rule is among more rules where it is among the last of them
-pub among_more : (own : List Rule) (rule : Rule) (rules : List Rule) → is_among rule rules ≡ true → is_among rule (own ++ rules) ≡ true
+pub among_more : (own : List Rule) (rule : Rule) (rules : List Rule) → is_among rule rules ≡ true
+    → is_among rule (own ++ rules) ≡ true
 among_more [] rule rules e = e
 among_more (one ∷ own) rule rules e = either (bytes_eq (rule_name one) (rule_name rule)) (among_more own rule rules e)
   where
@@ -27,9 +29,11 @@ among_more (one ∷ own) rule rules e = either (bytes_eq (rule_name one) (rule_n
     either false e = e
 
 -- and where it is among the first of them
-pub among_front : (rules more : List Rule) (rule : Rule) → is_among rule rules ≡ true → is_among rule (rules ++ more) ≡ true
+pub among_front : (rules more : List Rule) (rule : Rule) → is_among rule rules ≡ true
+    → is_among rule (rules ++ more) ≡ true
 among_front [] more rule e = cc
-among_front (one ∷ rules) more rule e = either (bytes_eq (rule_name one) (rule_name rule)) e (among_front rules more rule)
+among_front (one ∷ rules) more rule e =
+    either (bytes_eq (rule_name one) (rule_name rule)) e (among_front rules more rule)
   where
     either : (b : Bool) {c d : Bool} → (b || c) ≡ true → (c ≡ true → d ≡ true) → (b || d) ≡ true
     either true e f = refl
@@ -65,19 +69,23 @@ module _ (rules : List Rule) where
       → RefusesOwn (unless rows answer)
   unless_own [] answer own h = h
   unless_own ((true, rule) ∷ rows) answer own h = (refl, first_own (is_among rule rules) (are_own rows) own)
-  unless_own ((false, rule) ∷ rows) answer own h = unless_own rows answer (rest_own (is_among rule rules || true) (are_own rows) own) h
+  unless_own ((false, rule) ∷ rows) answer own h =
+      unless_own rows answer (rest_own (is_among rule rules || true) (are_own rows) own) h
 
-  pub and_then_own : {A B : Type 0} (first : Result A Deny) (next : A → Result B Deny) → RefusesOwn first → ((a : A) → RefusesOwn (next a))
+  pub and_then_own : {A B : Type 0} (first : Result A Deny) (next : A → Result B Deny) → RefusesOwn first
+      → ((a : A) → RefusesOwn (next a))
       → RefusesOwn (and_then first next)
   and_then_own (Ok a) next own h = h a
   and_then_own (Err deny) next own h = own
 
-  pub if_own : {A : Type 0} (test : Bool) (a b : Result A Deny) → RefusesOwn a → RefusesOwn b → RefusesOwn (cond test a b)
+  pub if_own : {A : Type 0} (test : Bool) (a b : Result A Deny) → RefusesOwn a → RefusesOwn b
+      → RefusesOwn (cond test a b)
   if_own true a b h k = h
   if_own false a b h k = k
 
   module _ {N : Type 0} where
-    pub stopped_own : {A : Type 0} (steps : List (List N)) (result : Result A Deny) → RefusesOwn result → StopsOwn (stopped_by steps result)
+    pub stopped_own : {A : Type 0} (steps : List (List N)) (result : Result A Deny) → RefusesOwn result
+        → StopsOwn (stopped_by steps result)
     stopped_own steps (Ok a) own = tt
     stopped_own steps (Err deny) own = own
 
@@ -98,10 +106,12 @@ module _ (rules : List Rule) where
     abbrev pub DeniesOwn : World N → Outcome N → Type 0
     DeniesOwn world outcome = IfErr outcome.answer (λ deny. (outcome.world ≡ world) × IsOwn deny)
 
-    pub judged_own : (world : World N) (rows : Rules) (outcome : Outcome N) → are_own rows ≡ true → DeniesOwn world outcome
+    pub judged_own : (world : World N) (rows : Rules) (outcome : Outcome N) → are_own rows ≡ true
+        → DeniesOwn world outcome
         → DeniesOwn world (judged world rows outcome)
     judged_own world [] outcome own h = h
-    judged_own world ((true, rule) ∷ rows) outcome own h = (refl, (refl, first_own (is_among rule rules) (are_own rows) own))
+    judged_own world ((true, rule) ∷ rows) outcome own h =
+        (refl, (refl, first_own (is_among rule rules) (are_own rows) own))
     judged_own world ((false, rule) ∷ rows) outcome own h =
         judged_own world rows outcome (rest_own (is_among rule rules || true) (are_own rows) own) h
 
@@ -114,7 +124,8 @@ module _ (rules : List Rule) where
     pub finished_own : (eq : N → N → Bool) (world : World N) (name : TaskName) (changed : List N) (looks : Bool)
         (answer : Result Answer Deny) (left : World N)
         → DeniesOwn world (record { answer = answer; world = left })
-        → DeniesOwn world (finished_by eq (looks || not (is_ok answer)) world name changed (record { answer = answer; world = left }))
+        → DeniesOwn world (finished_by eq (looks || not (is_ok answer)) world name changed
+        (record { answer = answer; world = left }))
     finished_own eq world name changed true answer left own = own
     finished_own eq world name changed false (Ok a) left own = tt
     finished_own eq world name changed false (Err deny) left own = own
@@ -127,7 +138,8 @@ module _ {N : Type 0} where
   judged_keeps world ((true, rule) ∷ rows) outcome e = refl
   judged_keeps world ((false, rule) ∷ rows) outcome e = judged_keeps world rows outcome e
 
-  pub after_keeps : {A : Type 0} (world : World N) (result : Result A Deny) (next : A → Outcome N) → ((a : A) → (next a).world ≡ world)
+  pub after_keeps : {A : Type 0} (world : World N) (result : Result A Deny) (next : A → Outcome N)
+      → ((a : A) → (next a).world ≡ world)
       → (after world result next).world ≡ world
   after_keeps world (Ok a) next e = e a
   after_keeps world (Err deny) next e = refl

@@ -58,7 +58,8 @@ module _ (rules : List Rule) where
   module _ {N : Type 0} (world : World N) where
     -- a walk of a call whose rules have those of walks
     walk_own : {A : Type 0} → ((rule : Rule) → is_among rule walk_rules ≡ true → is_among rule rules ≡ true)
-        → (walk : Result A (Stop N)) (next : A → Outcome N) → StopsAsWalk walk → ((a : A) → DeniesOwn rules world (next a))
+        → (walk : Result A (Stop N)) (next : A → Outcome N) → StopsAsWalk walk
+        → ((a : A) → DeniesOwn rules world (next a))
         → DeniesOwn rules world (after world (walk_end walk) next)
     walk_own more (Ok a) next own h = h a
     walk_own more (Err stop) next own h = (refl, (own.0, more stop.deny.rule own.1))
@@ -75,10 +76,12 @@ module _ (rules : List Rule) where
   copy_own b1 b2 eq false world file = refl
 
 -- the rules of walks are among those of a call with a path
-walks_of : (call : Call) → has_path call ≡ true → (rule : Rule) → is_among rule walk_rules ≡ true → is_among rule (rules_of call) ≡ true
+walks_of : (call : Call) → has_path call ≡ true → (rule : Rule) → is_among rule walk_rules ≡ true
+    → is_among rule (rules_of call) ≡ true
 walks_of call path rule among = given (has_path call) path
   where
-    given : (path : Bool) → path ≡ true → is_among rule ((S2 ∷ own_rules call) ++ (if path then walk_rules else [])) ≡ true
+    given : (path : Bool) → path ≡ true
+        → is_among rule ((S2 ∷ own_rules call) ++ (if path then walk_rules else [])) ≡ true
     given true e = among_more (S2 ∷ own_rules call) rule walk_rules among
     given false e = cc
 
@@ -88,19 +91,23 @@ found_own rules rule None own = (refl, own)
 found_own rules rule (Some object) own = tt
 
 module _ {N : Type 0} (eq : N → N → Bool) where
-  write_own : (fresh : Fresh N) (world : World N) (task : Task N) (path bytes : List ℕ) (place : Place N) (object : Option (Location N))
+  write_own : (fresh : Fresh N) (world : World N) (task : Task N) (path bytes : List ℕ) (place : Place N)
+      (object : Option (Location N))
       → DeniesOwn (rules_of (Write path bytes)) world (written eq fresh world task place bytes object)
   write_own fresh world task path bytes place (Some file) =
       let own = rules_of (Write path bytes) in
-      judged_own own world (rewrite_rules eq world task file bytes) _ (mounter_own own refl refl eq world file (SetBytes file.node bytes))
+      judged_own own world (rewrite_rules eq world task file bytes) _
+      (mounter_own own refl refl eq world file (SetBytes file.node bytes))
       tt
   write_own fresh world task path bytes place None =
       let own = rules_of (Write path bytes) in
       let change = making place (evens fresh 0) (new_file task file_mode bytes) in
       judged_own own world ((nat_lt largest_file (length bytes), E6) ∷ []) _ refl
-      (judged_own own world (make_rules eq world task place change) _ (mounter_own own refl refl eq world place.parent change) tt)
+      (judged_own own world (make_rules eq world task place change) _
+      (mounter_own own refl refl eq world place.parent change) tt)
 
-  rename_own : (fresh : Fresh N) (world : World N) (task : Task N) (old new : List ℕ) (from to : Place N) (object : Location N) (one : Bool)
+  rename_own : (fresh : Fresh N) (world : World N) (task : Task N) (old new : List ℕ) (from to : Place N)
+      (object : Location N) (one : Bool)
       → DeniesOwn (rules_of (Rename old new)) world (renamed_by eq one fresh world task from to object)
   rename_own fresh world task old new from to object true =
       judged_own (rules_of (Rename old new)) world (same_object_rules eq world from to) _ refl tt
@@ -109,21 +116,26 @@ module _ {N : Type 0} (eq : N → N → Bool) where
       judged_own own world (rename_rules eq world task from to object) _
       (mounter_own own refl refl eq world from.parent (moving from to object)) tt
 
-  overlay_own : (fresh : Fresh N) (world : World N) (task : Task N) (path : List ℕ) (options : Option OverlayWords) (flags : MountFlags)
+  overlay_own : (fresh : Fresh N) (world : World N) (task : Task N) (path : List ℕ) (options : Option OverlayWords)
+      (flags : MountFlags)
       (place : Location N) (given : Option OverlayWords)
       → DeniesOwn (rules_of (MountOverlay path options flags)) world (overlay_by eq fresh world task place given flags)
   overlay_own fresh world task path options flags place None = (refl, (refl, refl))
   overlay_own fresh world task path options flags place (Some words) =
       let own = rules_of (MountOverlay path options flags) in
       after_own own world (layers_walked eq world task words) _
-      (refuses_more own (walks_of (MountOverlay path options flags) refl) _ (layer_walks eq world task words)) (λ places.
+      (refuses_more own (walks_of (MountOverlay path options flags) refl) _ (layer_walks eq world task words))
+      (λ places.
       judged_own own world (layer_rules eq world places (overlay_at eq world task places)) _ refl
-      (judged_own own world (new_mount_rules eq world task place (overlay_mounted eq fresh world task place places flags)) _ refl tt))
+      (judged_own own world (new_mount_rules eq world task place
+      (overlay_mounted eq fresh world task place places flags)) _ refl tt))
 
   -- open(2) of a file that is there, or made, where the name may be made
-  opened_own : (fresh : Fresh N) (world : World N) (task : Task N) (path : List ℕ) (access : Access) (mode : ℕ) (place : Place N)
+  opened_own : (fresh : Fresh N) (world : World N) (task : Task N) (path : List ℕ) (access : Access) (mode : ℕ)
+      (place : Place N)
       (object : Option (Location N))
-      → DeniesOwn (rules_of (OpenFile path access (OrCreate mode))) world (opened_or_created eq fresh world task place access mode object)
+      → DeniesOwn (rules_of (OpenFile path access (OrCreate mode))) world
+      (opened_or_created eq fresh world task place access mode object)
   opened_own fresh world task path access mode place (Some file) =
       let own = rules_of (OpenFile path access (OrCreate mode)) in
       judged_own own world (open_rules eq world task file access) _
@@ -131,38 +143,49 @@ module _ {N : Type 0} (eq : N → N → Bool) where
   opened_own fresh world task path access mode place None =
       let own = rules_of (OpenFile path access (OrCreate mode)) in
       let change = making place (evens fresh 0) (new_file task mode []) in
-      judged_own own world (make_rules eq world task place change) _ (mounter_own own refl refl eq world place.parent change) tt
+      judged_own own world (make_rules eq world task place change) _
+      (mounter_own own refl refl eq world place.parent change) tt
 
-  open_own : (fresh : Fresh N) (world : World N) (task : Task N) (path : List ℕ) (reads writes : Bool) (creation : Creation)
+  open_own : (fresh : Fresh N) (world : World N) (task : Task N) (path : List ℕ) (reads writes : Bool)
+      (creation : Creation)
       → DeniesOwn (rules_of (OpenFile path (record { reads = reads; writes = writes }) creation)) world
       (open_outcome eq fresh world task path (record { reads = reads; writes = writes }) creation)
   unfolding open_outcome
   open_own fresh world task path reads false NoCreation =
       let call = OpenFile path (record { reads = reads; writes = false }) NoCreation in
       judged_own (rules_of call) world (descriptor_rules task) _ refl
-      (walk_own (rules_of call) world (walks_of call refl) (object_walk eq world task path) _ (object_walks eq world task path) (λ here.
-      judged_own (rules_of call) world (open_rules eq world task here.location (record { reads = reads; writes = false })) _ refl tt))
+      (walk_own (rules_of call) world (walks_of call refl) (object_walk eq world task path) _
+      (object_walks eq world task path) (λ here.
+      judged_own (rules_of call) world
+      (open_rules eq world task here.location (record { reads = reads; writes = false })) _ refl tt))
   open_own fresh world task path reads true NoCreation =
       let call = OpenFile path (record { reads = reads; writes = true }) NoCreation in
       judged_own (rules_of call) world (descriptor_rules task) _ refl
-      (walk_own (rules_of call) world (walks_of call refl) (object_walk eq world task path) _ (object_walks eq world task path) (λ here.
-      judged_own (rules_of call) world (open_rules eq world task here.location (record { reads = reads; writes = true })) _
-      (copy_own (rules_of call) refl refl eq (is_copied_up eq world here.location (record { reads = reads; writes = true })) world
+      (walk_own (rules_of call) world (walks_of call refl) (object_walk eq world task path) _
+      (object_walks eq world task path) (λ here.
+      judged_own (rules_of call) world
+      (open_rules eq world task here.location (record { reads = reads; writes = true })) _
+      (copy_own (rules_of call) refl refl eq
+      (is_copied_up eq world here.location (record { reads = reads; writes = true })) world
       here.location) tt))
   open_own fresh world task path reads writes (OrCreate mode) =
       let access : Access = record { reads = reads; writes = writes } in
       let call = OpenFile path access (OrCreate mode) in
       judged_own (rules_of call) world (descriptor_rules task) _ refl
-      (walk_own (rules_of call) world (walks_of call refl) (file_walk eq world task path) _ (file_walks eq world task path) (λ place.
+      (walk_own (rules_of call) world (walks_of call refl) (file_walk eq world task path) _
+      (file_walks eq world task path) (λ place.
       judged_own (rules_of call) world (file_word_rules place) _ refl
       (opened_own fresh world task path access mode place place.object)))
   open_own fresh world task path reads writes (Exclusive mode) =
       let call = OpenFile path (record { reads = reads; writes = writes }) (Exclusive mode) in
       judged_own (rules_of call) world (descriptor_rules task) _ refl
-      (walk_own (rules_of call) world (walks_of call refl) (new_walk eq world task path) _ (new_walks eq world task path) (λ place.
+      (walk_own (rules_of call) world (walks_of call refl) (new_walk eq world task path) _
+      (new_walks eq world task path) (λ place.
       judged_own (rules_of call) world (exclusive_word_rules place) _ refl
-      (judged_own (rules_of call) world (make_rules eq world task place (making place (evens fresh 0) (new_file task mode []))) _
-      (mounter_own (rules_of call) refl refl eq world place.parent (making place (evens fresh 0) (new_file task mode []))) tt)))
+      (judged_own (rules_of call) world
+      (make_rules eq world task place (making place (evens fresh 0) (new_file task mode []))) _
+      (mounter_own (rules_of call) refl refl eq world place.parent
+      (making place (evens fresh 0) (new_file task mode []))) tt)))
 
   -- the outcome of each call
   call_own : (fresh : Fresh N) (world : World N) (task : Task N) (call : Call)
@@ -174,36 +197,44 @@ module _ {N : Type 0} (eq : N → N → Bool) where
       move_outcome umount_outcome lazy_outcome remount_outcome type_outcome pivot_outcome mounts_outcome
   call_own fresh world task (Ls path) =
       let own = rules_of (Ls path) in
-      walk_own own world (walks_of (Ls path) refl) (directory_walk eq world task path) _ (directory_walks eq world task path) (λ here.
+      walk_own own world (walks_of (Ls path) refl) (directory_walk eq world task path) _
+      (directory_walks eq world task path) (λ here.
       judged_own own world (list_rules eq world task here.location) _ refl tt)
   call_own fresh world task (Stat path) =
       let own = rules_of (Stat path) in
-      walk_own own world (walks_of (Stat path) refl) (object_walk eq world task path) _ (object_walks eq world task path) (λ here.
+      walk_own own world (walks_of (Stat path) refl) (object_walk eq world task path) _
+      (object_walks eq world task path) (λ here.
       tt)
   call_own fresh world task (Lstat path) =
       let own = rules_of (Lstat path) in
-      walk_own own world (walks_of (Lstat path) refl) (symlink_walk eq world task path) _ (leaf_walks eq world task path) (λ here.
+      walk_own own world (walks_of (Lstat path) refl) (symlink_walk eq world task path) _
+      (leaf_walks eq world task path) (λ here.
       tt)
   call_own fresh world task (Readlink path) =
       let own = rules_of (Readlink path) in
-      walk_own own world (walks_of (Readlink path) refl) (symlink_walk eq world task path) _ (leaf_walks eq world task path) (λ here.
+      walk_own own world (walks_of (Readlink path) refl) (symlink_walk eq world task path) _
+      (leaf_walks eq world task path) (λ here.
       judged_own own world (readlink_rules eq world here.location) _ refl tt)
   call_own fresh world task (Read path) =
       let own = rules_of (Read path) in
-      walk_own own world (walks_of (Read path) refl) (object_walk eq world task path) _ (object_walks eq world task path) (λ here.
+      walk_own own world (walks_of (Read path) refl) (object_walk eq world task path) _
+      (object_walks eq world task path) (λ here.
       judged_own own world (read_rules eq world task here.location) _ refl tt)
   call_own fresh world task (Write path bytes) =
       let own = rules_of (Write path bytes) in
-      walk_own own world (walks_of (Write path bytes) refl) (file_walk eq world task path) _ (file_walks eq world task path) (λ place.
+      walk_own own world (walks_of (Write path bytes) refl) (file_walk eq world task path) _
+      (file_walks eq world task path) (λ place.
       judged_own own world (file_word_rules place) _ refl
       (write_own fresh world task path bytes place place.object))
   call_own fresh world task (Exec path) =
       let own = rules_of (Exec path) in
-      walk_own own world (walks_of (Exec path) refl) (object_walk eq world task path) _ (object_walks eq world task path) (λ here.
+      walk_own own world (walks_of (Exec path) refl) (object_walk eq world task path) _
+      (object_walks eq world task path) (λ here.
       judged_own own world (exec_rules eq world task here.location) _ refl tt)
   call_own fresh world task (Mkdir path mode) =
       let own = rules_of (Mkdir path mode) in
-      walk_own own world (walks_of (Mkdir path mode) refl) (new_walk eq world task path) _ (new_walks eq world task path) (λ place.
+      walk_own own world (walks_of (Mkdir path mode) refl) (new_walk eq world task path) _
+      (new_walks eq world task path) (λ place.
       judged_own own world
       (new_rules eq fresh world task place
       (record { attr = new_attr task (unwrap_or mode directory_mode); content = new_directory place.parent.node })) _
@@ -213,46 +244,57 @@ module _ {N : Type 0} (eq : N → N → Bool) where
   call_own fresh world task (SymlinkAt text path) =
       let own = rules_of (SymlinkAt text path) in
       judged_own own world (symlink_text_rules text) _ refl
-      (walk_own own world (walks_of (SymlinkAt text path) refl) (new_leaf_walk eq world task path) _ (new_leaf_walks eq world task path)
+      (walk_own own world (walks_of (SymlinkAt text path) refl) (new_leaf_walk eq world task path) _
+      (new_leaf_walks eq world task path)
       (λ place.
-      judged_own own world (new_rules eq fresh world task place (record { attr = exact_attr task symlink_mode; content = Symlink text })) _
+      judged_own own world (new_rules eq fresh world task place
+      (record { attr = exact_attr task symlink_mode; content = Symlink text })) _
       (mounter_own own refl refl eq world place.parent
       (making place (evens fresh 0) (record { attr = exact_attr task symlink_mode; content = Symlink text }))) tt))
   call_own fresh world task (MakeWhiteout path) =
       let own = rules_of (MakeWhiteout path) in
-      walk_own own world (walks_of (MakeWhiteout path) refl) (new_leaf_walk eq world task path) _ (new_leaf_walks eq world task path)
+      walk_own own world (walks_of (MakeWhiteout path) refl) (new_leaf_walk eq world task path) _
+      (new_leaf_walks eq world task path)
       (λ place.
       judged_own own world (whiteout_rules eq world task place) _ refl tt)
   call_own fresh world task (LinkTo old new) =
       let own = rules_of (LinkTo old new) in
-      walk_own own world (walks_of (LinkTo old new) refl) (symlink_walk eq world task old) _ (leaf_walks eq world task old) (λ from.
-      walk_own own world (walks_of (LinkTo old new) refl) (new_leaf_walk eq world task new) _ (new_leaf_walks eq world task new) (λ place.
+      walk_own own world (walks_of (LinkTo old new) refl) (symlink_walk eq world task old) _
+      (leaf_walks eq world task old) (λ from.
+      walk_own own world (walks_of (LinkTo old new) refl) (new_leaf_walk eq world task new) _
+      (new_leaf_walks eq world task new) (λ place.
       judged_own own world ((is_special place.last, E1) ∷ []) _ refl
       (judged_own own world (hard_link_rules eq world task from.location place (linking from.location place)) _
       (mounter_own own refl refl eq world place.parent (linking from.location place)) tt)))
   call_own fresh world task (Unlink path) =
       let own = rules_of (Unlink path) in
-      walk_own own world (walks_of (Unlink path) refl) (old_leaf_walk eq world task path) _ (old_leaf_walks eq world task path) (λ place.
+      walk_own own world (walks_of (Unlink path) refl) (old_leaf_walk eq world task path) _
+      (old_leaf_walks eq world task path) (λ place.
       judged_own own world ((is_special place.last, E2) ∷ []) _ refl
       (judged_own own world (unlink_rules eq world task place (object_there place)) _
       (mounter_own own refl refl eq world place.parent (removing place (object_there place))) tt))
   call_own fresh world task (Rmdir path) =
       let own = rules_of (Rmdir path) in
-      walk_own own world (walks_of (Rmdir path) refl) (old_walk eq world task path) _ (old_walks eq world task path) (λ place.
+      walk_own own world (walks_of (Rmdir path) refl) (old_walk eq world task path) _ (old_walks eq world task path)
+      (λ place.
       judged_own own world (rmdir_word_rules place) _ refl
       (judged_own own world (rmdir_rules eq world task place (object_there place)) _
       (mounter_own own refl refl eq world place.parent (removing place (object_there place))) tt))
   call_own fresh world task (Rename old new) =
       let own = rules_of (Rename old new) in
-      walk_own own world (walks_of (Rename old new) refl) (old_leaf_walk eq world task old) _ (old_leaf_walks eq world task old) (λ from.
+      walk_own own world (walks_of (Rename old new) refl) (old_leaf_walk eq world task old) _
+      (old_leaf_walks eq world task old) (λ from.
       judged_own own world (old_word_rules from) _ refl
-      (walk_own own world (walks_of (Rename old new) refl) (rename_new_walk eq world task new (is_directory_there eq world from)) _
+      (walk_own own world (walks_of (Rename old new) refl)
+      (rename_new_walk eq world task new (is_directory_there eq world from)) _
       (rename_new_walks eq world task new (is_directory_there eq world from)) (λ to.
       judged_own own world (old_word_rules to) _ refl
-      (rename_own fresh world task old new from to (object_there from) (is_one_object eq world (object_there from) to.object)))))
+      (rename_own fresh world task old new from to (object_there from)
+      (is_one_object eq world (object_there from) to.object)))))
   call_own fresh world task (Chmod path mode) =
       let own = rules_of (Chmod path mode) in
-      walk_own own world (walks_of (Chmod path mode) refl) (object_walk eq world task path) _ (object_walks eq world task path) (λ here.
+      walk_own own world (walks_of (Chmod path mode) refl) (object_walk eq world task path) _
+      (object_walks eq world task path) (λ here.
       judged_own own world
       (attr_rules eq world here.location (owns task.credentials (attr_at eq world here.location))
       (attr_with_mode (attr_at eq world here.location) mode)) _
@@ -260,38 +302,47 @@ module _ {N : Type 0} (eq : N → N → Bool) where
       (SetAttr here.location.node (attr_with_mode (attr_at eq world here.location) mode))) tt)
   call_own fresh world task (Chown path uid gid) =
       let own = rules_of (Chown path uid gid) in
-      walk_own own world (walks_of (Chown path uid gid) refl) (object_walk eq world task path) _ (object_walks eq world task path) (λ here.
+      walk_own own world (walks_of (Chown path uid gid) refl) (object_walk eq world task path) _
+      (object_walks eq world task path) (λ here.
       judged_own own world
       (attr_rules eq world here.location
-      (may_chown task.credentials (attr_at eq world here.location) (attr_with_owner (attr_at eq world here.location) uid gid))
+      (may_chown task.credentials (attr_at eq world here.location)
+      (attr_with_owner (attr_at eq world here.location) uid gid))
       (attr_with_owner (attr_at eq world here.location) uid gid)) _
       (mounter_own own refl refl eq world here.location
       (SetAttr here.location.node (attr_with_owner (attr_at eq world here.location) uid gid))) tt)
   call_own fresh world task (Opaque path mark) =
       let own = rules_of (Opaque path mark) in
       judged_own own world ((lacks task cap_sys_admin, K1) ∷ []) _ refl
-      (walk_own own world (walks_of (Opaque path mark) refl) (directory_walk eq world task path) _ (directory_walks eq world task path)
+      (walk_own own world (walks_of (Opaque path mark) refl) (directory_walk eq world task path) _
+      (directory_walks eq world task path)
       (λ here.
       judged_own own world (opaque_rules eq world here.location) _ refl tt))
-  call_own fresh world task (OpenFile path access creation) = open_own fresh world task path access.reads access.writes creation
+  call_own fresh world task (OpenFile path access creation) =
+      open_own fresh world task path access.reads access.writes creation
   call_own fresh world task (Pread number offset size) =
       let own = rules_of (Pread number offset size) in
-      after_own own world (descriptor_at task number (λ descriptor. descriptor.reads)) _ (found_own own S4 _ refl) (λ descriptor. tt)
+      after_own own world (descriptor_at task number (λ descriptor. descriptor.reads)) _ (found_own own S4 _ refl)
+      (λ descriptor. tt)
   call_own fresh world task (Pwrite number offset bytes) =
       let own = rules_of (Pwrite number offset bytes) in
-      after_own own world (descriptor_at task number (λ descriptor. descriptor.writes)) _ (found_own own S4 _ refl) (λ descriptor.
+      after_own own world (descriptor_at task number (λ descriptor. descriptor.writes)) _ (found_own own S4 _ refl)
+      (λ descriptor.
       judged_own own world (pwrite_rules eq world descriptor.location offset bytes) _ refl tt)
   call_own fresh world task (Close number) =
       let own = rules_of (Close number) in
-      after_own own world (descriptor_at task number (λ descriptor. true)) _ (found_own own S4 _ refl) (λ descriptor. tt)
+      after_own own world (descriptor_at task number (λ descriptor. true)) _ (found_own own S4 _ refl)
+      (λ descriptor. tt)
   call_own fresh world task (Chdir path) =
       let own = rules_of (Chdir path) in
-      walk_own own world (walks_of (Chdir path) refl) (directory_walk eq world task path) _ (directory_walks eq world task path) (λ here.
+      walk_own own world (walks_of (Chdir path) refl) (directory_walk eq world task path) _
+      (directory_walks eq world task path) (λ here.
       judged_own own world (enter_rules eq world task here.location) _ refl tt)
   call_own fresh world task (Chroot path) =
       let own = rules_of (Chroot path) in
       judged_own own world ((lacks task cap_sys_chroot, K1) ∷ []) _ refl
-      (walk_own own world (walks_of (Chroot path) refl) (directory_walk eq world task path) _ (directory_walks eq world task path) (λ here.
+      (walk_own own world (walks_of (Chroot path) refl) (directory_walk eq world task path) _
+      (directory_walks eq world task path) (λ here.
       judged_own own world (enter_rules eq world task here.location) _ refl tt))
   call_own fresh world task (Umask mode) = tt
   call_own fresh world task (Drop which) = tt
@@ -299,10 +350,12 @@ module _ {N : Type 0} (eq : N → N → Bool) where
       let own = rules_of (Fork words) in
       judged_own own world (fork_rules task (child_credentials task.credentials words)) _ refl tt
   call_own fresh world task Exit = tt
-  call_own fresh world task Unshare = judged_own (rules_of Unshare) world ((lacks task cap_sys_admin, K1) ∷ []) _ refl tt
+  call_own fresh world task Unshare =
+      judged_own (rules_of Unshare) world ((lacks task cap_sys_admin, K1) ∷ []) _ refl tt
   call_own fresh world task (Setns name) =
       let own = rules_of (Setns name) in
-      after_own own world (ok_or (task_called world name) (denial S2)) _ (found_own own S2 (task_called world name) refl) (λ target.
+      after_own own world (ok_or (task_called world name) (denial S2)) _
+      (found_own own S2 (task_called world name) refl) (λ target.
       judged_own own world ((lacks task cap_sys_admin || lacks task cap_sys_chroot, K1) ∷ []) _ refl tt)
   call_own fresh world task (MountPlain path flags) =
       let own = rules_of (MountPlain path flags) in
@@ -310,7 +363,8 @@ module _ {N : Type 0} (eq : N → N → Bool) where
       (walk_own own world (walks_of (MountPlain path flags) refl) (destination_walk eq world task path) _
       (destination_walks eq world task path) (λ here.
       judged_own own world
-      (new_mount_rules eq world task here.location (mounted eq (odds fresh) world here.location (plain_filesystem eq fresh) flags)) _
+      (new_mount_rules eq world task here.location
+      (mounted eq (odds fresh) world here.location (plain_filesystem eq fresh) flags)) _
       refl tt))
   call_own fresh world task (MountOverlay path options flags) =
       let own = rules_of (MountOverlay path options flags) in
@@ -326,31 +380,37 @@ module _ {N : Type 0} (eq : N → N → Bool) where
       walk_own own world (walks_of (Bind source path recursive) refl) (destination_walk eq world task path) _
       (destination_walks eq world task path) (λ here.
       judged_own own world
-      (bind_rules eq world task from.location here.location (bound_at eq fresh world from.location here.location recursive)) _ refl
+      (bind_rules eq world task from.location here.location
+      (bound_at eq fresh world from.location here.location recursive)) _ refl
       tt)))
   call_own fresh world task (MoveMount source path) =
       let own = rules_of (MoveMount source path) in
       judged_own own world (admin_rules task) _ refl
-      (walk_own own world (walks_of (MoveMount source path) refl) (source_walk eq world task source) _ (source_walks eq world task source)
+      (walk_own own world (walks_of (MoveMount source path) refl) (source_walk eq world task source) _
+      (source_walks eq world task source)
       (λ from.
       walk_own own world (walks_of (MoveMount source path) refl) (destination_walk eq world task path) _
       (destination_walks eq world task path) (λ here.
-      judged_own own world (move_rules eq world task from.location here.location (moved_to eq fresh world from.location here.location)) _
+      judged_own own world (move_rules eq world task from.location here.location
+      (moved_to eq fresh world from.location here.location)) _
       refl tt)))
   call_own fresh world task (Umount path) =
       let own = rules_of (Umount path) in
       judged_own own world (admin_rules task) _ refl
-      (walk_own own world (walks_of (Umount path) refl) (directory_walk eq world task path) _ (directory_walks eq world task path) (λ here.
+      (walk_own own world (walks_of (Umount path) refl) (directory_walk eq world task path) _
+      (directory_walks eq world task path) (λ here.
       judged_own own world (umount_rules eq world task here.location) _ refl tt))
   call_own fresh world task (Lazy path) =
       let own = rules_of (Lazy path) in
       judged_own own world (admin_rules task) _ refl
-      (walk_own own world (walks_of (Lazy path) refl) (directory_walk eq world task path) _ (directory_walks eq world task path) (λ here.
+      (walk_own own world (walks_of (Lazy path) refl) (directory_walk eq world task path) _
+      (directory_walks eq world task path) (λ here.
       judged_own own world (lazy_rules eq world task here.location) _ refl tt))
   call_own fresh world task (Remount path flags) =
       let own = rules_of (Remount path flags) in
       judged_own own world (admin_rules task) _ refl
-      (walk_own own world (walks_of (Remount path flags) refl) (directory_walk eq world task path) _ (directory_walks eq world task path)
+      (walk_own own world (walks_of (Remount path flags) refl) (directory_walk eq world task path) _
+      (directory_walks eq world task path)
       (λ here.
       judged_own own world (remount_rules eq world task here.location flags) _ refl tt))
   call_own fresh world task (SetType path word recursive) =
@@ -362,8 +422,10 @@ module _ {N : Type 0} (eq : N → N → Bool) where
   call_own fresh world task (PivotRoot new put) =
       let own = rules_of (PivotRoot new put) in
       judged_own own world (admin_rules task) _ refl
-      (walk_own own world (walks_of (PivotRoot new put) refl) (source_walk eq world task new) _ (source_walks eq world task new) (λ root.
-      walk_own own world (walks_of (PivotRoot new put) refl) (destination_walk eq world task put) _ (destination_walks eq world task put)
+      (walk_own own world (walks_of (PivotRoot new put) refl) (source_walk eq world task new) _
+      (source_walks eq world task new) (λ root.
+      walk_own own world (walks_of (PivotRoot new put) refl) (destination_walk eq world task put) _
+      (destination_walks eq world task put)
       (λ here.
       judged_own own world (pivot_rules eq world task root.location here.location) _ refl tt)))
   call_own fresh world task ListMounts = tt
@@ -379,7 +441,8 @@ module _ {N : Type 0} (eq : N → N → Bool) where
       (call_own fresh world task call))
 
 -- of a denial that leaves the world and is by its own rules, either holds
-parts_denied : {A : Type 0} (P : Type 0) (Q : Deny → Type 0) (answer : Result A Deny) → IfErr answer (λ deny. P × Q deny)
+parts_denied : {A : Type 0} (P : Type 0) (Q : Deny → Type 0) (answer : Result A Deny)
+    → IfErr answer (λ deny. P × Q deny)
     → IfErr answer (λ deny. P) × IfErr answer Q
 parts_denied P Q (Ok a) h = (tt, tt)
 parts_denied P Q (Err deny) h = h
@@ -388,7 +451,8 @@ pub policy_refuses_own : (fresh : Fresh ℕ) (world : World ℕ) (name : TaskNam
     → IfErr (policy nat_eq fresh world name call).answer (λ deny. (policy nat_eq fresh world name call).world ≡ world)
     × IfErr (policy nat_eq fresh world name call).answer (IsOwn (rules_of call))
 policy_refuses_own fresh world name call =
-    parts_denied ((policy nat_eq fresh world name call).world ≡ world) (IsOwn (rules_of call)) (policy nat_eq fresh world name call).answer
+    parts_denied ((policy nat_eq fresh world name call).world ≡ world) (IsOwn (rules_of call))
+    (policy nat_eq fresh world name call).answer
     (policy_own nat_eq fresh world name call)
 
 -- what holds of a denial of the policy

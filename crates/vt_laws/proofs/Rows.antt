@@ -1,5 +1,5 @@
--- Rows of numbers, each number at one place of one row: the first four stand first in the first row, and all others along the
--- diagonals.
+-- Rows of numbers, each number at one place of one row: the first four stand first in the first row, and all others
+-- along the diagonals.
 use Rattle.std.proofs.Common.{◌≡◌, refl, sym, ap, ◌∙◌, ℕ, zero, suc, ◌+◌, ◌-◌, ◌<◌, ◌≤◌, Bool, true, false, nat_lt, arith}
 use Rattle.std.proofs.lemmas.Bool.{le-ltb, lt-ltb, ltb-false, ltb-true}
 use Rattle.vt_laws.proofs.Cells.{cell, cell-number_in_row, number_in_row, number_in_row-cell, numbers_before-sum}
@@ -60,7 +60,8 @@ row_above number a b e =
 col_above : (number a b : ℕ) → number ≡ 4 + number_in_row a b → col number ≡ place_in a b
 unfolding col col_by
 col_above number a b e =
-    ap (λ t. col_by t number) (le-ltb number 4 (omega arith)) ∙ ap (λ (c : ℕ × ℕ). place_in c.0 c.1) (cell_above number a b e)
+    ap (λ t. col_by t number) (le-ltb number 4 (omega arith))
+    ∙ ap (λ (c : ℕ × ℕ). place_in c.0 c.1) (cell_above number a b e)
 
 spread_later : (place : ℕ) → 4 ≤ place → spread 0 place ≡ 4 + number_in_row 0 (place - 4)
 unfolding spread first_row

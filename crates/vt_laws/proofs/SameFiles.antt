@@ -124,6 +124,7 @@ pub directory_same : (one other : FileTree ℕ) → SameFiles one other → (obj
 directory_same one other same object alone =
     ap option_to_list
     (first_named one.tree object one.numbers
-    ∙ one_found (λ directory. has_entry_to nat_eq one.tree directory object) one.numbers other.numbers same.numbers alone
+    ∙ one_found (λ directory.
+    has_entry_to nat_eq one.tree directory object) one.numbers other.numbers same.numbers alone
     ∙ (λ i. find (λ directory. has_entry_to nat_eq (same.tree i) directory object) other.numbers)
     ∙ sym (first_named other.tree object other.numbers))

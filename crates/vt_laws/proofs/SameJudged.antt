@@ -26,13 +26,16 @@ locations_bare [] = refl
 locations_bare (task ∷ tasks) = ap (λ rest. locations_of task ++ rest) (locations_bare tasks)
 
 written_bare : (mount : ℕ) (tasks : List (Task ℕ))
-    → list_any (λ (task : Task ℕ). list_any (λ descriptor. descriptor.writes && nat_eq mount descriptor.location.mount) task.descriptors)
+    → list_any (λ (task : Task ℕ). list_any
+    (λ descriptor. descriptor.writes && nat_eq mount descriptor.location.mount) task.descriptors)
     (map bare_task tasks)
-    ≡ list_any (λ (task : Task ℕ). list_any (λ descriptor. descriptor.writes && nat_eq mount descriptor.location.mount) task.descriptors)
+    ≡ list_any (λ (task : Task ℕ). list_any
+    (λ descriptor. descriptor.writes && nat_eq mount descriptor.location.mount) task.descriptors)
     tasks
 written_bare mount [] = refl
 written_bare mount (task ∷ tasks) =
-    ap (λ rest. list_any (λ descriptor. descriptor.writes && nat_eq mount descriptor.location.mount) task.descriptors || rest)
+    ap (λ rest. list_any (λ descriptor. descriptor.writes && nat_eq mount descriptor.location.mount) task.descriptors
+    || rest)
     (written_bare mount tasks)
 
 namespace_bare : (name : TaskName) (tasks : List (Task ℕ))

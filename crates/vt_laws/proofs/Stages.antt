@@ -62,8 +62,8 @@ side_says (suc m) (suc r) = one_more (side m r) (side_says m r)
 says : (m r : ℕ) (s : Side) → side m r ≡ s → Says m r s
 says m r s e = subst (Says m r) e (side_says m r)
 
--- The allotment in which the numbers of the row after `m` are new. A number of the rows before that is not kept is left over:
--- it stands first in its own line of cells, and the numbers of a later row behind it.
+-- The allotment in which the numbers of the row after `m` are new. A number of the rows before that is not kept is left
+-- over: it stands first in its own line of cells, and the numbers of a later row behind it.
 module _ (m : ℕ) (keeps : ℕ → Bool) (early : (number : ℕ) → keeps number ≡ true → row number ≤ m) where
   -- the place of a number of a later row, behind a number that may be left over
   shift_by : Bool → Side → ℕ → ℕ
@@ -137,15 +137,18 @@ module _ (m : ℕ) (keeps : ℕ → Bool) (early : (number : ℕ) → keeps numb
           → lot_of (spread (beyond m a) k) ≡ LeftOver (number_in_row a (shift_by test s k))
       with_shift test is s at k = lot_late a k ∙ (λ i. LeftOver (number_in_row a (shift_by (is i) (at i) k)))
 
-      opened : (test : Bool) → keeps a ≡ test → (s : Side) → side m (row a) ≡ s → (k : ℕ) → left_at a k ≡ later_by test s a k
+      opened : (test : Bool) → keeps a ≡ test → (s : Side) → side m (row a) ≡ s → (k : ℕ)
+          → left_at a k ≡ later_by test s a k
       opened test is s at k = λ i. later_by (is i) (at i) a k
 
-      by : (test : Bool) → keeps a ≡ test → (s : Side) → side m (row a) ≡ s → (k : ℕ) → lot_of (left_at a k) ≡ LeftOver (number_in_row a k)
+      by : (test : Bool) → keeps a ≡ test → (s : Side) → side m (row a) ≡ s → (k : ℕ)
+          → lot_of (left_at a k) ≡ LeftOver (number_in_row a k)
       by true is s at k = ap lot_of (opened true is s at k) ∙ with_shift true is s at k
       by false is Before at zero = ap lot_of (opened false is Before at zero) ∙ (λ i. lot_by (is i) (at i) a)
       by false is Before at (suc k) = ap lot_of (opened false is Before at (suc k)) ∙ with_shift false is Before at k
       by false is At at k = ap lot_of (opened false is At at k) ∙ with_shift false is At at k
-      by false is (Beyond further) at k = ap lot_of (opened false is (Beyond further) at k) ∙ with_shift false is (Beyond further) at k
+      by false is (Beyond further) at k =
+          ap lot_of (opened false is (Beyond further) at k) ∙ with_shift false is (Beyond further) at k
 
   pub left_is_left : (k : ℕ) → lot_of (left_of k) ≡ LeftOver k
   unfolding left_of
@@ -175,10 +178,12 @@ module _ (m : ℕ) (keeps : ℕ → Bool) (early : (number : ℕ) → keeps numb
   unfolding lot_of lot_by back_of left_at later_by Says
   lot_back number = by (keeps number) refl (side m (row number)) refl
     where
-      by : (test : Bool) → keeps number ≡ test → (s : Side) → side m (row number) ≡ s → back_of (lot_of number) number ≡ number
+      by : (test : Bool) → keeps number ≡ test → (s : Side) → side m (row number) ≡ s
+          → back_of (lot_of number) number ≡ number
       by true is s at = λ i. back_of (lot_by (is i) (side m (row number)) number) number
       by false is Before at =
-          (λ i. back_of (lot_by (is i) (at i) number) number) ∙ left_place number 0 ∙ (λ i. later_by (is i) (at i) number 0)
+          (λ i. back_of (lot_by (is i) (at i) number) number) ∙ left_place number 0
+          ∙ (λ i. later_by (is i) (at i) number 0)
       by false is At at =
           (λ i. back_of (lot_by (is i) (at i) number) number)
           ∙ ap (λ r. spread r (col number)) (sym (says m (row number) At at)) ∙ spread-row number

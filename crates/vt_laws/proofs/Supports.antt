@@ -31,7 +31,8 @@ step_world-renamed renaming world (Answered outcome) = refl
 pub lines_keep_to_numbers : LinesKeepToNumbers
 lines_keep_to_numbers named grammar fresh world line keeps supplied renaming leaves =
     sym (step_world-renamed renaming world (line_step nat_eq grammar world line (Some fresh)))
-    ∙ ap (step_world (renamed renaming.there renaming.back world)) (sym (lines_renamed renaming grammar (Some fresh) world line))
+    ∙ ap (step_world (renamed renaming.there renaming.back world))
+    (sym (lines_renamed renaming grammar (Some fresh) world line))
     ∙ (λ i. step_world (keeps renaming leaves i)
     (line_step nat_eq grammar (keeps renaming leaves i) line (Some (λ k. leaves (fresh k) (supplied k) i))))
 
@@ -44,25 +45,33 @@ named_supply = record { rename = λ A B there back fresh k. there (fresh k); its
 four : ℕ → ℕ → ℕ → ℕ → Fresh ℕ
 four a b c d k = cond (nat_eq k 0) a (cond (nat_eq k 1) b (cond (nat_eq k 2) c d))
 
-pub opening_alike : (f g : Fresh ℕ) → f 0 ≡ g 0 → f 1 ≡ g 1 → f 2 ≡ g 2 → f 3 ≡ g 3 → opening nat_eq f ≡ opening nat_eq g
+pub opening_alike : (f g : Fresh ℕ) → f 0 ≡ g 0 → f 1 ≡ g 1 → f 2 ≡ g 2 → f 3 ≡ g 3
+    → opening nat_eq f ≡ opening nat_eq g
 unfolding four
-opening_alike f g mount namespace filesystem root = λ i. opening nat_eq (four (mount i) (namespace i) (filesystem i) (root i))
+opening_alike f g mount namespace filesystem root =
+    λ i. opening nat_eq (four (mount i) (namespace i) (filesystem i) (root i))
 
 pub opening_keeps_to_four : OpeningKeepsToFour
 unfolding named_supply
 opening_keeps_to_four named fresh mount namespace filesystem root renaming leaves =
     sym (commutes_nat Fresh World named_supply named_world (λ A eq fresh. opening eq fresh) renaming fresh)
-    ∙ opening_alike (λ k. renaming.there (fresh k)) fresh (leaves _ mount) (leaves _ namespace) (leaves _ filesystem) (leaves _ root)
+    ∙ opening_alike (λ k. renaming.there (fresh k)) fresh (leaves _ mount) (leaves _ namespace) (leaves _ filesystem)
+    (leaves _ root)
 
 -- Numbers in use
 
 named_list : Named List
-named_list = record { rename = λ A B there back list. map there list; itself = λ A list. map_itself (λ n. n) (λ n. refl) list }
+named_list = record {
+  rename = λ A B there back list. map there list;
+  itself = λ A list.
+      map_itself (λ n. n) (λ n. refl) list;
+}
 
 used_renamed : (renaming : Renaming ℕ ℕ) (world : World ℕ)
     → numbers_in_use (renamed renaming.there renaming.back world) ≡ map renaming.there (numbers_in_use world)
 unfolding named_list
-used_renamed renaming world = commutes_nat World List named_world named_list (λ A eq world. numbers_in_use world) renaming world
+used_renamed renaming world = commutes_nat World List named_world named_list
+    (λ A eq world. numbers_in_use world) renaming world
 
 same_first : (a b : ℕ) (as_list bs : List ℕ) → (a ∷ as_list) ≡ (b ∷ bs) → a ≡ b
 same_first a b as_list bs e = cc
@@ -71,7 +80,8 @@ same_rest : (a b : ℕ) (as_list bs : List ℕ) → (a ∷ as_list) ≡ (b ∷ b
 same_rest a b as_list bs e = cc
 
 -- what is in a list that is mapped to itself is mapped to itself
-member_itself : (f : ℕ → ℕ) (list : List ℕ) → map f list ≡ list → (number : ℕ) → is_among nat_eq number list ≡ true → f number ≡ number
+member_itself : (f : ℕ → ℕ) (list : List ℕ) → map f list ≡ list → (number : ℕ) → is_among nat_eq number list ≡ true
+    → f number ≡ number
 member_itself f [] same number among = absurd (true≢false (sym among))
 member_itself f (first ∷ rest) same number among =
     ⊎_elim
@@ -81,7 +91,8 @@ member_itself f (first ∷ rest) same number among =
     (eqb_tells number first)
 
 -- Of two numbers that are left out one is another than the number given
-other_left : (named : ℕ → Bool) → LeavesOutTwo named → (number : ℕ) → (other : ℕ) × (other ≢ number) × (named other ≡ false)
+other_left : (named : ℕ → Bool) → LeavesOutTwo named → (number : ℕ)
+    → (other : ℕ) × (other ≢ number) × (named other ≡ false)
 other_left named out number =
     ⊎_elim
     (λ t. (out.1, (λ e. out.2 (t.1 ∙ sym e)), out.4))

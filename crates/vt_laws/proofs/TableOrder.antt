@@ -50,7 +50,8 @@ ok_words ((true, rule) ∷ rows) last h = tt
 ok_words ((false, rule) ∷ rows) last h = ok_words rows last h
 
 -- what the mounter is asked stands after the rules of the caller
-mounter_in_order : (least : ℕ) → nat_le least (rank B1) ≡ true → (world : World ℕ) (location : Location ℕ) (change : Change ℕ)
+mounter_in_order : (least : ℕ) → nat_le least (rank B1) ≡ true
+    → (world : World ℕ) (location : Location ℕ) (change : Change ℕ)
     → is_in_order_from least (mounter_rules nat_eq world location change) ≡ true
 mounter_in_order least e world location change = by_layers (filesystem_at nat_eq world location).overlay
   where
@@ -59,7 +60,8 @@ mounter_in_order least e world location change = by_layers (filesystem_at nat_eq
     both false f = f
 
     by_layers : (overlay : Option (Overlay ℕ))
-        → is_in_order_from least (overlay_or [] (overlay_rules nat_eq (filesystem_at nat_eq world location) change) overlay) ≡ true
+        → is_in_order_from least (overlay_or []
+        (overlay_rules nat_eq (filesystem_at nat_eq world location) change) overlay) ≡ true
     by_layers None = refl
     by_layers (Some overlay) = both (nat_le least (rank B1)) e
 
@@ -68,29 +70,34 @@ copy_in_order : (copied : Bool) (world : World ℕ) (file : Location ℕ)
 copy_in_order true world file = mounter_in_order (rank B1) refl world file (CopyUp file.node)
 copy_in_order false world file = refl
 
-write_in_order : (fresh : Fresh ℕ) (world : World ℕ) (task : Task ℕ) (place : Place ℕ) (bytes : List ℕ) (object : Option (Location ℕ))
+write_in_order : (fresh : Fresh ℕ) (world : World ℕ) (task : Task ℕ) (place : Place ℕ) (bytes : List ℕ)
+    (object : Option (Location ℕ))
     → IsInOrderAfterWalk (asked_of_write fresh world task place bytes object)
-write_in_order fresh world task place bytes (Some file) = mounter_in_order (rank B1) refl world file (SetBytes file.node bytes)
+write_in_order fresh world task place bytes (Some file) =
+    mounter_in_order (rank B1) refl world file (SetBytes file.node bytes)
 write_in_order fresh world task place bytes None =
     mounter_in_order (rank B1) refl world place.parent (making place (evens fresh 0) (new_file task file_mode bytes))
 
 open_in_order : (fresh : Fresh ℕ) (world : World ℕ) (task : Task ℕ) (place : Place ℕ) (access : Access) (mode : ℕ)
     (object : Option (Location ℕ))
     → IsInOrderAfterWalk (asked_of_open fresh world task place access mode object)
-open_in_order fresh world task place access mode (Some file) = copy_in_order (is_copied_up nat_eq world file access) world file
+open_in_order fresh world task place access mode (Some file) =
+    copy_in_order (is_copied_up nat_eq world file access) world file
 open_in_order fresh world task place access mode None =
     mounter_in_order (rank B1) refl world place.parent (making place (evens fresh 0) (new_file task mode []))
 
 rename_in_order : (world : World ℕ) (task : Task ℕ) (from to : Place ℕ) (object : Location ℕ) (one : Bool)
     → IsInOrderAfterWalk (asked_of_rename world task from to object one)
 rename_in_order world task from to object true = refl
-rename_in_order world task from to object false = mounter_in_order (rank B1) refl world from.parent (moving from to object)
+rename_in_order world task from to object false =
+    mounter_in_order (rank B1) refl world from.parent (moving from to object)
 
 overlay_in_order : (fresh : Fresh ℕ) (world : World ℕ) (task : Task ℕ) (place : Location ℕ) (flags : MountFlags)
     (options : Option OverlayWords)
     → IsInOrderAtEnd (asked_of_overlay fresh world task place flags options)
 overlay_in_order fresh world task place flags None = refl
-overlay_in_order fresh world task place flags (Some words) = ok_then (layers_walked nat_eq world task words) _ (λ places. refl)
+overlay_in_order fresh world task place flags (Some words) =
+    ok_then (layers_walked nat_eq world task words) _ (λ places. refl)
 
 pub last_in_order : LastTablesInOrder
 last_in_order fresh world task (Ls path) =
@@ -116,7 +123,8 @@ last_in_order fresh world task (Lazy path) =
 last_in_order fresh world task (Write path bytes) =
     ok_walk (file_walk nat_eq world task path) _ (λ place. write_in_order fresh world task place bytes place.object)
 last_in_order fresh world task (Mkdir path mode) =
-    ok_walk (new_walk nat_eq world task path) _ (λ place. mounter_in_order (rank B1) refl world place.parent (making place (evens fresh 0)
+    ok_walk (new_walk nat_eq world task path) _
+    (λ place. mounter_in_order (rank B1) refl world place.parent (making place (evens fresh 0)
     (record { attr = new_attr task (unwrap_or mode directory_mode); content = new_directory place.parent.node })))
 last_in_order fresh world task (SymlinkAt text path) =
     ok_words (symlink_text_rules text) _
@@ -141,7 +149,8 @@ last_in_order fresh world task (Rename old new) =
     (λ from. ok_words (old_word_rules from) _
     (ok_walk (rename_new_walk nat_eq world task new (is_directory_there nat_eq world from)) _
     (λ to. ok_words (old_word_rules to) _
-    (rename_in_order world task from to (object_there from) (is_one_object nat_eq world (object_there from) to.object)))))
+    (rename_in_order world task from to (object_there from)
+    (is_one_object nat_eq world (object_there from) to.object)))))
 last_in_order fresh world task (Chmod path mode) =
     ok_walk (object_walk nat_eq world task path) _
     (λ here. mounter_in_order (rank C2) refl world here.location
@@ -156,7 +165,8 @@ last_in_order fresh world task (OpenFile path access NoCreation) =
     ok_walk (object_walk nat_eq world task path) _
     (λ here. copy_in_order (is_copied_up nat_eq world here.location access) world here.location)
 last_in_order fresh world task (OpenFile path access (OrCreate mode)) =
-    ok_walk (file_walk nat_eq world task path) _ (λ place. open_in_order fresh world task place access mode place.object)
+    ok_walk (file_walk nat_eq world task path) _
+    (λ place. open_in_order fresh world task place access mode place.object)
 last_in_order fresh world task (OpenFile path access (Exclusive mode)) =
     ok_walk (new_walk nat_eq world task path) _
     (λ place. ok_words (exclusive_last_words place) _
@@ -184,17 +194,21 @@ last_in_order fresh world task ListMounts =
 last_in_order fresh world task (MountPlain path flags) =
     ok_walk (destination_walk nat_eq world task path) _ (λ here. refl)
 last_in_order fresh world task (MountOverlay path options flags) =
-    ok_walk (destination_walk nat_eq world task path) _ (λ here. overlay_in_order fresh world task here.location flags options)
+    ok_walk (destination_walk nat_eq world task path) _
+    (λ here. overlay_in_order fresh world task here.location flags options)
 last_in_order fresh world task (Bind source path recursive) =
-    ok_walk (source_walk nat_eq world task source) _ (λ from. ok_walk (destination_walk nat_eq world task path) _ (λ here. refl))
+    ok_walk (source_walk nat_eq world task source) _
+    (λ from. ok_walk (destination_walk nat_eq world task path) _ (λ here. refl))
 last_in_order fresh world task (MoveMount source path) =
-    ok_walk (source_walk nat_eq world task source) _ (λ from. ok_walk (destination_walk nat_eq world task path) _ (λ here. refl))
+    ok_walk (source_walk nat_eq world task source) _
+    (λ from. ok_walk (destination_walk nat_eq world task path) _ (λ here. refl))
 last_in_order fresh world task (Remount path flags) =
     ok_walk (directory_walk nat_eq world task path) _ (λ here. refl)
 last_in_order fresh world task (SetType path word recursive) =
     ok_walk (directory_walk nat_eq world task path) _ (λ here. refl)
 last_in_order fresh world task (PivotRoot new put) =
-    ok_walk (source_walk nat_eq world task new) _ (λ root. ok_walk (destination_walk nat_eq world task put) _ (λ here. refl))
+    ok_walk (source_walk nat_eq world task new) _
+    (λ root. ok_walk (destination_walk nat_eq world task put) _ (λ here. refl))
 
 pub first_in_order : FirstTablesInOrder
 first_in_order world task (Opaque path mark) = refl
@@ -218,7 +232,8 @@ first_in_order world task (PivotRoot new put) = refl
 first_in_order world task call = refl
 
 -- a walk of a call is refused by the rules of walks
-walk_refuses : {A : Type 0} (words : List Rule) (walk : Result A (Stop ℕ)) (next : A → Result Rules Deny) → StopsAsWalk walk
+walk_refuses : {A : Type 0} (words : List Rule) (walk : Result A (Stop ℕ)) (next : A → Result Rules Deny)
+    → StopsAsWalk walk
     → ((a : A) → RefusesOwn (walk_rules ++ words) (next a)) → RefusesOwn (walk_rules ++ words) (walked walk next)
 walk_refuses words (Ok a) next own h = h a
 walk_refuses words (Err stop) next own h = (own.0, among_front walk_rules words stop.deny.rule own.1)
@@ -242,43 +257,56 @@ overlay_refuses fresh world task place flags None = tt
 overlay_refuses fresh world task place flags (Some words) =
     layers_refuse (layers_walked nat_eq world task words) _ (layer_walks nat_eq world task words) (λ places. tt)
 
-walks_refuse : (fresh : Fresh ℕ) (world : World ℕ) (task : Task ℕ) (call : Call) → failing (asked_first world task call) ≡ []
+walks_refuse : (fresh : Fresh ℕ) (world : World ℕ) (task : Task ℕ) (call : Call)
+    → failing (asked_first world task call) ≡ []
     → RefusesOwn (walk_rules ++ last_word_rules call) (asked_last fresh world task call)
 walks_refuse fresh world task (Ls path) none =
-    walk_refuses (last_word_rules (Ls path)) (directory_walk nat_eq world task path) _ (directory_walks nat_eq world task path) (λ here.
+    walk_refuses (last_word_rules (Ls path)) (directory_walk nat_eq world task path) _
+    (directory_walks nat_eq world task path) (λ here.
     tt)
 walks_refuse fresh world task (Stat path) none =
-    walk_refuses (last_word_rules (Stat path)) (object_walk nat_eq world task path) _ (object_walks nat_eq world task path) (λ here.
+    walk_refuses (last_word_rules (Stat path)) (object_walk nat_eq world task path) _
+    (object_walks nat_eq world task path) (λ here.
     tt)
 walks_refuse fresh world task (Lstat path) none =
-    walk_refuses (last_word_rules (Lstat path)) (symlink_walk nat_eq world task path) _ (leaf_walks nat_eq world task path) (λ here.
+    walk_refuses (last_word_rules (Lstat path)) (symlink_walk nat_eq world task path) _
+    (leaf_walks nat_eq world task path) (λ here.
     tt)
 walks_refuse fresh world task (Readlink path) none =
-    walk_refuses (last_word_rules (Readlink path)) (symlink_walk nat_eq world task path) _ (leaf_walks nat_eq world task path) (λ here.
+    walk_refuses (last_word_rules (Readlink path)) (symlink_walk nat_eq world task path) _
+    (leaf_walks nat_eq world task path) (λ here.
     tt)
 walks_refuse fresh world task (Read path) none =
-    walk_refuses (last_word_rules (Read path)) (object_walk nat_eq world task path) _ (object_walks nat_eq world task path) (λ here.
+    walk_refuses (last_word_rules (Read path)) (object_walk nat_eq world task path) _
+    (object_walks nat_eq world task path) (λ here.
     tt)
 walks_refuse fresh world task (Exec path) none =
-    walk_refuses (last_word_rules (Exec path)) (object_walk nat_eq world task path) _ (object_walks nat_eq world task path) (λ here.
+    walk_refuses (last_word_rules (Exec path)) (object_walk nat_eq world task path) _
+    (object_walks nat_eq world task path) (λ here.
     tt)
 walks_refuse fresh world task (Chdir path) none =
-    walk_refuses (last_word_rules (Chdir path)) (directory_walk nat_eq world task path) _ (directory_walks nat_eq world task path) (λ here.
+    walk_refuses (last_word_rules (Chdir path)) (directory_walk nat_eq world task path) _
+    (directory_walks nat_eq world task path) (λ here.
     tt)
 walks_refuse fresh world task (Chroot path) none =
-    walk_refuses (last_word_rules (Chroot path)) (directory_walk nat_eq world task path) _ (directory_walks nat_eq world task path) (λ here.
+    walk_refuses (last_word_rules (Chroot path)) (directory_walk nat_eq world task path) _
+    (directory_walks nat_eq world task path) (λ here.
     tt)
 walks_refuse fresh world task (Umount path) none =
-    walk_refuses (last_word_rules (Umount path)) (directory_walk nat_eq world task path) _ (directory_walks nat_eq world task path) (λ here.
+    walk_refuses (last_word_rules (Umount path)) (directory_walk nat_eq world task path) _
+    (directory_walks nat_eq world task path) (λ here.
     tt)
 walks_refuse fresh world task (Lazy path) none =
-    walk_refuses (last_word_rules (Lazy path)) (directory_walk nat_eq world task path) _ (directory_walks nat_eq world task path) (λ here.
+    walk_refuses (last_word_rules (Lazy path)) (directory_walk nat_eq world task path) _
+    (directory_walks nat_eq world task path) (λ here.
     tt)
 walks_refuse fresh world task (Write path bytes) none =
-    walk_refuses (last_word_rules (Write path bytes)) (file_walk nat_eq world task path) _ (file_walks nat_eq world task path) (λ place.
+    walk_refuses (last_word_rules (Write path bytes)) (file_walk nat_eq world task path) _
+    (file_walks nat_eq world task path) (λ place.
     tt)
 walks_refuse fresh world task (Mkdir path mode) none =
-    walk_refuses (last_word_rules (Mkdir path mode)) (new_walk nat_eq world task path) _ (new_walks nat_eq world task path) (λ place.
+    walk_refuses (last_word_rules (Mkdir path mode)) (new_walk nat_eq world task path) _
+    (new_walks nat_eq world task path) (λ place.
     tt)
 walks_refuse fresh world task (SymlinkAt text path) none =
     unless_own (walk_rules ++ last_word_rules (SymlinkAt text path)) (symlink_text_rules text) _ refl
@@ -286,34 +314,44 @@ walks_refuse fresh world task (SymlinkAt text path) none =
     (new_leaf_walks nat_eq world task path) (λ place.
     tt))
 walks_refuse fresh world task (MakeWhiteout path) none =
-    walk_refuses (last_word_rules (MakeWhiteout path)) (new_leaf_walk nat_eq world task path) _ (new_leaf_walks nat_eq world task path)
+    walk_refuses (last_word_rules (MakeWhiteout path)) (new_leaf_walk nat_eq world task path) _
+    (new_leaf_walks nat_eq world task path)
     (λ place.
     tt)
 walks_refuse fresh world task (LinkTo old new) none =
-    walk_refuses (last_word_rules (LinkTo old new)) (symlink_walk nat_eq world task old) _ (leaf_walks nat_eq world task old) (λ from.
-    walk_refuses (last_word_rules (LinkTo old new)) (new_leaf_walk nat_eq world task new) _ (new_leaf_walks nat_eq world task new) (λ place.
+    walk_refuses (last_word_rules (LinkTo old new)) (symlink_walk nat_eq world task old) _
+    (leaf_walks nat_eq world task old) (λ from.
+    walk_refuses (last_word_rules (LinkTo old new)) (new_leaf_walk nat_eq world task new) _
+    (new_leaf_walks nat_eq world task new) (λ place.
     tt))
 walks_refuse fresh world task (Unlink path) none =
-    walk_refuses (last_word_rules (Unlink path)) (old_leaf_walk nat_eq world task path) _ (old_leaf_walks nat_eq world task path) (λ place.
+    walk_refuses (last_word_rules (Unlink path)) (old_leaf_walk nat_eq world task path) _
+    (old_leaf_walks nat_eq world task path) (λ place.
     tt)
 walks_refuse fresh world task (Rmdir path) none =
-    walk_refuses (last_word_rules (Rmdir path)) (old_walk nat_eq world task path) _ (old_walks nat_eq world task path) (λ place.
+    walk_refuses (last_word_rules (Rmdir path)) (old_walk nat_eq world task path) _ (old_walks nat_eq world task path)
+    (λ place.
     unless_own (walk_rules ++ last_word_rules (Rmdir path)) (rmdir_word_rules place) _ refl (tt))
 walks_refuse fresh world task (Rename old new) none =
-    walk_refuses (last_word_rules (Rename old new)) (old_leaf_walk nat_eq world task old) _ (old_leaf_walks nat_eq world task old) (λ from.
+    walk_refuses (last_word_rules (Rename old new)) (old_leaf_walk nat_eq world task old) _
+    (old_leaf_walks nat_eq world task old) (λ from.
     unless_own (walk_rules ++ last_word_rules (Rename old new)) (old_word_rules from) _ refl
-    (walk_refuses (last_word_rules (Rename old new)) (rename_new_walk nat_eq world task new (is_directory_there nat_eq world from)) _
+    (walk_refuses (last_word_rules (Rename old new))
+    (rename_new_walk nat_eq world task new (is_directory_there nat_eq world from)) _
     (rename_new_walks nat_eq world task new (is_directory_there nat_eq world from)) (λ to.
     unless_own (walk_rules ++ last_word_rules (Rename old new)) (old_word_rules to) _ refl (tt))))
 walks_refuse fresh world task (Chmod path mode) none =
-    walk_refuses (last_word_rules (Chmod path mode)) (object_walk nat_eq world task path) _ (object_walks nat_eq world task path) (λ here.
+    walk_refuses (last_word_rules (Chmod path mode)) (object_walk nat_eq world task path) _
+    (object_walks nat_eq world task path) (λ here.
     tt)
 walks_refuse fresh world task (Chown path uid gid) none =
-    walk_refuses (last_word_rules (Chown path uid gid)) (object_walk nat_eq world task path) _ (object_walks nat_eq world task path)
+    walk_refuses (last_word_rules (Chown path uid gid)) (object_walk nat_eq world task path) _
+    (object_walks nat_eq world task path)
     (λ here.
     tt)
 walks_refuse fresh world task (Opaque path mark) none =
-    walk_refuses (last_word_rules (Opaque path mark)) (directory_walk nat_eq world task path) _ (directory_walks nat_eq world task path)
+    walk_refuses (last_word_rules (Opaque path mark)) (directory_walk nat_eq world task path) _
+    (directory_walks nat_eq world task path)
     (λ here.
     tt)
 walks_refuse fresh world task (OpenFile path access NoCreation) none =
@@ -327,7 +365,8 @@ walks_refuse fresh world task (OpenFile path access (OrCreate mode)) none =
 walks_refuse fresh world task (OpenFile path access (Exclusive mode)) none =
     walk_refuses (last_word_rules (OpenFile path access (Exclusive mode))) (new_walk nat_eq world task path) _
     (new_walks nat_eq world task path) (λ place.
-    unless_own (walk_rules ++ last_word_rules (OpenFile path access (Exclusive mode))) (exclusive_last_words place) _ refl (tt))
+    unless_own (walk_rules ++ last_word_rules (OpenFile path access (Exclusive mode)))
+    (exclusive_last_words place) _ refl (tt))
 walks_refuse fresh world task (Pread number offset size) none =
     tt
 walks_refuse fresh world task (Pwrite number offset bytes) none =
@@ -363,13 +402,15 @@ walks_refuse fresh world task (Bind source path recursive) none =
     (destination_walks nat_eq world task path) (λ here.
     tt))
 walks_refuse fresh world task (MoveMount source path) none =
-    walk_refuses (last_word_rules (MoveMount source path)) (source_walk nat_eq world task source) _ (source_walks nat_eq world task source)
+    walk_refuses (last_word_rules (MoveMount source path)) (source_walk nat_eq world task source) _
+    (source_walks nat_eq world task source)
     (λ from.
     walk_refuses (last_word_rules (MoveMount source path)) (destination_walk nat_eq world task path) _
     (destination_walks nat_eq world task path) (λ here.
     tt))
 walks_refuse fresh world task (Remount path flags) none =
-    walk_refuses (last_word_rules (Remount path flags)) (directory_walk nat_eq world task path) _ (directory_walks nat_eq world task path)
+    walk_refuses (last_word_rules (Remount path flags)) (directory_walk nat_eq world task path) _
+    (directory_walks nat_eq world task path)
     (λ here.
     tt)
 walks_refuse fresh world task (SetType path word recursive) none =
@@ -377,8 +418,10 @@ walks_refuse fresh world task (SetType path word recursive) none =
     (directory_walks nat_eq world task path) (λ here.
     tt)
 walks_refuse fresh world task (PivotRoot new put) none =
-    walk_refuses (last_word_rules (PivotRoot new put)) (source_walk nat_eq world task new) _ (source_walks nat_eq world task new) (λ root.
-    walk_refuses (last_word_rules (PivotRoot new put)) (destination_walk nat_eq world task put) _ (destination_walks nat_eq world task put)
+    walk_refuses (last_word_rules (PivotRoot new put)) (source_walk nat_eq world task new) _
+    (source_walks nat_eq world task new) (λ root.
+    walk_refuses (last_word_rules (PivotRoot new put)) (destination_walk nat_eq world task put) _
+    (destination_walks nat_eq world task put)
     (λ here.
     tt))
 

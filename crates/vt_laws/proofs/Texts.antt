@@ -30,7 +30,8 @@ kept_in_hand (LeftOver k) e = absurd (true≢false (sym e))
 pub worlds_keep_to_hand : WorldsKeepToHand
 worlds_keep_to_hand grammar in_hand world allotment line serves =
     lines_keep_to_numbers (is_in_hand allotment) grammar allotment.new world line
-    (more (is_kept allotment) (is_in_hand allotment) world (λ number is. kept_in_hand (allotment.lot number) is) serves.keeps)
+    (more (is_kept allotment) (is_in_hand allotment) world
+    (λ number is. kept_in_hand (allotment.lot number) is) serves.keeps)
     (λ k. ap is_in_hand_lot (allotment.new_lot k))
 
 step_text-renamed : (renaming : Renaming ℕ ℕ) (number : ℕ) (step : Step ℕ)
@@ -42,7 +43,8 @@ step_text-renamed renaming number (Answered outcome) = refl
 module _ (renaming : Renaming ℕ ℕ) (grammar : Grammar) (world other : World ℕ)
     (same : renamed renaming.there renaming.back world ≡ other) (line : List ℕ) where
   pub refused_alike : (number : ℕ)
-      → step_text number (line_step nat_eq grammar world line None) ≡ step_text number (line_step nat_eq grammar other line None)
+      → step_text number (line_step nat_eq grammar world line None)
+      ≡ step_text number (line_step nat_eq grammar other line None)
   refused_alike number =
       sym (step_text-renamed renaming number (line_step nat_eq grammar world line None))
       ∙ ap (step_text number) (sym (lines_renamed renaming grammar None world line))
@@ -52,29 +54,34 @@ module _ (renaming : Renaming ℕ ℕ) (grammar : Grammar) (world other : World 
       ≡ step_world other (line_step nat_eq grammar other line None)
   refused_leads =
       sym (step_world-renamed renaming world (line_step nat_eq grammar world line None))
-      ∙ ap (step_world (renamed renaming.there renaming.back world)) (sym (lines_renamed renaming grammar None world line))
+      ∙ ap (step_world (renamed renaming.there renaming.back world))
+      (sym (lines_renamed renaming grammar None world line))
       ∙ ap (λ w. step_world w (line_step nat_eq grammar w line None)) same
 
   module _ (fresh new : Fresh ℕ) (supplied : (k : ℕ) → renaming.there (fresh k) ≡ new k) where
-    pub line_alike : (number : ℕ) → step_text number (line_step nat_eq grammar world line (Some fresh)) ≡ step_text number
+    pub line_alike : (number : ℕ) → step_text number (line_step nat_eq grammar world line (Some fresh))
+        ≡ step_text number
         (line_step nat_eq grammar other line (Some new))
     line_alike number =
         sym (step_text-renamed renaming number (line_step nat_eq grammar world line (Some fresh)))
         ∙ ap (step_text number) (sym (lines_renamed renaming grammar (Some fresh) world line))
         ∙ (λ i. step_text number (line_step nat_eq grammar (same i) line (Some (λ k. supplied k i))))
 
-    pub line_leads : renamed renaming.there renaming.back (step_world world (line_step nat_eq grammar world line (Some fresh)))
+    pub line_leads : renamed renaming.there renaming.back
+        (step_world world (line_step nat_eq grammar world line (Some fresh)))
         ≡ step_world other (line_step nat_eq grammar other line (Some new))
     line_leads =
         sym (step_world-renamed renaming world (line_step nat_eq grammar world line (Some fresh)))
-        ∙ ap (step_world (renamed renaming.there renaming.back world)) (sym (lines_renamed renaming grammar (Some fresh) world line))
+        ∙ ap (step_world (renamed renaming.there renaming.back world))
+        (sym (lines_renamed renaming grammar (Some fresh) world line))
         ∙ (λ i. step_world (same i) (line_step nat_eq grammar (same i) line (Some (λ k. supplied k i))))
 
 -- Two supplies with room are joined by a renaming, which leaves the worlds the same.
 pub supplies_do_not_matter : SuppliesDoNotMatter
 unfolding joined
 supplies_do_not_matter world other same first second name call keeps kept =
-    let before : Renaming ℕ ℕ = record { there = same.there; back = same.back; there_back = same.there_back; back_there = same.back_there } in
+    let before : Renaming ℕ ℕ =
+    record { there = same.there; back = same.back; there_back = same.there_back; back_there = same.back_there } in
     let joint : Renaming ℕ ℕ = joined first second before kept in
     let agrees : renamed joint.there joint.back world ≡ other =
     agree (is_kept first) world before joint keeps
@@ -83,7 +90,8 @@ supplies_do_not_matter world other same first second name call keeps kept =
     record { there = joint.there; back = joint.back; there_back = joint.there_back; back_there = joint.back_there; same = agrees } in
     let supplied : (k : ℕ) → joint.there (first.new k) ≡ second.new k =
     λ k. allotted_new first second same.there (first.new k) k (first.new_lot k) in
-    let P : Fresh ℕ → Type 0 = λ new. ((policy nat_eq new other name call).answer ≡ (policy nat_eq first.new world name call).answer)
+    let P : Fresh ℕ → Type 0 = λ new.
+    ((policy nat_eq new other name call).answer ≡ (policy nat_eq first.new world name call).answer)
     × SameWorld (policy nat_eq first.new world name call).world (policy nat_eq new other name call).world in
     subst P (λ i k. supplied k i) (same_worlds_answer_alike world other again first.new name call)
 
@@ -97,7 +105,8 @@ module _ (grammar : Grammar) where
       ++ rows_text (suc m) (step_world world (line_step nat_eq grammar world line None)) (number + 1) lines refused
   rows_text m world number (line ∷ lines) (false ∷ refused) =
       step_text number (line_step nat_eq grammar world line (Some (spread (suc m))))
-      ++ rows_text (suc m) (step_world world (line_step nat_eq grammar world line (Some (spread (suc m))))) (number + 1) lines refused
+      ++ rows_text (suc m) (step_world world (line_step nat_eq grammar world line (Some (spread (suc m)))))
+      (number + 1) lines refused
 
   -- the numbers in hand are renamed to numbers of the rows so far
   AreEarly : (ℕ → Bool) → (ℕ → ℕ) → ℕ → Type 0
@@ -131,7 +140,8 @@ module _ (grammar : Grammar) where
 
     next_new : (number k : ℕ) → allotment.lot number ≡ New k → next.there number ≡ spread (suc m) k
     unfolding next next_row joined
-    next_new number k e = allotted_new allotment next_row renaming.there number k e ∙ stage_new m is_kept_there keeps_early k
+    next_new number k e = allotted_new allotment next_row renaming.there number k e
+        ∙ stage_new m is_kept_there keeps_early k
 
     next_same : renamed next.there next.back world ≡ other
     next_same = agree (is_kept allotment) world renaming next serves.keeps next_kept ∙ same
@@ -150,15 +160,19 @@ module _ (grammar : Grammar) where
             omega arith
         by (LeftOver k) e is = absurd (true≢false (sym is))
 
-  texts_alike : (lines : List (List ℕ)) (refused : List Bool) (m number : ℕ) (renaming : Renaming ℕ ℕ) (in_hand : ℕ → Bool)
+  texts_alike : (lines : List (List ℕ)) (refused : List Bool) (m number : ℕ) (renaming : Renaming ℕ ℕ)
+      (in_hand : ℕ → Bool)
       (world other : World ℕ)
-      → renamed renaming.there renaming.back world ≡ other → ((number : ℕ) → in_hand number ≡ true → row (renaming.there number) ≤ m)
-      → (text : List ℕ) → TellsWithRoom grammar in_hand world number lines refused text → text ≡ rows_text m other number lines refused
+      → renamed renaming.there renaming.back world ≡ other
+      → ((number : ℕ) → in_hand number ≡ true → row (renaming.there number) ≤ m)
+      → (text : List ℕ) → TellsWithRoom grammar in_hand world number lines refused text
+      → text ≡ rows_text m other number lines refused
   unfolding rows_text
   texts_alike [] refused m number renaming in_hand world other same early text tells = tells
   texts_alike (line ∷ lines) [] m number renaming in_hand world other same early text tells = absurd tells
   texts_alike (line ∷ lines) (true ∷ refused) m number renaming in_hand world other same early text tells =
-      let rest = texts_alike lines refused (suc m) (number + 1) renaming in_hand _ _ (refused_leads renaming grammar world other same line)
+      let rest = texts_alike lines refused (suc m) (number + 1) renaming in_hand _ _
+      (refused_leads renaming grammar world other same line)
       (λ number is. let low = early number is in omega arith) tells.0 tells.2 in
       tells.1 ∙ (λ i. refused_alike renaming grammar world other same line number i ++ rest i)
   texts_alike (line ∷ lines) (false ∷ refused) m number renaming in_hand world other same early text tells =
@@ -166,11 +180,13 @@ module _ (grammar : Grammar) where
       let joint = next m renaming in_hand world other same early allotment tells.1 in
       let joint_same = next_same m renaming in_hand world other same early allotment tells.1 in
       let supplied =
-      λ (k : ℕ). next_new m renaming in_hand world other same early allotment tells.1 (allotment.new k) k (allotment.new_lot k) in
+      λ (k : ℕ). next_new m renaming in_hand world other same early allotment tells.1 (allotment.new k) k
+      (allotment.new_lot k) in
       let rest = texts_alike lines refused (suc m) (number + 1) joint (is_in_hand allotment) _ _
       (line_leads joint grammar world other joint_same line allotment.new (spread (suc m)) supplied)
       (next_early m renaming in_hand world other same early allotment tells.1) tells.2 tells.4 in
-      tells.3 ∙ (λ i. line_alike joint grammar world other joint_same line allotment.new (spread (suc m)) supplied number i ++ rest i)
+      tells.3 ∙ (λ i. line_alike joint grammar world other joint_same line allotment.new
+      (spread (suc m)) supplied number i ++ rest i)
 
   -- a line that was refused memory changes nothing
   refused_keeps : (in_hand : ℕ → Bool) (world : World ℕ) (line : List ℕ) → KeepsTo in_hand world
@@ -183,7 +199,8 @@ module _ (grammar : Grammar) where
       → ServesWithRoom in_hand world (stage m in_hand early)
   stage_serves m in_hand world keeps early = record {
     from_hand = λ number is. sym (stage_keeps m in_hand early number) ∙ is;
-    keeps = more in_hand (is_kept (stage m in_hand early)) world (λ number is. stage_keeps m in_hand early number ∙ is) keeps;
+    keeps = more in_hand (is_kept (stage m in_hand early)) world
+        (λ number is. stage_keeps m in_hand early number ∙ is) keeps;
   }
 
   -- and that text may be told
@@ -252,11 +269,13 @@ text_alike grammar (line ∷ lines) (false ∷ refused) m number world here long
     ap (λ rest. step_text number (line_step nat_eq grammar world line (Some (numbers_for number))) ++ rest)
     (text_alike grammar lines refused (suc m) (number + 1) _ (omega arith) (omega arith))
     ∙ (λ i. step_text number (line_step nat_eq grammar world line (Some (row_here i)))
-    ++ rows_text grammar (suc m) (step_world world (line_step nat_eq grammar world line (Some (row_here i)))) (number + 1) lines refused)
+    ++ rows_text grammar (suc m) (step_world world (line_step nat_eq grammar world line (Some (row_here i))))
+    (number + 1) lines refused)
 
 text_of_rows : (grammar : Grammar) (refused : List Bool) (script : List ℕ) → length (lines_of script) ≤ length refused
     → text_of grammar refused script ≡ rows_text grammar 0 first_world 1 (lines_of script) refused
-text_of_rows grammar refused script long = text_alike grammar (lines_of script) refused 0 1 first_world (omega arith) long
+text_of_rows grammar refused script long =
+    text_alike grammar (lines_of script) refused 0 1 first_world (omega arith) long
 
 pub some_text_is_there : SomeTextIsThere
 some_text_is_there grammar refused script long =
@@ -264,7 +283,8 @@ some_text_is_there grammar refused script long =
     (rows_told grammar (lines_of script) refused 0 1 first_four first_world first_keeps first_early long)
 
 -- a text that may be told has a chance for each line
-told_long : (grammar : Grammar) (lines : List (List ℕ)) (refused : List Bool) (in_hand : ℕ → Bool) (world : World ℕ) (number : ℕ)
+told_long : (grammar : Grammar) (lines : List (List ℕ)) (refused : List Bool) (in_hand : ℕ → Bool) (world : World ℕ)
+    (number : ℕ)
     (text : List ℕ)
     → TellsWithRoom grammar in_hand world number lines refused text → length lines ≤ length refused
 told_long grammar [] refused in_hand world number text tells = omega arith
@@ -277,13 +297,15 @@ told_long grammar (line ∷ lines) (false ∷ refused) in_hand world number text
 pub whole_machine_has_one_text : WholeMachineHasOneText
 whole_machine_has_one_text grammar refused script text tells =
     the_text grammar refused script text tells
-    ∙ sym (text_of_rows grammar refused script (told_long grammar (lines_of script) refused first_four first_world 1 text tells))
+    ∙ sym (text_of_rows grammar refused script
+    (told_long grammar (lines_of script) refused first_four first_world 1 text tells))
 
 -- Supplies with room serve, so each text that is told with them is told.
 pub room_serves : RoomServes
 room_serves in_hand world allotment serves = record {
   unused = λ k. unused k (is_among nat_eq (allotment.new k) (numbers_in_use world)) refl;
-  apart = λ j k e. place_of (allotment.new_lot j) (allotment.new_lot k) (eqb-true (allotment.new j) (allotment.new k) e);
+  apart = λ j k e. place_of (allotment.new_lot j) (allotment.new_lot k)
+      (eqb-true (allotment.new j) (allotment.new k) e);
 }
   where
     named : (k : ℕ) → is_kept allotment (allotment.new k) ≡ false
@@ -302,7 +324,8 @@ room_serves in_hand world allotment serves = record {
     two = (
       allotment.left_over 0,
       allotment.left_over 1,
-      (λ e. let same : 0 ≡ 1 = left_place_of (allotment.left_over_lot 0) (allotment.left_over_lot 1) e in absurd (omega arith)),
+      (λ e. let same : 0 ≡ 1 = left_place_of (allotment.left_over_lot 0) (allotment.left_over_lot 1) e in absurd
+          (omega arith)),
       left 0,
       left 1,
     )
@@ -310,12 +333,15 @@ room_serves in_hand world allotment serves = record {
     unused : (k : ℕ) (b : Bool) → is_among nat_eq (allotment.new k) (numbers_in_use world) ≡ b
         → is_among nat_eq (allotment.new k) (numbers_in_use world) ≡ false
     unused k true e =
-        absurd (true≢false (sym (used_numbers_are_named (is_kept allotment) world serves.keeps two (allotment.new k) e) ∙ named k))
+        absurd (true≢false (sym (used_numbers_are_named (is_kept allotment) world serves.keeps two (allotment.new k) e)
+        ∙ named k))
     unused k false e = e
 
-told_with_room : (grammar : Grammar) (lines : List (List ℕ)) (refused : List Bool) (in_hand : ℕ → Bool) (world : World ℕ)
+told_with_room : (grammar : Grammar) (lines : List (List ℕ)) (refused : List Bool) (in_hand : ℕ → Bool)
+    (world : World ℕ)
     (number : ℕ) (text : List ℕ)
-    → TellsWithRoom grammar in_hand world number lines refused text → Tells nat_eq grammar world number lines refused text
+    → TellsWithRoom grammar in_hand world number lines refused text
+    → Tells nat_eq grammar world number lines refused text
 told_with_room grammar [] refused in_hand world number text tells = tells
 told_with_room grammar (line ∷ lines) [] in_hand world number text tells = tells
 told_with_room grammar (line ∷ lines) (true ∷ refused) in_hand world number text tells =
@@ -329,4 +355,5 @@ told_with_room grammar (line ∷ lines) (false ∷ refused) in_hand world number
 )
 
 pub texts_are_told : TextsAreTold
-texts_are_told grammar refused script text tells = told_with_room grammar (lines_of script) refused first_four first_world 1 text tells
+texts_are_told grammar refused script text tells =
+    told_with_room grammar (lines_of script) refused first_four first_world 1 text tells

@@ -35,8 +35,10 @@ unfolding list_outcome stat_outcome lstat_outcome readlink_outcome read_outcome 
 looks_keep fresh world task (Ls path) e =
     after_keeps world (walk_end (directory_walk nat_eq world task path)) _
     (λ here. judged_keeps world (list_rules nat_eq world task here.location) _ refl)
-looks_keep fresh world task (Stat path) e = after_keeps world (walk_end (object_walk nat_eq world task path)) _ (λ here. refl)
-looks_keep fresh world task (Lstat path) e = after_keeps world (walk_end (symlink_walk nat_eq world task path)) _ (λ here. refl)
+looks_keep fresh world task (Stat path) e =
+    after_keeps world (walk_end (object_walk nat_eq world task path)) _ (λ here. refl)
+looks_keep fresh world task (Lstat path) e =
+    after_keeps world (walk_end (symlink_walk nat_eq world task path)) _ (λ here. refl)
 looks_keep fresh world task (Readlink path) e =
     after_keeps world (walk_end (symlink_walk nat_eq world task path)) _
     (λ here. judged_keeps world (readlink_rules nat_eq world here.location) _ refl)
@@ -52,7 +54,8 @@ looks_keep fresh world task ListMounts e = refl
 looks_keep fresh world task call e = cc
 
 -- no change number is raised by a look
-unraised : (looks granted : Bool) (world : World ℕ) (name : TaskName) (changed : List ℕ) (outcome : Outcome ℕ) → looks ≡ true
+unraised : (looks granted : Bool) (world : World ℕ) (name : TaskName) (changed : List ℕ) (outcome : Outcome ℕ)
+    → looks ≡ true
     → outcome.world ≡ world
     → (finished_by nat_eq (looks || granted) world name changed outcome).world ≡ world
 unraised true granted world name changed outcome e same = same
@@ -61,7 +64,8 @@ unraised false granted world name changed outcome e same = cc
 pub look_changes_nothing : LookChangesNothing
 look_changes_nothing fresh world name call looks =
     after_keeps world (ok_or (task_called world name) (denial S2)) _ (λ task.
-    unraised (only_looks call) _ world name _ (call_outcome nat_eq fresh world task call) looks (looks_keep fresh world task call looks))
+    unraised (only_looks call) _ world name _ (call_outcome nat_eq fresh world task call) looks
+    (looks_keep fresh world task call looks))
 
 -- an outcome that is a denial has left the world
 abbrev KeepsIfDenied : World ℕ → Outcome ℕ → Type 0
@@ -75,7 +79,8 @@ denial_keeps : {A : Type 0} (answer : Result A Deny) {P : Type 0} → P → IfEr
 denial_keeps (Ok a) p = tt
 denial_keeps (Err deny) p = p
 
-request_keeps : (world : World ℕ) (request : Option Request) (fresh : Fresh ℕ) → KeepsIfDenied world (requested nat_eq world request fresh)
+request_keeps : (world : World ℕ) (request : Option Request) (fresh : Fresh ℕ)
+    → KeepsIfDenied world (requested nat_eq world request fresh)
 request_keeps world None fresh = refl
 request_keeps world (Some (Calling task call)) fresh = (policy_refuses_own fresh world task call).0
 request_keeps world (Some (Asking directive)) fresh =
@@ -95,7 +100,8 @@ line_keeps false false grammar world line fresh = spoken_keeps grammar world lin
 pub denied_line_changes_nothing : DeniedLineChangesNothing
 denied_line_changes_nothing grammar world line fresh outcome deny steps e =
     error_is (λ d. outcome.world ≡ world) outcome.answer deny e
-    (subst (StepKeepsIfDenied world) steps (line_keeps (nat_lt longest_line (length line)) (is_silent line) grammar world line fresh))
+    (subst (StepKeepsIfDenied world) steps
+    (line_keeps (nat_lt longest_line (length line)) (is_silent line) grammar world line fresh))
 
 refused_keeps : (long silent : Bool) (grammar : Grammar) (world : World ℕ) (line : List ℕ)
     → step_world world (line_step_by nat_eq long silent grammar world line None) ≡ world
@@ -104,4 +110,5 @@ refused_keeps false true grammar world line = refl
 refused_keeps false false grammar world line = refl
 
 pub refused_memory_changes_nothing : RefusedMemoryChangesNothing
-refused_memory_changes_nothing grammar world line = refused_keeps (nat_lt longest_line (length line)) (is_silent line) grammar world line
+refused_memory_changes_nothing grammar world line =
+    refused_keeps (nat_lt longest_line (length line)) (is_silent line) grammar world line

@@ -32,7 +32,8 @@ module _ {N : Type 0} (eq : N → N → Bool) (world : World N) (task : Task N) 
   text_walks path = walk_unless_own walk_rules [] (path_rules path) path refl
 
   up_steps : (here : Location N) → RefusesAsWalk (up_from eq world task here)
-  up_steps here = if_own walk_rules (is_top eq world task here) (Ok here) _ tt (unless_own walk_rules (_ ∷ []) (Ok _) refl tt)
+  up_steps here = if_own walk_rules (is_top eq world task here) (Ok here) _ tt
+      (unless_own walk_rules (_ ∷ []) (Ok _) refl tt)
 
   steps : (here : Location N) (word : LastWord) → RefusesAsWalk (stepped eq world task here word)
   steps here NoWord = tt
@@ -61,17 +62,21 @@ module _ {N : Type 0} (eq : N → N → Bool) (world : World N) (task : Task N) 
       → StopsAsWalk (words_walked eq world task follow here front)
   words_walk follow h here [] = tt
   words_walk follow h here (word ∷ front) =
-      then_walk_own walk_rules (words_walked eq world task follow here front) _ (words_walk follow h here front) (λ reached.
-      then_walk_own walk_rules (word_walked eq world task reached (last_word word)) _ (word_walks reached (last_word word)) (λ next.
+      then_walk_own walk_rules (words_walked eq world task follow here front) _ (words_walk follow h here front)
+      (λ reached.
+      then_walk_own walk_rules (word_walked eq world task reached (last_word word)) _
+      (word_walks reached (last_word word)) (λ next.
       if_link_walks next _ (follow reached.location next) (h reached.location next)))
 
   link_walks : (depth : ℕ) → FollowsAsWalk (symlink_walked eq depth world task)
   link_walks zero directory link text = (refl, refl)
   link_walks (suc depth) directory link text =
       then_walk_own walk_rules _ _
-      (walk_unless_own walk_rules link.steps (follow_rules eq world link text) (symlink_start eq world task directory link text) refl)
+      (walk_unless_own walk_rules link.steps (follow_rules eq world link text)
+      (symlink_start eq world task directory link text) refl)
       (λ start.
-      then_walk_own walk_rules (words_walked eq world task (symlink_walked eq depth world task) start (reverse (words text))) _
+      then_walk_own walk_rules (words_walked eq world task (symlink_walked eq depth world task) start
+      (reverse (words text))) _
       (words_walk (symlink_walked eq depth world task) (link_walks depth) start (reverse (words text))) (λ reached.
       walk_unless_own walk_rules reached.steps (slash_rules eq world text reached.location) reached refl))
 
@@ -93,7 +98,8 @@ module _ {N : Type 0} (eq : N → N → Bool) (world : World N) (task : Task N) 
       then_walk_own walk_rules (path_walked eq world task path) _ (path_walks path) (λ here.
       walk_unless_own walk_rules here.steps (_ ∷ []) here refl)
 
-  front_walks : (here : Here N) (words : List (List ℕ)) → StopsAsWalk (front_walked eq world task (followed eq world task) here words)
+  front_walks : (here : Here N) (words : List (List ℕ))
+      → StopsAsWalk (front_walked eq world task (followed eq world task) here words)
   front_walks here [] = tt
   front_walks here (word ∷ front) = words_walk (followed eq world task) follows here front
 
@@ -127,7 +133,8 @@ module _ {N : Type 0} (eq : N → N → Bool) (world : World N) (task : Task N) 
   named_places here word met place =
       stopped_own walk_rules met _
       (and_then_own walk_rules _ _
-      (unless_own walk_rules (search_rules eq world task here.location) (object_named eq world task here.location word) refl
+      (unless_own walk_rules (search_rules eq world task here.location)
+      (object_named eq world task here.location word) refl
       (names here.location word))
       (λ object. tt))
 
@@ -178,7 +185,8 @@ module _ {N : Type 0} (eq : N → N → Bool) (world : World N) (task : Task N) 
   file_walks_by zero start text slash = (refl, refl)
   file_walks_by (suc depth) start text slash =
       then_walk_own walk_rules _ _ (front_walks start (reverse (words text))) (λ here.
-      then_walk_own walk_rules _ _ (places here (final_word (reverse (words text))) (slash || ends_in_slash text)) (λ place.
+      then_walk_own walk_rules _ _ (places here (final_word (reverse (words text))) (slash || ends_in_slash text))
+      (λ place.
       file_or_link_walks place (symlink_there eq world place) _ (λ inner.
       then_walk_own walk_rules _ _
       (walk_unless_own walk_rules place.steps (follow_rules eq world (symlink_of here place) inner)
@@ -205,16 +213,19 @@ module _ {N : Type 0} (eq : N → N → Bool) (world : World N) (task : Task N) 
   each_walks : (paths : List (List ℕ)) → RefusesAsWalk (each_walked eq world task paths)
   each_walks [] = tt
   each_walks (path ∷ paths) =
-      and_then_own walk_rules _ _ (walk_end_own walk_rules (source_walk eq world task path) (source_walks path)) (λ here.
+      and_then_own walk_rules _ _ (walk_end_own walk_rules (source_walk eq world task path) (source_walks path))
+      (λ here.
       and_then_own walk_rules (each_walked eq world task paths) _ (each_walks paths) (λ rest. tt))
 
   given_walks : (path : Option (List ℕ)) → RefusesAsWalk (walked_if_given eq world task path)
   given_walks None = tt
-  given_walks (Some path) = and_then_own walk_rules _ _ (walk_end_own walk_rules (source_walk eq world task path) (source_walks path))
+  given_walks (Some path) = and_then_own walk_rules _ _
+      (walk_end_own walk_rules (source_walk eq world task path) (source_walks path))
       (λ here. tt)
 
   pub layer_walks : (words : OverlayWords) → RefusesAsWalk (layers_walked eq world task words)
   layer_walks words =
       and_then_own walk_rules (each_walked eq world task words.lowers) _ (each_walks words.lowers) (λ lowers.
       and_then_own walk_rules (walked_if_given eq world task words.upper) _ (given_walks words.upper) (λ upper.
-      and_then_own walk_rules (walked_if_given eq world task (work_walked words)) _ (given_walks (work_walked words)) (λ work. tt)))
+      and_then_own walk_rules (walked_if_given eq world task (work_walked words)) _ (given_walks (work_walked words))
+      (λ work. tt)))

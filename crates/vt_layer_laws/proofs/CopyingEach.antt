@@ -12,7 +12,8 @@ use Rattle.vt_layer_laws.proofs.CopyingSound.{IsSound, Soundly, State, soundly_c
 abbrev pub IsNew : Fresh ℕ → ℕ → Type 0
 IsNew fresh number = (k : ℕ) × (number ≡ fresh k)
 
-module _ (files : FileTree ℕ) (first : ℕ → Option (Real ℕ)) (spare : ℕ → Type 0) (fresh : Fresh ℕ) (distinct : (j k : ℕ) → fresh j ≡ fresh k → j ≡ k) (apart : (k : ℕ) → ¬ (spare (fresh k))) where
+module _ (files : FileTree ℕ) (first : ℕ → Option (Real ℕ)) (spare : ℕ → Type 0) (fresh : Fresh ℕ)
+    (distinct : (j k : ℕ) → fresh j ≡ fresh k → j ≡ k) (apart : (k : ℕ) → ¬ (spare (fresh k))) where
   abbrev At : (ℕ → Option (Real ℕ)) → FileTree ℕ → Merge ℕ
   At = State files first spare
 
@@ -21,21 +22,27 @@ module _ (files : FileTree ℕ) (first : ℕ → Option (Real ℕ)) (spare : ℕ
 
   pub record CopiesAll (k : ℕ) (before : ℕ → Option (Real ℕ)) (list : List ℕ) (merge : Merge ℕ) : Type 0 where
     pub soundly : Soundly files first spare before (IsNew fresh) merge
-    pub all : (number : ℕ) → is_among nat_eq number list ≡ true → is_some (files.tree.node number) ≡ true → is_some (upper_object (soundly.real number)) ≡ true
-    pub bound : (number seen : ℕ) → upper_object (soundly.real number) ≡ Some seen → (upper_object (before number) ≡ Some seen) ⊎ ((j : ℕ) × (j < k + length list) × (seen ≡ fresh j))
+    pub all : (number : ℕ) → is_among nat_eq number list ≡ true → is_some (files.tree.node number) ≡ true
+        → is_some (upper_object (soundly.real number)) ≡ true
+    pub bound : (number seen : ℕ) → upper_object (soundly.real number) ≡ Some seen
+        → (upper_object (before number) ≡ Some seen) ⊎ ((j : ℕ) × (j < k + length list) × (seen ≡ fresh j))
     pub others : (number : ℕ) → is_among nat_eq number list ≡ false → soundly.real number ≡ before number
 
-  stands_still : (real : ℕ → Option (Real ℕ)) (grown : ℕ → Option (Real ℕ)) → ((number object : ℕ) → upper_object (real number) ≡ Some object → upper_object (grown number) ≡ Some object) → (number : ℕ) → is_some (upper_object (real number)) ≡ true → is_some (upper_object (grown number)) ≡ true
+  stands_still : (real : ℕ → Option (Real ℕ)) (grown : ℕ → Option (Real ℕ))
+      → ((number object : ℕ) → upper_object (real number) ≡ Some object → upper_object (grown number) ≡ Some object)
+      → (number : ℕ) → is_some (upper_object (real number)) ≡ true → is_some (upper_object (grown number)) ≡ true
   stands_still real grown grows number h = by (upper_object (real number)) refl h
     where
-      by : (o : Option ℕ) → upper_object (real number) ≡ o → is_some o ≡ true → is_some (upper_object (grown number)) ≡ true
+      by : (o : Option ℕ) → upper_object (real number) ≡ o → is_some o ≡ true
+          → is_some (upper_object (grown number)) ≡ true
       by None e h = absurd (true≢false (sym h))
       by (Some object) e h = ap is_some (grows number object e)
 
   -- one more at the front
   one_more : (k : ℕ) (before real : ℕ → Option (Real ℕ)) (object : ℕ) (rest : List ℕ) (merge : Merge ℕ)
       → ((number seen : ℕ) → upper_object (before number) ≡ Some seen → upper_object (real number) ≡ Some seen)
-      → ((number seen : ℕ) → upper_object (real number) ≡ Some seen → (upper_object (before number) ≡ Some seen) ⊎ (seen ≡ fresh k))
+      → ((number seen : ℕ) → upper_object (real number) ≡ Some seen
+      → (upper_object (before number) ≡ Some seen) ⊎ (seen ≡ fresh k))
       → ((number : ℕ) → nat_eq number object ≡ false → real number ≡ before number)
       → (is_some (files.tree.node object) ≡ true → is_some (upper_object (real object)) ≡ true)
       → CopiesAll (k + 1) real rest merge → CopiesAll k before (object ∷ rest) merge
@@ -47,7 +54,8 @@ module _ (files : FileTree ℕ) (first : ℕ → Option (Real ℕ)) (spare : ℕ
       sound = copies.soundly.sound;
       grows = λ number seen e. copies.soundly.grows number seen (grows number seen e);
       told = λ number seen e.
-          ⊎_elim (λ t. ⊎_elim (λ old. inl old) (λ new. inr (k, new)) (told number seen t)) (λ t. inr t) (copies.soundly.told number seen e);
+          ⊎_elim (λ t. ⊎_elim (λ old. inl old) (λ new. inr (k, new)) (told number seen t)) (λ t. inr t)
+          (copies.soundly.told number seen e);
     };
     all = λ number among there. by number (nat_eq number object) refl among there;
     bound = λ number seen e.
@@ -68,16 +76,27 @@ module _ (files : FileTree ℕ) (first : ℕ → Option (Real ℕ)) (spare : ℕ
       later_out true b e = absurd (true≢false e)
       later_out false b e = e
 
-      by : (number : ℕ) (b : Bool) → nat_eq number object ≡ b → (b || is_among nat_eq number rest) ≡ true → is_some (files.tree.node number) ≡ true → is_some (upper_object (copies.soundly.real number)) ≡ true
+      by : (number : ℕ) (b : Bool) → nat_eq number object ≡ b → (b || is_among nat_eq number rest) ≡ true
+          → is_some (files.tree.node number) ≡ true → is_some (upper_object (copies.soundly.real number)) ≡ true
       by number true e among there =
           stands_still real copies.soundly.real copies.soundly.grows number
           (subst (λ n. is_some (upper_object (real n)) ≡ true) (sym (eqb-true number object e))
           (stands (ap (λ n. is_some (files.tree.node n)) (sym (eqb-true number object e)) ∙ there)))
       by number false e among there = copies.all number among there
 
-  pub each_copied : (list : List ℕ) (k : ℕ) (real : ℕ → Option (Real ℕ)) (upper : FileTree ℕ) → Sound real upper → ((j number : ℕ) → k ≤ j → upper_object (real number) ≢ Some (fresh j)) → CopiesAll k real list (copied_each nat_eq fresh k (At real upper) list)
+  pub each_copied : (list : List ℕ) (k : ℕ) (real : ℕ → Option (Real ℕ)) (upper : FileTree ℕ) → Sound real upper
+      → ((j number : ℕ) → k ≤ j → upper_object (real number) ≢ Some (fresh j))
+      → CopiesAll k real list (copied_each nat_eq fresh k (At real upper) list)
   each_copied [] k real upper sound unused = record {
-    soundly = record { real = real; upper = upper; is = refl; sound = sound; grows = λ number seen e. e; told = λ number seen e. inl e };
+    soundly = record {
+      real = real;
+      upper = upper;
+      is = refl;
+      sound = sound;
+      grows = λ number seen e.
+          e;
+      told = λ number seen e. inl e;
+    };
     all = λ number among there. absurd (true≢false (sym among));
     bound = λ number seen e. inl e;
     others = λ number out. refl;
@@ -85,14 +104,22 @@ module _ (files : FileTree ℕ) (first : ℕ → Option (Real ℕ)) (spare : ℕ
   each_copied (object ∷ rest) k real upper sound unused =
       by (files.tree.node object) refl (upper_object (real object)) refl (each_copied rest (k + 1))
     where
-      same : is_some (files.tree.node object) ≡ false ⊎ is_some (upper_object (real object)) ≡ true → CopiesAll (k + 1) real rest (copied_each nat_eq fresh (k + 1) (At real upper) rest) → CopiesAll k real (object ∷ rest) (copied_each nat_eq fresh (k + 1) (At real upper) rest)
+      same : is_some (files.tree.node object) ≡ false ⊎ is_some (upper_object (real object)) ≡ true
+          → CopiesAll (k + 1) real rest (copied_each nat_eq fresh (k + 1) (At real upper) rest)
+          → CopiesAll k real (object ∷ rest) (copied_each nat_eq fresh (k + 1) (At real upper) rest)
       same why copies =
           one_more k real real object rest _ (λ number seen e. e) (λ number seen e. inl e) (λ number out. refl)
           (λ there. ⊎_elim (λ missing. absurd (true≢false (sym there ∙ missing))) (λ h. h) why) copies
 
-      copied : (node : Node ℕ) → files.tree.node object ≡ Some node → upper_object (real object) ≡ None → ((r : ℕ → Option (Real ℕ)) (u : FileTree ℕ) → Sound r u → ((j number : ℕ) → k + 1 ≤ j → upper_object (r number) ≢ Some (fresh j)) → CopiesAll (k + 1) r rest (copied_each nat_eq fresh (k + 1) (At r u) rest)) → CopiesAll k real (object ∷ rest) (copied_each nat_eq fresh (k + 1) (copy_of nat_eq (At real upper) object (fresh k) (Some node) false) rest)
+      copied : (node : Node ℕ) → files.tree.node object ≡ Some node → upper_object (real object) ≡ None
+          → ((r : ℕ → Option (Real ℕ)) (u : FileTree ℕ) → Sound r u
+          → ((j number : ℕ) → k + 1 ≤ j → upper_object (r number) ≢ Some (fresh j))
+          → CopiesAll (k + 1) r rest (copied_each nat_eq fresh (k + 1) (At r u) rest))
+          → CopiesAll k real (object ∷ rest)
+          (copied_each nat_eq fresh (k + 1) (copy_of nat_eq (At real upper) object (fresh k) (Some node) false) rest)
       copied node e none later =
-          let one = soundly_copied files first spare real upper sound object (fresh k) (λ number. unused k number (omega arith)) (apart k) node e none in
+          let one = soundly_copied files first spare real upper sound object (fresh k)
+          (λ number. unused k number (omega arith)) (apart k) node e none in
           let step = one.soundly in
           subst (λ m. CopiesAll k real (object ∷ rest) (copied_each nat_eq fresh (k + 1) m rest)) (sym step.is)
           (one_more k real step.real object rest _ step.grows step.told one.others
@@ -104,10 +131,15 @@ module _ (files : FileTree ℕ) (first : ℕ → Option (Real ℕ)) (spare : ℕ
           (step.told number (fresh j) s))))
 
       by : (o : Option (Node ℕ)) → files.tree.node object ≡ o → (p : Option ℕ) → upper_object (real object) ≡ p
-          → ((r : ℕ → Option (Real ℕ)) (u : FileTree ℕ) → Sound r u → ((j number : ℕ) → k + 1 ≤ j → upper_object (r number) ≢ Some (fresh j)) → CopiesAll (k + 1) r rest (copied_each nat_eq fresh (k + 1) (At r u) rest))
-          → CopiesAll k real (object ∷ rest) (copied_each nat_eq fresh (k + 1) (copy_of nat_eq (At real upper) object (fresh k) o (is_some p)) rest)
-      by None e p f later = same (inl (ap is_some e)) (later real upper sound (λ j number h. unused j number (omega arith)))
-      by (Some node) e (Some seen) f later = same (inr (ap is_some f)) (later real upper sound (λ j number h. unused j number (omega arith)))
+          → ((r : ℕ → Option (Real ℕ)) (u : FileTree ℕ) → Sound r u
+          → ((j number : ℕ) → k + 1 ≤ j → upper_object (r number) ≢ Some (fresh j))
+          → CopiesAll (k + 1) r rest (copied_each nat_eq fresh (k + 1) (At r u) rest))
+          → CopiesAll k real (object ∷ rest)
+          (copied_each nat_eq fresh (k + 1) (copy_of nat_eq (At real upper) object (fresh k) o (is_some p)) rest)
+      by None e p f later = same (inl (ap is_some e))
+          (later real upper sound (λ j number h. unused j number (omega arith)))
+      by (Some node) e (Some seen) f later =
+          same (inr (ap is_some f)) (later real upper sound (λ j number h. unused j number (omega arith)))
       by (Some node) e None f later = copied node e f later
 
   -- an object is the last in the line to it
@@ -127,5 +159,8 @@ module _ (files : FileTree ℕ) (first : ℕ → Option (Real ℕ)) (spare : ℕ
           list_any-append (nat_eq object) (directories_to nat_eq files name.0) (object ∷ [])
           ∙ right (list_any (nat_eq object) (directories_to nat_eq files name.0)) _ itself
 
-  pub line_copied : (object : ℕ) (real : ℕ → Option (Real ℕ)) (upper : FileTree ℕ) → Sound real upper → ((j number : ℕ) → upper_object (real number) ≢ Some (fresh j)) → CopiesAll 0 real (line_to nat_eq files object) (copied_up nat_eq fresh (At real upper) object)
-  line_copied object real upper sound unused = each_copied (line_to nat_eq files object) 0 real upper sound (λ j number h. unused j number)
+  pub line_copied : (object : ℕ) (real : ℕ → Option (Real ℕ)) (upper : FileTree ℕ) → Sound real upper
+      → ((j number : ℕ) → upper_object (real number) ≢ Some (fresh j))
+      → CopiesAll 0 real (line_to nat_eq files object) (copied_up nat_eq fresh (At real upper) object)
+  line_copied object real upper sound unused =
+      each_copied (line_to nat_eq files object) 0 real upper sound (λ j number h. unused j number)

@@ -21,7 +21,11 @@ pub record KeepsButNames (change : Option (Node ℕ) → Option (Node ℕ)) : Ty
 module _ (change : Entries ℕ → Entries ℕ) where
   node_with : Option (Node ℕ) → Option (Node ℕ)
   node_with None = None
-  node_with (Some node) = Some (record { attr = node.attr; content = with_entries node.content (change (entries_of node.content)) })
+  node_with (Some node) = Some (record {
+    attr = node.attr;
+    content = with_entries node.content
+        (change (entries_of node.content));
+  })
 
   other_kind : (content : Content ℕ) (entries : Entries ℕ) → kind_of (with_entries content entries) ≡ kind_of content
   other_kind (Directory parent old opaque) entries = refl
@@ -35,7 +39,8 @@ module _ (change : Entries ℕ → Entries ℕ) where
   other_bytes (Symlink text) entries = refl
   other_bytes Whiteout entries = refl
 
-  other_mark : (content : Content ℕ) (entries : Entries ℕ) → opaque_of (with_entries content entries) ≡ opaque_of content
+  other_mark : (content : Content ℕ) (entries : Entries ℕ)
+      → opaque_of (with_entries content entries) ≡ opaque_of content
   other_mark (Directory parent old opaque) entries = refl
   other_mark (Regular bytes) entries = refl
   other_mark (Symlink text) entries = refl
@@ -44,31 +49,75 @@ module _ (change : Entries ℕ → Entries ℕ) where
 pub entry_keeps : (name : List ℕ) (number : ℕ) → KeepsButNames (node_with_entry name number)
 entry_keeps name number = record {
   there = λ o. elim o as (λ o. is_some (node_with_entry name number o) ≡ is_some o) [ None ↦ refl | Some node ↦ refl ];
-  kind = λ o. elim o as (λ o. kind_in (node_with_entry name number o) ≡ kind_in o) [ None ↦ refl | Some node ↦ other_kind (λ e. e) node.content (with_entry name number (entries_of node.content)) ];
-  directory = λ o. elim o as (λ o. is_directory_node (node_with_entry name number o) ≡ is_directory_node o) [ None ↦ refl | Some node ↦ ap is_directory (other_kind (λ e. e) node.content (with_entry name number (entries_of node.content))) ];
+  kind = λ o. elim o as (λ o. kind_in (node_with_entry name number o)
+      ≡ kind_in o) [
+        | None ↦ refl
+        | Some node ↦ other_kind (λ e. e) node.content
+            (with_entry name number (entries_of node.content))
+      ];
+  directory = λ o. elim o as (λ o. is_directory_node (node_with_entry name number o)
+      ≡ is_directory_node o) [
+        | None ↦ refl
+        | Some node ↦ ap is_directory
+            (other_kind (λ e. e) node.content (with_entry name number (entries_of node.content)))
+      ];
   attr = λ o. elim o as (λ o. attr_in (node_with_entry name number o) ≡ attr_in o) [ None ↦ refl | Some node ↦ refl ];
-  bytes = λ o. elim o as (λ o. bytes_in (node_with_entry name number o) ≡ bytes_in o) [ None ↦ refl | Some node ↦ other_bytes (λ e. e) node.content (with_entry name number (entries_of node.content)) ];
-  mark = λ o. elim o as (λ o. is_opaque_in (node_with_entry name number o) ≡ is_opaque_in o) [ None ↦ refl | Some node ↦ other_mark (λ e. e) node.content (with_entry name number (entries_of node.content)) ];
+  bytes = λ o. elim o as (λ o. bytes_in (node_with_entry name number o)
+      ≡ bytes_in o) [
+        | None ↦ refl
+        | Some node ↦ other_bytes (λ e. e) node.content
+            (with_entry name number (entries_of node.content))
+      ];
+  mark = λ o. elim o as (λ o. is_opaque_in (node_with_entry name number o)
+      ≡ is_opaque_in o) [
+        | None ↦ refl
+        | Some node ↦ other_mark (λ e. e) node.content
+            (with_entry name number (entries_of node.content))
+      ];
 }
 
 pub without_entry_keeps : (name : List ℕ) → KeepsButNames (node_without_entry name)
 without_entry_keeps name = record {
   there = λ o. elim o as (λ o. is_some (node_without_entry name o) ≡ is_some o) [ None ↦ refl | Some node ↦ refl ];
-  kind = λ o. elim o as (λ o. kind_in (node_without_entry name o) ≡ kind_in o) [ None ↦ refl | Some node ↦ other_kind (λ e. e) node.content (without_entry name (entries_of node.content)) ];
-  directory = λ o. elim o as (λ o. is_directory_node (node_without_entry name o) ≡ is_directory_node o) [ None ↦ refl | Some node ↦ ap is_directory (other_kind (λ e. e) node.content (without_entry name (entries_of node.content))) ];
+  kind = λ o. elim o as (λ o. kind_in (node_without_entry name o)
+      ≡ kind_in o) [
+        | None ↦ refl
+        | Some node ↦ other_kind (λ e. e) node.content
+            (without_entry name (entries_of node.content))
+      ];
+  directory = λ o. elim o as (λ o. is_directory_node (node_without_entry name o)
+      ≡ is_directory_node o) [
+        | None ↦ refl
+        | Some node ↦ ap is_directory
+            (other_kind (λ e. e) node.content (without_entry name (entries_of node.content)))
+      ];
   attr = λ o. elim o as (λ o. attr_in (node_without_entry name o) ≡ attr_in o) [ None ↦ refl | Some node ↦ refl ];
-  bytes = λ o. elim o as (λ o. bytes_in (node_without_entry name o) ≡ bytes_in o) [ None ↦ refl | Some node ↦ other_bytes (λ e. e) node.content (without_entry name (entries_of node.content)) ];
-  mark = λ o. elim o as (λ o. is_opaque_in (node_without_entry name o) ≡ is_opaque_in o) [ None ↦ refl | Some node ↦ other_mark (λ e. e) node.content (without_entry name (entries_of node.content)) ];
+  bytes = λ o. elim o as (λ o. bytes_in (node_without_entry name o)
+      ≡ bytes_in o) [
+        | None ↦ refl
+        | Some node ↦ other_bytes (λ e. e) node.content
+            (without_entry name (entries_of node.content))
+      ];
+  mark = λ o. elim o as (λ o. is_opaque_in (node_without_entry name o)
+      ≡ is_opaque_in o) [
+        | None ↦ refl
+        | Some node ↦ other_mark (λ e. e) node.content
+            (without_entry name (entries_of node.content))
+      ];
 }
 
 pub without_entries_keeps : KeepsButNames node_without_entries
 without_entries_keeps = record {
   there = λ o. elim o as (λ o. is_some (node_without_entries o) ≡ is_some o) [ None ↦ refl | Some node ↦ refl ];
-  kind = λ o. elim o as (λ o. kind_in (node_without_entries o) ≡ kind_in o) [ None ↦ refl | Some node ↦ other_kind (λ e. e) node.content [] ];
-  directory = λ o. elim o as (λ o. is_directory_node (node_without_entries o) ≡ is_directory_node o) [ None ↦ refl | Some node ↦ ap is_directory (other_kind (λ e. e) node.content []) ];
+  kind = λ o. elim o as (λ o. kind_in (node_without_entries o)
+      ≡ kind_in o) [ None ↦ refl | Some node ↦ other_kind (λ e. e) node.content [] ];
+  directory = λ o. elim o as (λ o. is_directory_node (node_without_entries o)
+      ≡ is_directory_node o) [ None ↦ refl | Some node ↦ ap is_directory (other_kind (λ e. e) node.content []) ];
   attr = λ o. elim o as (λ o. attr_in (node_without_entries o) ≡ attr_in o) [ None ↦ refl | Some node ↦ refl ];
-  bytes = λ o. elim o as (λ o. bytes_in (node_without_entries o) ≡ bytes_in o) [ None ↦ refl | Some node ↦ other_bytes (λ e. e) node.content [] ];
-  mark = λ o. elim o as (λ o. is_opaque_in (node_without_entries o) ≡ is_opaque_in o) [ None ↦ refl | Some node ↦ other_mark (λ e. e) node.content [] ];
+  bytes = λ o. elim o as (λ o. bytes_in (node_without_entries o)
+      ≡ bytes_in o) [ None ↦ refl | Some node ↦ other_bytes (λ e. e) node.content [] ];
+  mark = λ o. elim o as (λ o. is_opaque_in (node_without_entries o)
+      ≡ is_opaque_in o) [ None ↦ refl | Some node ↦ other_mark (λ e. e) node.content [] ];
 }
 
 -- another parent
@@ -94,22 +143,31 @@ module _ (parent : ℕ) where
   pub parent_keeps : KeepsButNames (node_with_parent parent)
   parent_keeps = record {
     there = λ o. elim o as (λ o. is_some (node_with_parent parent o) ≡ is_some o) [ None ↦ refl | Some node ↦ refl ];
-    kind = λ o. elim o as (λ o. kind_in (node_with_parent parent o) ≡ kind_in o) [ None ↦ refl | Some node ↦ parent_kind node.content ];
-    directory = λ o. elim o as (λ o. is_directory_node (node_with_parent parent o) ≡ is_directory_node o) [ None ↦ refl | Some node ↦ ap is_directory (parent_kind node.content) ];
+    kind = λ o. elim o as (λ o. kind_in (node_with_parent parent o)
+        ≡ kind_in o) [ None ↦ refl | Some node ↦ parent_kind node.content ];
+    directory = λ o. elim o as (λ o. is_directory_node (node_with_parent parent o)
+        ≡ is_directory_node o) [ None ↦ refl | Some node ↦ ap is_directory (parent_kind node.content) ];
     attr = λ o. elim o as (λ o. attr_in (node_with_parent parent o) ≡ attr_in o) [ None ↦ refl | Some node ↦ refl ];
-    bytes = λ o. elim o as (λ o. bytes_in (node_with_parent parent o) ≡ bytes_in o) [ None ↦ refl | Some node ↦ parent_bytes node.content ];
-    mark = λ o. elim o as (λ o. is_opaque_in (node_with_parent parent o) ≡ is_opaque_in o) [ None ↦ refl | Some node ↦ parent_mark node.content ];
+    bytes = λ o. elim o as (λ o. bytes_in (node_with_parent parent o)
+        ≡ bytes_in o) [ None ↦ refl | Some node ↦ parent_bytes node.content ];
+    mark = λ o. elim o as (λ o. is_opaque_in (node_with_parent parent o)
+        ≡ is_opaque_in o) [ None ↦ refl | Some node ↦ parent_mark node.content ];
   }
 
 -- what a change of one inode keeps of it is kept of every inode
-pub kept_part : {A : Type 0} (part : Option (Node ℕ) → A) (files : FileTree ℕ) (number : ℕ) (change : Option (Node ℕ) → Option (Node ℕ)) → ((inode : Option (Node ℕ)) → part (change inode) ≡ part inode) → (inode : ℕ) → part ((changed_node nat_eq files number change).tree.node inode) ≡ part (files.tree.node inode)
+pub kept_part : {A : Type 0} (part : Option (Node ℕ) → A) (files : FileTree ℕ) (number : ℕ)
+    (change : Option (Node ℕ) → Option (Node ℕ)) → ((inode : Option (Node ℕ)) → part (change inode) ≡ part inode)
+    → (inode : ℕ) → part ((changed_node nat_eq files number change).tree.node inode) ≡ part (files.tree.node inode)
 kept_part part files number change keeps inode =
     ⊎_elim
-    (λ t. ap (λ b. part (cond b (change (files.tree.node number)) (files.tree.node inode))) t.0 ∙ keeps (files.tree.node number) ∙ ap (λ n. part (files.tree.node n)) (sym t.1))
+    (λ t. ap (λ b. part (cond b (change (files.tree.node number)) (files.tree.node inode))) t.0
+    ∙ keeps (files.tree.node number) ∙ ap (λ n. part (files.tree.node n)) (sym t.1))
     (λ t. ap (λ b. part (cond b (change (files.tree.node number)) (files.tree.node inode))) t.0)
     (eqb_tells inode number)
 
-pub kept_copy : (seen : Option (Node ℕ)) (files : FileTree ℕ) (number : ℕ) (change : Option (Node ℕ) → Option (Node ℕ)) → KeepsButNames change → (inode : ℕ) → IsCopyOf seen (files.tree.node inode) → IsCopyOf seen ((changed_node nat_eq files number change).tree.node inode)
+pub kept_copy : (seen : Option (Node ℕ)) (files : FileTree ℕ) (number : ℕ) (change : Option (Node ℕ) → Option (Node ℕ))
+    → KeepsButNames change → (inode : ℕ) → IsCopyOf seen (files.tree.node inode)
+    → IsCopyOf seen ((changed_node nat_eq files number change).tree.node inode)
 kept_copy seen files number change keeps inode copy = record {
   there = kept_part (λ o. is_some o) files number change keeps.there inode ∙ copy.there;
   kind = kept_part kind_in files number change keeps.kind inode ∙ copy.kind;

@@ -1,4 +1,5 @@
--- What is copied up stands in the upper layer: each inode has its own object there, of its kind, and a copy is what is shown.
+-- What is copied up stands in the upper layer: each inode has its own object there, of its kind, and a copy is what is
+-- shown.
 use Rattle.std.proofs.Common.{◌≡◌, ◌≢◌, ◌⊎◌, inl, inr, refl, sym, ap, subst, ◌∙◌, ℕ, nat_eq, eq-eqb, ne_eqb, true, false, cond, List, Option, Some, None, is_some, ⊎_elim}
 use Rattle.std.proofs.lemmas.Bool.Decides.{eqb_tells}
 use Rattle.vt_spec.specs.Language.Changes.{with_inode}
@@ -34,7 +35,8 @@ copy_mark parent (Symlink text) = refl
 copy_mark parent Whiteout = refl
 
 -- a copied inode is a copy of what is shown
-pub is_copy_of : (parent : ℕ) (seen : Option (Node ℕ)) (node : Node ℕ) → seen ≡ Some node → IsCopyOf seen (Some (record { attr = node.attr; content = copied_content parent node.content }))
+pub is_copy_of : (parent : ℕ) (seen : Option (Node ℕ)) (node : Node ℕ) → seen ≡ Some node
+    → IsCopyOf seen (Some (record { attr = node.attr; content = copied_content parent node.content }))
 is_copy_of parent seen node e =
     subst (λ o. IsCopyOf o (Some (record { attr = node.attr; content = copied_content parent node.content }))) (sym e)
     (record {
@@ -49,11 +51,15 @@ module _ (files : FileTree ℕ) (first : ℕ → Option (Real ℕ)) (spare : ℕ
   abbrev pub State : (ℕ → Option (Real ℕ)) → FileTree ℕ → Merge ℕ
   State real upper = record { files = files; real = real; upper = upper }
 
-  -- Two inodes have two upper objects, of their own kind; each is the one that it had, or a copy; and some numbers are spared.
+  -- Two inodes have two upper objects, of their own kind; each is the one that it had, or a copy; and some numbers are
+  -- spared.
   pub record IsSound (real : ℕ → Option (Real ℕ)) (upper : FileTree ℕ) : Type 0 where
     pub one : (a b object : ℕ) → upper_object (real a) ≡ Some object → upper_object (real b) ≡ Some object → a ≡ b
-    pub kinds : (path : List (List ℕ)) (number object : ℕ) → number_at_path files path ≡ Some number → upper_object (real number) ≡ Some object → is_directory_node (upper.tree.node object) ≡ is_directory_node (files.tree.node number)
-    pub stands : (number object : ℕ) → upper_object (real number) ≡ Some object → (upper_object (first number) ≡ Some object) ⊎ IsCopyOf (files.tree.node number) (upper.tree.node object)
+    pub kinds : (path : List (List ℕ)) (number object : ℕ) → number_at_path files path ≡ Some number
+        → upper_object (real number) ≡ Some object
+        → is_directory_node (upper.tree.node object) ≡ is_directory_node (files.tree.node number)
+    pub stands : (number object : ℕ) → upper_object (real number) ≡ Some object
+        → (upper_object (first number) ≡ Some object) ⊎ IsCopyOf (files.tree.node number) (upper.tree.node object)
     pub spared : (number object : ℕ) → upper_object (real number) ≡ Some object → ¬ (spare object)
 
   pub record Soundly (before : ℕ → Option (Real ℕ)) (used : ℕ → Type 0) (merge : Merge ℕ) : Type 0 where
@@ -61,13 +67,21 @@ module _ (files : FileTree ℕ) (first : ℕ → Option (Real ℕ)) (spare : ℕ
     pub upper : FileTree ℕ
     pub is : merge ≡ State real upper
     pub sound : IsSound real upper
-    pub grows : (number object : ℕ) → upper_object (before number) ≡ Some object → upper_object (real number) ≡ Some object
-    pub told : (number object : ℕ) → upper_object (real number) ≡ Some object → (upper_object (before number) ≡ Some object) ⊎ used object
+    pub grows : (number object : ℕ) → upper_object (before number) ≡ Some object
+        → upper_object (real number) ≡ Some object
+    pub told : (number object : ℕ) → upper_object (real number) ≡ Some object
+        → (upper_object (before number) ≡ Some object) ⊎ used object
 
   -- one copy
-  module _ (real : ℕ → Option (Real ℕ)) (upper : FileTree ℕ) (sound : IsSound real upper) (object copy : ℕ) (unused : (number : ℕ) → upper_object (real number) ≢ Some copy) (not_spare : ¬ (spare copy)) (node : Node ℕ) (is_node : files.tree.node object ≡ Some node) (below : upper_object (real object) ≡ None) where
+  module _ (real : ℕ → Option (Real ℕ)) (upper : FileTree ℕ) (sound : IsSound real upper) (object copy : ℕ)
+      (unused : (number : ℕ) → upper_object (real number) ≢ Some copy) (not_spare : ¬ (spare copy)) (node : Node ℕ)
+      (is_node : files.tree.node object ≡ Some node) (below : upper_object (real object) ≡ None) where
     abbrev copied_node : Node ℕ
-    copied_node = record { attr = node.attr; content = copied_content (copy_parent (State real upper) copy (a_name nat_eq files object)) node.content }
+    copied_node = record {
+      attr = node.attr;
+      content = copied_content
+          (copy_parent (State real upper) copy (a_name nat_eq files object)) node.content;
+    }
 
     abbrev with_copy : FileTree ℕ
     with_copy = with_inode nat_eq upper copy copied_node
@@ -79,20 +93,33 @@ module _ (files : FileTree ℕ) (first : ℕ → Option (Real ℕ)) (spare : ℕ
     real_later = with_real nat_eq real object (Upper copy)
 
     -- the object of an inode is the copy, or the one that it was
-    told_later : (number seen : ℕ) → upper_object (real_later number) ≡ Some seen → ((number ≡ object) × (seen ≡ copy)) ⊎ (upper_object (real number) ≡ Some seen)
+    told_later : (number seen : ℕ) → upper_object (real_later number) ≡ Some seen
+        → ((number ≡ object) × (seen ≡ copy)) ⊎ (upper_object (real number) ≡ Some seen)
     told_later number seen e =
         ⊎_elim
-        (λ t. inl (t.1, sym (some_is_one copy seen (ap (λ b. upper_object (cond b (Some (Upper copy)) (real number))) (sym t.0) ∙ e))))
+        (λ t. inl (
+          t.1,
+          sym (some_is_one copy seen
+              (ap (λ b. upper_object (cond b (Some (Upper copy)) (real number))) (sym t.0) ∙ e)),
+        ))
         (λ t. inr (ap (λ b. upper_object (cond b (Some (Upper copy)) (real number))) (sym t.0) ∙ e))
         (eqb_tells number object)
 
-    directory_named : (named : Option (ℕ × List ℕ)) (inode : ℕ) → is_directory_node ((copy_named nat_eq (State real upper) copy named with_copy).tree.node inode) ≡ is_directory_node (with_copy.tree.node inode)
+    directory_named : (named : Option (ℕ × List ℕ)) (inode : ℕ)
+        → is_directory_node ((copy_named nat_eq (State real upper) copy named with_copy).tree.node inode)
+        ≡ is_directory_node (with_copy.tree.node inode)
     directory_named None inode = refl
-    directory_named (Some name) inode = kept_part is_directory_node with_copy (upper_of (State real upper) name.0) (node_with_entry name.1 copy) (entry_keeps name.1 copy).directory inode
+    directory_named (Some name) inode =
+        kept_part is_directory_node with_copy (upper_of (State real upper) name.0) (node_with_entry name.1 copy)
+        (entry_keeps name.1 copy).directory inode
 
-    copy_named_so : (seen : Option (Node ℕ)) (named : Option (ℕ × List ℕ)) (inode : ℕ) → IsCopyOf seen (with_copy.tree.node inode) → IsCopyOf seen ((copy_named nat_eq (State real upper) copy named with_copy).tree.node inode)
+    copy_named_so : (seen : Option (Node ℕ)) (named : Option (ℕ × List ℕ)) (inode : ℕ)
+        → IsCopyOf seen (with_copy.tree.node inode)
+        → IsCopyOf seen ((copy_named nat_eq (State real upper) copy named with_copy).tree.node inode)
     copy_named_so seen None inode is = is
-    copy_named_so seen (Some name) inode is = kept_copy seen with_copy (upper_of (State real upper) name.0) (node_with_entry name.1 copy) (entry_keeps name.1 copy) inode is
+    copy_named_so seen (Some name) inode is =
+        kept_copy seen with_copy (upper_of (State real upper) name.0) (node_with_entry name.1 copy)
+        (entry_keeps name.1 copy) inode is
 
     at_copy : with_copy.tree.node copy ≡ Some copied_node
     at_copy = ap (λ b. cond b (Some copied_node) (upper.tree.node copy)) (eq-eqb copy copy refl)
@@ -103,7 +130,8 @@ module _ (files : FileTree ℕ) (first : ℕ → Option (Real ℕ)) (spare : ℕ
     is_copy : IsCopyOf (files.tree.node object) (with_copy.tree.node copy)
     is_copy =
         subst (IsCopyOf (files.tree.node object)) (sym at_copy)
-        (is_copy_of (copy_parent (State real upper) copy (a_name nat_eq files object)) (files.tree.node object) node is_node)
+        (is_copy_of (copy_parent (State real upper) copy (a_name nat_eq files object))
+        (files.tree.node object) node is_node)
 
     other_object : (number seen : ℕ) → upper_object (real number) ≡ Some seen → seen ≢ copy
     other_object number seen e same = unused number (e ∙ ap Some same)
@@ -117,10 +145,12 @@ module _ (files : FileTree ℕ) (first : ℕ → Option (Real ℕ)) (spare : ℕ
           (told_later a seen e);
       kinds = λ path number seen way e.
           ⊎_elim
-          (λ t. directory_named (a_name nat_eq files object) seen ∙ ap (λ n. is_directory_node (with_copy.tree.node n)) t.1 ∙ ap is_directory_node at_copy
+          (λ t. directory_named (a_name nat_eq files object) seen
+          ∙ ap (λ n. is_directory_node (with_copy.tree.node n)) t.1 ∙ ap is_directory_node at_copy
           ∙ ap is_directory (copy_kind (copy_parent (State real upper) copy (a_name nat_eq files object)) node.content)
           ∙ sym (ap is_directory_node is_node) ∙ ap (λ n. is_directory_node (files.tree.node n)) (sym t.0))
-          (λ t. directory_named (a_name nat_eq files object) seen ∙ ap is_directory_node (at_other seen (other_object number seen t)) ∙ sound.kinds path number seen way t)
+          (λ t. directory_named (a_name nat_eq files object) seen
+          ∙ ap is_directory_node (at_other seen (other_object number seen t)) ∙ sound.kinds path number seen way t)
           (told_later number seen e);
       stands = λ number seen e.
           ⊎_elim

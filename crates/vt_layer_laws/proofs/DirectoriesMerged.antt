@@ -24,7 +24,8 @@ use Rattle.vt_layer_laws.proofs.UpperLine.{has_entries}
 use Rattle.vt_layer_laws.proofs.UpperShown.{front_of_longer}
 
 -- tests that agree on a list find one place
-same_place : {A : Type 0} (test other : A → Bool) (k : ℕ) (list : List A) → ((a : A) → Among list a → test a ≡ other a) → place_from test k list ≡ place_from other k list
+same_place : {A : Type 0} (test other : A → Bool) (k : ℕ) (list : List A) → ((a : A) → Among list a → test a ≡ other a)
+    → place_from test k list ≡ place_from other k list
 same_place test other k [] same = refl
 same_place test other k (first ∷ list) same =
     ap (λ b. cond b (Some k) (place_from test (k + 1) list)) (same first (inl refl))
@@ -46,37 +47,52 @@ no_directory_no_entries (Some node) d = by node.content d
     by Whiteout d = refl
 
 -- a list without repetitions has what the list has
-still_among : (number : ℕ) (list : List ℕ) → is_among nat_eq number (each_once nat_eq list) ≡ is_among nat_eq number list
+still_among : (number : ℕ) (list : List ℕ)
+    → is_among nat_eq number (each_once nat_eq list) ≡ is_among nat_eq number list
 still_among number [] = refl
 still_among number (first ∷ list) = by (nat_eq number first) refl (still_among number list)
   where
-    kept : nat_eq number first ≡ false → (rest : List ℕ) → list_any (nat_eq number) (filter (λ b. not (nat_eq first b)) rest) ≡ list_any (nat_eq number) rest
+    kept : nat_eq number first ≡ false → (rest : List ℕ)
+        → list_any (nat_eq number) (filter (λ b. not (nat_eq first b)) rest) ≡ list_any (nat_eq number) rest
     kept n [] = refl
     kept n (other ∷ rest) = choose (nat_eq first other) refl (kept n rest)
       where
-        choose : (b : Bool) → nat_eq first other ≡ b → list_any (nat_eq number) (filter (λ b. not (nat_eq first b)) rest) ≡ list_any (nat_eq number) rest
-            → list_any (nat_eq number) (cond (not b) (other ∷ filter (λ b. not (nat_eq first b)) rest) (filter (λ b. not (nat_eq first b)) rest)) ≡ (nat_eq number other || list_any (nat_eq number) rest)
-        choose true e on = on ∙ ap (λ b. b || list_any (nat_eq number) rest) (sym (ap (nat_eq number) (sym (eqb-true first other e)) ∙ n))
+        choose : (b : Bool) → nat_eq first other ≡ b
+            → list_any (nat_eq number) (filter (λ b. not (nat_eq first b)) rest) ≡ list_any (nat_eq number) rest
+            → list_any (nat_eq number) (cond (not b) (other ∷ filter (λ b. not (nat_eq first b)) rest)
+            (filter (λ b. not (nat_eq first b)) rest)) ≡ (nat_eq number other || list_any (nat_eq number) rest)
+        choose true e on = on ∙ ap (λ b. b || list_any (nat_eq number) rest)
+            (sym (ap (nat_eq number) (sym (eqb-true first other e)) ∙ n))
         choose false e on = ap (λ b. nat_eq number other || b) on
 
-    by : (b : Bool) → nat_eq number first ≡ b → list_any (nat_eq number) (each_once nat_eq list) ≡ list_any (nat_eq number) list
-        → (b || list_any (nat_eq number) (filter (λ c. not (nat_eq first c)) (each_once nat_eq list))) ≡ (b || list_any (nat_eq number) list)
+    by : (b : Bool) → nat_eq number first ≡ b
+        → list_any (nat_eq number) (each_once nat_eq list) ≡ list_any (nat_eq number) list
+        → (b || list_any (nat_eq number) (filter (λ c. not (nat_eq first c)) (each_once nat_eq list)))
+        ≡ (b || list_any (nat_eq number) list)
     by true e on = refl
     by false e on = kept e (each_once nat_eq list) ∙ on
 
-numbered_found : (number : ℕ) (inodes : List (MergedInode ℕ)) → list_any (nat_eq number) (map (λ inode. inode.number) inodes) ≡ is_some (option_map (λ inode. inode.node) (find (λ inode. nat_eq number inode.number) inodes))
+numbered_found : (number : ℕ) (inodes : List (MergedInode ℕ))
+    → list_any (nat_eq number) (map (λ inode. inode.number) inodes)
+    ≡ is_some (option_map (λ inode. inode.node) (find (λ inode. nat_eq number inode.number) inodes))
 numbered_found number [] = refl
 numbered_found number (first ∷ list) = by (nat_eq number first.number) (numbered_found number list)
   where
-    by : (b : Bool) → list_any (nat_eq number) (map (λ inode. inode.number) list) ≡ is_some (option_map (λ inode. inode.node) (find (λ inode. nat_eq number inode.number) list))
-        → (b || list_any (nat_eq number) (map (λ inode. inode.number) list)) ≡ is_some (option_map (λ inode. inode.node) (cond b (Some first) (find (λ inode. nat_eq number inode.number) list)))
+    by : (b : Bool) → list_any (nat_eq number) (map (λ inode. inode.number) list)
+        ≡ is_some (option_map (λ inode. inode.node) (find (λ inode. nat_eq number inode.number) list))
+        → (b || list_any (nat_eq number) (map (λ inode. inode.number) list))
+        ≡ is_some (option_map (λ inode. inode.node)
+        (cond b (Some first) (find (λ inode. nat_eq number inode.number) list)))
     by true on = refl
     by false on = on
 
 pub merged_lists_numbers : (root : ℕ) (made : List (MergedInode ℕ)) → ListsNumbers nat_eq (tree_of nat_eq root made)
-merged_lists_numbers root made number = still_among number (map (λ inode. inode.number) made) ∙ numbered_found number made
+merged_lists_numbers root made number =
+    still_among number (map (λ inode. inode.number) made) ∙ numbered_found number made
 
-module _ (layers : List (OpenLayer ℕ)) (are_open : AreOpen layers) (longest : ℕ) (bounded : (path : List (List ℕ)) (seen : Shown ℕ) → shown layers path ≡ Some seen → length path ≤ longest) (fresh : Fresh ℕ) (distinct : (j k : ℕ) → fresh j ≡ fresh k → j ≡ k) (has_upper : Bool)
+module _ (layers : List (OpenLayer ℕ)) (are_open : AreOpen layers) (longest : ℕ)
+    (bounded : (path : List (List ℕ)) (seen : Shown ℕ) → shown layers path ≡ Some seen → length path ≤ longest)
+    (fresh : Fresh ℕ) (distinct : (j k : ℕ) → fresh j ≡ fresh k → j ≡ k) (has_upper : Bool)
     (top : Shown ℕ) (is_top : shown layers [] ≡ Some top) where
   abbrev tree : Tree ℕ
   tree = merged_tree layers are_open longest bounded fresh distinct has_upper top is_top
@@ -97,27 +113,34 @@ module _ (layers : List (OpenLayer ℕ)) (are_open : AreOpen layers) (longest : 
   among_all object s = is_object layers are_open longest bounded object.path object.seen s
 
   -- a directory that is shown at two paths is shown at one
-  one_place : (a b : Merged ℕ) → shown layers a.path ≡ Some a.seen → shown layers b.path ≡ Some b.seen → a.seen ≡ b.seen → (found : Lies a) → is_directory (kind_of found.node.content) ≡ true → a.path ≡ b.path
+  one_place : (a b : Merged ℕ) → shown layers a.path ≡ Some a.seen → shown layers b.path ≡ Some b.seen
+      → a.seen ≡ b.seen → (found : Lies a) → is_directory (kind_of found.node.content) ≡ true → a.path ≡ b.path
   one_place a b s t same found d =
       let other = in_layer layers are_open longest bounded fresh distinct has_upper b t in
-      let layer = some_is_one other.layer found.layer (sym other.there ∙ ap (λ seen. slice_get layers seen.layer) (sym same) ∙ found.there) in
-      one_path found.layer.tree (are_open a.seen.layer found.layer found.there).0 found.layer.directory a.path b.path a.seen.object
+      let layer = some_is_one other.layer found.layer
+      (sym other.there ∙ ap (λ seen. slice_get layers seen.layer) (sym same) ∙ found.there) in
+      one_path found.layer.tree
+      (are_open a.seen.layer found.layer found.there).0 found.layer.directory a.path b.path a.seen.object
       found.at
       (ap (λ l. at_path l b.path) (sym layer) ∙ other.at ∙ ap (λ seen. Some seen.object) (sym same))
       (ap is_directory_node found.is ∙ d)
 
-  numbered_place : (a b : Merged ℕ) → shown layers a.path ≡ Some a.seen → shown layers b.path ≡ Some b.seen → num a ≡ num b → (found : Lies a) → is_directory (kind_of found.node.content) ≡ true → a.path ≡ b.path
+  numbered_place : (a b : Merged ℕ) → shown layers a.path ≡ Some a.seen → shown layers b.path ≡ Some b.seen
+      → num a ≡ num b → (found : Lies a) → is_directory (kind_of found.node.content) ≡ true → a.path ≡ b.path
   numbered_place a b s t e found d =
-      one_place a b s t (one_number layers are_open longest bounded fresh distinct has_upper a b (among_all a s) (among_all b t) e).seen found d
+      one_place a b s t (one_number layers are_open longest bounded fresh distinct has_upper a b (among_all a s)
+      (among_all b t) e).seen found d
 
   -- the number of a directory is that of its path
-  path_number : (path : List (List ℕ)) (seen : Shown ℕ) → shown layers path ≡ Some seen → (found : Lies (at path seen)) → is_directory (kind_of found.node.content) ≡ true → number_at fresh has_upper all path ≡ num (at path seen)
+  path_number : (path : List (List ℕ)) (seen : Shown ℕ) → shown layers path ≡ Some seen → (found : Lies (at path seen))
+      → is_directory (kind_of found.node.content) ≡ true → number_at fresh has_upper all path ≡ num (at path seen)
   path_number path seen s found d =
       ap (λ o. fresh (unwrap_or o 0))
       (same_place (λ object. same_path path object.path) (is_one_inode nat_eq has_upper (at path seen)) 0 all
       (λ other among. agree other (object_is layers are_open longest bounded other among)))
     where
-      agree : (other : Merged ℕ) → shown layers other.path ≡ Some other.seen → same_path path other.path ≡ is_one_inode nat_eq has_upper (at path seen) other
+      agree : (other : Merged ℕ) → shown layers other.path ≡ Some other.seen
+          → same_path path other.path ≡ is_one_inode nat_eq has_upper (at path seen) other
       agree other t = both_ways _ _
           (λ e.
           let paths = path_same path other.path e in
@@ -125,23 +148,29 @@ module _ (layers : List (OpenLayer ℕ)) (are_open : AreOpen layers) (longest : 
           let whole : at path seen ≡ other = λ i. record { path = paths i; seen = seens i } in
           ap (is_one_inode nat_eq has_upper (at path seen)) (sym whole) ∙ one_itself has_upper (at path seen))
           (λ e.
-          ap (same_path path) (sym (one_place (at path seen) other s t (is_one layers has_upper (at path seen) other s t e).seen found d))
+          ap (same_path path) (sym (one_place (at path seen) other s t
+          (is_one layers has_upper (at path seen) other s t e).seen found d))
           ∙ path_itself path)
 
   -- what the merged tree has of a directory
-  merged_entries : (path : List (List ℕ)) (content : Content ℕ) → is_directory (kind_of content) ≡ true → entries_of (merged_content nat_eq fresh has_upper all path content) ≡ filter_map (entry_below nat_eq fresh has_upper all path) all
+  merged_entries : (path : List (List ℕ)) (content : Content ℕ) → is_directory (kind_of content) ≡ true
+      → entries_of (merged_content nat_eq fresh has_upper all path content)
+      ≡ filter_map (entry_below nat_eq fresh has_upper all path) all
   merged_entries path (Directory parent entries opaque) d = refl
   merged_entries path (Regular bytes) d = absurd (true≢false (sym d))
   merged_entries path (Symlink text) d = absurd (true≢false (sym d))
   merged_entries path Whiteout d = absurd (true≢false (sym d))
 
-  merged_parent : (own : ℕ) (path : List (List ℕ)) (content : Content ℕ) → is_directory (kind_of content) ≡ true → parent_of own (merged_content nat_eq fresh has_upper all path content) ≡ number_at fresh has_upper all (front_of path)
+  merged_parent : (own : ℕ) (path : List (List ℕ)) (content : Content ℕ) → is_directory (kind_of content) ≡ true
+      → parent_of own (merged_content nat_eq fresh has_upper all path content)
+      ≡ number_at fresh has_upper all (front_of path)
   merged_parent own path (Directory parent entries opaque) d = refl
   merged_parent own path (Regular bytes) d = absurd (true≢false (sym d))
   merged_parent own path (Symlink text) d = absurd (true≢false (sym d))
   merged_parent own path Whiteout d = absurd (true≢false (sym d))
 
-  merged_kind : (path : List (List ℕ)) (content : Content ℕ) → is_directory (kind_of (merged_content nat_eq fresh has_upper all path content)) ≡ is_directory (kind_of content)
+  merged_kind : (path : List (List ℕ)) (content : Content ℕ)
+      → is_directory (kind_of (merged_content nat_eq fresh has_upper all path content)) ≡ is_directory (kind_of content)
   merged_kind path (Directory parent entries opaque) = refl
   merged_kind path (Regular bytes) = refl
   merged_kind path (Symlink text) = refl
@@ -161,11 +190,14 @@ module _ (layers : List (OpenLayer ℕ)) (are_open : AreOpen layers) (longest : 
   of_directory : (n : ℕ) → IsDirectory tree n → IsShownDirectory n
   of_directory n d = by (inode_of (inodes layers are_open longest bounded fresh distinct has_upper) n nat_eq) refl d
     where
-      by : (o : Option (MergedInode ℕ)) → inode_of (inodes layers are_open longest bounded fresh distinct has_upper) n nat_eq ≡ o → is_directory_node (option_map (λ inode. inode.node) o) ≡ true → IsShownDirectory n
+      by : (o : Option (MergedInode ℕ))
+          → inode_of (inodes layers are_open longest bounded fresh distinct has_upper) n nat_eq ≡ o
+          → is_directory_node (option_map (λ inode. inode.node) o) ≡ true → IsShownDirectory n
       by None e d = absurd (true≢false (sym d))
       by (Some inode) e d =
           let is = is_of_object layers are_open longest bounded fresh distinct has_upper n inode e in
-          let directory = sym (merged_kind is.object.path is.layer.node.content) ∙ ap (λ m. is_directory (kind_of m.content)) (sym is.node) ∙ d in
+          let directory = sym (merged_kind is.object.path is.layer.node.content)
+          ∙ ap (λ m. is_directory (kind_of m.content)) (sym is.node) ∙ d in
           let node : tree.node n ≡ Some inode.node = ap (option_map (λ i. i.node)) e in
           record {
             path = is.object.path;
@@ -174,16 +206,23 @@ module _ (layers : List (OpenLayer ℕ)) (are_open : AreOpen layers) (longest : 
             found = is.layer;
             directory = directory;
             numbered = is.numbered;
-            entries = ap entries_in node ∙ ap (λ m. entries_of m.content) is.node ∙ merged_entries is.object.path is.layer.node.content directory;
-            parent = ap (parent_in n) node ∙ ap (λ m. parent_of n m.content) is.node ∙ merged_parent n is.object.path is.layer.node.content directory;
+            entries = ap entries_in node ∙ ap (λ m. entries_of m.content) is.node
+                ∙ merged_entries is.object.path is.layer.node.content directory;
+            parent = ap (parent_in n) node ∙ ap (λ m. parent_of n m.content) is.node
+                ∙ merged_parent n is.object.path is.layer.node.content directory;
           }
 
   -- and one that is shown is one of the tree
-  shown_directory : (path : List (List ℕ)) (seen : Shown ℕ) → shown layers path ≡ Some seen → (found : Lies (at path seen)) → is_directory (kind_of found.node.content) ≡ true → IsDirectory tree (num (at path seen))
+  shown_directory : (path : List (List ℕ)) (seen : Shown ℕ) → shown layers path ≡ Some seen
+      → (found : Lies (at path seen)) → is_directory (kind_of found.node.content) ≡ true
+      → IsDirectory tree (num (at path seen))
   shown_directory path seen s found d =
       let inode = inode_at layers are_open longest bounded fresh distinct has_upper top is_top path seen s in
-      let node = some_is_one inode.node found.node (sym inode.seen ∙ layer_node_of layers are_open longest bounded fresh distinct has_upper (at path seen) found) in
-      ap is_directory_node inode.is ∙ merged_kind inode.other.path inode.node.content ∙ ap (λ m. is_directory (kind_of m.content)) node ∙ d
+      let node = some_is_one inode.node found.node
+      (sym inode.seen ∙ layer_node_of layers are_open longest bounded fresh distinct has_upper
+      (at path seen) found) in
+      ap is_directory_node inode.is ∙ merged_kind inode.other.path inode.node.content
+      ∙ ap (λ m. is_directory (kind_of m.content)) node ∙ d
 
   -- an entry of the tree leads to what is shown under its name
   record IsEntry (directory : ℕ) (name : List ℕ) (n : ℕ) : Type 0 where
@@ -195,18 +234,25 @@ module _ (layers : List (OpenLayer ℕ)) (are_open : AreOpen layers) (longest : 
   is_entry : (directory : ℕ) (name : List ℕ) (n : ℕ) → entry_at tree directory name ≡ Some n → IsEntry directory name n
   is_entry directory name n e =
       let above = of_directory directory (has_entries tree directory name n e) in
-      by above (shown layers (above.path ++ name ∷ [])) refl (entry_leads layers are_open longest bounded fresh distinct has_upper above.path name)
+      by above (shown layers (above.path ++ name ∷ [])) refl
+      (entry_leads layers are_open longest bounded fresh distinct has_upper above.path name)
       (ap (entry_named name) (sym above.entries) ∙ e)
     where
-      by : (above : IsShownDirectory directory) (o : Option (Shown ℕ)) → shown layers (above.path ++ name ∷ []) ≡ o → LeadsTo layers are_open longest bounded fresh distinct has_upper above.path name o (entry_named name (filter_map (entry_below nat_eq fresh has_upper all above.path) all))
-          → entry_named name (filter_map (entry_below nat_eq fresh has_upper all above.path) all) ≡ Some n → IsEntry directory name n
+      by : (above : IsShownDirectory directory) (o : Option (Shown ℕ)) → shown layers (above.path ++ name ∷ []) ≡ o
+          → LeadsTo layers are_open longest bounded fresh distinct has_upper above.path name o
+          (entry_named name (filter_map (entry_below nat_eq fresh has_upper all above.path) all))
+          → entry_named name (filter_map (entry_below nat_eq fresh has_upper all above.path) all) ≡ Some n
+          → IsEntry directory name n
       by above None s leads e = none_is_some n (sym leads ∙ e)
-      by above (Some seen) s leads e = record { above = above; seen = seen; is_shown = s; numbered = some_is_one n _ (sym e ∙ leads) }
+      by above (Some seen) s leads e =
+          record { above = above; seen = seen; is_shown = s; numbered = some_is_one n _ (sym e ∙ leads) }
 
   -- The root
   root_found : (found : Lies (at [] top)) → is_directory (kind_of found.node.content) ≡ true
   root_found found =
-      ap is_directory_node (sym found.is) ∙ ap (λ o. is_directory_node (found.layer.tree.node o)) (sym (some_is_one found.layer.directory top.object found.at))
+      ap is_directory_node (sym found.is)
+      ∙ ap (λ o. is_directory_node (found.layer.tree.node o))
+      (sym (some_is_one found.layer.directory top.object found.at))
       ∙ (are_open top.layer found.layer found.there).1
 
   root_lies : Lies (at [] top)
@@ -218,8 +264,10 @@ module _ (layers : List (OpenLayer ℕ)) (are_open : AreOpen layers) (longest : 
   root_is_directory : IsDirectory tree (fresh 0)
   root_is_directory = subst (IsDirectory tree) root_is (shown_directory [] top is_top root_lies (root_found root_lies))
 
-  root_path : (path : List (List ℕ)) (seen : Shown ℕ) → shown layers path ≡ Some seen → fresh 0 ≡ num (at path seen) → [] ≡ path
-  root_path path seen s e = numbered_place (at [] top) (at path seen) is_top s (root_is ∙ e) root_lies (root_found root_lies)
+  root_path : (path : List (List ℕ)) (seen : Shown ℕ) → shown layers path ≡ Some seen → fresh 0 ≡ num (at path seen)
+      → [] ≡ path
+  root_path path seen s e = numbered_place (at [] top) (at path seen) is_top s (root_is ∙ e) root_lies
+      (root_found root_lies)
 
   root_number_at : number_at fresh has_upper all [] ≡ fresh 0
   root_number_at = path_number [] top is_top root_lies (root_found root_lies) ∙ root_is
@@ -227,18 +275,22 @@ module _ (layers : List (OpenLayer ℕ)) (are_open : AreOpen layers) (longest : 
   root_own_parent : parent_in (fresh 0) (tree.node (fresh 0)) ≡ fresh 0
   root_own_parent =
       let root = of_directory (fresh 0) root_is_directory in
-      root.parent ∙ ap (λ p. number_at fresh has_upper all (front_of p)) (sym (root_path root.path root.seen root.is_shown root.numbered)) ∙ root_number_at
+      root.parent ∙ ap (λ p. number_at fresh has_upper all (front_of p))
+      (sym (root_path root.path root.seen root.is_shown root.numbered)) ∙ root_number_at
 
   -- a directory is the root, or has a name in a directory
   is_led : (n : ℕ) (directory : IsShownDirectory n) → led tree (fresh 0) directory.path ≡ Some n
   is_led n directory =
-      subst (λ o. Arrives layers are_open longest bounded fresh distinct has_upper top is_top o directory.path (led tree (fresh 0) directory.path)) directory.is_shown (arrives layers are_open longest bounded fresh distinct has_upper top is_top directory.path)
+      subst (λ o. Arrives layers are_open longest bounded fresh distinct has_upper top is_top o directory.path
+      (led tree (fresh 0) directory.path)) directory.is_shown
+      (arrives layers are_open longest bounded fresh distinct has_upper top is_top directory.path)
       ∙ ap Some (sym directory.numbered)
 
   root_or_named : (n : ℕ) → IsShownDirectory n → (n ≡ fresh 0) ⊎ HasName tree n
   root_or_named n directory = by directory.path (is_led n directory)
     where
-      named : (front : List (List ℕ)) (name : List ℕ) (o : Option ℕ) → option_and_then (λ d. entry_at tree d name) o ≡ Some n → HasName tree n
+      named : (front : List (List ℕ)) (name : List ℕ) (o : Option ℕ)
+          → option_and_then (λ d. entry_at tree d name) o ≡ Some n → HasName tree n
       named front name None e = none_is_some n e
       named front name (Some d) e = (d, name, e)
 
@@ -251,19 +303,26 @@ module _ (layers : List (OpenLayer ℕ)) (are_open : AreOpen layers) (longest : 
 
   -- the parent
   has_parent : (n : ℕ) → IsShownDirectory n → IsDirectory tree (parent_in n (tree.node n))
-  has_parent n directory = subst (IsDirectory tree) (sym directory.parent) (by directory.path directory.seen directory.is_shown)
+  has_parent n directory = subst (IsDirectory tree) (sym directory.parent)
+      (by directory.path directory.seen directory.is_shown)
     where
-      above : (front : List (List ℕ)) (name : List ℕ) (seen : Shown ℕ) → shown layers (front ++ name ∷ []) ≡ Some seen → IsDirectory tree (number_at fresh has_upper all front)
+      above : (front : List (List ℕ)) (name : List ℕ) (seen : Shown ℕ) → shown layers (front ++ name ∷ []) ≡ Some seen
+          → IsDirectory tree (number_at fresh has_upper all front)
       above front name seen s =
           let shows = shown_in_directory layers are_open 0 front name seen s in
           let over : Shown ℕ = record { layer = 0 + shows.place; object = shows.object } in
           let inode = inode_at layers are_open longest bounded fresh distinct has_upper top is_top front over shows.is in
           let found = in_layer layers are_open longest bounded fresh distinct has_upper (at front over) shows.is in
-          let node = some_is_one inode.node found.node (sym inode.seen ∙ layer_node_of layers are_open longest bounded fresh distinct has_upper (at front over) found) in
-          let d = ap (λ m. is_directory (kind_of m.content)) (sym node) ∙ directory_above layers are_open longest bounded fresh distinct has_upper top is_top front name over shows.is inode seen s in
-          subst (IsDirectory tree) (sym (path_number front over shows.is found d)) (shown_directory front over shows.is found d)
+          let node = some_is_one inode.node found.node
+          (sym inode.seen ∙ layer_node_of layers are_open longest bounded fresh distinct has_upper
+          (at front over) found) in
+          let d = ap (λ m. is_directory (kind_of m.content)) (sym node)
+          ∙ directory_above layers are_open longest bounded fresh distinct has_upper top is_top front name over shows.is inode seen s in
+          subst (IsDirectory tree) (sym (path_number front over shows.is found d))
+          (shown_directory front over shows.is found d)
 
-      by : (path : List (List ℕ)) (seen : Shown ℕ) → shown layers path ≡ Some seen → IsDirectory tree (number_at fresh has_upper all (front_of path))
+      by : (path : List (List ℕ)) (seen : Shown ℕ) → shown layers path ≡ Some seen
+          → IsDirectory tree (number_at fresh has_upper all (front_of path))
       by [] seen s = subst (IsDirectory tree) (sym root_number_at) root_is_directory
       by (first ∷ rest) seen s =
           let last = last_of (first ∷ rest) (not_empty first rest) in
@@ -272,7 +331,8 @@ module _ (layers : List (OpenLayer ℕ)) (are_open : AreOpen layers) (longest : 
           (above last.0 last.1 seen (ap (shown layers) last.2 ∙ s)))
 
   -- the path of a directory under a name
-  path_of_entry : (directory : ℕ) (name : List ℕ) (n : ℕ) (entry : IsEntry directory name n) (own : IsShownDirectory n) → own.path ≡ entry.above.path ++ name ∷ []
+  path_of_entry : (directory : ℕ) (name : List ℕ) (n : ℕ) (entry : IsEntry directory name n) (own : IsShownDirectory n)
+      → own.path ≡ entry.above.path ++ name ∷ []
   path_of_entry directory name n entry own =
       numbered_place (at own.path own.seen) (at (entry.above.path ++ name ∷ []) entry.seen) own.is_shown entry.is_shown
       (sym own.numbered ∙ entry.numbered) own.found own.directory
@@ -283,11 +343,13 @@ module _ (layers : List (OpenLayer ℕ)) (are_open : AreOpen layers) (longest : 
     root_parent = root_own_parent;
     root_unnamed = λ directory name e.
         let entry = is_entry directory name (fresh 0) e in
-        longer_is_not_empty entry.above.path name (sym (root_path (entry.above.path ++ name ∷ []) entry.seen entry.is_shown entry.numbered));
+        longer_is_not_empty entry.above.path name
+        (sym (root_path (entry.above.path ++ name ∷ []) entry.seen entry.is_shown entry.numbered));
     in_order = λ directory. ordered directory (is_directory_node (tree.node directory)) refl;
     alive = λ directory name n e.
         let entry = is_entry directory name n e in
-        let inode = inode_at layers are_open longest bounded fresh distinct has_upper top is_top (entry.above.path ++ name ∷ []) entry.seen entry.is_shown in
+        let inode = inode_at layers are_open longest bounded fresh distinct has_upper top is_top
+        (entry.above.path ++ name ∷ []) entry.seen entry.is_shown in
         ap (λ k. is_some (tree.node k)) entry.numbered ∙ ap is_some inode.is;
     one_parent = λ directory name n e d.
         let entry = is_entry directory name n e in
@@ -308,13 +370,16 @@ module _ (layers : List (OpenLayer ℕ)) (are_open : AreOpen layers) (longest : 
     unnamed_empty = λ n d no_root unnamed. neither n (root_or_named n (of_directory n d)) no_root unnamed;
   }
     where
-      ordered : (directory : ℕ) (b : Bool) → is_directory_node (tree.node directory) ≡ b → is_sorted name_cmp (entries_in (tree.node directory)) ≡ true
+      ordered : (directory : ℕ) (b : Bool) → is_directory_node (tree.node directory) ≡ b
+          → is_sorted name_cmp (entries_in (tree.node directory)) ≡ true
       ordered directory true d =
           let own = of_directory directory d in
-          ap (is_sorted name_cmp) own.entries ∙ entries_in_order layers are_open longest bounded fresh distinct has_upper own.path
+          ap (is_sorted name_cmp) own.entries
+          ∙ entries_in_order layers are_open longest bounded fresh distinct has_upper own.path
       ordered directory false d = ap (is_sorted name_cmp) (no_directory_no_entries (tree.node directory) d)
 
-      neither : (n : ℕ) → (n ≡ fresh 0) ⊎ HasName tree n → n ≢ fresh 0 → ¬ (HasName tree n) → entries_in (tree.node n) ≡ []
+      neither : (n : ℕ) → (n ≡ fresh 0) ⊎ HasName tree n → n ≢ fresh 0 → ¬ (HasName tree n)
+          → entries_in (tree.node n) ≡ []
       neither n (inl e) no_root unnamed = absurd (no_root e)
       neither n (inr named) no_root unnamed = absurd (unnamed named)
 

@@ -40,7 +40,9 @@ never_both a b e f g = true≢false (sym (both_hold a b f g) ∙ e)
 pub under_itself : (files : FileTree ℕ) (directory : ℕ) → is_directory_node (files.tree.node directory) ≡ true
     → is_under nat_eq files directory directory ≡ true
 under_itself files directory is =
-    ap (λ b. cond b (is_among nat_eq directory (chain (Rattle.std.proofs.Common.length files.numbers) (named_parent nat_eq files.tree) directory)) (Rattle.vt_spec.specs.FileTree.is_file_under nat_eq files directory directory)) is
+    ap (λ b. cond b (is_among nat_eq directory
+    (chain (Rattle.std.proofs.Common.length files.numbers) (named_parent nat_eq files.tree) directory))
+    (Rattle.vt_spec.specs.FileTree.is_file_under nat_eq files directory directory)) is
     ∙ first (Rattle.std.proofs.Common.length files.numbers)
   where
     started : (o : Option ℕ) (rest : ℕ → List ℕ)
@@ -50,13 +52,16 @@ under_itself files directory is =
 
     first : (most : ℕ) → is_among nat_eq directory (chain most (named_parent nat_eq files.tree) directory) ≡ true
     first Rattle.std.proofs.Common.zero = left_holds (nat_eq directory directory) _ (eq-eqb directory directory refl)
-    first (Rattle.std.proofs.Common.suc most) = started (named_parent nat_eq files.tree directory) (chain most (named_parent nat_eq files.tree))
+    first (Rattle.std.proofs.Common.suc most) =
+        started (named_parent nat_eq files.tree directory) (chain most (named_parent nat_eq files.tree))
 
-pub found_among : (test : Filesystem ℕ → Bool) (list : List (Filesystem ℕ)) (a : Filesystem ℕ) → find test list ≡ Some a → Among a list
+pub found_among : (test : Filesystem ℕ → Bool) (list : List (Filesystem ℕ)) (a : Filesystem ℕ)
+    → find test list ≡ Some a → Among a list
 found_among test [] a e = none_is_some a e
 found_among test (first ∷ list) a e = by (test first) e (found_among test list a)
   where
-    by : (b : Bool) → cond b (Some first) (find test list) ≡ Some a → (find test list ≡ Some a → Among a list) → Among a (first ∷ list)
+    by : (b : Bool) → cond b (Some first) (find test list) ≡ Some a → (find test list ≡ Some a → Among a list)
+        → Among a (first ∷ list)
     by true e rest = inl (sym (some_is_one first a e))
     by false e rest = inr (rest e)
 
@@ -69,11 +74,14 @@ pair_append test (x ∷ xs) bs e =
       rest.0,
       λ a b m n.
           ⊎_elim
-          (λ (same : a ≡ x). ap (λ y. test y b) same ∙ none_among (test x) (xs ++ bs) (first_fails (list_any (test x) (xs ++ bs)) _ e) b (among-append_right xs bs b n))
+          (λ (same : a ≡ x). ap (λ y. test y b) same
+          ∙ none_among (test x) (xs ++ bs) (first_fails (list_any (test x) (xs ++ bs)) _ e) b
+          (among-append_right xs bs b n))
           (λ later. rest.1 a b later n) m,
     )
 
-apart_pairs : {A B : Type 0} (test : B → B → Bool) (f : A → List B) (xs : List A) → any_pair test (flat_map f xs) ≡ false
+apart_pairs : {A B : Type 0} (test : B → B → Bool) (f : A → List B) (xs : List A)
+    → any_pair test (flat_map f xs) ≡ false
     → (x y : A) → x ≢ y → Among x xs → Among y xs → (a b : B) → Among a (f x) → Among b (f y)
     → (test a b ≡ false) ⊎ (test b a ≡ false)
 apart_pairs test f [] e x y differ m n a b p q = absurd m
@@ -108,11 +116,15 @@ lies_there world object filesystem layer e =
         && (holds_of (λ l. nat_eq filesystem l.filesystem) o && rest)) ≡ true → filesystem ≡ layer.filesystem
     upper_by rest None h = absurd (true≢false (sym h))
     upper_by rest (Some upper) h =
-        eqb-true filesystem upper.filesystem (and_first (nat_eq filesystem upper.filesystem) rest (and_second (lies_in_layer nat_eq world upper.filesystem upper.directory layer) _ h))
-        ∙ in_it upper.filesystem upper.directory (and_first (lies_in_layer nat_eq world upper.filesystem upper.directory layer) _ h)
+        eqb-true filesystem upper.filesystem
+        (and_first (nat_eq filesystem upper.filesystem) rest
+        (and_second (lies_in_layer nat_eq world upper.filesystem upper.directory layer) _ h))
+        ∙ in_it upper.filesystem upper.directory
+        (and_first (lies_in_layer nat_eq world upper.filesystem upper.directory layer) _ h)
 
     by : (merged : Filesystem ℕ) (o : Option (Overlay ℕ))
-        → overlay_or false (λ v. holds_of (λ u. lies_in_layer nat_eq world u.filesystem u.directory layer) v.upper && is_object_of nat_eq filesystem object merged v) o ≡ true
+        → overlay_or false (λ v. holds_of (λ u. lies_in_layer nat_eq world u.filesystem u.directory layer) v.upper
+        && is_object_of nat_eq filesystem object merged v) o ≡ true
         → filesystem ≡ layer.filesystem
     by merged None h = absurd (true≢false (sym h))
     by merged (Some v) h = upper_by (list_any (is_real_upper nat_eq v object) merged.files.numbers) v.upper h
@@ -129,48 +141,59 @@ module _ (world : World ℕ) (conditions : IsWorld nat_eq world) where
       by None e h = absurd (true≢false (sym h))
       by (Some filesystem) e h =
           among_numbers filesystem.files.numbers inode
-          (all_found (λ f. ListsNumbers nat_eq f.files) (λ f. nat_eq number f.number) world.filesystems conditions.files.numbers filesystem e inode ∙ h)
+          (all_found (λ f. ListsNumbers nat_eq f.files)
+          (λ f. nat_eq number f.number) world.filesystems conditions.files.numbers filesystem e inode ∙ h)
 
-  pub merged_among : (number : ℕ) (overlay : Overlay ℕ) → (filesystem_numbered nat_eq world number).overlay ≡ Some overlay
+  pub merged_among : (number : ℕ) (overlay : Overlay ℕ)
+      → (filesystem_numbered nat_eq world number).overlay ≡ Some overlay
       → Among (filesystem_numbered nat_eq world number) (overlays world)
   merged_among number overlay is =
       among-filter is_overlay world.filesystems (filesystem_numbered nat_eq world number)
-      (found_among (λ f. nat_eq number f.number) world.filesystems (filesystem_numbered nat_eq world number) (overlay_found world number overlay is))
+      (found_among (λ f. nat_eq number f.number) world.filesystems (filesystem_numbered nat_eq world number)
+      (overlay_found world number overlay is))
       (ap is_some is)
 
   -- a layer of a live overlay is among those of all
   pub layer_among : (layers : Overlay ℕ → List (Layer ℕ)) (number : ℕ) (overlay : Overlay ℕ)
-      → (filesystem_numbered nat_eq world number).overlay ≡ Some overlay → (layer : Layer ℕ) → Among layer (layers overlay)
+      → (filesystem_numbered nat_eq world number).overlay ≡ Some overlay → (layer : Layer ℕ)
+      → Among layer (layers overlay)
       → Among layer (flat_map (of_overlay [] layers) (overlays world))
   layer_among layers number overlay is layer m =
       among-flat_map (of_overlay [] layers) (overlays world) (filesystem_numbered nat_eq world number) layer
       (merged_among number overlay is) (subst (λ o. Among layer (overlay_or [] layers o)) (sym is) m)
 
   -- layers are in plain trees
-  pub layer_plain : (number : ℕ) (overlay : Overlay ℕ) → (filesystem_numbered nat_eq world number).overlay ≡ Some overlay
+  pub layer_plain : (number : ℕ) (overlay : Overlay ℕ)
+      → (filesystem_numbered nat_eq world number).overlay ≡ Some overlay
       → (layer : Layer ℕ) → Among layer (layers_of overlay) → is_plain_layer nat_eq world layer ≡ true
   layer_plain number overlay is layer m =
       among_from_list_all (is_plain_layer nat_eq world) (layers_of overlay)
       (sym (ap (overlay_or true (λ o. list_all (is_plain_layer nat_eq world) (layers_of o))) is)
-      ∙ among_from_list_all (of_overlay true (λ o. list_all (is_plain_layer nat_eq world) (layers_of o))) world.filesystems
+      ∙ among_from_list_all (of_overlay true
+      (λ o. list_all (is_plain_layer nat_eq world) (layers_of o))) world.filesystems
       conditions.overlays.plain_layers (filesystem_numbered nat_eq world number)
-      (found_among (λ f. nat_eq number f.number) world.filesystems (filesystem_numbered nat_eq world number) (overlay_found world number overlay is)))
+      (found_among (λ f. nat_eq number f.number) world.filesystems (filesystem_numbered nat_eq world number)
+      (overlay_found world number overlay is)))
       layer m
 
-  pub no_overlay_in : (layer : Layer ℕ) → is_plain_layer nat_eq world layer ≡ true → (filesystem_numbered nat_eq world layer.filesystem).overlay ≡ None
+  pub no_overlay_in : (layer : Layer ℕ) → is_plain_layer nat_eq world layer ≡ true
+      → (filesystem_numbered nat_eq world layer.filesystem).overlay ≡ None
   no_overlay_in layer plain =
-      by (filesystem_numbered nat_eq world layer.filesystem).overlay (and_first (not (is_overlay (filesystem_numbered nat_eq world layer.filesystem))) _ plain)
+      by (filesystem_numbered nat_eq world layer.filesystem).overlay
+      (and_first (not (is_overlay (filesystem_numbered nat_eq world layer.filesystem))) _ plain)
     where
       by : (o : Option (Overlay ℕ)) → not (is_some o) ≡ true → o ≡ None
       by None e = refl
       by (Some overlay) e = absurd (true≢false (sym e))
 
-  module _ (number : ℕ) (overlay : Overlay ℕ) (is : (filesystem_numbered nat_eq world number).overlay ≡ Some overlay) (upper : Layer ℕ) (has : overlay.upper ≡ Some upper) where
+  module _ (number : ℕ) (overlay : Overlay ℕ) (is : (filesystem_numbered nat_eq world number).overlay ≡ Some overlay)
+      (upper : Layer ℕ) (has : overlay.upper ≡ Some upper) where
     pub upper_is_layer : Among upper (upper_and_work overlay)
     upper_is_layer = subst (λ o. Among upper (option_to_list o ++ option_to_list overlay.work)) (sym has) (inl refl)
 
     pub upper_in_layers : Among upper (layers_of overlay)
-    upper_in_layers = subst (λ o. Among upper (option_to_list o ++ option_to_list overlay.work ++ overlay.lowers)) (sym has) (inl refl)
+    upper_in_layers = subst (λ o. Among upper (option_to_list o ++ option_to_list overlay.work ++ overlay.lowers))
+        (sym has) (inl refl)
 
     module _ (object : ℕ) (is_object : IsUpperObject overlay object) where
       object_there : is_some (inode_in world upper.filesystem object) ≡ true
@@ -180,9 +203,12 @@ module _ (world : World ℕ) (conditions : IsWorld nat_eq world) where
 
       shown_there : is_some ((filesystem_numbered nat_eq world number).files.tree.node is_object.0) ≡ true
       shown_there =
-          by ((filesystem_numbered nat_eq world number).files.tree.node is_object.0) (inode_in world upper.filesystem object) object_there
-          (subst (λ l. SameObject ((filesystem_numbered nat_eq world number).files.tree.node is_object.0) (then_some l (λ layer. inode_in world layer.filesystem object))) has
-          (subst (λ r. SameObject ((filesystem_numbered nat_eq world number).files.tree.node is_object.0) (then_some r (real_node nat_eq world overlay))) is_object.1
+          by ((filesystem_numbered nat_eq world number).files.tree.node is_object.0)
+          (inode_in world upper.filesystem object) object_there
+          (subst (λ l. SameObject ((filesystem_numbered nat_eq world number).files.tree.node is_object.0)
+          (then_some l (λ layer. inode_in world layer.filesystem object))) has
+          (subst (λ r. SameObject ((filesystem_numbered nat_eq world number).files.tree.node is_object.0)
+          (then_some r (real_node nat_eq world overlay))) is_object.1
           ((overlay_merges world conditions number overlay is).real_objects is_object.0)))
         where
           by : (a b : Option (Node ℕ)) → is_some b ≡ true → SameObject a b → is_some a ≡ true
@@ -194,8 +220,10 @@ module _ (world : World ℕ) (conditions : IsWorld nat_eq world) where
       is_of : is_object_of nat_eq upper.filesystem object (filesystem_numbered nat_eq world number) overlay ≡ true
       is_of =
           both_hold _ _
-          (ap (holds_of (λ layer. nat_eq upper.filesystem layer.filesystem)) has ∙ eq-eqb upper.filesystem upper.filesystem refl)
-          (any_from_among (is_real_upper nat_eq overlay object) (filesystem_numbered nat_eq world number).files.numbers is_object.0
+          (ap (holds_of (λ layer. nat_eq upper.filesystem layer.filesystem)) has
+          ∙ eq-eqb upper.filesystem upper.filesystem refl)
+          (any_from_among (is_real_upper nat_eq overlay object)
+          (filesystem_numbered nat_eq world number).files.numbers is_object.0
           (listed number is_object.0 shown_there)
           (ap (λ r. holds_of (nat_eq object) (upper_object r)) is_object.1 ∙ eq-eqb object object refl))
 
@@ -203,14 +231,19 @@ module _ (world : World ℕ) (conditions : IsWorld nat_eq world) where
       directory_lies =
           both_hold _ _ (eq-eqb upper.filesystem upper.filesystem refl)
           (under_itself (filesystem_numbered nat_eq world upper.filesystem).files upper.directory
-          (and_second (not (is_overlay (filesystem_numbered nat_eq world upper.filesystem))) _ (layer_plain number overlay is upper upper_in_layers)))
+          (and_second (not (is_overlay (filesystem_numbered nat_eq world upper.filesystem))) _
+          (layer_plain number overlay is upper upper_in_layers)))
 
       pub object_counts : lies_or_counts_under nat_eq world upper.filesystem object upper ≡ true
       object_counts =
           right_holds (lies_in_layer nat_eq world upper.filesystem object upper) _
-          (any_from_among (counts_in_layer nat_eq world upper.filesystem object upper) (overlays world) (filesystem_numbered nat_eq world number)
+          (any_from_among (counts_in_layer nat_eq world upper.filesystem object upper) (overlays world)
+          (filesystem_numbered nat_eq world number)
           (merged_among number overlay is)
-          (subst (λ o. overlay_or false (λ v. holds_of (λ u. lies_in_layer nat_eq world u.filesystem u.directory upper) v.upper && is_object_of nat_eq upper.filesystem object (filesystem_numbered nat_eq world number) v) o ≡ true) (sym is)
+          (subst (λ o. overlay_or false (λ v.
+          holds_of (λ u. lies_in_layer nat_eq world u.filesystem u.directory upper) v.upper
+          && is_object_of nat_eq upper.filesystem object (filesystem_numbered nat_eq world number) v) o ≡ true)
+          (sym is)
           (both_hold _ _
           (ap (holds_of (λ u. lies_in_layer nat_eq world u.filesystem u.directory upper)) has ∙ directory_lies)
           is_of)))
@@ -228,13 +261,16 @@ module _ (world : World ℕ) (conditions : IsWorld nat_eq world) where
           → lies_or_counts_under nat_eq world upper.filesystem object lower ≡ true → ⊥
       no_lower lower m lies =
           never_both _ _
-          (none_among (λ (o : ℕ). lies_or_counts_under nat_eq world upper.filesystem o upper && list_any (lies_or_counts_under nat_eq world upper.filesystem o) (live_lowers nat_eq world))
+          (none_among (λ (o : ℕ). lies_or_counts_under nat_eq world upper.filesystem o upper
+          && list_any (lies_or_counts_under nat_eq world upper.filesystem o) (live_lowers nat_eq world))
           (filesystem_numbered nat_eq world upper.filesystem).files.numbers
-          (none_among (overlaps_one_of nat_eq world (live_lowers nat_eq world)) (live_upper_and_work world) conditions.overlays.lowers_apart upper
+          (none_among (overlaps_one_of nat_eq world (live_lowers nat_eq world))
+          (live_upper_and_work world) conditions.overlays.lowers_apart upper
           (layer_among upper_and_work number overlay is upper upper_is_layer))
           object object_listed)
           object_counts
-          (any_from_among (lies_or_counts_under nat_eq world upper.filesystem object) (live_lowers nat_eq world) lower m lies)
+          (any_from_among (lies_or_counts_under nat_eq world upper.filesystem object)
+          (live_lowers nat_eq world) lower m lies)
 
       -- nor under the upper or work directory of another one
       pub no_other : (other : ℕ) → other ≢ number → (overlay2 : Overlay ℕ)
@@ -244,10 +280,13 @@ module _ (world : World ℕ) (conditions : IsWorld nat_eq world) where
       no_other other differ overlay2 is2 layer m lies =
           ⊎_elim
           (λ (e : overlap nat_eq world upper layer ≡ false). apart upper layer refl e object_counts lies)
-          (λ (e : overlap nat_eq world layer upper ≡ false). apart layer upper (lies_there world object upper.filesystem layer lies) e lies object_counts)
-          (apart_pairs (overlap nat_eq world) (of_overlay [] upper_and_work) (overlays world) conditions.overlays.changed_apart
+          (λ (e : overlap nat_eq world layer upper ≡ false). apart layer upper
+          (lies_there world object upper.filesystem layer lies) e lies object_counts)
+          (apart_pairs (overlap nat_eq world) (of_overlay [] upper_and_work)
+          (overlays world) conditions.overlays.changed_apart
           (filesystem_numbered nat_eq world number) (filesystem_numbered nat_eq world other)
-          (λ e. differ (sym (number_of_filesystem world other) ∙ ap (λ f. f.number) (sym e) ∙ number_of_filesystem world number))
+          (λ e. differ (sym (number_of_filesystem world other) ∙ ap (λ f. f.number) (sym e)
+          ∙ number_of_filesystem world number))
           (merged_among number overlay is) (merged_among other overlay2 is2) upper layer
           (subst (λ o. Among upper (overlay_or [] upper_and_work o)) (sym is) upper_is_layer)
           (subst (λ o. Among layer (overlay_or [] upper_and_work o)) (sym is2) m))
@@ -257,8 +296,11 @@ module _ (world : World ℕ) (conditions : IsWorld nat_eq world) where
               → lies_or_counts_under nat_eq world upper.filesystem object b ≡ true → ⊥
           apart a b same e f g =
               never_both _ _
-              (none_among (λ (o : ℕ). lies_or_counts_under nat_eq world upper.filesystem o a && list_any (lies_or_counts_under nat_eq world upper.filesystem o) (b ∷ []))
+              (none_among (λ (o : ℕ). lies_or_counts_under nat_eq world upper.filesystem o a
+              && list_any (lies_or_counts_under nat_eq world upper.filesystem o) (b ∷ []))
               (filesystem_numbered nat_eq world upper.filesystem).files.numbers
-              (ap (λ n. list_any (λ (o : ℕ). lies_or_counts_under nat_eq world n o a && list_any (lies_or_counts_under nat_eq world n o) (b ∷ [])) (filesystem_numbered nat_eq world n).files.numbers) same ∙ e)
+              (ap (λ n. list_any (λ (o : ℕ). lies_or_counts_under nat_eq world n o a
+              && list_any (lies_or_counts_under nat_eq world n o) (b ∷ []))
+              (filesystem_numbered nat_eq world n).files.numbers) same ∙ e)
               object object_listed)
               f (left_holds _ false g)

@@ -19,7 +19,8 @@ use Rattle.vt_layer_laws.proofs.UpperWorld.{change_keeps}
 -- a world with a change of the filesystem that has a number
 abbrev pub changed_in : Fresh ℕ → World ℕ → ℕ → Change ℕ → World ℕ
 changed_in supply world mounted change =
-    filesystem_changed nat_eq supply world (filesystem_numbered nat_eq world mounted) (filesystem_numbered nat_eq world mounted).overlay change
+    filesystem_changed nat_eq supply world (filesystem_numbered nat_eq world mounted)
+    (filesystem_numbered nat_eq world mounted).overlay change
 
 -- it looks at the filesystems alone
 looks_at_filesystems : (supply : Fresh ℕ) (world base : World ℕ) (mounted : ℕ) (change : Change ℕ)
@@ -32,7 +33,8 @@ looks_at_filesystems supply world base mounted change = by (filesystem_numbered 
 
     layered : (overlay : Overlay ℕ) (o : Option (Layer ℕ))
         → (overlay_changed nat_eq supply world (filesystem_numbered nat_eq world mounted) overlay o change).filesystems
-        ≡ (overlay_changed nat_eq supply with_them (filesystem_numbered nat_eq world mounted) overlay o change).filesystems
+        ≡ (overlay_changed nat_eq supply with_them
+        (filesystem_numbered nat_eq world mounted) overlay o change).filesystems
     layered overlay None = refl
     layered overlay (Some upper) = refl
 
@@ -46,8 +48,8 @@ module _ (world : World ℕ) (fresh : Fresh ℕ) where
   abbrev pub IsNew : ℕ → Type 0
   IsNew inode = (k : ℕ) → inode ≢ fresh k
 
-  -- A change that a call is granted: with some of the new numbers, of nothing that is locked, and through an overlay of what
-  -- is there
+  -- A change that a call is granted: with some of the new numbers, of nothing that is locked, and through an overlay of
+  -- what is there
   pub record IsGranted (supply : Fresh ℕ) (mounted : ℕ) (change : Change ℕ) : Type 0 where
     pub part : (inode : ℕ) → IsNew inode → (k : ℕ) → inode ≢ supply k
     pub unlocked : (inode : ℕ) → is_locked nat_eq world mounted inode ≡ true → IsNew inode
@@ -79,31 +81,40 @@ module _ (world : World ℕ) (fresh : Fresh ℕ) where
         granted = granted;
         so = looks_at_filesystems supply before world (mount_at nat_eq before location).filesystem change
             ∙ ap (λ m. (changed_in supply (record world { filesystems = before.filesystems }) m change).filesystems) at
-            ∙ ap (λ list. (changed_in supply (record world { filesystems = list }) (mount_at nat_eq world location).filesystem change).filesystems) same;
+            ∙ ap (λ list. (changed_in supply (record world { filesystems = list })
+            (mount_at nat_eq world location).filesystem change).filesystems) same;
       })
 
-  module _ (conditions : IsWorld nat_eq world) (filesystem inode : ℕ) (locked : is_locked nat_eq world filesystem inode ≡ true) (new : IsNew inode) (plain : (filesystem_numbered nat_eq world filesystem).overlay ≡ None) where
+  module _ (conditions : IsWorld nat_eq world) (filesystem inode : ℕ)
+      (locked : is_locked nat_eq world filesystem inode ≡ true) (new : IsNew inode)
+      (plain : (filesystem_numbered nat_eq world filesystem).overlay ≡ None) where
     -- no upper object of the overlay that is mounted
     abbrev pub IsNotOf : ℕ → Type 0
     IsNotOf mounted =
         (overlay : Overlay ℕ) (upper : Layer ℕ) → (filesystem_numbered nat_eq world mounted).overlay ≡ Some overlay
         → overlay.upper ≡ Some upper → filesystem ≡ upper.filesystem → ¬ (IsUpperObject overlay inode)
 
-    module _ (supply : Fresh ℕ) (mounted : ℕ) (change : Change ℕ) (granted : IsGranted supply mounted change) (not_of : IsNotOf mounted) where
+    module _ (supply : Fresh ℕ) (mounted : ℕ) (change : Change ℕ) (granted : IsGranted supply mounted change)
+        (not_of : IsNotOf mounted) where
       at_mounted : filesystem ≡ mounted → Stays world filesystem inode (changed_in supply world mounted change)
       at_mounted at =
-          subst (λ o. Stays world filesystem inode (filesystem_changed nat_eq supply world (filesystem_numbered nat_eq world mounted) o change))
+          subst (λ o. Stays world filesystem inode
+          (filesystem_changed nat_eq supply world (filesystem_numbered nat_eq world mounted) o change))
           (sym (ap (λ n. (filesystem_numbered nat_eq world n).overlay) (sym at) ∙ plain))
           (filesystem_there (λ f. IsKept (inode_in world filesystem inode) (f.files.tree.node inode)) world
-          (with_files (filesystem_numbered nat_eq world mounted) (changed nat_eq (filesystem_numbered nat_eq world mounted).files change)) filesystem
+          (with_files (filesystem_numbered nat_eq world mounted)
+          (changed nat_eq (filesystem_numbered nat_eq world mounted).files change)) filesystem
           (at ∙ sym (number_of_filesystem world mounted))
-          (subst (λ n. IsKept (inode_in world n inode) ((changed nat_eq (filesystem_numbered nat_eq world mounted).files change).tree.node inode)) (sym at)
+          (subst (λ n. IsKept (inode_in world n inode)
+          ((changed nat_eq (filesystem_numbered nat_eq world mounted).files change).tree.node inode)) (sym at)
           (others_stay (filesystem_numbered nat_eq world mounted).files change inode
           (granted.unlocked inode (ap (λ n. is_locked nat_eq world n inode) (sym at) ∙ locked) new)))
           (λ none. kept_same (inode_in world filesystem inode) None (sym (ap (λ f. f.files.tree.node inode) none))))
 
       elsewhere : filesystem ≢ mounted
-          → ((overlay : Overlay ℕ) (upper : Layer ℕ) → (filesystem_numbered nat_eq world mounted).overlay ≡ Some overlay → overlay.upper ≡ Some upper → filesystem ≢ upper.filesystem)
+          → ((overlay : Overlay ℕ) (upper : Layer ℕ)
+          → (filesystem_numbered nat_eq world mounted).overlay ≡ Some overlay → overlay.upper ≡ Some upper
+          → filesystem ≢ upper.filesystem)
           → Stays world filesystem inode (changed_in supply world mounted change)
       elsewhere away no_upper =
           kept_same (inode_in world filesystem inode) _
@@ -115,20 +126,25 @@ module _ (world : World ℕ) (fresh : Fresh ℕ) where
       beside away = by (filesystem_numbered nat_eq world mounted).overlay refl
         where
           layered : (overlay : Overlay ℕ) → (filesystem_numbered nat_eq world mounted).overlay ≡ Some overlay
-              → (o : Option (Layer ℕ)) → overlay.upper ≡ o → Stays world filesystem inode (changed_in supply world mounted change)
+              → (o : Option (Layer ℕ)) → overlay.upper ≡ o
+              → Stays world filesystem inode (changed_in supply world mounted change)
           layered overlay is None has =
-              elsewhere away (λ other upper i h. none_is_some upper (sym has ∙ ap (λ v. v.upper) (some_is_one overlay other (sym is ∙ i)) ∙ h))
+              elsewhere away (λ other upper i h.
+              none_is_some upper (sym has ∙ ap (λ v. v.upper) (some_is_one overlay other (sym is ∙ i)) ∙ h))
           layered overlay is (Some upper) has =
               ⊎_elim
               (λ t.
               subst (λ n. Stays world n inode (changed_in supply world mounted change)) (sym t.1)
-              (change_keeps world conditions mounted overlay is upper has inode (not_of overlay upper is has t.1) supply (granted.part inode new) change (granted.there overlay is)))
+              (change_keeps world conditions mounted overlay is upper has inode
+              (not_of overlay upper is has t.1) supply (granted.part inode new) change (granted.there overlay is)))
               (λ t.
               elsewhere away (λ other on i h same.
-              t.1 (same ∙ ap (λ l. l.filesystem) (some_is_one on upper (sym h ∙ ap (λ v. v.upper) (some_is_one other overlay (sym i ∙ is)) ∙ has)))))
+              t.1 (same ∙ ap (λ l. l.filesystem)
+              (some_is_one on upper (sym h ∙ ap (λ v. v.upper) (some_is_one other overlay (sym i ∙ is)) ∙ has)))))
               (eqb_tells filesystem upper.filesystem)
 
-          by : (o : Option (Overlay ℕ)) → (filesystem_numbered nat_eq world mounted).overlay ≡ o → Stays world filesystem inode (changed_in supply world mounted change)
+          by : (o : Option (Overlay ℕ)) → (filesystem_numbered nat_eq world mounted).overlay ≡ o
+              → Stays world filesystem inode (changed_in supply world mounted change)
           by None e = elsewhere away (λ overlay upper i h. absurd (none_is_some overlay (sym e ∙ i)))
           by (Some overlay) e = layered overlay e overlay.upper refl
 
@@ -136,14 +152,17 @@ module _ (world : World ℕ) (fresh : Fresh ℕ) where
       granted_keeps = ⊎_elim (λ t. at_mounted t.1) (λ t. beside t.1) (eqb_tells filesystem mounted)
 
     -- and so for what a call leaves
-    stays_as : (later other : World ℕ) → later.filesystems ≡ other.filesystems → Stays world filesystem inode other → Stays world filesystem inode later
+    stays_as : (later other : World ℕ) → later.filesystems ≡ other.filesystems → Stays world filesystem inode other
+        → Stays world filesystem inode later
     stays_as later other e =
-        subst (λ f. IsKept (inode_in world filesystem inode) (f.files.tree.node inode)) (sym (same_filesystem other later filesystem e))
+        subst (λ f. IsKept (inode_in world filesystem inode) (f.files.tree.node inode))
+        (sym (same_filesystem other later filesystem e))
 
     pub as_it_was : (later : World ℕ) → later.filesystems ≡ world.filesystems → Stays world filesystem inode later
     as_it_was later e = stays_as later world e (stays_itself world filesystem inode)
 
-    pub changed_stays : (later : World ℕ) (change : IsChanged later.filesystems) → IsNotOf change.mounted → Stays world filesystem inode later
+    pub changed_stays : (later : World ℕ) (change : IsChanged later.filesystems) → IsNotOf change.mounted
+        → Stays world filesystem inode later
     changed_stays later change not_of =
         stays_as later (changed_in change.supply world change.mounted change.change) change.so
         (granted_keeps change.supply change.mounted change.change change.granted not_of)

@@ -33,7 +33,8 @@ not_true true e = refl
 not_true false e = absurd (true≢false e)
 
 -- who may do something to an inode may do it to one that is there
-allowed_there : (who : Credentials) (wanted : ℕ) (node : Option (Node ℕ)) → not (node_allows who wanted node) ≡ false → is_some node ≡ true
+allowed_there : (who : Credentials) (wanted : ℕ) (node : Option (Node ℕ)) → not (node_allows who wanted node) ≡ false
+    → is_some node ≡ true
 allowed_there who wanted None e = absurd (true≢false e)
 allowed_there who wanted (Some node) e = refl
 
@@ -59,7 +60,8 @@ module _ (world : World ℕ) (fresh : Fresh ℕ) (task : Task ℕ) where
 
   abbrev Differs : Location ℕ → ℕ → Type 0
   Differs location node =
-      (inode : ℕ) → is_locked nat_eq world (mount_at nat_eq world location).filesystem inode ≡ true → nat_eq inode node ≡ false
+      (inode : ℕ) → is_locked nat_eq world (mount_at nat_eq world location).filesystem inode ≡ true
+      → nat_eq inode node ≡ false
 
   -- what is not locked is no inode that is
   differs : (location : Location ℕ) → is_locked_at nat_eq world location ≡ false → Differs location location.node
@@ -68,11 +70,14 @@ module _ (world : World ℕ) (fresh : Fresh ℕ) (task : Task ℕ) where
 
   change_left : (supply : Fresh ℕ) → ((inode : ℕ) → IsNew world fresh inode → (k : ℕ) → inode ≢ supply k)
       → (location : Location ℕ) (change : Change ℕ)
-      → ((inode : ℕ) → is_locked nat_eq world (mount_at nat_eq world location).filesystem inode ≡ true → IsNew world fresh inode → is_among nat_eq inode (Rattle.vt_layer_laws.specs.Layers.Untouched.inodes_changed change) ≡ false)
+      → ((inode : ℕ) → is_locked nat_eq world (mount_at nat_eq world location).filesystem inode ≡ true
+      → IsNew world fresh inode → is_among nat_eq inode
+      (Rattle.vt_layer_laws.specs.Layers.Untouched.inodes_changed change) ≡ false)
       → ((overlay : Overlay ℕ) → (filesystem_at nat_eq world location).overlay ≡ Some overlay → Speaks location change)
       → Left (Rattle.vt_spec.specs.Machine.Filesystems.with_change nat_eq supply world location change)
   change_left supply part location change unlocked there =
-      leaves_change world fresh supply world location change refl refl (record { part = part; unlocked = unlocked; there = there })
+      leaves_change world fresh supply world location change refl refl
+      (record { part = part; unlocked = unlocked; there = there })
 
   whole : (inode : ℕ) → IsNew world fresh inode → (k : ℕ) → inode ≢ fresh k
   whole inode new = new
@@ -94,7 +99,8 @@ module _ (world : World ℕ) (fresh : Fresh ℕ) (task : Task ℕ) where
 
   pub mkdir_left : (path : List ℕ) (mode : Option ℕ) → Left (mkdir_outcome nat_eq fresh world task path mode).world
   unfolding mkdir_outcome
-  mkdir_left path mode = after_leads Left world same (walk_end (new_walk nat_eq world task path)) _ (λ place. made_left place _)
+  mkdir_left path mode = after_leads Left world same (walk_end (new_walk nat_eq world task path)) _
+      (λ place. made_left place _)
 
   pub symlink_left : (text path : List ℕ) → Left (symlink_outcome nat_eq fresh world task text path).world
   unfolding symlink_outcome
@@ -114,21 +120,25 @@ module _ (world : World ℕ) (fresh : Fresh ℕ) (task : Task ℕ) where
       → Left (hard_link_outcome nat_eq fresh world task old name).world
   unfolding hard_link_outcome
   link_left old name ends =
-      after_ends (λ here. NodeThere here.location) Left world (symlink_walk nat_eq world task old) _ same ends (λ from there.
+      after_ends (λ here. NodeThere here.location) Left world (symlink_walk nat_eq world task old) _ same ends
+      (λ from there.
       after_leads Left world same (walk_end (new_leaf_walk nat_eq world task name)) _ (λ place.
       judged_leads Left world same ((is_special place.last, E1) ∷ []) _ (λ word.
-      judged_leads Left world same (hard_link_rules nat_eq world task from.location place (linking from.location place)) _ (λ passed.
+      judged_leads Left world same (hard_link_rules nat_eq world task from.location place
+      (linking from.location place)) _ (λ passed.
       change_left fresh whole place.parent (linking from.location place)
       (λ inode locked new.
       both_fail (nat_eq inode place.parent.node) false
-      (differs place.parent (second_fails (is_locked_at nat_eq world from.location) _ passed.1.1.1.1.0) inode locked) refl)
+      (differs place.parent (second_fails
+      (is_locked_at nat_eq world from.location) _ passed.1.1.1.1.0) inode locked) refl)
       (λ overlay is. (
         allowed_there _ _ _ passed.1.1.1.1.1.1.0,
         subst (λ m. NodeThere (record { mount = m; node = from.location.node }))
             (eqb-true from.location.mount place.parent.mount (not_true _ passed.1.1.1.1.1.0)) there,
       ))))))
 
-  written_left : (place : Place ℕ) (bytes : List ℕ) (there : Option (Location ℕ)) → Left (written nat_eq fresh world task place bytes there).world
+  written_left : (place : Place ℕ) (bytes : List ℕ) (there : Option (Location ℕ))
+      → Left (written nat_eq fresh world task place bytes there).world
   written_left place bytes (Some file) =
       judged_leads Left world same (rewrite_rules nat_eq world task file bytes) _ (λ passed.
       change_left fresh whole file (SetBytes file.node bytes)
@@ -136,7 +146,8 @@ module _ (world : World ℕ) (fresh : Fresh ℕ) (task : Task ℕ) where
       (λ overlay is. allowed_there _ _ _ passed.1.1.1.1.1.1.0))
   written_left place bytes None =
       judged_leads Left world same ((nat_lt largest_file (length bytes), E6) ∷ []) _ (λ size.
-      judged_leads Left world same (make_rules nat_eq world task place (making place (evens fresh 0) (new_file task file_mode bytes))) _ (λ passed.
+      judged_leads Left world same (make_rules nat_eq world task place
+      (making place (evens fresh 0) (new_file task file_mode bytes))) _ (λ passed.
       new_left place (new_file task file_mode bytes) passed.1.1.0 (allowed_there _ _ _ passed.1.1.1.0)))
 
   pub write_left : (path bytes : List ℕ) → Left (write_outcome nat_eq fresh world task path bytes).world
@@ -155,7 +166,8 @@ module _ (world : World ℕ) (fresh : Fresh ℕ) (task : Task ℕ) where
       change_left fresh whole place.parent (removing place (object_there place))
       (λ inode locked new.
       both_fail (nat_eq inode place.parent.node) false
-      (differs place.parent (second_fails (is_locked_at nat_eq world (object_there place)) _ passed.1.1.1.0) inode locked) refl)
+      (differs place.parent (second_fails
+      (is_locked_at nat_eq world (object_there place)) _ passed.1.1.1.0) inode locked) refl)
       (λ overlay is. allowed_there _ _ _ passed.1.1.1.1.0))))
 
   pub rmdir_left : (path : List ℕ) → Left (rmdir_outcome nat_eq fresh world task path).world
@@ -164,61 +176,81 @@ module _ (world : World ℕ) (fresh : Fresh ℕ) (task : Task ℕ) where
       after_leads Left world same (walk_end (old_walk nat_eq world task path)) _ (λ place.
       judged_leads Left world same (rmdir_word_rules place) _ (λ word.
       judged_leads Left world same (rmdir_rules nat_eq world task place (object_there place)) _ (λ passed.
-      leaves_change world fresh fresh (Rattle.vt_spec.specs.Machine.Detach.without_mounts_on nat_eq world (object_there place)) place.parent (removing place (object_there place))
-      (same_filesystems_without world (object_there place)) (same_mounted_without world (object_there place) place.parent)
+      leaves_change world fresh fresh
+      (Rattle.vt_spec.specs.Machine.Detach.without_mounts_on nat_eq world (object_there place)) place.parent
+      (removing place (object_there place))
+      (same_filesystems_without world (object_there place))
+      (same_mounted_without world (object_there place) place.parent)
       (record {
         part = whole;
         unlocked = λ inode locked new.
             both_fail (nat_eq inode place.parent.node) false
-            (differs place.parent (second_fails (is_locked_at nat_eq world (object_there place)) _ passed.1.1.1.1.0) inode locked) refl;
+            (differs place.parent (second_fails
+            (is_locked_at nat_eq world (object_there place)) _ passed.1.1.1.1.0) inode locked) refl;
         there = λ overlay is. allowed_there _ _ _ passed.1.1.1.1.1.1.0;
       }))))
 
-  same_filesystems_replaced : (object : Option (Location ℕ)) → (without_replaced nat_eq world object).filesystems ≡ world.filesystems
+  same_filesystems_replaced : (object : Option (Location ℕ))
+      → (without_replaced nat_eq world object).filesystems ≡ world.filesystems
   same_filesystems_replaced None = refl
   same_filesystems_replaced (Some object) = same_filesystems_without world object
 
-  same_mounted_replaced : (object : Option (Location ℕ)) (location : Location ℕ) → (mount_at nat_eq (without_replaced nat_eq world object) location).filesystem ≡ (mount_at nat_eq world location).filesystem
+  same_mounted_replaced : (object : Option (Location ℕ)) (location : Location ℕ)
+      → (mount_at nat_eq (without_replaced nat_eq world object) location).filesystem
+      ≡ (mount_at nat_eq world location).filesystem
   same_mounted_replaced None location = refl
   same_mounted_replaced (Some object) location = same_mounted_without world object location
 
   renamed_left : (one : Bool) (from to : Place ℕ) (old : Location ℕ)
-      → entry_at (filesystem_at nat_eq world from.parent).files.tree from.parent.node (name_of from.last) ≡ Some old.node
+      → entry_at (filesystem_at nat_eq world from.parent).files.tree from.parent.node (name_of from.last)
+      ≡ Some old.node
       → Left (renamed_by nat_eq one fresh world task from to old).world
-  renamed_left true from to old entry = judged_leads Left world same (same_object_rules nat_eq world from to) _ (λ passed. same)
+  renamed_left true from to old entry =
+      judged_leads Left world same (same_object_rules nat_eq world from to) _ (λ passed. same)
   renamed_left false from to old entry =
       judged_leads Left world same (rename_rules nat_eq world task from to old) _ (λ passed.
-      let one_mount : from.parent.mount ≡ to.parent.mount = eqb-true from.parent.mount to.parent.mount (not_true _ passed.1.1.1.1.1.1.1.1.0) in
+      let one_mount : from.parent.mount ≡ to.parent.mount =
+      eqb-true from.parent.mount to.parent.mount (not_true _ passed.1.1.1.1.1.1.1.1.0) in
       leaves_change world fresh fresh (without_replaced nat_eq world to.object) from.parent (moving from to old)
       (same_filesystems_replaced to.object) (same_mounted_replaced to.object from.parent)
       (record {
         part = whole;
         unlocked = λ inode locked new.
             both_fail (nat_eq inode from.parent.node) _
-            (differs from.parent (first_fails (is_locked_at nat_eq world from.parent) _ passed.1.1.1.1.1.1.0) inode locked)
+            (differs from.parent (first_fails
+            (is_locked_at nat_eq world from.parent) _ passed.1.1.1.1.1.1.0) inode locked)
             (both_fail (nat_eq inode to.parent.node) false
-            (differs to.parent (first_fails (is_locked_at nat_eq world to.parent) _ (second_fails (is_locked_at nat_eq world from.parent) _ passed.1.1.1.1.1.1.0)) inode
-            (subst (λ m. is_locked nat_eq world (mount_at nat_eq world (record { mount = m; node = from.parent.node })).filesystem inode ≡ true) one_mount locked)) refl);
+            (differs to.parent (first_fails (is_locked_at nat_eq world to.parent) _
+            (second_fails (is_locked_at nat_eq world from.parent) _ passed.1.1.1.1.1.1.0)) inode
+            (subst (λ m. is_locked nat_eq world
+            (mount_at nat_eq world (record { mount = m; node = from.parent.node })).filesystem inode
+            ≡ true) one_mount locked)) refl);
         there = λ overlay is. (
           entry,
           subst (λ m. NodeThere (record { mount = m; node = to.parent.node })) (sym one_mount)
-              (allowed_there _ _ _ (second_fails (not (node_allows task.credentials Rattle.vt_spec.specs.Rights.write_right (node_at nat_eq world from.parent))) _ passed.1.1.1.1.1.1.1.1.1.0)),
+              (allowed_there _ _ _ (second_fails
+              (not (node_allows task.credentials Rattle.vt_spec.specs.Rights.write_right
+              (node_at nat_eq world from.parent))) _ passed.1.1.1.1.1.1.1.1.1.0)),
         );
       }))
 
   pub rename_left : (old name : List ℕ) → Left (rename_outcome nat_eq fresh world task old name).world
   unfolding rename_outcome
   rename_left old name =
-      after_ends (IsOldPlace world task) Left world (old_leaf_walk nat_eq world task old) _ same (ends_old_leaf_walk world task old) (λ from is.
+      after_ends (IsOldPlace world task) Left world (old_leaf_walk nat_eq world task old) _ same
+      (ends_old_leaf_walk world task old) (λ from is.
       judged_leads Left world same (old_word_rules from) _ (λ word.
-      after_leads Left world same (walk_end (rename_new_walk nat_eq world task name (is_directory_there nat_eq world from))) _ (λ to.
+      after_leads Left world same (walk_end
+      (rename_new_walk nat_eq world task name (is_directory_there nat_eq world from))) _ (λ to.
       judged_leads Left world same (old_word_rules to) _ (λ other.
       renamed_left (is_one_object nat_eq world (object_there from) to.object) from to (object_there from)
-      (entry_is from.parent.mount (entry_named (name_of from.last) (entries_in (node_at nat_eq world from.parent))) from.object from.parent
+      (entry_is from.parent.mount (entry_named (name_of from.last)
+      (entries_in (node_at nat_eq world from.parent))) from.object from.parent
       (place_named world from.parent from.last from.object word.0 is.0).1 is.1)))))
 
   -- attributes and marks
-  attr_left : (object : Location ℕ) (allowed : Bool) (attr : Rattle.vt_spec.specs.declared.attributes.Attr.Attr) → NodeThere object
+  attr_left : (object : Location ℕ) (allowed : Bool) (attr : Rattle.vt_spec.specs.declared.attributes.Attr.Attr)
+      → NodeThere object
       → Left (attr_set nat_eq fresh world object allowed attr).world
   attr_left object allowed attr there =
       judged_leads Left world same (attr_rules nat_eq world object allowed attr) _ (λ passed.
@@ -229,13 +261,15 @@ module _ (world : World ℕ) (fresh : Fresh ℕ) (task : Task ℕ) where
   abbrev pub ObjectIsThere : List ℕ → Type 0
   ObjectIsThere path = Ends (λ here. NodeThere here.location) (object_walk nat_eq world task path)
 
-  pub chmod_left : (path : List ℕ) (mode : ℕ) → ObjectIsThere path → Left (chmod_outcome nat_eq fresh world task path mode).world
+  pub chmod_left : (path : List ℕ) (mode : ℕ) → ObjectIsThere path
+      → Left (chmod_outcome nat_eq fresh world task path mode).world
   unfolding chmod_outcome
   chmod_left path mode ends =
       after_ends (λ here. NodeThere here.location) Left world (object_walk nat_eq world task path) _ same ends
       (λ here there. attr_left here.location _ _ there)
 
-  pub chown_left : (path : List ℕ) (uid gid : Option ℕ) → ObjectIsThere path → Left (chown_outcome nat_eq fresh world task path uid gid).world
+  pub chown_left : (path : List ℕ) (uid gid : Option ℕ) → ObjectIsThere path
+      → Left (chown_outcome nat_eq fresh world task path uid gid).world
   unfolding chown_outcome
   chown_left path uid gid ends =
       after_ends (λ here. NodeThere here.location) Left world (object_walk nat_eq world task path) _ same ends
@@ -248,12 +282,14 @@ module _ (world : World ℕ) (fresh : Fresh ℕ) (task : Task ℕ) where
       after_leads Left world same (walk_end (directory_walk nat_eq world task path)) _ (λ here.
       judged_leads Left world same (opaque_rules nat_eq world here.location) _ (λ passed.
       change_left fresh whole here.location (SetMark here.location.node mark)
-      (λ inode locked new. both_fail (nat_eq inode here.location.node) false (differs here.location passed.1.1.0 inode locked) refl)
+      (λ inode locked new. both_fail (nat_eq inode here.location.node) false
+      (differs here.location passed.1.1.0 inode locked) refl)
       (λ overlay is. absurd (true≢false (sym (ap is_some is) ∙ passed.1.1.1.0))))))
 
   -- open files
   copy_left : (copied : Bool) (file : Location ℕ) → NodeThere file → Left (with_copy nat_eq copied fresh world file)
-  copy_left true file there = change_left fresh whole file (CopyUp file.node) (λ inode locked new. refl) (λ overlay is. there)
+  copy_left true file there = change_left fresh whole file (CopyUp file.node) (λ inode locked new. refl)
+      (λ overlay is. there)
   copy_left false file there = same
 
   open_file_left : (file : Location ℕ) (access : Access) → Left (open_file nat_eq fresh world task file access).world
@@ -261,31 +297,39 @@ module _ (world : World ℕ) (fresh : Fresh ℕ) (task : Task ℕ) where
       judged_leads Left world same (open_rules nat_eq world task file access) _ (λ passed.
       copy_left (is_copied_up nat_eq world file access) file (allowed_there _ _ _ passed.1.1.1.1.1.0))
 
-  create_left : (place : Place ℕ) (access : Access) (mode : ℕ) → Left (create_file nat_eq fresh world task place access mode).world
+  create_left : (place : Place ℕ) (access : Access) (mode : ℕ)
+      → Left (create_file nat_eq fresh world task place access mode).world
   create_left place access mode =
-      judged_leads Left world same (make_rules nat_eq world task place (making place (evens fresh 0) (new_file task mode []))) _ (λ passed.
+      judged_leads Left world same (make_rules nat_eq world task place
+      (making place (evens fresh 0) (new_file task mode []))) _ (λ passed.
       new_left place (new_file task mode []) passed.1.1.0 (allowed_there _ _ _ passed.1.1.1.0))
 
-  opened_or_created_left : (place : Place ℕ) (access : Access) (mode : ℕ) (there : Option (Location ℕ)) → Left (opened_or_created nat_eq fresh world task place access mode there).world
+  opened_or_created_left : (place : Place ℕ) (access : Access) (mode : ℕ) (there : Option (Location ℕ))
+      → Left (opened_or_created nat_eq fresh world task place access mode there).world
   opened_or_created_left place access mode (Some file) = open_file_left file access
   opened_or_created_left place access mode None = create_left place access mode
 
-  open_by_left : (path : List ℕ) (access : Access) (creation : Creation) → Left (open_by nat_eq fresh world task path access creation).world
+  open_by_left : (path : List ℕ) (access : Access) (creation : Creation)
+      → Left (open_by nat_eq fresh world task path access creation).world
   open_by_left path access NoCreation =
-      after_leads Left world same (walk_end (object_walk nat_eq world task path)) _ (λ here. open_file_left here.location access)
+      after_leads Left world same (walk_end (object_walk nat_eq world task path)) _
+      (λ here. open_file_left here.location access)
   open_by_left path access (OrCreate mode) =
       after_leads Left world same (walk_end (file_walk nat_eq world task path)) _ (λ place.
-      judged_leads Left world same (file_word_rules place) _ (λ word. opened_or_created_left place access mode place.object))
+      judged_leads Left world same (file_word_rules place) _
+      (λ word. opened_or_created_left place access mode place.object))
   open_by_left path access (Exclusive mode) =
       after_leads Left world same (walk_end (new_walk nat_eq world task path)) _ (λ place.
       judged_leads Left world same (exclusive_word_rules place) _ (λ word. create_left place access mode))
 
-  pub open_left : (path : List ℕ) (access : Access) (creation : Creation) → Left (open_outcome nat_eq fresh world task path access creation).world
+  pub open_left : (path : List ℕ) (access : Access) (creation : Creation)
+      → Left (open_outcome nat_eq fresh world task path access creation).world
   unfolding open_outcome
   open_left path access creation =
       judged_leads Left world same (descriptor_rules task) _ (λ free. open_by_left path access creation)
 
-  pwritten_left : (file : Location ℕ) (offset : ℕ) (bytes : List ℕ) → is_locked_at nat_eq world file ≡ false → NodeThere file
+  pwritten_left : (file : Location ℕ) (offset : ℕ) (bytes : List ℕ) → is_locked_at nat_eq world file ≡ false
+      → NodeThere file
       → Left (pwritten nat_eq fresh world file offset bytes)
   pwritten_left file offset [] unlocked there = same
   pwritten_left file offset (byte ∷ bytes) unlocked there =
@@ -294,7 +338,9 @@ module _ (world : World ℕ) (fresh : Fresh ℕ) (task : Task ℕ) where
       (λ overlay is. there)
 
   pub pwrite_left : (number offset : ℕ) (bytes : List ℕ)
-      → ((descriptor : Descriptor ℕ) → descriptor_at task number (λ d. d.writes) ≡ Rattle.std.proofs.Common.Ok descriptor → NodeThere descriptor.location)
+      → ((descriptor : Descriptor ℕ)
+      → descriptor_at task number (λ d. d.writes) ≡ Rattle.std.proofs.Common.Ok descriptor
+      → NodeThere descriptor.location)
       → Left (pwrite_outcome nat_eq fresh world task number offset bytes).world
   unfolding pwrite_outcome
   pwrite_left number offset bytes there =

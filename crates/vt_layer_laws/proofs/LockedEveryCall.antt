@@ -69,11 +69,13 @@ module _ (world : World ℕ) (fresh : Fresh ℕ) (task : Task ℕ) where
 
   pread_left : (number offset size : ℕ) → Left (pread_outcome nat_eq world task number offset size).world
   unfolding pread_outcome
-  pread_left number offset size = after_leads Left world same (descriptor_at task number (λ descriptor. descriptor.reads)) _ (λ descriptor. same)
+  pread_left number offset size =
+      after_leads Left world same (descriptor_at task number (λ descriptor. descriptor.reads)) _ (λ descriptor. same)
 
   close_left : (number : ℕ) → Left (close_outcome world task number).world
   unfolding close_outcome
-  close_left number = after_leads Left world same (descriptor_at task number (λ descriptor. true)) _ (λ descriptor. same)
+  close_left number = after_leads Left world same (descriptor_at task number (λ descriptor. true)) _
+      (λ descriptor. same)
 
   chdir_left : (path : List ℕ) → Left (chdir_outcome nat_eq world task path).world
   unfolding chdir_outcome
@@ -98,14 +100,17 @@ module _ (world : World ℕ) (fresh : Fresh ℕ) (task : Task ℕ) where
 
   fork_left : (words : Option ForkWords) → Left (fork_outcome world task words).world
   unfolding fork_outcome
-  fork_left words = judged_leads Left world same (fork_rules task (child_credentials task.credentials words)) _ (λ passed. same)
+  fork_left words = judged_leads Left world same (fork_rules task (child_credentials task.credentials words)) _
+      (λ passed. same)
 
   mounts_left : Left (mounts_outcome nat_eq world task).world
   unfolding mounts_outcome
   mounts_left = same
 
-module _ (fresh : Fresh ℕ) (world : World ℕ) (task : Task ℕ) (conditions : IsWorld nat_eq world) (called : task_called world task.name ≡ Some task) where
-  left_by_call : (call : Call) → changes_no_mount call ≡ true → Leaves world fresh (call_outcome nat_eq fresh world task call).world
+module _ (fresh : Fresh ℕ) (world : World ℕ) (task : Task ℕ) (conditions : IsWorld nat_eq world)
+    (called : task_called world task.name ≡ Some task) where
+  left_by_call : (call : Call) → changes_no_mount call ≡ true
+      → Leaves world fresh (call_outcome nat_eq fresh world task call).world
   left_by_call (Ls path) c = list_left world fresh task path
   left_by_call (Stat path) c = stat_left world fresh task path
   left_by_call (Lstat path) c = lstat_left world fresh task path
@@ -128,11 +133,15 @@ module _ (fresh : Fresh ℕ) (world : World ℕ) (task : Task ℕ) (conditions :
   left_by_call (Rename old name) c = rename_left world fresh task old name
   left_by_call (Opaque path mark) c = opaque_left world fresh task path mark
   left_by_call (OpenFile path access creation) c = open_left world fresh task path access creation
-  left_by_call (LinkTo old name) c = link_left world fresh task old name (link_walk_there world conditions task called old)
-  left_by_call (Chmod path mode) c = chmod_left world fresh task path mode (object_walk_there world conditions task called path)
-  left_by_call (Chown path uid gid) c = chown_left world fresh task path uid gid (object_walk_there world conditions task called path)
+  left_by_call (LinkTo old name) c =
+      link_left world fresh task old name (link_walk_there world conditions task called old)
+  left_by_call (Chmod path mode) c =
+      chmod_left world fresh task path mode (object_walk_there world conditions task called path)
+  left_by_call (Chown path uid gid) c =
+      chown_left world fresh task path uid gid (object_walk_there world conditions task called path)
   left_by_call (Pwrite number offset bytes) c =
-      pwrite_left world fresh task number offset bytes (descriptor_there world conditions task called number (λ d. d.writes))
+      pwrite_left world fresh task number offset bytes
+      (descriptor_there world conditions task called number (λ d. d.writes))
   left_by_call ListMounts c = mounts_left world fresh task
   left_by_call Exit c = absurd (true≢false (sym c))
   left_by_call Unshare c = absurd (true≢false (sym c))
@@ -148,7 +157,11 @@ module _ (fresh : Fresh ℕ) (world : World ℕ) (task : Task ℕ) (conditions :
   left_by_call (PivotRoot name put) c = absurd (true≢false (sym c))
 
   -- what lies in a layer of an overlay is locked, and stays where it is no upper object of the overlay that is changed
-  module _ (call : Call) (c : changes_no_mount call ≡ true) (number : ℕ) (overlay : Overlay ℕ) (is : (filesystem_numbered nat_eq world number).overlay ≡ Some overlay) (layer : Layer ℕ) (m : Among layer (layers_of overlay)) (inode : ℕ) (lies : lies_or_counts_under nat_eq world layer.filesystem inode layer ≡ true) (new : IsNew world fresh inode) where
+  module _ (call : Call) (c : changes_no_mount call ≡ true) (number : ℕ) (overlay : Overlay ℕ)
+      (is : (filesystem_numbered nat_eq world number).overlay ≡ Some overlay) (layer : Layer ℕ)
+      (m : Among layer (layers_of overlay)) (inode : ℕ)
+      (lies : lies_or_counts_under nat_eq world layer.filesystem inode layer ≡ true)
+      (new : IsNew world fresh inode) where
     abbrev later : World ℕ
     later = (call_outcome nat_eq fresh world task call).world
 
@@ -160,21 +173,27 @@ module _ (fresh : Fresh ℕ) (world : World ℕ) (task : Task ℕ) (conditions :
     plain : (filesystem_numbered nat_eq world layer.filesystem).overlay ≡ None
     plain = no_overlay_in world conditions layer (layer_plain world conditions number overlay is layer m)
 
-    same_stays : later.filesystems ≡ world.filesystems → IsKept (inode_in world layer.filesystem inode) (inode_in later layer.filesystem inode)
+    same_stays : later.filesystems ≡ world.filesystems
+        → IsKept (inode_in world layer.filesystem inode) (inode_in later layer.filesystem inode)
     same_stays e = as_it_was world fresh conditions layer.filesystem inode locked new plain later e
 
-    layer_stays : (change : IsChanged world fresh later.filesystems) → IsNotOf world fresh conditions layer.filesystem inode locked new plain change.mounted
+    layer_stays : (change : IsChanged world fresh later.filesystems)
+        → IsNotOf world fresh conditions layer.filesystem inode locked new plain change.mounted
         → IsKept (inode_in world layer.filesystem inode) (inode_in later layer.filesystem inode)
-    layer_stays change not_of = changed_stays world fresh conditions layer.filesystem inode locked new plain later change not_of
+    layer_stays change not_of =
+        changed_stays world fresh conditions layer.filesystem inode locked new plain later change not_of
 
-pub lower_layers_stay_locked : (fresh : Fresh ℕ) (world : World ℕ) (task : Task ℕ) (call : Call) (number : ℕ) (overlay : Overlay ℕ) (lower : Layer ℕ) (inode : ℕ)
+pub lower_layers_stay_locked : (fresh : Fresh ℕ) (world : World ℕ) (task : Task ℕ) (call : Call) (number : ℕ)
+    (overlay : Overlay ℕ) (lower : Layer ℕ) (inode : ℕ)
     → IsWorld nat_eq world → task_called world task.name ≡ Some task → changes_no_mount call ≡ true
     → (filesystem_numbered nat_eq world number).overlay ≡ Some overlay → Contains overlay.lowers lower
     → lies_or_counts_under nat_eq world lower.filesystem inode lower ≡ true → ((k : ℕ) → inode ≢ fresh k)
-    → IsKept (inode_in world lower.filesystem inode) (inode_in (call_outcome nat_eq fresh world task call).world lower.filesystem inode)
+    → IsKept (inode_in world lower.filesystem inode)
+    (inode_in (call_outcome nat_eq fresh world task call).world lower.filesystem inode)
 lower_layers_stay_locked fresh world task call number overlay lower inode conditions called c is contains lies new =
     let m : Among lower overlay.lowers = among_from_contains overlay.lowers lower contains in
-    let in_layers : Among lower (layers_of overlay) = among-append_right (upper_and_work overlay) overlay.lowers lower m in
+    let in_layers : Among lower (layers_of overlay) =
+    among-append_right (upper_and_work overlay) overlay.lowers lower m in
     ⊎_elim
     (λ e. same_stays fresh world task conditions called call c number overlay is lower in_layers inode lies new e)
     (λ change.
@@ -185,7 +204,8 @@ lower_layers_stay_locked fresh world task call number overlay lower inode condit
     (subst (λ n. lies_or_counts_under nat_eq world n inode lower ≡ true) at lies)))
     (left_by_call fresh world task conditions called call c)
 
-in_all_layers : (overlay : Overlay ℕ) (layer : Layer ℕ) → Among layer (upper_and_work overlay) → Among layer (layers_of overlay)
+in_all_layers : (overlay : Overlay ℕ) (layer : Layer ℕ) → Among layer (upper_and_work overlay)
+    → Among layer (layers_of overlay)
 in_all_layers overlay layer m = among-append_left (upper_and_work overlay) overlay.lowers layer m
 
 pub calls_go_through_one : (fresh : Fresh ℕ) (world : World ℕ) (task : Task ℕ) (call : Call)
@@ -207,7 +227,8 @@ calls_go_through_one fresh world task call conditions called c =
       record {
         elsewhere = λ number differ upper.
             same_filesystem (changed_in change.supply world change.mounted change.change) later number change.so
-            ∙ changed_elsewhere change.supply world (filesystem_numbered nat_eq world change.mounted) change.change number
+            ∙ changed_elsewhere change.supply world
+            (filesystem_numbered nat_eq world change.mounted) change.change number
             (λ e. differ (e ∙ number_of_filesystem world change.mounted)) upper;
         others = λ number overlay layer inode differ is m lies new.
             layer_stays fresh world task conditions called call c number overlay is layer
@@ -224,7 +245,8 @@ calls_go_through_one fresh world task call conditions called c =
     later = (call_outcome nat_eq fresh world task call).world
 
 pub upper_objects_count : (world : World ℕ) (number : ℕ) (overlay : Overlay ℕ) (upper : Layer ℕ) (object : ℕ)
-    → IsWorld nat_eq world → (filesystem_numbered nat_eq world number).overlay ≡ Some overlay → overlay.upper ≡ Some upper
+    → IsWorld nat_eq world → (filesystem_numbered nat_eq world number).overlay ≡ Some overlay
+    → overlay.upper ≡ Some upper
     → IsUpperObject overlay object → lies_or_counts_under nat_eq world upper.filesystem object upper ≡ true
 upper_objects_count world number overlay upper object conditions is has is_object =
     object_counts world conditions number overlay is upper has object is_object

@@ -22,7 +22,8 @@ use Rattle.vt_layer_laws.proofs.UpperLine.{and_second}
 use Rattle.vt_layer_laws.proofs.UpperWorld.{all_found}
 use Rattle.vt_layer_laws.proofs.ViewsStay.{led_where}
 
-module _ (world : World ℕ) (conditions : IsWorld nat_eq world) (layer : Layer ℕ) (plain : is_plain_layer nat_eq world layer ≡ true) where
+module _ (world : World ℕ) (conditions : IsWorld nat_eq world) (layer : Layer ℕ)
+    (plain : is_plain_layer nat_eq world layer ≡ true) where
   abbrev filesystem : Filesystem ℕ
   filesystem = filesystem_numbered nat_eq world layer.filesystem
 
@@ -40,11 +41,13 @@ module _ (world : World ℕ) (conditions : IsWorld nat_eq world) (layer : Layer 
 
   pub layer_tree : IsTree filesystem.files.tree
   layer_tree =
-      all_found (λ f. IsTree f.files.tree) (λ f. nat_eq layer.filesystem f.number) world.filesystems conditions.files.trees filesystem found
+      all_found (λ f. IsTree f.files.tree)
+      (λ f. nat_eq layer.filesystem f.number) world.filesystems conditions.files.trees filesystem found
 
   layer_numbers : ListsNumbers nat_eq filesystem.files
   layer_numbers =
-      all_found (λ f. ListsNumbers nat_eq f.files) (λ f. nat_eq layer.filesystem f.number) world.filesystems conditions.files.numbers filesystem found
+      all_found (λ f. ListsNumbers nat_eq f.files)
+      (λ f. nat_eq layer.filesystem f.number) world.filesystems conditions.files.numbers filesystem found
 
   top_under : is_directory_under nat_eq filesystem.files layer.directory layer.directory ≡ true
   top_under =
@@ -57,7 +60,8 @@ module _ (world : World ℕ) (conditions : IsWorld nat_eq world) (layer : Layer 
       → lies_or_counts_under nat_eq world layer.filesystem object layer ≡ true
   led_lies path object e =
       ap (λ b. b || list_any (counts_in_layer nat_eq world layer.filesystem object layer) (overlays world))
-      (ap (λ b. b && is_under nat_eq filesystem.files layer.directory object) (eq-eqb layer.filesystem layer.filesystem refl)
+      (ap (λ b. b && is_under nat_eq filesystem.files layer.directory object)
+      (eq-eqb layer.filesystem layer.filesystem refl)
       ∙ led_below filesystem.files layer_tree layer_numbers layer.directory layer.directory path object
       top_under top_directory e)
 
@@ -67,27 +71,34 @@ module _ (world : World ℕ) (conditions : IsWorld nat_eq world) (layer : Layer 
 
   -- where each of these is kept, paths lead where they led
   pub leads_as_before : (later : World ℕ)
-      → ((inode : ℕ) → lies_or_counts_under nat_eq world layer.filesystem inode layer ≡ true → is_some (inode_in world layer.filesystem inode) ≡ true
+      → ((inode : ℕ) → lies_or_counts_under nat_eq world layer.filesystem inode layer ≡ true
+      → is_some (inode_in world layer.filesystem inode) ≡ true
       → IsKept (inode_in world layer.filesystem inode) (inode_in later layer.filesystem inode))
       → LeadsAsBefore world later layer
   leads_as_before later kept path = (leads, by (at_path (open_layer nat_eq world layer) path) refl)
     where
       leads : at_path (open_layer nat_eq later layer) path ≡ at_path (open_layer nat_eq world layer) path
       leads =
-          led_where filesystem.files.tree (filesystem_numbered nat_eq later layer.filesystem).files.tree path layer.directory
+          led_where filesystem.files.tree
+          (filesystem_numbered nat_eq later layer.filesystem).files.tree path layer.directory
           (λ way inode l word. ap (entry_named word) (kept inode (led_lies way inode l) (led_there way inode l)).names)
 
       by : (o : Option ℕ) → at_path (open_layer nat_eq world layer) path ≡ o
-          → IsKept (then_some (at_path (open_layer nat_eq world layer) path) (λ object. inode_in world layer.filesystem object))
+          → IsKept (then_some (at_path (open_layer nat_eq world layer) path)
+          (λ object. inode_in world layer.filesystem object))
           (then_some (at_path (open_layer nat_eq later layer) path) (λ object. inode_in later layer.filesystem object))
       by None e =
-          subst (λ o. IsKept (then_some (at_path (open_layer nat_eq world layer) path) (λ object. inode_in world layer.filesystem object))
+          subst (λ o. IsKept (then_some (at_path (open_layer nat_eq world layer) path)
+          (λ object. inode_in world layer.filesystem object))
           (then_some o (λ object. inode_in later layer.filesystem object))) (sym (leads ∙ e))
-          (subst (λ o. IsKept (then_some o (λ object. inode_in world layer.filesystem object)) None) (sym e) (kept_itself None))
+          (subst (λ o. IsKept (then_some o (λ object. inode_in world layer.filesystem object)) None) (sym e)
+          (kept_itself None))
       by (Some inode) e =
-          subst (λ o. IsKept (then_some (at_path (open_layer nat_eq world layer) path) (λ object. inode_in world layer.filesystem object))
+          subst (λ o. IsKept (then_some (at_path (open_layer nat_eq world layer) path)
+          (λ object. inode_in world layer.filesystem object))
           (then_some o (λ object. inode_in later layer.filesystem object))) (sym (leads ∙ e))
-          (subst (λ o. IsKept (then_some o (λ object. inode_in world layer.filesystem object)) (inode_in later layer.filesystem inode)) (sym e)
+          (subst (λ o. IsKept (then_some o (λ object. inode_in world layer.filesystem object))
+          (inode_in later layer.filesystem inode)) (sym e)
           (kept inode (led_lies path inode e) (led_there path inode e)))
 
 -- what is there has no new number
@@ -99,7 +110,8 @@ no_new fresh world filesystem inode none there k e =
 pub lower_paths_are_locked : LowerPathsAreLocked
 lower_paths_are_locked fresh world task call number overlay lower conditions called c is contains none =
     let m : Among lower overlay.lowers = among_from_contains overlay.lowers lower contains in
-    let in_layers : Among lower (layers_of overlay) = among-append_right (upper_and_work overlay) overlay.lowers lower m in
+    let in_layers : Among lower (layers_of overlay) =
+    among-append_right (upper_and_work overlay) overlay.lowers lower m in
     leads_as_before world conditions lower (layer_plain world conditions number overlay is lower in_layers)
     (call_outcome nat_eq fresh world task call).world
     (λ inode lies there.
@@ -109,8 +121,10 @@ lower_paths_are_locked fresh world task call number overlay lower conditions cal
 pub other_paths_stay : OtherPathsStay
 other_paths_stay fresh world task call through number overlay layer conditions goes differ is contains none =
     let m : Among layer (upper_and_work overlay) = among_from_contains (upper_and_work overlay) layer contains in
-    let in_layers : Among layer (layers_of overlay) = among-append_left (upper_and_work overlay) overlay.lowers layer m in
+    let in_layers : Among layer (layers_of overlay) =
+    among-append_left (upper_and_work overlay) overlay.lowers layer m in
     leads_as_before world conditions layer (layer_plain world conditions number overlay is layer in_layers)
     (call_outcome nat_eq fresh world task call).world
     (λ inode lies there.
-    goes.others number overlay layer inode differ is contains lies (no_new fresh world layer.filesystem inode none there))
+    goes.others number overlay layer inode differ is contains lies
+    (no_new fresh world layer.filesystem inode none there))

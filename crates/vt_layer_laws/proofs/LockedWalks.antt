@@ -26,11 +26,13 @@ found_among : {A : Type 0} (test : A → Bool) (list : List A) (a : A) → find 
 found_among test [] a e = none_is_some a e
 found_among test (first ∷ list) a e = by (test first) e (found_among test list a)
   where
-    by : (b : Bool) → cond b (Some first) (find test list) ≡ Some a → (find test list ≡ Some a → Among a list) → Among a (first ∷ list)
+    by : (b : Bool) → cond b (Some first) (find test list) ≡ Some a → (find test list ≡ Some a → Among a list)
+        → Among a (first ∷ list)
     by true e rest = inl (sym (some_is_one first a e))
     by false e rest = inr (rest e)
 
-module _ (world : World ℕ) (conditions : IsWorld nat_eq world) (task : Task ℕ) (called : task_called world task.name ≡ Some task) where
+module _ (world : World ℕ) (conditions : IsWorld nat_eq world) (task : Task ℕ)
+    (called : task_called world task.name ≡ Some task) where
   abbrev There : Location ℕ → Type 0
   There location = is_some (node_at nat_eq world location) ≡ true
 
@@ -38,7 +40,8 @@ module _ (world : World ℕ) (conditions : IsWorld nat_eq world) (task : Task �
   task_among = found_among (λ other. same_name task.name other.name) world.tasks task called
 
   stands : stands_on_directories nat_eq world task ≡ true
-  stands = among_from_list_all (stands_on_directories nat_eq world) world.tasks conditions.tasks.directories task task_among
+  stands = among_from_list_all
+      (stands_on_directories nat_eq world) world.tasks conditions.tasks.directories task task_among
 
   directory_is : (location : Location ℕ) → is_directory_at nat_eq world location ≡ true → There location
   directory_is location is = directory_used (files_at nat_eq world location).tree location.node is
@@ -47,7 +50,8 @@ module _ (world : World ℕ) (conditions : IsWorld nat_eq world) (task : Task �
   root_there = directory_is task.root (and_first (is_directory_at nat_eq world task.root) _ (and_first _ _ stands))
 
   own_there : There task.directory
-  own_there = directory_is task.directory (and_first (is_directory_at nat_eq world task.directory) _ (and_second _ _ stands))
+  own_there = directory_is task.directory
+      (and_first (is_directory_at nat_eq world task.directory) _ (and_second _ _ stands))
 
   start_there : (directory : Location ℕ) (path : List ℕ) → There directory → There (start_of task directory path)
   start_there directory path is = by (is_absolute path)
@@ -61,7 +65,8 @@ module _ (world : World ℕ) (conditions : IsWorld nat_eq world) (task : Task �
 
   abbrev FollowEnds : Follow ℕ → Type 0
   FollowEnds follow =
-      (directory : Location ℕ) (link : Here ℕ) (text : List ℕ) → There directory → EndsThere (follow directory link text)
+      (directory : Location ℕ) (link : Here ℕ) (text : List ℕ) → There directory
+      → EndsThere (follow directory link text)
 
   if_link_there : (next : Here ℕ) (follow : List ℕ → Result (Here ℕ) (Stop ℕ)) → There next.location
       → ((text : List ℕ) → EndsThere (follow text)) → (o : Option (List ℕ)) → EndsThere (if_symlink next o follow)
@@ -81,34 +86,44 @@ module _ (world : World ℕ) (conditions : IsWorld nat_eq world) (task : Task �
       if_link_there next (follow reached.location next) found (λ text. goes reached.location next text end)
       (symlink_text (node_at nat_eq world next.location))))
 
-  symlink_there : (depth : ℕ) → FollowEnds (λ directory link text. symlink_walked nat_eq depth world task directory link text)
+  symlink_there : (depth : ℕ) → FollowEnds
+      (λ directory link text. symlink_walked nat_eq depth world task directory link text)
   symlink_there zero directory link text is = tt
   symlink_there (suc depth) directory link text is =
       ends_then (λ start. There start.location) (λ next. There next.location)
-      (walk_unless link.steps (follow_rules nat_eq world link text) (symlink_start nat_eq world task directory link text)) _
+      (walk_unless link.steps (follow_rules nat_eq world link text)
+      (symlink_start nat_eq world task directory link text)) _
       (ends_unless (λ start. There start.location) link.steps (follow_rules nat_eq world link text)
-      (symlink_start nat_eq world task directory link text) (λ passed. start_there directory text is)) (λ start start_is.
+      (symlink_start nat_eq world task directory link text) (λ passed. start_there directory text is))
+      (λ start start_is.
       ends_then (λ reached. There reached.location) (λ next. There next.location)
-      (words_walked nat_eq world task (λ inside next inner. symlink_walked nat_eq depth world task inside next inner) start (reverse (words text))) _
-      (words_there (λ inside next inner. symlink_walked nat_eq depth world task inside next inner) (symlink_there depth) start start_is (reverse (words text)))
+      (words_walked nat_eq world task
+      (λ inside next inner. symlink_walked nat_eq depth world task inside next inner) start (reverse (words text))) _
+      (words_there (λ inside next inner. symlink_walked nat_eq depth world task inside next inner)
+      (symlink_there depth) start start_is (reverse (words text)))
       (λ reached end.
-      ends_unless (λ next. There next.location) reached.steps (slash_rules nat_eq world text reached.location) reached (λ passed. end)))
+      ends_unless (λ next. There next.location) reached.steps (slash_rules nat_eq world text reached.location) reached
+      (λ passed. end)))
 
   pub object_walk_there : (path : List ℕ) → EndsThere (object_walk nat_eq world task path)
   object_walk_there path =
       ends_then (λ here. There here.location) (λ here. There here.location) (path_walked nat_eq world task path) _
       (ends_next (λ here. There here.location) (path_text path) _ (λ text.
-      words_there (followed nat_eq world task) (λ directory link inner is. symlink_there (most_symlinks + 1) directory link inner is)
+      words_there (followed nat_eq world task)
+      (λ directory link inner is. symlink_there (most_symlinks + 1) directory link inner is)
       (walk_start task text) (start_there task.directory text own_there) (reverse (words text))))
-      (λ here end. ends_unless (λ next. There next.location) here.steps (slash_rules nat_eq world path here.location) here (λ passed. end))
+      (λ here end. ends_unless (λ next. There next.location) here.steps
+      (slash_rules nat_eq world path here.location) here (λ passed. end))
 
   front_there : (here : Here ℕ) → There here.location → (list : List (List ℕ))
       → EndsThere (front_walked nat_eq world task (followed nat_eq world task) here list)
   front_there here is [] = is
   front_there here is (word ∷ front) =
-      words_there (followed nat_eq world task) (λ directory link inner at. symlink_there (most_symlinks + 1) directory link inner at) here is front
+      words_there (followed nat_eq world task)
+      (λ directory link inner at. symlink_there (most_symlinks + 1) directory link inner at) here is front
 
-  last_there : (here : Here ℕ) (word : LastWord) → There here.location → EndsThere (last_walked nat_eq world task here word)
+  last_there : (here : Here ℕ) (word : LastWord) → There here.location
+      → EndsThere (last_walked nat_eq world task here word)
   last_there here NoWord is = is
   last_there here Dot is = word_there world conditions task here Dot
   last_there here DotDot is = word_there world conditions task here DotDot
@@ -126,15 +141,19 @@ module _ (world : World ℕ) (conditions : IsWorld nat_eq world) (task : Task �
   pub link_walk_there : (path : List ℕ) → EndsThere (symlink_walk nat_eq world task path)
   link_walk_there path = link_walk_by_there (ends_in_slash path) path
 
-  pub descriptor_there : (number : ℕ) (fits : Descriptor ℕ → Bool) (descriptor : Descriptor ℕ) → descriptor_at task number fits ≡ Ok descriptor
+  pub descriptor_there : (number : ℕ) (fits : Descriptor ℕ → Bool) (descriptor : Descriptor ℕ)
+      → descriptor_at task number fits ≡ Ok descriptor
       → There descriptor.location
   descriptor_there number fits descriptor e =
       and_second _ _
-      (among_from_list_all (is_located_well nat_eq world) (all_locations world) conditions.tasks.locations_live descriptor.location
+      (among_from_list_all (is_located_well nat_eq world)
+      (all_locations world) conditions.tasks.locations_live descriptor.location
       (among-flat_map locations_of world.tasks task descriptor.location task_among
-      (inr (inr (among-map (λ d. d.location) task.descriptors descriptor (by (descriptor_numbered task number) refl e))))))
+      (inr (inr (among-map (λ d. d.location) task.descriptors descriptor
+      (by (descriptor_numbered task number) refl e))))))
     where
-      chosen : (held : Descriptor ℕ) → Among held task.descriptors → (b : Bool) → ok_or (cond b (Some held) None) (denial S4) ≡ Ok descriptor → Among descriptor task.descriptors
+      chosen : (held : Descriptor ℕ) → Among held task.descriptors → (b : Bool)
+          → ok_or (cond b (Some held) None) (denial S4) ≡ Ok descriptor → Among descriptor task.descriptors
       chosen held m true h = subst (λ d. Among d task.descriptors) (ok_same held descriptor (Ok held) refl h) m
       chosen held m false h = absurd (no_answer h)
         where
@@ -145,7 +164,8 @@ module _ (world : World ℕ) (conditions : IsWorld nat_eq world) (task : Task �
           no_answer : Err (denial S4) ≡ Ok descriptor → ⊥
           no_answer h = Rattle.std.proofs.Common.true≢false (sym (ap is_answer h))
 
-      by : (o : Option (Descriptor ℕ)) → descriptor_numbered task number ≡ o → ok_or (find fits (option_to_list o)) (denial S4) ≡ Ok descriptor → Among descriptor task.descriptors
+      by : (o : Option (Descriptor ℕ)) → descriptor_numbered task number ≡ o
+          → ok_or (find fits (option_to_list o)) (denial S4) ≡ Ok descriptor → Among descriptor task.descriptors
       by None f h = absurd (no_answer h)
         where
           is_answer : Result (Descriptor ℕ) Deny → Bool
@@ -154,4 +174,5 @@ module _ (world : World ℕ) (conditions : IsWorld nat_eq world) (task : Task �
 
           no_answer : Err (denial S4) ≡ Ok descriptor → ⊥
           no_answer h = Rattle.std.proofs.Common.true≢false (sym (ap is_answer h))
-      by (Some held) f h = chosen held (found_among (λ d. Rattle.std.specs.Prelude.nat_eq number d.number) task.descriptors held f) (fits held) h
+      by (Some held) f h = chosen held
+          (found_among (λ d. Rattle.std.specs.Prelude.nat_eq number d.number) task.descriptors held f) (fits held) h

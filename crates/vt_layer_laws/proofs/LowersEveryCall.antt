@@ -60,11 +60,13 @@ module _ (world : World ℕ) (filesystem inode : ℕ) (task : Task ℕ) where
 
   pread_stays : (number offset size : ℕ) → Kept (pread_outcome nat_eq world task number offset size).world
   unfolding pread_outcome
-  pread_stays number offset size = after_leads Kept world kept (descriptor_at task number (λ descriptor. descriptor.reads)) _ (λ descriptor. kept)
+  pread_stays number offset size =
+      after_leads Kept world kept (descriptor_at task number (λ descriptor. descriptor.reads)) _ (λ descriptor. kept)
 
   close_stays : (number : ℕ) → Kept (close_outcome world task number).world
   unfolding close_outcome
-  close_stays number = after_leads Kept world kept (descriptor_at task number (λ descriptor. true)) _ (λ descriptor. kept)
+  close_stays number = after_leads Kept world kept (descriptor_at task number (λ descriptor. true)) _
+      (λ descriptor. kept)
 
   chdir_stays : (path : List ℕ) → Kept (chdir_outcome nat_eq world task path).world
   unfolding chdir_outcome
@@ -89,7 +91,8 @@ module _ (world : World ℕ) (filesystem inode : ℕ) (task : Task ℕ) where
 
   fork_stays : (words : Option ForkWords) → Kept (fork_outcome world task words).world
   unfolding fork_outcome
-  fork_stays words = judged_leads Kept world kept (fork_rules task (child_credentials task.credentials words)) _ (λ passed. kept)
+  fork_stays words = judged_leads Kept world kept (fork_rules task (child_credentials task.credentials words)) _
+      (λ passed. kept)
 
   mounts_stays : Kept (mounts_outcome nat_eq world task).world
   unfolding mounts_outcome
@@ -99,42 +102,74 @@ pub locked_inodes_stay : (fresh : Fresh ℕ) (world : World ℕ) (task : Task �
     → changes_no_mount call ≡ true → HasNoUpperLayer world filesystem
     → is_locked nat_eq world filesystem inode ≡ true → ((k : ℕ) → inode ≢ fresh k)
     → Stays world filesystem inode (call_outcome nat_eq fresh world task call).world
-locked_inodes_stay fresh world task (Ls path) filesystem inode c own locked new = list_stays world filesystem inode task path
-locked_inodes_stay fresh world task (Stat path) filesystem inode c own locked new = stat_stays world filesystem inode task path
-locked_inodes_stay fresh world task (Lstat path) filesystem inode c own locked new = lstat_stays world filesystem inode task path
-locked_inodes_stay fresh world task (Readlink path) filesystem inode c own locked new = readlink_stays world filesystem inode task path
-locked_inodes_stay fresh world task (Read path) filesystem inode c own locked new = read_stays world filesystem inode task path
-locked_inodes_stay fresh world task (Write path bytes) filesystem inode c own locked new = write_stays world filesystem inode own locked task fresh new path bytes
-locked_inodes_stay fresh world task (Exec path) filesystem inode c own locked new = exec_stays world filesystem inode task path
-locked_inodes_stay fresh world task (Mkdir path mode) filesystem inode c own locked new = mkdir_stays world filesystem inode own locked task fresh new path mode
-locked_inodes_stay fresh world task (SymlinkAt text path) filesystem inode c own locked new = symlink_stays world filesystem inode own locked task fresh new text path
-locked_inodes_stay fresh world task (MakeWhiteout path) filesystem inode c own locked new = whiteout_stays world filesystem inode own locked task fresh new path
-locked_inodes_stay fresh world task (LinkTo old name) filesystem inode c own locked new = link_stays world filesystem inode own locked task fresh new old name
-locked_inodes_stay fresh world task (Unlink path) filesystem inode c own locked new = unlink_stays world filesystem inode own locked task fresh new path
-locked_inodes_stay fresh world task (Rmdir path) filesystem inode c own locked new = rmdir_stays world filesystem inode own locked task fresh new path
-locked_inodes_stay fresh world task (Rename old name) filesystem inode c own locked new = rename_stays world filesystem inode own locked task fresh new old name
-locked_inodes_stay fresh world task (Chmod path mode) filesystem inode c own locked new = chmod_stays world filesystem inode own locked task fresh new path mode
-locked_inodes_stay fresh world task (Chown path uid gid) filesystem inode c own locked new = chown_stays world filesystem inode own locked task fresh new path uid gid
-locked_inodes_stay fresh world task (Opaque path mark) filesystem inode c own locked new = opaque_stays world filesystem inode own locked task fresh new path mark
-locked_inodes_stay fresh world task (OpenFile path access creation) filesystem inode c own locked new = open_stays world filesystem inode own locked task fresh new path access creation
-locked_inodes_stay fresh world task (Pread number offset size) filesystem inode c own locked new = pread_stays world filesystem inode task number offset size
-locked_inodes_stay fresh world task (Pwrite number offset bytes) filesystem inode c own locked new = pwrite_stays world filesystem inode own locked task fresh new number offset bytes
-locked_inodes_stay fresh world task (Close number) filesystem inode c own locked new = close_stays world filesystem inode task number
-locked_inodes_stay fresh world task (Chdir path) filesystem inode c own locked new = chdir_stays world filesystem inode task path
-locked_inodes_stay fresh world task (Chroot path) filesystem inode c own locked new = chroot_stays world filesystem inode task path
-locked_inodes_stay fresh world task (Umask mode) filesystem inode c own locked new = umask_stays world filesystem inode task mode
-locked_inodes_stay fresh world task (Drop which) filesystem inode c own locked new = drop_stays world filesystem inode task which
-locked_inodes_stay fresh world task (Fork words) filesystem inode c own locked new = fork_stays world filesystem inode task words
+locked_inodes_stay fresh world task (Ls path) filesystem inode c own locked new =
+    list_stays world filesystem inode task path
+locked_inodes_stay fresh world task (Stat path) filesystem inode c own locked new =
+    stat_stays world filesystem inode task path
+locked_inodes_stay fresh world task (Lstat path) filesystem inode c own locked new =
+    lstat_stays world filesystem inode task path
+locked_inodes_stay fresh world task (Readlink path) filesystem inode c own locked new =
+    readlink_stays world filesystem inode task path
+locked_inodes_stay fresh world task (Read path) filesystem inode c own locked new =
+    read_stays world filesystem inode task path
+locked_inodes_stay fresh world task (Write path bytes) filesystem inode c own locked new =
+    write_stays world filesystem inode own locked task fresh new path bytes
+locked_inodes_stay fresh world task (Exec path) filesystem inode c own locked new =
+    exec_stays world filesystem inode task path
+locked_inodes_stay fresh world task (Mkdir path mode) filesystem inode c own locked new =
+    mkdir_stays world filesystem inode own locked task fresh new path mode
+locked_inodes_stay fresh world task (SymlinkAt text path) filesystem inode c own locked new =
+    symlink_stays world filesystem inode own locked task fresh new text path
+locked_inodes_stay fresh world task (MakeWhiteout path) filesystem inode c own locked new =
+    whiteout_stays world filesystem inode own locked task fresh new path
+locked_inodes_stay fresh world task (LinkTo old name) filesystem inode c own locked new =
+    link_stays world filesystem inode own locked task fresh new old name
+locked_inodes_stay fresh world task (Unlink path) filesystem inode c own locked new =
+    unlink_stays world filesystem inode own locked task fresh new path
+locked_inodes_stay fresh world task (Rmdir path) filesystem inode c own locked new =
+    rmdir_stays world filesystem inode own locked task fresh new path
+locked_inodes_stay fresh world task (Rename old name) filesystem inode c own locked new =
+    rename_stays world filesystem inode own locked task fresh new old name
+locked_inodes_stay fresh world task (Chmod path mode) filesystem inode c own locked new =
+    chmod_stays world filesystem inode own locked task fresh new path mode
+locked_inodes_stay fresh world task (Chown path uid gid) filesystem inode c own locked new =
+    chown_stays world filesystem inode own locked task fresh new path uid gid
+locked_inodes_stay fresh world task (Opaque path mark) filesystem inode c own locked new =
+    opaque_stays world filesystem inode own locked task fresh new path mark
+locked_inodes_stay fresh world task (OpenFile path access creation) filesystem inode c own locked new =
+    open_stays world filesystem inode own locked task fresh new path access creation
+locked_inodes_stay fresh world task (Pread number offset size) filesystem inode c own locked new =
+    pread_stays world filesystem inode task number offset size
+locked_inodes_stay fresh world task (Pwrite number offset bytes) filesystem inode c own locked new =
+    pwrite_stays world filesystem inode own locked task fresh new number offset bytes
+locked_inodes_stay fresh world task (Close number) filesystem inode c own locked new =
+    close_stays world filesystem inode task number
+locked_inodes_stay fresh world task (Chdir path) filesystem inode c own locked new =
+    chdir_stays world filesystem inode task path
+locked_inodes_stay fresh world task (Chroot path) filesystem inode c own locked new =
+    chroot_stays world filesystem inode task path
+locked_inodes_stay fresh world task (Umask mode) filesystem inode c own locked new =
+    umask_stays world filesystem inode task mode
+locked_inodes_stay fresh world task (Drop which) filesystem inode c own locked new =
+    drop_stays world filesystem inode task which
+locked_inodes_stay fresh world task (Fork words) filesystem inode c own locked new =
+    fork_stays world filesystem inode task words
 locked_inodes_stay fresh world task Exit filesystem inode c own locked new = absurd (true≢false (sym c))
 locked_inodes_stay fresh world task Unshare filesystem inode c own locked new = absurd (true≢false (sym c))
 locked_inodes_stay fresh world task (Setns name) filesystem inode c own locked new = absurd (true≢false (sym c))
-locked_inodes_stay fresh world task (MountPlain path flags) filesystem inode c own locked new = absurd (true≢false (sym c))
-locked_inodes_stay fresh world task (MountOverlay path options flags) filesystem inode c own locked new = absurd (true≢false (sym c))
-locked_inodes_stay fresh world task (Bind source path recursive) filesystem inode c own locked new = absurd (true≢false (sym c))
-locked_inodes_stay fresh world task (MoveMount source path) filesystem inode c own locked new = absurd (true≢false (sym c))
+locked_inodes_stay fresh world task (MountPlain path flags) filesystem inode c own locked new =
+    absurd (true≢false (sym c))
+locked_inodes_stay fresh world task (MountOverlay path options flags) filesystem inode c own locked new =
+    absurd (true≢false (sym c))
+locked_inodes_stay fresh world task (Bind source path recursive) filesystem inode c own locked new =
+    absurd (true≢false (sym c))
+locked_inodes_stay fresh world task (MoveMount source path) filesystem inode c own locked new =
+    absurd (true≢false (sym c))
 locked_inodes_stay fresh world task (Umount path) filesystem inode c own locked new = absurd (true≢false (sym c))
 locked_inodes_stay fresh world task (Lazy path) filesystem inode c own locked new = absurd (true≢false (sym c))
 locked_inodes_stay fresh world task (Remount path flags) filesystem inode c own locked new = absurd (true≢false (sym c))
-locked_inodes_stay fresh world task (SetType path word recursive) filesystem inode c own locked new = absurd (true≢false (sym c))
+locked_inodes_stay fresh world task (SetType path word recursive) filesystem inode c own locked new =
+    absurd (true≢false (sym c))
 locked_inodes_stay fresh world task (PivotRoot name put) filesystem inode c own locked new = absurd (true≢false (sym c))
-locked_inodes_stay fresh world task ListMounts filesystem inode c own locked new = mounts_stays world filesystem inode task
+locked_inodes_stay fresh world task ListMounts filesystem inode c own locked new =
+    mounts_stays world filesystem inode task

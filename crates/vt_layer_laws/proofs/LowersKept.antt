@@ -63,22 +63,31 @@ kept_parent parent (Some node) =
     mark Whiteout = refl
 
 -- a change of one inode leaves the others as they were
-pub kept_elsewhere : (files : FileTree ℕ) (number : ℕ) (change : Option (Node ℕ) → Option (Node ℕ)) (inode : ℕ) → nat_eq inode number ≡ false → (changed_node nat_eq files number change).tree.node inode ≡ files.tree.node inode
-kept_elsewhere files number change inode e = ap (λ b. cond b (change (files.tree.node number)) (files.tree.node inode)) e
+pub kept_elsewhere : (files : FileTree ℕ) (number : ℕ) (change : Option (Node ℕ) → Option (Node ℕ)) (inode : ℕ)
+    → nat_eq inode number ≡ false → (changed_node nat_eq files number change).tree.node inode ≡ files.tree.node inode
+kept_elsewhere files number change inode e =
+    ap (λ b. cond b (change (files.tree.node number)) (files.tree.node inode)) e
 
 -- and one that keeps that inode keeps all
-pub kept_everywhere : (files : FileTree ℕ) (number : ℕ) (change : Option (Node ℕ) → Option (Node ℕ)) → ((node : Option (Node ℕ)) → IsKept node (change node)) → (inode : ℕ) → IsKept (files.tree.node inode) ((changed_node nat_eq files number change).tree.node inode)
+pub kept_everywhere : (files : FileTree ℕ) (number : ℕ) (change : Option (Node ℕ) → Option (Node ℕ))
+    → ((node : Option (Node ℕ)) → IsKept node (change node)) → (inode : ℕ)
+    → IsKept (files.tree.node inode) ((changed_node nat_eq files number change).tree.node inode)
 kept_everywhere files number change keeps inode =
     ⊎_elim
-    (λ t. subst (λ b. IsKept (files.tree.node inode) (cond b (change (files.tree.node number)) (files.tree.node inode))) (sym t.0)
-    (subst (λ n. IsKept (files.tree.node n) (change (files.tree.node number))) (sym t.1) (keeps (files.tree.node number))))
+    (λ t. subst (λ b. IsKept (files.tree.node inode)
+    (cond b (change (files.tree.node number)) (files.tree.node inode))) (sym t.0)
+    (subst (λ n. IsKept (files.tree.node n) (change (files.tree.node number))) (sym t.1)
+    (keeps (files.tree.node number))))
     (λ t. kept_same (files.tree.node inode) _ (kept_elsewhere files number change inode t.0))
     (eqb_tells inode number)
 
-pub kept_by_parent : (files : FileTree ℕ) (number parent inode : ℕ) → IsKept (files.tree.node inode) ((changed_node nat_eq files number (node_with_parent parent)).tree.node inode)
-kept_by_parent files number parent inode = kept_everywhere files number (node_with_parent parent) (kept_parent parent) inode
+pub kept_by_parent : (files : FileTree ℕ) (number parent inode : ℕ)
+    → IsKept (files.tree.node inode) ((changed_node nat_eq files number (node_with_parent parent)).tree.node inode)
+kept_by_parent files number parent inode =
+    kept_everywhere files number (node_with_parent parent) (kept_parent parent) inode
 
-pub kept_without_parent : (files : FileTree ℕ) (object : Option ℕ) (inode : ℕ) → IsKept (files.tree.node inode) ((without_parent nat_eq files object).tree.node inode)
+pub kept_without_parent : (files : FileTree ℕ) (object : Option ℕ) (inode : ℕ)
+    → IsKept (files.tree.node inode) ((without_parent nat_eq files object).tree.node inode)
 kept_without_parent files None inode = kept_itself (files.tree.node inode)
 kept_without_parent files (Some object) inode = kept_by_parent files object object inode
 
@@ -91,7 +100,9 @@ pub second_fails : (a b : Bool) → (a || b) ≡ false → b ≡ false
 second_fails true b e = absurd (true≢false e)
 second_fails false b e = e
 
-pub kept_moved : (files : FileTree ℕ) (from : ℕ) (old : List ℕ) (to : ℕ) (new : List ℕ) (object inode : ℕ) → nat_eq inode from ≡ false → nat_eq inode to ≡ false → IsKept (files.tree.node inode) ((with_moved nat_eq files from old to new object).tree.node inode)
+pub kept_moved : (files : FileTree ℕ) (from : ℕ) (old : List ℕ) (to : ℕ) (new : List ℕ) (object inode : ℕ)
+    → nat_eq inode from ≡ false → nat_eq inode to ≡ false
+    → IsKept (files.tree.node inode) ((with_moved nat_eq files from old to new object).tree.node inode)
 kept_moved files from old to new object inode f t =
     let freed = without_parent nat_eq files (entry_named new (entries_in (files.tree.node to))) in
     let left = without_name nat_eq freed from old in
@@ -99,24 +110,36 @@ kept_moved files from old to new object inode f t =
     kept_both (files.tree.node inode) (named.tree.node inode) _
     (kept_both (files.tree.node inode) (freed.tree.node inode) _ (kept_without_parent files _ inode)
     (kept_same (freed.tree.node inode) _
-    (kept_elsewhere left to (node_with_entry new object) inode t ∙ kept_elsewhere freed from (node_without_entry old) inode f)))
+    (kept_elsewhere left to (node_with_entry new object) inode t
+    ∙ kept_elsewhere freed from (node_without_entry old) inode f)))
     (kept_by_parent named object to inode)
 
-pub others_stay : (files : FileTree ℕ) (change : Change ℕ) (inode : ℕ) → is_among nat_eq inode (inodes_changed change) ≡ false → IsKept (files.tree.node inode) ((changed nat_eq files change).tree.node inode)
+pub others_stay : (files : FileTree ℕ) (change : Change ℕ) (inode : ℕ)
+    → is_among nat_eq inode (inodes_changed change) ≡ false
+    → IsKept (files.tree.node inode) ((changed nat_eq files change).tree.node inode)
 others_stay files (Make directory name number node) inode e =
     kept_same (files.tree.node inode) _
-    (kept_elsewhere (with_inode nat_eq files number node) directory (node_with_entry name number) inode (first_fails _ false (second_fails (nat_eq inode number) _ e))
+    (kept_elsewhere (with_inode nat_eq files number node) directory (node_with_entry name number) inode
+    (first_fails _ false (second_fails (nat_eq inode number) _ e))
     ∙ ap (λ b. cond b (Some node) (files.tree.node inode)) (first_fails (nat_eq inode number) _ e))
 others_stay files (AddName directory name object) inode e =
-    kept_same (files.tree.node inode) _ (kept_elsewhere files directory (node_with_entry name object) inode (first_fails _ false e))
+    kept_same (files.tree.node inode) _
+    (kept_elsewhere files directory (node_with_entry name object) inode (first_fails _ false e))
 others_stay files (Remove directory name object) inode e =
     kept_both (files.tree.node inode) ((without_name nat_eq files directory name).tree.node inode) _
-    (kept_same (files.tree.node inode) _ (kept_elsewhere files directory (node_without_entry name) inode (first_fails _ false e)))
+    (kept_same (files.tree.node inode) _
+    (kept_elsewhere files directory (node_without_entry name) inode (first_fails _ false e)))
     (kept_by_parent (without_name nat_eq files directory name) object object inode)
 others_stay files (Move from old to new object) inode e =
     kept_moved files from old to new object inode (first_fails (nat_eq inode from) _ e)
     (first_fails _ false (second_fails (nat_eq inode from) _ e))
-others_stay files (SetBytes file bytes) inode e = kept_same (files.tree.node inode) _ (kept_elsewhere files file (node_with_bytes bytes) inode (first_fails _ false e))
-others_stay files (SetAttr object attr) inode e = kept_same (files.tree.node inode) _ (kept_elsewhere files object (node_with_attr attr) inode (first_fails _ false e))
-others_stay files (SetMark directory opaque) inode e = kept_same (files.tree.node inode) _ (kept_elsewhere files directory (node_with_mark opaque) inode (first_fails _ false e))
+others_stay files (SetBytes file bytes) inode e =
+    kept_same (files.tree.node inode) _
+    (kept_elsewhere files file (node_with_bytes bytes) inode (first_fails _ false e))
+others_stay files (SetAttr object attr) inode e =
+    kept_same (files.tree.node inode) _
+    (kept_elsewhere files object (node_with_attr attr) inode (first_fails _ false e))
+others_stay files (SetMark directory opaque) inode e =
+    kept_same (files.tree.node inode) _
+    (kept_elsewhere files directory (node_with_mark opaque) inode (first_fails _ false e))
 others_stay files (CopyUp object) inode e = kept_itself (files.tree.node inode)

@@ -7,52 +7,70 @@ use Rattle.vt_spec.specs.Machine.Receives.{inheriting, lost_a_group, regrouped_b
 use Rattle.vt_spec.specs.Machine.World.{World, mount_at, with_mounts}
 
 -- mounts that are changed but keep number and filesystem
-same_mounted : (change : Mount ℕ → Mount ℕ) → ((mount : Mount ℕ) → (change mount).number ≡ mount.number) → ((mount : Mount ℕ) → (change mount).filesystem ≡ mount.filesystem) → (number : ℕ) (mounts : List (Mount ℕ)) → (mount_in nat_eq (map change mounts) number).filesystem ≡ (mount_in nat_eq mounts number).filesystem
+same_mounted : (change : Mount ℕ → Mount ℕ) → ((mount : Mount ℕ) → (change mount).number ≡ mount.number)
+    → ((mount : Mount ℕ) → (change mount).filesystem ≡ mount.filesystem) → (number : ℕ) (mounts : List (Mount ℕ))
+    → (mount_in nat_eq (map change mounts) number).filesystem ≡ (mount_in nat_eq mounts number).filesystem
 same_mounted change n f number [] = refl
 same_mounted change n f number (mount ∷ mounts) =
-    ap (λ m. (unwrap_or (cond (nat_eq number m) (Some (change mount)) (find (λ m. nat_eq number m.number) (map change mounts))) (no_mount number)).filesystem) (n mount)
+    ap (λ m. (unwrap_or (cond (nat_eq number m) (Some (change mount))
+    (find (λ m. nat_eq number m.number) (map change mounts))) (no_mount number)).filesystem) (n mount)
     ∙ by (nat_eq number mount.number) (same_mounted change n f number mounts)
   where
-    by : (b : Bool) → (mount_in nat_eq (map change mounts) number).filesystem ≡ (mount_in nat_eq mounts number).filesystem
-        → (unwrap_or (cond b (Some (change mount)) (find (λ m. nat_eq number m.number) (map change mounts))) (no_mount number)).filesystem ≡ (unwrap_or (cond b (Some mount) (find (λ m. nat_eq number m.number) mounts)) (no_mount number)).filesystem
+    by : (b : Bool) → (mount_in nat_eq (map change mounts) number).filesystem
+        ≡ (mount_in nat_eq mounts number).filesystem
+        → (unwrap_or (cond b (Some (change mount)) (find (λ m. nat_eq number m.number) (map change mounts)))
+        (no_mount number)).filesystem ≡
+        (unwrap_or (cond b (Some mount) (find (λ m. nat_eq number m.number) mounts)) (no_mount number)).filesystem
     by true rest = f mount
     by false rest = rest
 
-regrouped_mounted : (lost : Bool) (world : World ℕ) (location : Location ℕ) → (mount_at nat_eq (regrouped_by nat_eq lost world) location).filesystem ≡ (mount_at nat_eq world location).filesystem
+regrouped_mounted : (lost : Bool) (world : World ℕ) (location : Location ℕ)
+    → (mount_at nat_eq (regrouped_by nat_eq lost world) location).filesystem
+    ≡ (mount_at nat_eq world location).filesystem
 regrouped_mounted false world location = refl
-regrouped_mounted true world location = same_mounted (inheriting nat_eq world) (λ m. refl) (λ m. refl) location.mount world.mounts
+regrouped_mounted true world location =
+    same_mounted (inheriting nat_eq world) (λ m. refl) (λ m. refl) location.mount world.mounts
 
-regrouped_filesystems : (lost : Bool) (world : World ℕ) → (regrouped_by nat_eq lost world).filesystems ≡ world.filesystems
+regrouped_filesystems : (lost : Bool) (world : World ℕ)
+    → (regrouped_by nat_eq lost world).filesystems ≡ world.filesystems
 regrouped_filesystems false world = refl
 regrouped_filesystems true world = refl
 
-going_number : (world : World ℕ) (gone : List ℕ) (mount : Mount ℕ) → (after_going nat_eq world gone mount).number ≡ mount.number
+going_number : (world : World ℕ) (gone : List ℕ) (mount : Mount ℕ)
+    → (after_going nat_eq world gone mount).number ≡ mount.number
 going_number world gone mount = by (Rattle.vt_spec.specs.Machine.Detach.is_going nat_eq gone mount.number)
   where
     by : (b : Bool) → (cond b (Rattle.vt_spec.specs.Machine.Mounts.detached mount) (record mount { mount_point = Rattle.std.specs.Prelude.option_map (Rattle.vt_spec.specs.Machine.Detach.mount_point_left nat_eq world gone) mount.mount_point })).number ≡ mount.number
     by true = refl
     by false = refl
 
-going_filesystem : (world : World ℕ) (gone : List ℕ) (mount : Mount ℕ) → (after_going nat_eq world gone mount).filesystem ≡ mount.filesystem
+going_filesystem : (world : World ℕ) (gone : List ℕ) (mount : Mount ℕ)
+    → (after_going nat_eq world gone mount).filesystem ≡ mount.filesystem
 going_filesystem world gone mount = by (Rattle.vt_spec.specs.Machine.Detach.is_going nat_eq gone mount.number)
   where
     by : (b : Bool) → (cond b (Rattle.vt_spec.specs.Machine.Mounts.detached mount) (record mount { mount_point = Rattle.std.specs.Prelude.option_map (Rattle.vt_spec.specs.Machine.Detach.mount_point_left nat_eq world gone) mount.mount_point })).filesystem ≡ mount.filesystem
     by true = refl
     by false = refl
 
-pub taken_filesystems : (world : World ℕ) (gone : List ℕ) → (taken_away nat_eq world gone).filesystems ≡ world.filesystems
+pub taken_filesystems : (world : World ℕ) (gone : List ℕ)
+    → (taken_away nat_eq world gone).filesystems ≡ world.filesystems
 taken_filesystems world gone = regrouped_filesystems (list_any (lost_a_group nat_eq left) left.mounts) left
   where
     left : World ℕ
     left = with_mounts world (map (after_going nat_eq world gone) world.mounts)
 
-pub taken_mounted : (world : World ℕ) (gone : List ℕ) (location : Location ℕ) → (mount_at nat_eq (taken_away nat_eq world gone) location).filesystem ≡ (mount_at nat_eq world location).filesystem
+pub taken_mounted : (world : World ℕ) (gone : List ℕ) (location : Location ℕ)
+    → (mount_at nat_eq (taken_away nat_eq world gone) location).filesystem ≡ (mount_at nat_eq world location).filesystem
 taken_mounted world gone location =
     regrouped_mounted _ (with_mounts world (map (after_going nat_eq world gone) world.mounts)) location
-    ∙ same_mounted (after_going nat_eq world gone) (going_number world gone) (going_filesystem world gone) location.mount world.mounts
+    ∙ same_mounted (after_going nat_eq world gone) (going_number world gone)
+    (going_filesystem world gone) location.mount world.mounts
 
-pub same_filesystems_without : (world : World ℕ) (object : Location ℕ) → (without_mounts_on nat_eq world object).filesystems ≡ world.filesystems
+pub same_filesystems_without : (world : World ℕ) (object : Location ℕ)
+    → (without_mounts_on nat_eq world object).filesystems ≡ world.filesystems
 same_filesystems_without world object = taken_filesystems world _
 
-pub same_mounted_without : (world : World ℕ) (object location : Location ℕ) → (mount_at nat_eq (without_mounts_on nat_eq world object) location).filesystem ≡ (mount_at nat_eq world location).filesystem
+pub same_mounted_without : (world : World ℕ) (object location : Location ℕ)
+    → (mount_at nat_eq (without_mounts_on nat_eq world object) location).filesystem
+    ≡ (mount_at nat_eq world location).filesystem
 same_mounted_without world object location = taken_mounted world _ location

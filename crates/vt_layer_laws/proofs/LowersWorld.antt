@@ -10,81 +10,120 @@ use Rattle.vt_spec.specs.Machine.Mounts.{Location}
 use Rattle.vt_spec.specs.Machine.World.{Filesystem, Layer, Overlay, World, filesystem_at, filesystem_numbered, mount_at, no_filesystem, replaced_if_numbered, with_filesystem}
 
 -- the filesystem with a number has that number
-pub number_of_found : (number : ℕ) (list : List (Filesystem ℕ)) → (unwrap_or (find (λ filesystem. nat_eq number filesystem.number) list) (no_filesystem number)).number ≡ number
+pub number_of_found : (number : ℕ) (list : List (Filesystem ℕ))
+    → (unwrap_or (find (λ filesystem. nat_eq number filesystem.number) list) (no_filesystem number)).number ≡ number
 number_of_found number [] = refl
 number_of_found number (filesystem ∷ list) =
     ⊎_elim
-    (λ t. ap (λ b. (unwrap_or (cond b (Some filesystem) (find (λ f. nat_eq number f.number) list)) (no_filesystem number)).number) t.0 ∙ sym t.1)
-    (λ t. ap (λ b. (unwrap_or (cond b (Some filesystem) (find (λ f. nat_eq number f.number) list)) (no_filesystem number)).number) t.0 ∙ number_of_found number list)
+    (λ t. ap (λ b. (unwrap_or (cond b (Some filesystem) (find (λ f. nat_eq number f.number) list))
+    (no_filesystem number)).number) t.0 ∙ sym t.1)
+    (λ t. ap (λ b. (unwrap_or (cond b (Some filesystem) (find (λ f. nat_eq number f.number) list))
+    (no_filesystem number)).number) t.0 ∙ number_of_found number list)
     (eqb_tells number filesystem.number)
 
 pub number_of_filesystem : (world : World ℕ) (number : ℕ) → (filesystem_numbered nat_eq world number).number ≡ number
 number_of_filesystem world number = number_of_found number world.filesystems
 
 -- a filesystem put in the place of another leaves those with other numbers
-found_elsewhere : (new : Filesystem ℕ) (number : ℕ) → number ≢ new.number → (list : List (Filesystem ℕ)) → find (λ filesystem. nat_eq number filesystem.number) (map (replaced_if_numbered nat_eq new) list) ≡ find (λ filesystem. nat_eq number filesystem.number) list
+found_elsewhere : (new : Filesystem ℕ) (number : ℕ) → number ≢ new.number → (list : List (Filesystem ℕ))
+    → find (λ filesystem. nat_eq number filesystem.number) (map (replaced_if_numbered nat_eq new) list)
+    ≡ find (λ filesystem. nat_eq number filesystem.number) list
 found_elsewhere new number differ [] = refl
 found_elsewhere new number differ (old ∷ list) =
     ⊎_elim
     (λ t. ap (λ b. find (λ f. nat_eq number f.number) (cond b new old ∷ map (replaced_if_numbered nat_eq new) list)) t.0
-    ∙ ap (λ b. cond b (Some new) (find (λ f. nat_eq number f.number) (map (replaced_if_numbered nat_eq new) list))) (ne_eqb number new.number differ)
+    ∙ ap (λ b. cond b (Some new) (find (λ f. nat_eq number f.number) (map (replaced_if_numbered nat_eq new) list)))
+    (ne_eqb number new.number differ)
     ∙ found_elsewhere new number differ list
-    ∙ sym (ap (λ b. cond b (Some old) (find (λ f. nat_eq number f.number) list)) (ne_eqb number old.number (λ e. differ (e ∙ sym t.1)))))
+    ∙ sym (ap (λ b. cond b (Some old) (find (λ f. nat_eq number f.number) list))
+    (ne_eqb number old.number (λ e. differ (e ∙ sym t.1)))))
     (λ t. ap (λ b. find (λ f. nat_eq number f.number) (cond b new old ∷ map (replaced_if_numbered nat_eq new) list)) t.0
     ∙ ap (cond (nat_eq number old.number) (Some old)) (found_elsewhere new number differ list))
     (eqb_tells new.number old.number)
 
-pub filesystem_elsewhere : (world : World ℕ) (new : Filesystem ℕ) (number : ℕ) → number ≢ new.number → filesystem_numbered nat_eq (with_filesystem nat_eq world new) number ≡ filesystem_numbered nat_eq world number
+pub filesystem_elsewhere : (world : World ℕ) (new : Filesystem ℕ) (number : ℕ) → number ≢ new.number
+    → filesystem_numbered nat_eq (with_filesystem nat_eq world new) number ≡ filesystem_numbered nat_eq world number
 filesystem_elsewhere world new number differ =
     ap (λ o. unwrap_or o (no_filesystem number)) (found_elsewhere new number differ world.filesystems)
 
 -- and where one is there, it is there now
-found_there : (new : Filesystem ℕ) (list : List (Filesystem ℕ)) (old : Filesystem ℕ) → find (λ filesystem. nat_eq new.number filesystem.number) list ≡ Some old → find (λ filesystem. nat_eq new.number filesystem.number) (map (replaced_if_numbered nat_eq new) list) ≡ Some new
+found_there : (new : Filesystem ℕ) (list : List (Filesystem ℕ)) (old : Filesystem ℕ)
+    → find (λ filesystem. nat_eq new.number filesystem.number) list ≡ Some old
+    → find (λ filesystem. nat_eq new.number filesystem.number) (map (replaced_if_numbered nat_eq new) list) ≡ Some new
 found_there new [] old e = absurd (true≢false (sym (ap (λ o. elim o [ None ↦ false | Some f ↦ true ]) e)))
 found_there new (first ∷ list) old e = by (nat_eq new.number first.number) refl (found_there new list old) e
   where
-    by : (b : Bool) → nat_eq new.number first.number ≡ b → (find (λ f. nat_eq new.number f.number) list ≡ Some old → find (λ f. nat_eq new.number f.number) (map (replaced_if_numbered nat_eq new) list) ≡ Some new) → cond b (Some first) (find (λ f. nat_eq new.number f.number) list) ≡ Some old → find (λ f. nat_eq new.number f.number) (cond b new first ∷ map (replaced_if_numbered nat_eq new) list) ≡ Some new
-    by true t rest e = ap (λ b. cond b (Some new) (find (λ f. nat_eq new.number f.number) (map (replaced_if_numbered nat_eq new) list))) (eqb_itself new.number)
+    by : (b : Bool) → nat_eq new.number first.number ≡ b
+        → (find (λ f. nat_eq new.number f.number) list ≡ Some old
+        → find (λ f. nat_eq new.number f.number) (map (replaced_if_numbered nat_eq new) list) ≡ Some new)
+        → cond b (Some first) (find (λ f. nat_eq new.number f.number) list) ≡ Some old
+        → find (λ f. nat_eq new.number f.number) (cond b new first ∷ map (replaced_if_numbered nat_eq new) list)
+        ≡ Some new
+    by true t rest e = ap (λ b. cond b (Some new)
+        (find (λ f. nat_eq new.number f.number) (map (replaced_if_numbered nat_eq new) list))) (eqb_itself new.number)
       where
         eqb_itself : (n : ℕ) → nat_eq n n ≡ true
         eqb_itself n = Rattle.std.proofs.Common.eq-eqb n n refl
-    by false t rest e = ap (λ b. cond b (Some first) (find (λ f. nat_eq new.number f.number) (map (replaced_if_numbered nat_eq new) list))) t ∙ rest e
+    by false t rest e = ap (λ b. cond b (Some first)
+        (find (λ f. nat_eq new.number f.number) (map (replaced_if_numbered nat_eq new) list))) t ∙ rest e
 
 -- none of that number stays none
-found_nowhere : (new : Filesystem ℕ) (list : List (Filesystem ℕ)) → find (λ filesystem. nat_eq new.number filesystem.number) list ≡ None → find (λ filesystem. nat_eq new.number filesystem.number) (map (replaced_if_numbered nat_eq new) list) ≡ None
+found_nowhere : (new : Filesystem ℕ) (list : List (Filesystem ℕ))
+    → find (λ filesystem. nat_eq new.number filesystem.number) list ≡ None
+    → find (λ filesystem. nat_eq new.number filesystem.number) (map (replaced_if_numbered nat_eq new) list) ≡ None
 found_nowhere new [] e = refl
 found_nowhere new (first ∷ list) e = by (nat_eq new.number first.number) refl (found_nowhere new list) e
   where
-    by : (b : Bool) → nat_eq new.number first.number ≡ b → (find (λ f. nat_eq new.number f.number) list ≡ None → find (λ f. nat_eq new.number f.number) (map (replaced_if_numbered nat_eq new) list) ≡ None) → cond b (Some first) (find (λ f. nat_eq new.number f.number) list) ≡ None → find (λ f. nat_eq new.number f.number) (cond b new first ∷ map (replaced_if_numbered nat_eq new) list) ≡ None
+    by : (b : Bool) → nat_eq new.number first.number ≡ b
+        → (find (λ f. nat_eq new.number f.number) list ≡ None
+        → find (λ f. nat_eq new.number f.number) (map (replaced_if_numbered nat_eq new) list) ≡ None)
+        → cond b (Some first) (find (λ f. nat_eq new.number f.number) list) ≡ None
+        → find (λ f. nat_eq new.number f.number) (cond b new first ∷ map (replaced_if_numbered nat_eq new) list) ≡ None
     by true t rest e = absurd (true≢false (ap (λ o. elim o [ None ↦ false | Some f ↦ true ]) e))
-    by false t rest e = ap (λ b. cond b (Some first) (find (λ f. nat_eq new.number f.number) (map (replaced_if_numbered nat_eq new) list))) t ∙ rest e
+    by false t rest e = ap (λ b. cond b (Some first)
+        (find (λ f. nat_eq new.number f.number) (map (replaced_if_numbered nat_eq new) list))) t ∙ rest e
 
 -- a filesystem that is changed is either the new one now, or was not there and is not
-pub filesystem_there : (P : Filesystem ℕ → Type 0) (world : World ℕ) (new : Filesystem ℕ) (number : ℕ) → number ≡ new.number → P new → (filesystem_numbered nat_eq world number ≡ no_filesystem number → P (no_filesystem number)) → P (filesystem_numbered nat_eq (with_filesystem nat_eq world new) number)
+pub filesystem_there : (P : Filesystem ℕ → Type 0) (world : World ℕ) (new : Filesystem ℕ) (number : ℕ)
+    → number ≡ new.number → P new →
+    (filesystem_numbered nat_eq world number ≡ no_filesystem number → P (no_filesystem number))
+    → P (filesystem_numbered nat_eq (with_filesystem nat_eq world new) number)
 filesystem_there P world new number same is none =
     by (find (λ filesystem. nat_eq new.number filesystem.number) world.filesystems) refl
   where
-    searched : find (λ filesystem. nat_eq number filesystem.number) world.filesystems ≡ find (λ filesystem. nat_eq new.number filesystem.number) world.filesystems
+    searched : find (λ filesystem. nat_eq number filesystem.number) world.filesystems
+        ≡ find (λ filesystem. nat_eq new.number filesystem.number) world.filesystems
     searched = ap (λ n. find (λ filesystem. nat_eq n filesystem.number) world.filesystems) same
 
-    searched_new : find (λ filesystem. nat_eq number filesystem.number) (with_filesystem nat_eq world new).filesystems ≡ find (λ filesystem. nat_eq new.number filesystem.number) (with_filesystem nat_eq world new).filesystems
-    searched_new = ap (λ n. find (λ filesystem. nat_eq n filesystem.number) (with_filesystem nat_eq world new).filesystems) same
+    searched_new : find (λ filesystem. nat_eq number filesystem.number) (with_filesystem nat_eq world new).filesystems
+        ≡ find (λ filesystem. nat_eq new.number filesystem.number) (with_filesystem nat_eq world new).filesystems
+    searched_new = ap (λ n. find (λ filesystem. nat_eq n filesystem.number)
+        (with_filesystem nat_eq world new).filesystems) same
 
-    by : (o : Option (Filesystem ℕ)) → find (λ filesystem. nat_eq new.number filesystem.number) world.filesystems ≡ o → P (filesystem_numbered nat_eq (with_filesystem nat_eq world new) number)
+    by : (o : Option (Filesystem ℕ)) → find (λ filesystem. nat_eq new.number filesystem.number) world.filesystems ≡ o
+        → P (filesystem_numbered nat_eq (with_filesystem nat_eq world new) number)
     by None e =
-        subst P (sym (ap (λ o. unwrap_or o (no_filesystem number)) (searched_new ∙ found_nowhere new world.filesystems e)))
+        subst P (sym (ap (λ o. unwrap_or o (no_filesystem number))
+        (searched_new ∙ found_nowhere new world.filesystems e)))
         (none (ap (λ o. unwrap_or o (no_filesystem number)) (searched ∙ e)))
     by (Some old) e =
-        subst P (sym (ap (λ o. unwrap_or o (no_filesystem number)) (searched_new ∙ found_there new world.filesystems old e))) is
+        subst P (sym (ap (λ o. unwrap_or o (no_filesystem number))
+        (searched_new ∙ found_there new world.filesystems old e))) is
 
 -- A change through a mount
 abbrev UpperIsElsewhere : Option (Overlay ℕ) → ℕ → Type 0
-UpperIsElsewhere merged number = (overlay : Overlay ℕ) (upper : Layer ℕ) → merged ≡ Some overlay → overlay.upper ≡ Some upper → number ≢ upper.filesystem
+UpperIsElsewhere merged number = (overlay : Overlay ℕ) (upper : Layer ℕ) → merged ≡ Some overlay
+    → overlay.upper ≡ Some upper → number ≢ upper.filesystem
 
-pub changed_elsewhere : (fresh : Fresh ℕ) (world : World ℕ) (filesystem : Filesystem ℕ) (change : Change ℕ) (number : ℕ) → number ≢ filesystem.number → UpperIsElsewhere filesystem.overlay number → filesystem_numbered nat_eq (filesystem_changed nat_eq fresh world filesystem filesystem.overlay change) number ≡ filesystem_numbered nat_eq world number
+pub changed_elsewhere : (fresh : Fresh ℕ) (world : World ℕ) (filesystem : Filesystem ℕ) (change : Change ℕ)
+    (number : ℕ) → number ≢ filesystem.number → UpperIsElsewhere filesystem.overlay number
+    → filesystem_numbered nat_eq (filesystem_changed nat_eq fresh world filesystem filesystem.overlay change) number
+    ≡ filesystem_numbered nat_eq world number
 changed_elsewhere fresh world filesystem change number differ upper = by filesystem.overlay upper
   where
-    merged : (overlay : Overlay ℕ) (upper : Layer ℕ) (merge : Merge ℕ) → number ≢ upper.filesystem → filesystem_numbered nat_eq (with_merge nat_eq world filesystem overlay upper merge) number ≡ filesystem_numbered nat_eq world number
+    merged : (overlay : Overlay ℕ) (upper : Layer ℕ) (merge : Merge ℕ) → number ≢ upper.filesystem
+        → filesystem_numbered nat_eq (with_merge nat_eq world filesystem overlay upper merge) number
+        ≡ filesystem_numbered nat_eq world number
     merged overlay upper merge away =
         filesystem_elsewhere (with_filesystem nat_eq world (record filesystem {
           files = merge.files;
@@ -96,29 +135,48 @@ changed_elsewhere fresh world filesystem change number differ upper = by filesys
           overlay = Some (record overlay { real = merge.real });
         }) number differ
 
-    layered : (overlay : Overlay ℕ) (layer : Option (Layer ℕ)) → ((upper : Layer ℕ) → layer ≡ Some upper → number ≢ upper.filesystem) → filesystem_numbered nat_eq (overlay_changed nat_eq fresh world filesystem overlay layer change) number ≡ filesystem_numbered nat_eq world number
+    layered : (overlay : Overlay ℕ) (layer : Option (Layer ℕ))
+        → ((upper : Layer ℕ) → layer ≡ Some upper → number ≢ upper.filesystem)
+        → filesystem_numbered nat_eq (overlay_changed nat_eq fresh world filesystem overlay layer change) number
+        ≡ filesystem_numbered nat_eq world number
     layered overlay None away = refl
     layered overlay (Some upper) away = merged overlay upper _ (away upper refl)
 
-    by : (o : Option (Overlay ℕ)) → UpperIsElsewhere o number → filesystem_numbered nat_eq (filesystem_changed nat_eq fresh world filesystem o change) number ≡ filesystem_numbered nat_eq world number
+    by : (o : Option (Overlay ℕ)) → UpperIsElsewhere o number
+        → filesystem_numbered nat_eq (filesystem_changed nat_eq fresh world filesystem o change) number
+        ≡ filesystem_numbered nat_eq world number
     by None away = filesystem_elsewhere world _ number differ
     by (Some overlay) away = layered overlay overlay.upper (λ upper e. away overlay upper refl e)
 
 pub others_elsewhere : (fresh : Fresh ℕ) (world : World ℕ) (location : Location ℕ) (change : Change ℕ) (number : ℕ)
-    → number ≢ (mount_at nat_eq world location).filesystem → UpperIsElsewhere (filesystem_at nat_eq world location).overlay number
-    → filesystem_numbered nat_eq (with_change nat_eq fresh world location change) number ≡ filesystem_numbered nat_eq world number
+    → number ≢ (mount_at nat_eq world location).filesystem
+    → UpperIsElsewhere (filesystem_at nat_eq world location).overlay number
+    → filesystem_numbered nat_eq (with_change nat_eq fresh world location change) number
+    ≡ filesystem_numbered nat_eq world number
 others_elsewhere fresh world location change number differ upper =
     changed_elsewhere fresh world (filesystem_at nat_eq world location) change number
     (λ e. differ (e ∙ number_of_filesystem world (mount_at nat_eq world location).filesystem)) upper
 
-pub the_rest_stays : (fresh : Fresh ℕ) (world : World ℕ) (location : Location ℕ) (change : Change ℕ) → (with_change nat_eq fresh world location change) ≡ record world { filesystems = (with_change nat_eq fresh world location change).filesystems }
+pub the_rest_stays : (fresh : Fresh ℕ) (world : World ℕ) (location : Location ℕ) (change : Change ℕ)
+    → (with_change nat_eq fresh world location change)
+    ≡ record world { filesystems = (with_change nat_eq fresh world location change).filesystems }
 the_rest_stays fresh world location change =
     by (filesystem_at nat_eq world location).overlay
   where
-    layered : (overlay : Overlay ℕ) (layer : Option (Layer ℕ)) → overlay_changed nat_eq fresh world (filesystem_at nat_eq world location) overlay layer change ≡ record world { filesystems = (overlay_changed nat_eq fresh world (filesystem_at nat_eq world location) overlay layer change).filesystems }
+    layered : (overlay : Overlay ℕ) (layer : Option (Layer ℕ))
+        → overlay_changed nat_eq fresh world (filesystem_at nat_eq world location) overlay layer change
+        ≡ record world {
+          filesystems =
+              (overlay_changed nat_eq fresh world (filesystem_at nat_eq world location) overlay layer change).filesystems;
+        }
     layered overlay None = refl
     layered overlay (Some upper) = refl
 
-    by : (o : Option (Overlay ℕ)) → filesystem_changed nat_eq fresh world (filesystem_at nat_eq world location) o change ≡ record world { filesystems = (filesystem_changed nat_eq fresh world (filesystem_at nat_eq world location) o change).filesystems }
+    by : (o : Option (Overlay ℕ)) → filesystem_changed nat_eq fresh world
+        (filesystem_at nat_eq world location) o change
+        ≡ record world {
+          filesystems =
+              (filesystem_changed nat_eq fresh world (filesystem_at nat_eq world location) o change).filesystems;
+        }
     by None = refl
     by (Some overlay) = layered overlay overlay.upper

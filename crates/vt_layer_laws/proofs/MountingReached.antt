@@ -139,7 +139,8 @@ module _ (world : World ℕ) (conditions : IsWorld nat_eq world) (task : Task �
 
 pub layers_are_reached : (world : World ℕ) (task : Task ℕ) (words : OverlayWords) (places : LayerPlaces ℕ)
     → IsWorld nat_eq world → layers_walked nat_eq world task words ≡ Ok places
-    → All (λ (layer : Layer ℕ). IsReached (filesystem_numbered nat_eq world layer.filesystem).files.tree layer.directory)
+    → All (λ (layer : Layer ℕ). IsReached
+    (filesystem_numbered nat_eq world layer.filesystem).files.tree layer.directory)
     (layers_of (overlay_at nat_eq world task places))
 layers_are_reached world task words places conditions walked =
     subst (Gives (λ places. AllReached world conditions task

@@ -11,7 +11,8 @@ use Rattle.vt_layer_laws.specs.Layers.Shown.{HidesLower, IsFrontOf}
 use Rattle.vt_layer_laws.specs.Layers.Shown.HidesLower.{a_file, a_link, a_whiteout, an_opaque_directory}
 
 -- a test of a list is the test of what it was made of
-pub list_any_of_map : {A B : Type 0} (test : B → Bool) (f : A → B) (list : List A) → list_any test (map f list) ≡ list_any (λ a. test (f a)) list
+pub list_any_of_map : {A B : Type 0} (test : B → Bool) (f : A → B) (list : List A)
+    → list_any test (map f list) ≡ list_any (λ a. test (f a)) list
 list_any_of_map test f [] = refl
 list_any_of_map test f (a ∷ list) = ap (λ b. test (f a) || b) (list_any_of_map test f list)
 
@@ -19,14 +20,18 @@ pub cons_is_not_empty : {A P : Type 0} (a : A) (list : List A) → a ∷ list �
 cons_is_not_empty a list e = absurd (true≢false (ap (λ l. elim l [ [] ↦ false | b ∷ rest ↦ true ]) e))
 
 -- a front that passes is found
-pub front_passes : (test : List (List ℕ) → Bool) (path front rest : List (List ℕ)) → front ++ rest ≡ path → front ≢ [] → test front ≡ true → list_any test (fronts path) ≡ true
+pub front_passes : (test : List (List ℕ) → Bool) (path front rest : List (List ℕ)) → front ++ rest ≡ path → front ≢ []
+    → test front ≡ true → list_any test (fronts path) ≡ true
 front_passes test path [] rest e nonempty t = absurd (nonempty refl)
-front_passes test path (name ∷ []) rest e nonempty t = ap (λ p. list_any test (fronts p)) (sym e) ∙ ap (λ b. b || list_any test (map (λ front. name ∷ front) (fronts rest))) t
+front_passes test path (name ∷ []) rest e nonempty t =
+    ap (λ p. list_any test (fronts p)) (sym e)
+    ∙ ap (λ b. b || list_any test (map (λ front. name ∷ front) (fronts rest))) t
 front_passes test path (name ∷ other ∷ front) rest e nonempty t =
     ap (λ p. list_any test (fronts p)) (sym e)
     ∙ or_right (test (name ∷ [])) (list_any test (map (λ front. name ∷ front) (fronts (other ∷ front ++ rest))))
     (list_any_of_map test (λ front. name ∷ front) (fronts (other ∷ front ++ rest))
-    ∙ front_passes (λ front. test (name ∷ front)) (other ∷ front ++ rest) (other ∷ front) rest refl (cons_is_not_empty other front) t)
+    ∙ front_passes (λ front. test (name ∷ front)) (other ∷ front ++ rest) (other ∷ front) rest refl
+    (cons_is_not_empty other front) t)
   where
     or_right : (a b : Bool) → b ≡ true → (a || b) ≡ true
     or_right true b e = refl
@@ -36,37 +41,44 @@ front_passes test path (name ∷ other ∷ front) rest e nonempty t =
 abbrev PassingFront : (List (List ℕ) → Bool) → List (List ℕ) → Type 0
 PassingFront test path = (front : List (List ℕ)) × IsFrontOf front path × (test front ≡ true)
 
-pub front_found : (test : List (List ℕ) → Bool) (path : List (List ℕ)) → list_any test (fronts path) ≡ true → PassingFront test path
+pub front_found : (test : List (List ℕ) → Bool) (path : List (List ℕ)) → list_any test (fronts path) ≡ true
+    → PassingFront test path
 front_found test [] e = absurd (true≢false (sym e))
 front_found test (name ∷ path) e = by (front_found (λ front. test (name ∷ front)) path) (test (name ∷ [])) refl e
   where
     later : PassingFront (λ front. test (name ∷ front)) path → PassingFront test (name ∷ path)
     later found = (name ∷ found.0, (found.1.0, ap (λ p. name ∷ p) found.1.1, cons_is_not_empty name found.0), found.2)
 
-    by : (list_any (λ front. test (name ∷ front)) (fronts path) ≡ true → PassingFront (λ front. test (name ∷ front)) path) → (b : Bool) → test (name ∷ []) ≡ b → (b || list_any test (map (λ front. name ∷ front) (fronts path))) ≡ true → PassingFront test (name ∷ path)
+    by : (list_any (λ front. test (name ∷ front)) (fronts path) ≡ true
+        → PassingFront (λ front. test (name ∷ front)) path) → (b : Bool) → test (name ∷ []) ≡ b
+        → (b || list_any test (map (λ front. name ∷ front) (fronts path))) ≡ true → PassingFront test (name ∷ path)
     by found true t e = (name ∷ [], (path, refl, cons_is_not_empty name []), t)
     by found false t e = later (found (sym (list_any_of_map test (λ front. name ∷ front) (fronts path)) ∙ e))
 
 -- what hides, in both sayings
-pub hiding : (content : Content ℕ) → (not (is_directory (kind_of content)) || opaque_of content) ≡ true → HidesLower content
+pub hiding : (content : Content ℕ) → (not (is_directory (kind_of content)) || opaque_of content) ≡ true
+    → HidesLower content
 hiding (Directory parent entries true) e = an_opaque_directory parent entries
 hiding (Directory parent entries false) e = absurd (true≢false (sym e))
 hiding (Regular bytes) e = a_file bytes
 hiding (Symlink text) e = a_link text
 hiding Whiteout e = a_whiteout
 
-pub hidden : (content : Content ℕ) → HidesLower content → (not (is_directory (kind_of content)) || opaque_of content) ≡ true
+pub hidden : (content : Content ℕ) → HidesLower content
+    → (not (is_directory (kind_of content)) || opaque_of content) ≡ true
 hidden c a_whiteout = refl
 hidden c (a_file bytes) = refl
 hidden c (a_link text) = refl
 hidden c (an_opaque_directory parent entries) = refl
 
 -- an inode that hides is there
-pub hides_inode : (inode : Option (Node ℕ)) → hides inode ≡ true → (node : Node ℕ) × (inode ≡ Some node) × HidesLower node.content
+pub hides_inode : (inode : Option (Node ℕ)) → hides inode ≡ true
+    → (node : Node ℕ) × (inode ≡ Some node) × HidesLower node.content
 hides_inode None e = absurd (true≢false (sym e))
 hides_inode (Some node) e = (node, refl, hiding node.content e)
 
 -- a layer cuts where it has something that hides, at a front of the path
-pub cuts_by : (layer : OpenLayer ℕ) (path front : List (List ℕ)) (node : Node ℕ) → IsFrontOf front path → node_at_path layer front ≡ Some node → HidesLower node.content → cuts layer path ≡ true
+pub cuts_by : (layer : OpenLayer ℕ) (path front : List (List ℕ)) (node : Node ℕ) → IsFrontOf front path
+    → node_at_path layer front ≡ Some node → HidesLower node.content → cuts layer path ≡ true
 cuts_by layer path front node is e h =
     front_passes (λ f. hides (node_at_path layer f)) path front is.0 is.1 is.2 (ap hides e ∙ hidden node.content h)

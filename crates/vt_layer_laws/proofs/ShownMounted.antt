@@ -30,24 +30,32 @@ use Rattle.vt_layer_laws.proofs.UpperLine.{and_first, and_second, has_entries, i
 use Rattle.vt_layer_laws.proofs.UpperWorld.{all_found, overlay_layers}
 
 -- a part of a sum is no more than the sum
-in_sum : (test : Filesystem ℕ → Bool) (list : List (Filesystem ℕ)) (filesystem : Filesystem ℕ) → find test list ≡ Some filesystem → length filesystem.files.numbers ≤ sum (map (λ f. length f.files.numbers) list)
+in_sum : (test : Filesystem ℕ → Bool) (list : List (Filesystem ℕ)) (filesystem : Filesystem ℕ)
+    → find test list ≡ Some filesystem → length filesystem.files.numbers ≤ sum (map (λ f. length f.files.numbers) list)
 in_sum test [] filesystem e = none_is_some filesystem e
 in_sum test (first ∷ list) filesystem e =
     let added = sum_by-cons (λ n. n) (length first.files.numbers) (map (λ f. length f.files.numbers) list) in
     by added (test first) e (in_sum test list filesystem)
   where
-    by : sum (map (λ f. length f.files.numbers) (first ∷ list)) ≡ length first.files.numbers + sum (map (λ f. length f.files.numbers) list) → (b : Bool) → cond b (Some first) (find test list) ≡ Some filesystem → (find test list ≡ Some filesystem → length filesystem.files.numbers ≤ sum (map (λ f. length f.files.numbers) list)) → length filesystem.files.numbers ≤ sum (map (λ f. length f.files.numbers) (first ∷ list))
+    by : sum (map (λ f. length f.files.numbers) (first ∷ list))
+        ≡ length first.files.numbers + sum (map (λ f. length f.files.numbers) list) → (b : Bool)
+        → cond b (Some first) (find test list) ≡ Some filesystem
+        → (find test list ≡ Some filesystem
+        → length filesystem.files.numbers ≤ sum (map (λ f. length f.files.numbers) list))
+        → length filesystem.files.numbers ≤ sum (map (λ f. length f.files.numbers) (first ∷ list))
     by added true e rest = let same = ap (λ f. length f.files.numbers) (some_is_one first filesystem e) in omega arith
     by added false e rest = let more = rest e in omega arith
 
 -- each of a list that all pass passes
-all_pass_at : {A : Type 0} (test : A → Bool) (list : List A) → list_all test list ≡ true → (k : ℕ) (a : A) → slice_get list k ≡ Some a → test a ≡ true
+all_pass_at : {A : Type 0} (test : A → Bool) (list : List A) → list_all test list ≡ true → (k : ℕ) (a : A)
+    → slice_get list k ≡ Some a → test a ≡ true
 all_pass_at test [] all k a e = none_is_some a e
 all_pass_at test (first ∷ list) all zero a e = ap test (sym (some_is_one first a e)) ∙ and_first (test first) _ all
 all_pass_at test (first ∷ list) all (suc k) a e = all_pass_at test list (and_second (test first) _ all) k a e
 
 -- Layers of a world
-module _ (world : World ℕ) (conditions : IsWorld nat_eq world) (overlay : Overlay ℕ) (are_layers : AreLayers world overlay) where
+module _ (world : World ℕ) (conditions : IsWorld nat_eq world) (overlay : Overlay ℕ)
+    (are_layers : AreLayers world overlay) where
   abbrev pub layers : List (OpenLayer ℕ)
   layers = map (open_layer nat_eq world) (shown_layers overlay)
 
@@ -60,13 +68,22 @@ module _ (world : World ℕ) (conditions : IsWorld nat_eq world) (overlay : Over
     pub directory : IsDirectory layer.tree layer.directory
 
   pub is_open : (depth : ℕ) (layer : OpenLayer ℕ) → slice_get layers depth ≡ Some layer → IsOpen layer
-  is_open depth layer e = by (slice_get (shown_layers overlay) depth) refl (sym (slice_get-map (open_layer nat_eq world) (shown_layers overlay) depth) ∙ e)
+  is_open depth layer e = by (slice_get (shown_layers overlay) depth) refl
+      (sym (slice_get-map (open_layer nat_eq world) (shown_layers overlay) depth) ∙ e)
     where
-      there : (plain : Layer ℕ) → is_directory_node ((filesystem_numbered nat_eq world plain.filesystem).files.tree.node plain.directory) ≡ true → (o : Option (Filesystem ℕ)) → find (λ filesystem. nat_eq plain.filesystem filesystem.number) world.filesystems ≡ o → find (λ filesystem. nat_eq plain.filesystem filesystem.number) world.filesystems ≡ Some (filesystem_numbered nat_eq world plain.filesystem)
-      there plain d None f = absurd (true≢false (sym (sym (ap (λ o. is_directory_node ((unwrap_or o (no_filesystem plain.filesystem)).files.tree.node plain.directory)) f) ∙ d)))
+      there : (plain : Layer ℕ) → is_directory_node
+          ((filesystem_numbered nat_eq world plain.filesystem).files.tree.node plain.directory) ≡ true
+          → (o : Option (Filesystem ℕ)) → find
+          (λ filesystem. nat_eq plain.filesystem filesystem.number) world.filesystems ≡ o
+          → find (λ filesystem. nat_eq plain.filesystem filesystem.number) world.filesystems
+          ≡ Some (filesystem_numbered nat_eq world plain.filesystem)
+      there plain d None f = absurd (true≢false
+          (sym (sym (ap (λ o. is_directory_node
+          ((unwrap_or o (no_filesystem plain.filesystem)).files.tree.node plain.directory)) f) ∙ d)))
       there plain d (Some filesystem) f = f ∙ ap Some (sym (ap (λ o. unwrap_or o (no_filesystem plain.filesystem)) f))
 
-      by : (o : Option (Layer ℕ)) → slice_get (shown_layers overlay) depth ≡ o → option_map (open_layer nat_eq world) o ≡ Some layer → IsOpen layer
+      by : (o : Option (Layer ℕ)) → slice_get (shown_layers overlay) depth ≡ o
+          → option_map (open_layer nat_eq world) o ≡ Some layer → IsOpen layer
       by None s m = none_is_some layer m
       by (Some plain) s m =
           let passes = all_pass_at (is_plain_layer nat_eq world) (shown_layers overlay) are_layers.1 depth plain s in
@@ -74,7 +91,8 @@ module _ (world : World ℕ) (conditions : IsWorld nat_eq world) (overlay : Over
           subst IsOpen (some_is_one (open_layer nat_eq world plain) layer m) (record {
             filesystem = filesystem_numbered nat_eq world plain.filesystem;
             test = λ filesystem. nat_eq plain.filesystem filesystem.number;
-            found = there plain directory (find (λ filesystem. nat_eq plain.filesystem filesystem.number) world.filesystems) refl;
+            found = there plain directory (find
+                (λ filesystem. nat_eq plain.filesystem filesystem.number) world.filesystems) refl;
             is = refl;
             directory = directory;
           })
@@ -82,41 +100,54 @@ module _ (world : World ℕ) (conditions : IsWorld nat_eq world) (overlay : Over
   pub are_open : AreOpen layers
   are_open depth layer e =
       let open_one = is_open depth layer e in (
-        subst IsTree (sym open_one.is) (all_found (λ filesystem. IsTree filesystem.files.tree) open_one.test world.filesystems conditions.files.trees open_one.filesystem open_one.found),
+        subst IsTree (sym open_one.is)
+            (all_found (λ filesystem.
+            IsTree filesystem.files.tree) open_one.test world.filesystems conditions.files.trees open_one.filesystem open_one.found),
         open_one.directory,
       )
 
   -- no path at which something is shown is longer than there are inodes
-  pub bounded : (path : List (List ℕ)) (seen : Shown ℕ) → shown layers path ≡ Some seen → length path ≤ inode_count world
+  pub bounded : (path : List (List ℕ)) (seen : Shown ℕ) → shown layers path ≡ Some seen
+      → length path ≤ inode_count world
   bounded [] seen s = omega arith
   bounded (name ∷ path) seen s =
       let shows = (computed layers (name ∷ path) seen).0 s in
       let has = shows.has_uncut.0 in
       let open_one = is_open seen.layer has.0 has.1 in
-      let tree = all_found (λ filesystem. IsTree filesystem.files.tree) open_one.test world.filesystems conditions.files.trees open_one.filesystem open_one.found in
-      let listed = all_found (λ filesystem. ListsNumbers nat_eq filesystem.files) open_one.test world.filesystems conditions.files.numbers open_one.filesystem open_one.found in
+      let tree = all_found (λ filesystem.
+      IsTree filesystem.files.tree) open_one.test world.filesystems conditions.files.trees open_one.filesystem open_one.found in
+      let listed = all_found (λ filesystem.
+      ListsNumbers nat_eq filesystem.files) open_one.test world.filesystems conditions.files.numbers open_one.filesystem open_one.found in
       let within = in_sum open_one.test world.filesystems open_one.filesystem open_one.found in
       let last = last_of (name ∷ path) (not_empty name path) in
       let longer = sym (length_longer last.0 last.1) ∙ ap length last.2 in
       by open_one.filesystem.files tree listed has.0.directory last.0 last.1 (omega arith) within
-      (sym (ap (λ p. led open_one.filesystem.files.tree has.0.directory p) (sym last.2) ∙ last_name open_one.filesystem.files.tree has.0.directory last.0 last.1)
+      (sym (ap (λ p. led open_one.filesystem.files.tree has.0.directory p) (sym last.2)
+      ∙ last_name open_one.filesystem.files.tree has.0.directory last.0 last.1)
       ∙ ap (λ t. led t has.0.directory (name ∷ path)) (sym open_one.is) ∙ has.2)
     where
-      by : (files : FileTree ℕ) → IsTree files.tree → ListsNumbers nat_eq files → (start : ℕ) (front : List (List ℕ)) (last : List ℕ) → length (name ∷ path) ≡ suc (length front) → length files.numbers ≤ inode_count world
-          → option_and_then (λ directory. entry_at files.tree directory last) (led files.tree start front) ≡ Some seen.object → length (name ∷ path) ≤ inode_count world
+      by : (files : FileTree ℕ) → IsTree files.tree → ListsNumbers nat_eq files
+          → (start : ℕ) (front : List (List ℕ)) (last : List ℕ) → length (name ∷ path) ≡ suc (length front)
+          → length files.numbers ≤ inode_count world
+          → option_and_then (λ directory. entry_at files.tree directory last) (led files.tree start front)
+          ≡ Some seen.object → length (name ∷ path) ≤ inode_count world
       by files tree listed start front last counted within e = at (led files.tree start front) refl e
         where
-          deep : (front : List (List ℕ)) (directory : ℕ) → led files.tree start front ≡ Some directory → entry_at files.tree directory last ≡ Some seen.object → suc (length front) ≤ length files.numbers
+          deep : (front : List (List ℕ)) (directory : ℕ) → led files.tree start front ≡ Some directory
+              → entry_at files.tree directory last ≡ Some seen.object → suc (length front) ≤ length files.numbers
           deep [] directory l e =
               let reached = is_reached_in files tree directory last seen.object e in
               let below = depth_below files tree listed reached.0 directory reached.1 in
               omega arith
           deep (first ∷ rest) directory l e =
-              let reached = depth_of_led files.tree tree start (first ∷ rest) directory (not_empty first rest) l (has_entries files.tree directory last seen.object e) in
+              let reached = depth_of_led files.tree tree start (first ∷ rest) directory (not_empty first rest) l
+              (has_entries files.tree directory last seen.object e) in
               let below = depth_below files tree listed (reached.0 + length (first ∷ rest)) directory reached.2 in
               omega arith
 
-          at : (o : Option ℕ) → led files.tree start front ≡ o → option_and_then (λ directory. entry_at files.tree directory last) o ≡ Some seen.object → length (name ∷ path) ≤ inode_count world
+          at : (o : Option ℕ) → led files.tree start front ≡ o
+              → option_and_then (λ directory. entry_at files.tree directory last) o ≡ Some seen.object
+              → length (name ∷ path) ≤ inode_count world
           at None l e = none_is_some seen.object e
           at (Some directory) l e = let h = deep front directory l e in omega arith
 
@@ -124,10 +155,12 @@ module _ (world : World ℕ) (conditions : IsWorld nat_eq world) (overlay : Over
   pub root_shown : (top : Shown ℕ) × (shown layers [] ≡ Some top)
   root_shown = by (shown_layers overlay) are_layers.0 are_layers.1
     where
-      by : (list : List (Layer ℕ)) → list ≢ [] → list_all (is_plain_layer nat_eq world) list ≡ true → (top : Shown ℕ) × (shown (map (open_layer nat_eq world) list) [] ≡ Some top)
+      by : (list : List (Layer ℕ)) → list ≢ [] → list_all (is_plain_layer nat_eq world) list ≡ true
+          → (top : Shown ℕ) × (shown (map (open_layer nat_eq world) list) [] ≡ Some top)
       by [] n all = absurd (n refl)
       by (layer ∷ list) n all =
-          let directory = and_second (not (is_overlay (filesystem_numbered nat_eq world layer.filesystem))) _ (and_first (is_plain_layer nat_eq world layer) _ all) in (
+          let directory = and_second (not (is_overlay (filesystem_numbered nat_eq world layer.filesystem))) _
+          (and_first (is_plain_layer nat_eq world layer) _ all) in (
             record { layer = 0; object = layer.directory },
             ap (λ b. when (not b) (record { layer = 0; object = layer.directory }))
                 (no_white_directory ((filesystem_numbered nat_eq world layer.filesystem).files.tree.node layer.directory) directory),
@@ -138,15 +171,18 @@ module _ (world : World ℕ) (conditions : IsWorld nat_eq world) (overlay : Over
       → then_some (slice_get (map (open_layer nat_eq world) overlay.lowers) layer) (λ lower. node_at_path lower path)
       ≡ then_some (slice_get overlay.lowers layer) (λ lower. node_at_path (open_layer nat_eq world lower) path)
   in_lower layer path =
-      ap (λ o. then_some o (λ lower. node_at_path lower path)) (slice_get-map (open_layer nat_eq world) overlay.lowers layer)
+      ap (λ o. then_some o (λ lower. node_at_path lower path))
+      (slice_get-map (open_layer nat_eq world) overlay.lowers layer)
       ∙ by (slice_get overlay.lowers layer)
     where
-      by : (o : Option (Layer ℕ)) → then_some (option_map (open_layer nat_eq world) o) (λ lower. node_at_path lower path)
+      by : (o : Option (Layer ℕ)) → then_some (option_map (open_layer nat_eq world) o)
+          (λ lower. node_at_path lower path)
           ≡ then_some o (λ lower. node_at_path (open_layer nat_eq world lower) path)
       by None = refl
       by (Some lower) = refl
 
-  behind_is_real : (real : Option (Real ℕ)) → then_some real (behind layers (is_some overlay.upper)) ≡ then_some real (real_node nat_eq world overlay)
+  behind_is_real : (real : Option (Real ℕ))
+      → then_some real (behind layers (is_some overlay.upper)) ≡ then_some real (real_node nat_eq world overlay)
   behind_is_real None = refl
   behind_is_real (Some real) = by real overlay.upper
     where
@@ -163,26 +199,40 @@ module _ (world : World ℕ) (conditions : IsWorld nat_eq world) (overlay : Over
     odd_distinct j k e = let same = distinct (2 * j + 1) (2 * k + 1) e in omega arith
 
     abbrev pub made : Overlay ℕ
-    made = record overlay { real = real_of nat_eq (merged_inodes nat_eq (odds fresh) (is_some overlay.upper) layers (merged_objects layers (inode_count world))) }
+    made = record overlay {
+      real = real_of nat_eq
+          (merged_inodes nat_eq (odds fresh) (is_some overlay.upper) layers (merged_objects layers (inode_count world)));
+    }
 
     pub made_merged : IsMerged nat_eq world (overlay_filesystem nat_eq fresh world overlay) made
     made_merged = record {
-      shows = shows_layers layers are_open (inode_count world) bounded (odds fresh) odd_distinct (is_some overlay.upper) root_shown.0 root_shown.1;
-      names = real_shown_there layers are_open (inode_count world) bounded (odds fresh) odd_distinct (is_some overlay.upper) root_shown.0 root_shown.1;
+      shows = shows_layers layers are_open (inode_count world) bounded (odds fresh) odd_distinct
+          (is_some overlay.upper) root_shown.0 root_shown.1;
+      names = real_shown_there layers are_open (inode_count world) bounded (odds fresh) odd_distinct
+          (is_some overlay.upper) root_shown.0 root_shown.1;
       real_objects = λ number.
           subst (SameObject ((overlay_filesystem nat_eq fresh world overlay).files.tree.node number))
           (behind_is_real (made.real number))
-          (merged_is_real layers are_open (inode_count world) bounded (odds fresh) odd_distinct (is_some overlay.upper) number);
-      real_there = λ number none. merged_real_there layers are_open (inode_count world) bounded (odds fresh) odd_distinct (is_some overlay.upper) number none;
-      no_whiteout = merged_no_whiteout layers are_open (inode_count world) bounded (odds fresh) odd_distinct (is_some overlay.upper);
-      no_mark = merged_no_mark layers are_open (inode_count world) bounded (odds fresh) odd_distinct (is_some overlay.upper);
+          (merged_is_real layers are_open (inode_count world) bounded (odds fresh) odd_distinct
+          (is_some overlay.upper) number);
+      real_there = λ number none. merged_real_there layers are_open (inode_count world) bounded
+          (odds fresh) odd_distinct (is_some overlay.upper) number none;
+      no_whiteout = merged_no_whiteout layers are_open (inode_count world) bounded (odds fresh) odd_distinct
+          (is_some overlay.upper);
+      no_mark = merged_no_mark layers are_open (inode_count world) bounded (odds fresh) odd_distinct
+          (is_some overlay.upper);
       upper_there = λ number object e.
-          let up = merged_upper layers are_open (inode_count world) bounded (odds fresh) odd_distinct (is_some overlay.upper) number object e in
+          let up = merged_upper layers are_open (inode_count world) bounded (odds fresh) odd_distinct
+          (is_some overlay.upper) number object e in
           by object overlay.upper up.0 (λ layer f. up.1 layer f);
-      one_to_one = merged_one_to_one layers are_open (inode_count world) bounded (odds fresh) odd_distinct (is_some overlay.upper);
+      one_to_one = merged_one_to_one layers are_open (inode_count world) bounded (odds fresh) odd_distinct
+          (is_some overlay.upper);
     }
       where
-        by : (object : ℕ) (o : Option (Layer ℕ)) → is_some o ≡ true → ((layer : OpenLayer ℕ) → slice_get (map (open_layer nat_eq world) (option_to_list o ++ overlay.lowers)) 0 ≡ Some layer → is_some (layer.tree.node object) ≡ true) → holds_of (λ layer. is_there nat_eq world layer.filesystem object) o ≡ true
+        by : (object : ℕ) (o : Option (Layer ℕ)) → is_some o ≡ true
+            → ((layer : OpenLayer ℕ) → slice_get (map (open_layer nat_eq world) (option_to_list o ++ overlay.lowers)) 0
+            ≡ Some layer → is_some (layer.tree.node object) ≡ true)
+            → holds_of (λ layer. is_there nat_eq world layer.filesystem object) o ≡ true
         by object None h there = absurd (true≢false (sym h))
         by object (Some layer) h there = there (open_layer nat_eq world layer) refl
 
@@ -191,7 +241,8 @@ pub new_overlay_is_merged : (fresh : Fresh ℕ) (world : World ℕ) (overlay mad
     → (overlay_filesystem nat_eq fresh world overlay).overlay ≡ Some made
     → IsMerged nat_eq world (overlay_filesystem nat_eq fresh world overlay) made
 new_overlay_is_merged fresh world overlay made conditions are_layers distinct e =
-    subst (IsMerged nat_eq world (overlay_filesystem nat_eq fresh world overlay)) (some_is_one _ made e) (made_merged world conditions overlay are_layers fresh distinct)
+    subst (IsMerged nat_eq world (overlay_filesystem nat_eq fresh world overlay)) (some_is_one _ made e)
+    (made_merged world conditions overlay are_layers fresh distinct)
 
 -- what is the same as a third is the same
 bytes_alike : (a b c : List ℕ) → bytes_eq a c ≡ true → bytes_eq b c ≡ true → bytes_eq a b ≡ true
@@ -248,8 +299,10 @@ objects_alike (Some x) (Some y) (Some z) e f = (e.0 ∙ sym f.0, content_alike x
 pub remount_shows_the_same : RemountShowsTheSame
 remount_shows_the_same fresh before later number left anew conditions is later_conditions are_layers distinct as_left path =
     let alike : SameObject (node_shown nat_eq before left path) (node_shown nat_eq later anew path) =
-    shown_alike (map (open_layer nat_eq before) (shown_layers left)) (map (open_layer nat_eq later) (shown_layers anew)) as_left
-    (are_open before conditions left (overlay_layers before conditions number left is)) (are_open later later_conditions anew are_layers) path in
+    shown_alike (map (open_layer nat_eq before) (shown_layers left))
+    (map (open_layer nat_eq later) (shown_layers anew)) as_left
+    (are_open before conditions left (overlay_layers before conditions number left is))
+    (are_open later later_conditions anew are_layers) path in
     let anew_shows = (made_merged later later_conditions anew are_layers fresh distinct).shows path in
     objects_alike _ _ (node_shown nat_eq before left path)
     (objects_alike _ _ (node_shown nat_eq later anew path) anew_shows alike)

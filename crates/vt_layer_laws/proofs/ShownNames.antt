@@ -27,21 +27,27 @@ contains_name : (name : List ℕ) (names : List (List ℕ)) → list_any (is_nam
 contains_name name [] e = absurd (true≢false (sym e))
 contains_name name (other ∷ names) e = by (is_name name other) refl (contains_name name names) e
   where
-    by : (b : Bool) → is_name name other ≡ b → (list_any (is_name name) names ≡ true → Contains names name) → (b || list_any (is_name name) names) ≡ true → Contains (other ∷ names) name
+    by : (b : Bool) → is_name name other ≡ b → (list_any (is_name name) names ≡ true → Contains names name)
+        → (b || list_any (is_name name) names) ≡ true → Contains (other ∷ names) name
     by true t rest e = (0, omega arith, sym (same_name name other t))
     by false t rest e = contains_cons name other names (rest e)
 
-pub name_found : (name : List ℕ) (names : List (List ℕ)) (k : ℕ) → k < length names → get_or names k name ≡ name → list_any (is_name name) names ≡ true
+pub name_found : (name : List ℕ) (names : List (List ℕ)) (k : ℕ) → k < length names → get_or names k name ≡ name
+    → list_any (is_name name) names ≡ true
 name_found name [] k h e = absurd (let l : k < 0 = h in omega arith)
-name_found name (other ∷ names) zero h e = ap (λ n. is_name name n || list_any (is_name name) names) e ∙ ap (λ b. b || list_any (is_name name) names) (is_itself name)
-name_found name (other ∷ names) (suc k) h e = right (is_name name other) (list_any (is_name name) names) (name_found name names k (omega arith) e)
+name_found name (other ∷ names) zero h e =
+    ap (λ n. is_name name n || list_any (is_name name) names) e
+    ∙ ap (λ b. b || list_any (is_name name) names) (is_itself name)
+name_found name (other ∷ names) (suc k) h e =
+    right (is_name name other) (list_any (is_name name) names) (name_found name names k (omega arith) e)
   where
     right : (a b : Bool) → b ≡ true → (a || b) ≡ true
     right true b e = refl
     right false b e = e
 
 -- of the names that pass a test, those that are there
-filtered : (test : List ℕ → Bool) (name : List ℕ) (names : List (List ℕ)) → list_any (is_name name) (filter test names) ≡ (list_any (is_name name) names && test name)
+filtered : (test : List ℕ → Bool) (name : List ℕ) (names : List (List ℕ))
+    → list_any (is_name name) (filter test names) ≡ (list_any (is_name name) names && test name)
 filtered test name [] = refl
 filtered test name (other ∷ names) = by (is_name name other) refl (test other) refl (filtered test name names)
   where
@@ -49,10 +55,14 @@ filtered test name (other ∷ names) = by (is_name name other) refl (test other)
     right_true true b e = refl
     right_true false b e = e
 
-    by : (b : Bool) → is_name name other ≡ b → (t : Bool) → test other ≡ t → list_any (is_name name) (filter test names) ≡ (list_any (is_name name) names && test name)
-        → list_any (is_name name) (cond t (other ∷ filter test names) (filter test names)) ≡ ((b || list_any (is_name name) names) && test name)
-    by true s true t rest = ap (λ b. b || list_any (is_name name) (filter test names)) s ∙ sym t ∙ ap test (sym (same_name name other s))
-    by true s false t rest = rest ∙ fails (list_any (is_name name) names) (test name) (ap test (same_name name other s) ∙ t)
+    by : (b : Bool) → is_name name other ≡ b → (t : Bool) → test other ≡ t
+        → list_any (is_name name) (filter test names) ≡ (list_any (is_name name) names && test name)
+        → list_any (is_name name) (cond t (other ∷ filter test names) (filter test names))
+        ≡ ((b || list_any (is_name name) names) && test name)
+    by true s true t rest = ap (λ b. b || list_any (is_name name) (filter test names)) s ∙ sym t
+        ∙ ap test (sym (same_name name other s))
+    by true s false t rest = rest ∙ fails (list_any (is_name name) names) (test name)
+        (ap test (same_name name other s) ∙ t)
       where
         fails : (a b : Bool) → b ≡ false → (a && b) ≡ b
         fails true b e = refl
@@ -61,14 +71,18 @@ filtered test name (other ∷ names) = by (is_name name other) refl (test other)
     by false s false t rest = rest
 
 -- entries put one by one into others
-all_put : (name : List ℕ) (entries : Entries ℕ) (names : Entries (Unit {0})) → is_some (entry_named name (folded (λ names entry. with_entry entry.0 tt names) names entries)) ≡ (is_some (entry_named name entries) || is_some (entry_named name names))
+all_put : (name : List ℕ) (entries : Entries ℕ) (names : Entries (Unit {0}))
+    → is_some (entry_named name (folded (λ names entry. with_entry entry.0 tt names) names entries))
+    ≡ (is_some (entry_named name entries) || is_some (entry_named name names))
 all_put name [] names = refl
 all_put name (entry ∷ entries) names =
     all_put name entries (with_entry entry.0 tt names)
-    ∙ ap (λ o. is_some (entry_named name entries) || is_some o) (find-put name_cmp nat_list_cmp_total name entry.0 tt names)
+    ∙ ap (λ o. is_some (entry_named name entries) || is_some o)
+    (find-put name_cmp nat_list_cmp_total name entry.0 tt names)
     ∙ by (is_name name entry.0)
   where
-    by : (b : Bool) → (is_some (entry_named name entries) || is_some (cond b (Some tt) (entry_named name names))) ≡ (is_some (cond b (Some entry.1) (entry_named name entries)) || is_some (entry_named name names))
+    by : (b : Bool) → (is_some (entry_named name entries) || is_some (cond b (Some tt) (entry_named name names)))
+        ≡ (is_some (cond b (Some entry.1) (entry_named name entries)) || is_some (entry_named name names))
     by true = or_true (is_some (entry_named name entries))
       where
         or_true : (a : Bool) → (a || true) ≡ true
@@ -77,7 +91,9 @@ all_put name (entry ∷ entries) names =
     by false = refl
 
 -- a name that a layer has is among the names of all of them
-name_of_layer : (layers : List (OpenLayer ℕ)) (path : List (List ℕ)) (name : List ℕ) (depth : ℕ) (layer : OpenLayer ℕ) → slice_get layers depth ≡ Some layer → is_some (entry_named name (entries_in (node_at_path layer path))) ≡ true → is_some (entry_named name (names_at layers path)) ≡ true
+name_of_layer : (layers : List (OpenLayer ℕ)) (path : List (List ℕ)) (name : List ℕ) (depth : ℕ) (layer : OpenLayer ℕ)
+    → slice_get layers depth ≡ Some layer → is_some (entry_named name (entries_in (node_at_path layer path))) ≡ true
+    → is_some (entry_named name (names_at layers path)) ≡ true
 name_of_layer [] path name depth layer e h = none_is_some layer e
 name_of_layer (top ∷ lower) path name zero layer e h =
     all_put name (entries_in (node_at_path top path)) (names_at lower path)
@@ -85,7 +101,8 @@ name_of_layer (top ∷ lower) path name zero layer e h =
     (ap (λ l. is_some (entry_named name (entries_in (node_at_path l path)))) (some_is_one top layer e) ∙ h)
 name_of_layer (top ∷ lower) path name (suc depth) layer e h =
     all_put name (entries_in (node_at_path top path)) (names_at lower path)
-    ∙ right (is_some (entry_named name (entries_in (node_at_path top path)))) (is_some (entry_named name (names_at lower path)))
+    ∙ right (is_some (entry_named name (entries_in (node_at_path top path))))
+    (is_some (entry_named name (names_at lower path)))
     (name_of_layer lower path name depth layer e h)
   where
     right : (a b : Bool) → b ≡ true → (a || b) ≡ true
@@ -93,7 +110,9 @@ name_of_layer (top ∷ lower) path name (suc depth) layer e h =
     right false b e = e
 
 -- names lead through the place that all but the last lead to
-pub last_name : (tree : Tree ℕ) (from : ℕ) (path : List (List ℕ)) (name : List ℕ) → led tree from (path ++ name ∷ []) ≡ option_and_then (λ directory. entry_at tree directory name) (led tree from path)
+pub last_name : (tree : Tree ℕ) (from : ℕ) (path : List (List ℕ)) (name : List ℕ)
+    → led tree from (path ++ name ∷ [])
+    ≡ option_and_then (λ directory. entry_at tree directory name) (led tree from path)
 last_name tree from [] name = by (entry_at tree from name)
   where
     by : (o : Option ℕ) → option_and_then (λ next. Some next) o ≡ o
@@ -101,21 +120,29 @@ last_name tree from [] name = by (entry_at tree from name)
     by (Some next) = refl
 last_name tree from (first ∷ path) name = by (entry_at tree from first) (λ next. last_name tree next path name)
   where
-    by : (o : Option ℕ) → ((next : ℕ) → led tree next (path ++ name ∷ []) ≡ option_and_then (λ directory. entry_at tree directory name) (led tree next path))
-        → option_and_then (λ next. led tree next (path ++ name ∷ [])) o ≡ option_and_then (λ directory. entry_at tree directory name) (option_and_then (λ next. led tree next path) o)
+    by : (o : Option ℕ) → ((next : ℕ)
+        → led tree next (path ++ name ∷ [])
+        ≡ option_and_then (λ directory. entry_at tree directory name) (led tree next path))
+        → option_and_then (λ next. led tree next (path ++ name ∷ [])) o
+        ≡ option_and_then (λ directory. entry_at tree directory name) (option_and_then (λ next. led tree next path) o)
     by None rest = refl
     by (Some next) rest = rest next
 
-name_in_layer : (layer : OpenLayer ℕ) (path : List (List ℕ)) (name : List ℕ) (object : ℕ) → at_path layer (path ++ name ∷ []) ≡ Some object → is_some (entry_named name (entries_in (node_at_path layer path))) ≡ true
+name_in_layer : (layer : OpenLayer ℕ) (path : List (List ℕ)) (name : List ℕ) (object : ℕ)
+    → at_path layer (path ++ name ∷ []) ≡ Some object
+    → is_some (entry_named name (entries_in (node_at_path layer path))) ≡ true
 name_in_layer layer path name object e =
     by (at_path layer path) (sym (last_name layer.tree layer.directory path name) ∙ e)
   where
-    by : (o : Option ℕ) → option_and_then (λ directory. entry_at layer.tree directory name) o ≡ Some object → is_some (entry_named name (entries_in (then_some o layer.tree.node))) ≡ true
+    by : (o : Option ℕ) → option_and_then (λ directory. entry_at layer.tree directory name) o ≡ Some object
+        → is_some (entry_named name (entries_in (then_some o layer.tree.node))) ≡ true
     by None e = none_is_some object e
     by (Some directory) e = ap is_some e
 
 -- what is shown has a name that some layer has
-shown_is_named : (layers : List (OpenLayer ℕ)) (path : List (List ℕ)) (name : List ℕ) (seen : Shown ℕ) → IsShown layers (path ++ name ∷ []) seen → list_any (is_name name) (map (λ entry. entry.0) (names_at layers path)) ≡ true
+shown_is_named : (layers : List (OpenLayer ℕ)) (path : List (List ℕ)) (name : List ℕ) (seen : Shown ℕ)
+    → IsShown layers (path ++ name ∷ []) seen
+    → list_any (is_name name) (map (λ entry. entry.0) (names_at layers path)) ≡ true
 shown_is_named layers path name seen is =
     sym (is_some-find name_cmp name (names_at layers path))
     ∙ name_of_layer layers path name seen.layer is.has_uncut.0.0 is.has_uncut.0.1
@@ -127,11 +154,13 @@ all_names layers path = map (λ entry. entry.0) (names_at layers path)
 abbrev shows_name : List (OpenLayer ℕ) → List (List ℕ) → List ℕ → Bool
 shows_name layers path name = is_some (shown layers (path ++ name ∷ []))
 
-pub names_are_those_shown : (layers : List (OpenLayer ℕ)) (path : List (List ℕ)) (name : List ℕ) → Contains (names_shown layers path) name ↔ (seen : Shown ℕ) × IsShown layers (path ++ name ∷ []) seen
+pub names_are_those_shown : (layers : List (OpenLayer ℕ)) (path : List (List ℕ)) (name : List ℕ)
+    → Contains (names_shown layers path) name ↔ (seen : Shown ℕ) × IsShown layers (path ++ name ∷ []) seen
 names_are_those_shown layers path name = (
   λ has. is_there (shown layers (path ++ name ∷ [])) refl
       (passed (list_any (is_name name) (all_names layers path)) (is_some (shown layers (path ++ name ∷ [])))
-      (sym (filtered (shows_name layers path) name (all_names layers path)) ∙ name_found name (names_shown layers path) has.0 has.1 has.2)),
+      (sym (filtered (shows_name layers path) name (all_names layers path))
+      ∙ name_found name (names_shown layers path) has.0 has.1 has.2)),
   λ is. contains_name name (names_shown layers path)
       (filtered (shows_name layers path) name (all_names layers path)
       ∙ ap (λ b. b && shows_name layers path name) (shown_is_named layers path name is.0 is.1)
@@ -142,6 +171,7 @@ names_are_those_shown layers path name = (
     passed true b e = e
     passed false b e = absurd (true≢false (sym e))
 
-    is_there : (o : Option (Shown ℕ)) → shown layers (path ++ name ∷ []) ≡ o → is_some o ≡ true → (seen : Shown ℕ) × IsShown layers (path ++ name ∷ []) seen
+    is_there : (o : Option (Shown ℕ)) → shown layers (path ++ name ∷ []) ≡ o → is_some o ≡ true
+        → (seen : Shown ℕ) × IsShown layers (path ++ name ∷ []) seen
     is_there None e h = absurd (true≢false (sym h))
     is_there (Some seen) e h = (seen, (computed layers (path ++ name ∷ []) seen).0 e)

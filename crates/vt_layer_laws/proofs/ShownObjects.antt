@@ -18,7 +18,8 @@ Among [] a = ⊥
 Among (b ∷ list) a = (b ≡ a) ⊎ Among list a
 
 module _ {B : Type 0} where
-  among_cons_option : (o : Option B) (list : List B) (b : B) → (o ≡ Some b) ⊎ Among list b → Among (cons_option o list) b
+  among_cons_option : (o : Option B) (list : List B) (b : B) → (o ≡ Some b) ⊎ Among list b
+      → Among (cons_option o list) b
   among_cons_option None list b (inl e) = none_is_some b e
   among_cons_option None list b (inr a) = a
   among_cons_option (Some c) list b (inl e) = inl (some_is_one c b e)
@@ -39,12 +40,16 @@ module _ {B : Type 0} where
   among_append_right (first ∷ list) other b among = inr (among_append_right list other b among)
 
 module _ {A B : Type 0} where
-  pub among_filter_map : (f : A → Option B) (list : List A) (a : A) (b : B) → Among list a → f a ≡ Some b → Among (filter_map f list) b
+  pub among_filter_map : (f : A → Option B) (list : List A) (a : A) (b : B) → Among list a → f a ≡ Some b
+      → Among (filter_map f list) b
   among_filter_map f [] a b among e = absurd among
-  among_filter_map f (first ∷ list) a b (inl same) e = among_cons_option (f first) (filter_map f list) b (inl (ap f same ∙ e))
-  among_filter_map f (first ∷ list) a b (inr among) e = among_cons_option (f first) (filter_map f list) b (inr (among_filter_map f list a b among e))
+  among_filter_map f (first ∷ list) a b (inl same) e =
+      among_cons_option (f first) (filter_map f list) b (inl (ap f same ∙ e))
+  among_filter_map f (first ∷ list) a b (inr among) e =
+      among_cons_option (f first) (filter_map f list) b (inr (among_filter_map f list a b among e))
 
-  pub from_filter_map : (f : A → Option B) (list : List A) (b : B) → Among (filter_map f list) b → (a : A) × Among list a × (f a ≡ Some b)
+  pub from_filter_map : (f : A → Option B) (list : List A) (b : B) → Among (filter_map f list) b
+      → (a : A) × Among list a × (f a ≡ Some b)
   from_filter_map f [] b among = absurd among
   from_filter_map f (first ∷ list) b among =
       ⊎_elim
@@ -52,10 +57,13 @@ module _ {A B : Type 0} where
       (λ later. let found = from_filter_map f list b later in (found.0, inr found.1, found.2))
       (from_cons_option (f first) (filter_map f list) b among)
 
-  pub among_flat_map : (f : A → List B) (list : List A) (a : A) (b : B) → Among list a → Among (f a) b → Among (flat_map f list) b
+  pub among_flat_map : (f : A → List B) (list : List A) (a : A) (b : B) → Among list a → Among (f a) b
+      → Among (flat_map f list) b
   among_flat_map f [] a b among inside = absurd among
-  among_flat_map f (first ∷ list) a b (inl e) inside = among_append_left (f first) (flat_map f list) b (subst (λ x. Among (f x) b) (sym e) inside)
-  among_flat_map f (first ∷ list) a b (inr among) inside = among_append_right (f first) (flat_map f list) b (among_flat_map f list a b among inside)
+  among_flat_map f (first ∷ list) a b (inl e) inside =
+      among_append_left (f first) (flat_map f list) b (subst (λ x. Among (f x) b) (sym e) inside)
+  among_flat_map f (first ∷ list) a b (inr among) inside =
+      among_append_right (f first) (flat_map f list) b (among_flat_map f list a b among inside)
 
 module _ {A : Type 0} where
   -- the first that passes
@@ -69,7 +77,8 @@ module _ {A : Type 0} where
   found_among test [] a among e = absurd among
   found_among test (first ∷ list) a among e = by (test first) refl among (λ later. found_among test list a later e)
     where
-      by : (b : Bool) → test first ≡ b → (first ≡ a) ⊎ Among list a → (Among list a → Found test list) → Found test (first ∷ list)
+      by : (b : Bool) → test first ≡ b → (first ≡ a) ⊎ Among list a → (Among list a → Found test list)
+          → Found test (first ∷ list)
       by true t among rest = record {
         element = first;
         is = ap (λ b. cond b (Some first) (find test list)) t;
@@ -94,11 +103,14 @@ module _ {A : Type 0} where
     pub among : Among list element
     pub passes : test element ≡ true
 
-  pub placed_among : (test : A → Bool) (k : ℕ) (list : List A) (a : A) → Among list a → test a ≡ true → Placed test k list
+  pub placed_among : (test : A → Bool) (k : ℕ) (list : List A) (a : A) → Among list a → test a ≡ true
+      → Placed test k list
   placed_among test k [] a among e = absurd among
-  placed_among test k (first ∷ list) a among e = by (test first) refl among (λ later. placed_among test (k + 1) list a later e)
+  placed_among test k (first ∷ list) a among e =
+      by (test first) refl among (λ later. placed_among test (k + 1) list a later e)
     where
-      by : (b : Bool) → test first ≡ b → (first ≡ a) ⊎ Among list a → (Among list a → Placed test (k + 1) list) → Placed test k (first ∷ list)
+      by : (b : Bool) → test first ≡ b → (first ≡ a) ⊎ Among list a → (Among list a → Placed test (k + 1) list)
+          → Placed test k (first ∷ list)
       by true t among rest = record {
         place = 0;
         element = first;
@@ -135,13 +147,15 @@ path_same [] (name ∷ b) e = absurd (true≢false (sym e))
 path_same (name ∷ a) [] e = absurd (true≢false (sym e))
 path_same (name ∷ a) (other ∷ b) e = by (bytes_eq name other) refl e (path_same a b)
   where
-    by : (t : Bool) → bytes_eq name other ≡ t → (t && same_path a b) ≡ true → (same_path a b ≡ true → a ≡ b) → (name ∷ a) ≡ (other ∷ b)
+    by : (t : Bool) → bytes_eq name other ≡ t → (t && same_path a b) ≡ true → (same_path a b ≡ true → a ≡ b)
+        → (name ∷ a) ≡ (other ∷ b)
     by true t e rest = ap (λ n. n ∷ a) ((bytes_decides name other).0 t) ∙ ap (λ p. other ∷ p) (rest e)
     by false t e rest = absurd (true≢false (sym e))
 
 module _ (layers : List (OpenLayer ℕ)) (are_open : AreOpen layers) where
   -- at each front of a path at which something is shown, something is shown
-  pub shown_before : (path rest : List (List ℕ)) (seen : Shown ℕ) → shown layers (path ++ rest) ≡ Some seen → is_some (shown layers path) ≡ true
+  pub shown_before : (path rest : List (List ℕ)) (seen : Shown ℕ) → shown layers (path ++ rest) ≡ Some seen
+      → is_some (shown layers path) ≡ true
   shown_before path [] seen e = ap is_some (ap (shown layers) (sym (append_nil path)) ∙ e)
     where
       append_nil : (p : List (List ℕ)) → p ++ [] ≡ p
@@ -151,12 +165,14 @@ module _ (layers : List (OpenLayer ℕ)) (are_open : AreOpen layers) where
       by (shown layers (path ++ name ∷ [])) refl
       (shown_before (path ++ name ∷ []) rest seen (ap (shown layers) (append_assoc path (name ∷ []) rest) ∙ e))
     where
-      by : (o : Option (Shown ℕ)) → shown layers (path ++ name ∷ []) ≡ o → is_some o ≡ true → is_some (shown layers path) ≡ true
+      by : (o : Option (Shown ℕ)) → shown layers (path ++ name ∷ []) ≡ o → is_some o ≡ true
+          → is_some (shown layers path) ≡ true
       by None s h = absurd (true≢false (sym h))
       by (Some next) s h = ap is_some (shown_in_directory layers are_open 0 path name next s).is
 
   -- each such path is gone through
-  pub paths_complete : (depth : ℕ) (base rest : List (List ℕ)) (seen : Shown ℕ) → length rest ≤ depth → shown layers (base ++ rest) ≡ Some seen → Among (paths_from depth layers base) (base ++ rest)
+  pub paths_complete : (depth : ℕ) (base rest : List (List ℕ)) (seen : Shown ℕ) → length rest ≤ depth
+      → shown layers (base ++ rest) ≡ Some seen → Among (paths_from depth layers base) (base ++ rest)
   paths_complete zero base [] seen h e = inl (append_nil base)
     where
       append_nil : (p : List (List ℕ)) → p ≡ p ++ []
@@ -169,40 +185,51 @@ module _ (layers : List (OpenLayer ℕ)) (are_open : AreOpen layers) where
       append_nil (name ∷ p) = ap (λ q. name ∷ q) (append_nil p)
   paths_complete zero base (name ∷ rest) seen h e = let no : ⊥ = omega arith in absurd no
   paths_complete (suc depth) base (name ∷ rest) seen h e =
-      inr (among_flat_map (λ n. paths_from depth layers (base ++ n ∷ [])) (names_shown layers base) name (base ++ name ∷ rest)
-      (by (shown layers (base ++ name ∷ [])) refl (shown_before (base ++ name ∷ []) rest seen (ap (shown layers) (append_assoc base (name ∷ []) rest) ∙ e)))
+      inr (among_flat_map (λ n. paths_from depth layers (base ++ n ∷ [])) (names_shown layers base) name
+      (base ++ name ∷ rest)
+      (by (shown layers (base ++ name ∷ [])) refl
+      (shown_before (base ++ name ∷ []) rest seen (ap (shown layers) (append_assoc base (name ∷ []) rest) ∙ e)))
       (subst (Among (paths_from depth layers (base ++ name ∷ []))) (append_assoc base (name ∷ []) rest)
-      (paths_complete depth (base ++ name ∷ []) rest seen (omega arith) (ap (shown layers) (append_assoc base (name ∷ []) rest) ∙ e))))
+      (paths_complete depth (base ++ name ∷ []) rest seen (omega arith)
+      (ap (shown layers) (append_assoc base (name ∷ []) rest) ∙ e))))
     where
-      by : (o : Option (Shown ℕ)) → shown layers (base ++ name ∷ []) ≡ o → is_some o ≡ true → Among (names_shown layers base) name
+      by : (o : Option (Shown ℕ)) → shown layers (base ++ name ∷ []) ≡ o → is_some o ≡ true
+          → Among (names_shown layers base) name
       by None s h = absurd (true≢false (sym h))
       by (Some next) s h =
           let has = (names_are_those_shown layers base name).1 (next, (computed layers (base ++ name ∷ []) next).0 s) in
           among_contained (names_shown layers base) name has.0 has.1 has.2
 
-  module _ (longest : ℕ) (bounded : (path : List (List ℕ)) (seen : Shown ℕ) → shown layers path ≡ Some seen → length path ≤ longest) where
+  module _ (longest : ℕ) (bounded : (path : List (List ℕ)) (seen : Shown ℕ) → shown layers path ≡ Some seen
+      → length path ≤ longest) where
     -- so the objects are all that is shown, each once for each path
-    pub is_object : (path : List (List ℕ)) (seen : Shown ℕ) → shown layers path ≡ Some seen → Among (merged_objects layers longest) (record { path = path; seen = seen })
+    pub is_object : (path : List (List ℕ)) (seen : Shown ℕ) → shown layers path ≡ Some seen
+        → Among (merged_objects layers longest) (record { path = path; seen = seen })
     is_object path seen e =
         among_filter_map (merged_at layers) (paths_from longest layers []) path (record { path = path; seen = seen })
         (paths_complete longest [] path seen (bounded path seen e) e)
         (ap (option_map (λ s. record { path = path; seen = s })) e)
 
-    pub object_is : (object : Merged ℕ) → Among (merged_objects layers longest) object → shown layers object.path ≡ Some object.seen
+    pub object_is : (object : Merged ℕ) → Among (merged_objects layers longest) object
+        → shown layers object.path ≡ Some object.seen
     object_is object among =
         let found = from_filter_map (merged_at layers) (paths_from longest layers []) object among in
         by found.0 (shown layers found.0) refl found.2
       where
-        by : (path : List (List ℕ)) (o : Option (Shown ℕ)) → shown layers path ≡ o → option_map (λ seen. record { path = path; seen = seen }) o ≡ Some object → shown layers object.path ≡ Some object.seen
+        by : (path : List (List ℕ)) (o : Option (Shown ℕ)) → shown layers path ≡ o
+            → option_map (λ seen. record { path = path; seen = seen }) o ≡ Some object
+            → shown layers object.path ≡ Some object.seen
         by path None s e = none_is_some object e
-        by path (Some seen) s e = subst (λ m. shown layers m.path ≡ Some m.seen) (some_is_one (record { path = path; seen = seen }) object e) s
+        by path (Some seen) s e = subst (λ m. shown layers m.path ≡ Some m.seen)
+            (some_is_one (record { path = path; seen = seen }) object e) s
 
 -- two objects that are one inode are the same in their layer, and have one real object
 pub record IsOne (has_upper : Bool) (a b : Merged ℕ) : Type 0 where
   pub seen : a.seen ≡ b.seen
   pub real : real_object has_upper a.seen.layer a ≡ real_object has_upper b.seen.layer b
 
-pub is_one : (layers : List (OpenLayer ℕ)) (has_upper : Bool) (a b : Merged ℕ) → shown layers a.path ≡ Some a.seen → shown layers b.path ≡ Some b.seen → is_one_inode nat_eq has_upper a b ≡ true → IsOne has_upper a b
+pub is_one : (layers : List (OpenLayer ℕ)) (has_upper : Bool) (a b : Merged ℕ) → shown layers a.path ≡ Some a.seen
+    → shown layers b.path ≡ Some b.seen → is_one_inode nat_eq has_upper a b ≡ true → IsOne has_upper a b
 is_one layers has_upper a b s t e = by has_upper refl a.seen.layer refl b.seen.layer refl e
   where
     by_path : a.path ≡ b.path → IsOne has_upper a b
@@ -211,7 +238,8 @@ is_one layers has_upper a b s t e = by has_upper refl a.seen.layer refl b.seen.l
         let whole : a ≡ b = λ i. record { path = same i; seen = seen i } in
         record { seen = seen; real = ap (λ m. real_object has_upper m.seen.layer m) whole }
 
-    by : (u : Bool) → has_upper ≡ u → (l : ℕ) → a.seen.layer ≡ l → (k : ℕ) → b.seen.layer ≡ k → same_real nat_eq (real_object u l a) (real_object u k b) ≡ true → IsOne has_upper a b
+    by : (u : Bool) → has_upper ≡ u → (l : ℕ) → a.seen.layer ≡ l → (k : ℕ) → b.seen.layer ≡ k
+        → same_real nat_eq (real_object u l a) (real_object u k b) ≡ true → IsOne has_upper a b
     by false hu l la k lb e = by_path (path_same a.path b.path e)
     by true hu zero la zero lb e =
         let objects = eqb-true a.seen.object b.seen.object e in

@@ -18,7 +18,9 @@ use Rattle.vt_layer_laws.proofs.ShownObjects.{is_object, one_itself}
 use Rattle.vt_layer_laws.proofs.ShownPaths.{length_longer, not_empty}
 use Rattle.vt_layer_laws.proofs.ShownWhole.{same_merged}
 
-module _ (layers : List (OpenLayer ℕ)) (are_open : AreOpen layers) (longest : ℕ) (bounded : (path : List (List ℕ)) (seen : Shown ℕ) → shown layers path ≡ Some seen → length path ≤ longest) (fresh : Fresh ℕ) (distinct : (j k : ℕ) → fresh j ≡ fresh k → j ≡ k) (has_upper : Bool)
+module _ (layers : List (OpenLayer ℕ)) (are_open : AreOpen layers) (longest : ℕ)
+    (bounded : (path : List (List ℕ)) (seen : Shown ℕ) → shown layers path ≡ Some seen → length path ≤ longest)
+    (fresh : Fresh ℕ) (distinct : (j k : ℕ) → fresh j ≡ fresh k → j ≡ k) (has_upper : Bool)
     (top : Shown ℕ) (is_top : shown layers [] ≡ Some top) where
   abbrev pub object_at : List (List ℕ) → Shown ℕ → Merged ℕ
   object_at path seen = record { path = path; seen = seen }
@@ -47,19 +49,26 @@ module _ (layers : List (OpenLayer ℕ)) (are_open : AreOpen layers) (longest : 
   root_number =
       let paths = first_path longest in
       ap (λ l. fresh (unwrap_or (place_from (is_one_inode nat_eq has_upper (object_at [] top)) 0 l) 0))
-      (ap (filter_map (merged_at layers)) paths.1 ∙ ap (λ o. cons_option (option_map (λ seen. object_at [] seen) o) (filter_map (merged_at layers) paths.0)) is_top)
-      ∙ ap (λ b. fresh (unwrap_or (cond b (Some 0) (place_from (is_one_inode nat_eq has_upper (object_at [] top)) (0 + 1) (filter_map (merged_at layers) paths.0))) 0)) (one_itself has_upper (object_at [] top))
+      (ap (filter_map (merged_at layers)) paths.1
+      ∙ ap (λ o. cons_option (option_map (λ seen. object_at [] seen) o) (filter_map (merged_at layers) paths.0)) is_top)
+      ∙ ap (λ b. fresh (unwrap_or (cond b (Some 0)
+      (place_from (is_one_inode nat_eq has_upper (object_at [] top)) (0 + 1)
+      (filter_map (merged_at layers) paths.0))) 0)) (one_itself has_upper (object_at [] top))
 
-  pub inode_at : (path : List (List ℕ)) (seen : Shown ℕ) → shown layers path ≡ Some seen → HasInode layers are_open longest bounded fresh distinct has_upper (object_at path seen)
+  pub inode_at : (path : List (List ℕ)) (seen : Shown ℕ) → shown layers path ≡ Some seen
+      → HasInode layers are_open longest bounded fresh distinct has_upper (object_at path seen)
   inode_at path seen s =
-      has_inode layers are_open longest bounded fresh distinct has_upper (object_at path seen) (is_object layers are_open longest bounded path seen s)
+      has_inode layers are_open longest bounded fresh distinct has_upper (object_at path seen)
+      (is_object layers are_open longest bounded path seen s)
 
   -- names lead to what is shown
   abbrev pub Arrives : Option (Shown ℕ) → List (List ℕ) → Option ℕ → Type 0
   Arrives None path found = found ≡ None
   Arrives (Some seen) path found = found ≡ Some (num (object_at path seen))
 
-  no_entry : (path : List (List ℕ)) (name : List ℕ) (found : Option ℕ) → found ≡ None → ((seen : Shown ℕ) → shown layers (path ++ name ∷ []) ≢ Some seen) → Arrives (shown layers (path ++ name ∷ [])) (path ++ name ∷ []) found
+  no_entry : (path : List (List ℕ)) (name : List ℕ) (found : Option ℕ) → found ≡ None
+      → ((seen : Shown ℕ) → shown layers (path ++ name ∷ []) ≢ Some seen)
+      → Arrives (shown layers (path ++ name ∷ [])) (path ++ name ∷ []) found
   no_entry path name found none not_shown = by (shown layers (path ++ name ∷ [])) refl
     where
       by : (o : Option (Shown ℕ)) → shown layers (path ++ name ∷ []) ≡ o → Arrives o (path ++ name ∷ []) found
@@ -67,51 +76,82 @@ module _ (layers : List (OpenLayer ℕ)) (are_open : AreOpen layers) (longest : 
       by (Some seen) s = absurd (not_shown seen s)
 
   -- what is shown under a name is shown in a directory
-  pub directory_above : (path : List (List ℕ)) (name : List ℕ) (seen : Shown ℕ) → shown layers path ≡ Some seen → (inode : HasInode layers are_open longest bounded fresh distinct has_upper (object_at path seen)) → (below : Shown ℕ) → shown layers (path ++ name ∷ []) ≡ Some below → is_directory (kind_of inode.node.content) ≡ true
+  pub directory_above : (path : List (List ℕ)) (name : List ℕ) (seen : Shown ℕ) → shown layers path ≡ Some seen
+      → (inode : HasInode layers are_open longest bounded fresh distinct has_upper (object_at path seen))
+      → (below : Shown ℕ) → shown layers (path ++ name ∷ []) ≡ Some below
+      → is_directory (kind_of inode.node.content) ≡ true
   directory_above path name seen s inode below t =
       let shows = shown_in_directory layers are_open 0 path name below t in
       let same = some_is_one seen (record { layer = 0 + shows.place; object = shows.object }) (sym s ∙ shows.is) in
       let place : 0 + shows.place ≡ shows.place = omega arith in
       by shows.layer (shows.layer.tree.node shows.object) shows.directory
-      (sym inode.seen ∙ ap (layer_node layers) same ∙ ap (λ k. then_some (slice_get layers k) (λ layer. layer.tree.node shows.object)) place
+      (sym inode.seen ∙ ap (layer_node layers) same
+      ∙ ap (λ k. then_some (slice_get layers k) (λ layer. layer.tree.node shows.object)) place
       ∙ ap (λ o. then_some o (λ layer. layer.tree.node shows.object)) shows.there)
     where
-      by : (layer : OpenLayer ℕ) (o : Option (Node ℕ)) → Rattle.vt_spec.specs.Tree.is_directory_node o ≡ true → Some inode.node ≡ o → is_directory (kind_of inode.node.content) ≡ true
+      by : (layer : OpenLayer ℕ) (o : Option (Node ℕ)) → Rattle.vt_spec.specs.Tree.is_directory_node o ≡ true
+          → Some inode.node ≡ o → is_directory (kind_of inode.node.content) ≡ true
       by layer o d e = ap (λ p. Rattle.vt_spec.specs.Tree.is_directory_node p) e ∙ d
 
-  step : (path : List (List ℕ)) (name : List ℕ) → Arrives (shown layers path) path (led merged_tree (fresh 0) path) → Arrives (shown layers (path ++ name ∷ [])) (path ++ name ∷ []) (led merged_tree (fresh 0) (path ++ name ∷ []))
+  step : (path : List (List ℕ)) (name : List ℕ) → Arrives (shown layers path) path (led merged_tree (fresh 0) path)
+      → Arrives (shown layers (path ++ name ∷ [])) (path ++ name ∷ []) (led merged_tree (fresh 0) (path ++ name ∷ []))
   step path name before =
-      subst (Arrives (shown layers (path ++ name ∷ [])) (path ++ name ∷ [])) (sym (last_name merged_tree (fresh 0) path name))
+      subst (Arrives (shown layers (path ++ name ∷ [])) (path ++ name ∷ []))
+      (sym (last_name merged_tree (fresh 0) path name))
       (by (shown layers path) refl before)
     where
-      from_directory : (seen : Shown ℕ) (s : shown layers path ≡ Some seen) (inode : HasInode layers are_open longest bounded fresh distinct has_upper (object_at path seen)) (content : Content ℕ) → inode.node.content ≡ content
-          → Arrives (shown layers (path ++ name ∷ [])) (path ++ name ∷ []) (entry_named name (entries_of (merged_content nat_eq fresh has_upper all inode.other.path content)))
+      from_directory : (seen : Shown ℕ) (s : shown layers path ≡ Some seen)
+          (inode : HasInode layers are_open longest bounded fresh distinct has_upper (object_at path seen))
+          (content : Content ℕ) → inode.node.content ≡ content
+          → Arrives (shown layers (path ++ name ∷ [])) (path ++ name ∷ [])
+          (entry_named name (entries_of (merged_content nat_eq fresh has_upper all inode.other.path content)))
       from_directory seen s inode (Directory parent entries opaque) e =
-          subst (λ p. Arrives (shown layers (path ++ name ∷ [])) (path ++ name ∷ []) (entry_named name (filter_map (entry_below nat_eq fresh has_upper all p) all)))
-          (sym (one_directory layers are_open longest bounded fresh distinct has_upper (object_at path seen) (is_object layers are_open longest bounded path seen s) inode (ap (λ c. is_directory (kind_of c)) e)))
-          (as_arrives (shown layers (path ++ name ∷ [])) _ (entry_leads layers are_open longest bounded fresh distinct has_upper path name))
+          subst (λ p. Arrives (shown layers (path ++ name ∷ [])) (path ++ name ∷ [])
+          (entry_named name (filter_map (entry_below nat_eq fresh has_upper all p) all)))
+          (sym (one_directory layers are_open longest bounded fresh distinct has_upper (object_at path seen)
+          (is_object layers are_open longest bounded path seen s) inode (ap (λ c. is_directory (kind_of c)) e)))
+          (as_arrives (shown layers (path ++ name ∷ [])) _
+          (entry_leads layers are_open longest bounded fresh distinct has_upper path name))
         where
-          as_arrives : (o : Option (Shown ℕ)) (found : Option ℕ) → LeadsTo layers are_open longest bounded fresh distinct has_upper path name o found → Arrives o (path ++ name ∷ []) found
+          as_arrives : (o : Option (Shown ℕ)) (found : Option ℕ)
+              → LeadsTo layers are_open longest bounded fresh distinct has_upper path name o found
+              → Arrives o (path ++ name ∷ []) found
           as_arrives None found leads = leads
           as_arrives (Some below) found leads = leads
       from_directory seen s inode (Regular bytes) e =
-          no_entry path name None refl (λ below t. true≢false (sym (sym (ap (λ c. is_directory (kind_of c)) e) ∙ directory_above path name seen s inode below t)))
+          no_entry path name None refl (λ below t.
+          true≢false (sym (sym (ap (λ c. is_directory (kind_of c)) e)
+          ∙ directory_above path name seen s inode below t)))
       from_directory seen s inode (Symlink text) e =
-          no_entry path name None refl (λ below t. true≢false (sym (sym (ap (λ c. is_directory (kind_of c)) e) ∙ directory_above path name seen s inode below t)))
+          no_entry path name None refl (λ below t.
+          true≢false (sym (sym (ap (λ c. is_directory (kind_of c)) e)
+          ∙ directory_above path name seen s inode below t)))
       from_directory seen s inode Whiteout e =
-          no_entry path name None refl (λ below t. true≢false (sym (sym (ap (λ c. is_directory (kind_of c)) e) ∙ directory_above path name seen s inode below t)))
+          no_entry path name None refl (λ below t.
+          true≢false (sym (sym (ap (λ c. is_directory (kind_of c)) e)
+          ∙ directory_above path name seen s inode below t)))
 
-      by : (o : Option (Shown ℕ)) → shown layers path ≡ o → Arrives o path (led merged_tree (fresh 0) path) → Arrives (shown layers (path ++ name ∷ [])) (path ++ name ∷ []) (option_and_then (λ directory. entry_at merged_tree directory name) (led merged_tree (fresh 0) path))
+      by : (o : Option (Shown ℕ)) → shown layers path ≡ o → Arrives o path (led merged_tree (fresh 0) path)
+          → Arrives (shown layers (path ++ name ∷ [])) (path ++ name ∷ [])
+          (option_and_then (λ directory. entry_at merged_tree directory name) (led merged_tree (fresh 0) path))
       by None s arrives =
           no_entry path name _ (ap (option_and_then (λ directory. entry_at merged_tree directory name)) arrives)
-          (λ seen t. none_is_some (record { layer = 0 + (shown_in_directory layers are_open 0 path name seen t).place; object = (shown_in_directory layers are_open 0 path name seen t).object }) (sym s ∙ (shown_in_directory layers are_open 0 path name seen t).is))
+          (λ seen t. none_is_some (record {
+            layer = 0 +
+                (shown_in_directory layers are_open 0 path name seen t).place;
+            object =
+                (shown_in_directory layers are_open 0 path name seen t).object;
+          })
+          (sym s ∙ (shown_in_directory layers are_open 0 path name seen t).is))
       by (Some seen) s arrives =
           let inode = inode_at path seen s in
           subst (Arrives (shown layers (path ++ name ∷ [])) (path ++ name ∷ []))
-          (sym (ap (option_and_then (λ directory. entry_at merged_tree directory name)) arrives ∙ ap (λ o. entry_named name (entries_in o)) inode.is))
+          (sym (ap (option_and_then (λ directory. entry_at merged_tree directory name)) arrives
+          ∙ ap (λ o. entry_named name (entries_in o)) inode.is))
           (from_directory seen s inode inode.node.content refl)
 
-  arrives_in : (many : ℕ) (path : List (List ℕ)) → length path ≤ many → Arrives (shown layers path) path (led merged_tree (fresh 0) path)
+  arrives_in : (many : ℕ) (path : List (List ℕ)) → length path ≤ many
+      → Arrives (shown layers path) path (led merged_tree (fresh 0) path)
   arrives_in many [] h = subst (λ o. Arrives o [] (Some (fresh 0))) (sym is_top) (ap Some (sym root_number))
   arrives_in zero (name ∷ path) h = absurd (let no : ⊥ = omega arith in no)
   arrives_in (suc many) (name ∷ path) h =
@@ -124,30 +164,47 @@ module _ (layers : List (OpenLayer ℕ)) (are_open : AreOpen layers) (longest : 
   arrives path = arrives_in (length path) path (let h : length path ≤ length path = omega arith in h)
 
   -- the object there
-  no_white : (path : List (List ℕ)) (seen : Shown ℕ) → shown layers path ≡ Some seen → (inode : HasInode layers are_open longest bounded fresh distinct has_upper (object_at path seen)) → inode.node.content ≢ Whiteout
+  no_white : (path : List (List ℕ)) (seen : Shown ℕ) → shown layers path ≡ Some seen
+      → (inode : HasInode layers are_open longest bounded fresh distinct has_upper (object_at path seen))
+      → inode.node.content ≢ Whiteout
   no_white path seen s inode =
       let shows = (computed layers path seen).0 s in
       let here = in_layer layers are_open longest bounded fresh distinct has_upper (object_at path seen) s in
-      let node = some_is_one here.node inode.node (sym (layer_node_of layers are_open longest bounded fresh distinct has_upper (object_at path seen) here) ∙ inode.seen) in
-      shows.no_whiteout inode.node (here.layer, here.there, ap (λ o. then_some o here.layer.tree.node) here.at ∙ here.is ∙ ap Some node)
+      let node = some_is_one here.node inode.node
+      (sym (layer_node_of layers are_open longest bounded fresh distinct has_upper (object_at path seen) here)
+      ∙ inode.seen) in
+      shows.no_whiteout inode.node (
+        here.layer,
+        here.there,
+        ap (λ o. then_some o here.layer.tree.node) here.at
+            ∙ here.is ∙ ap Some node,
+      )
 
-  pub shows_layers : (path : List (List ℕ)) → SameObject (then_some (led merged_tree (fresh 0) path) merged_tree.node) (then_some (shown layers path) (layer_node layers))
+  pub shows_layers : (path : List (List ℕ))
+      → SameObject (then_some (led merged_tree (fresh 0) path) merged_tree.node)
+      (then_some (shown layers path) (layer_node layers))
   shows_layers path = by (shown layers path) refl (arrives path)
     where
-      by : (o : Option (Shown ℕ)) → shown layers path ≡ o → Arrives o path (led merged_tree (fresh 0) path) → SameObject (then_some (led merged_tree (fresh 0) path) merged_tree.node) (then_some o (layer_node layers))
+      by : (o : Option (Shown ℕ)) → shown layers path ≡ o → Arrives o path (led merged_tree (fresh 0) path)
+          → SameObject (then_some (led merged_tree (fresh 0) path) merged_tree.node) (then_some o (layer_node layers))
       by None s found = subst (λ o. SameObject (then_some o merged_tree.node) None) (sym found) tt
       by (Some seen) s found =
           let inode = inode_at path seen s in
           subst (λ o. SameObject (then_some o merged_tree.node) (layer_node layers seen)) (sym found)
           (subst (λ o. SameObject o (layer_node layers seen)) (sym inode.is)
-          (subst (SameObject (Some (record { attr = inode.node.attr; content = merged_content nat_eq fresh has_upper all inode.other.path inode.node.content }))) (sym inode.seen)
+          (subst (SameObject (Some
+          (record { attr = inode.node.attr; content = merged_content nat_eq fresh has_upper all inode.other.path inode.node.content }))) (sym inode.seen)
           (refl, same_merged layers are_open longest bounded fresh distinct has_upper inode.other.path inode.node.content (no_white path seen s inode))))
 
   -- with its real object
-  pub real_shown_there : (path : List (List ℕ)) (n : ℕ) → led merged_tree (fresh 0) path ≡ Some n → real_of nat_eq made n ≡ option_map (λ object. real_object has_upper object.seen.layer object) (merged_at layers path)
+  pub real_shown_there : (path : List (List ℕ)) (n : ℕ) → led merged_tree (fresh 0) path ≡ Some n
+      → real_of nat_eq made n ≡ option_map (λ object. real_object has_upper object.seen.layer object)
+      (merged_at layers path)
   real_shown_there path n e = by (shown layers path) refl (arrives path)
     where
-      by : (o : Option (Shown ℕ)) → shown layers path ≡ o → Arrives o path (led merged_tree (fresh 0) path) → real_of nat_eq made n ≡ option_map (λ object. real_object has_upper object.seen.layer object) (option_map (λ seen. object_at path seen) o)
+      by : (o : Option (Shown ℕ)) → shown layers path ≡ o → Arrives o path (led merged_tree (fresh 0) path)
+          → real_of nat_eq made n ≡ option_map (λ object. real_object has_upper object.seen.layer object)
+          (option_map (λ seen. object_at path seen) o)
       by None s found = none_is_some n (sym found ∙ e)
       by (Some seen) s found =
           let inode = inode_at path seen s in

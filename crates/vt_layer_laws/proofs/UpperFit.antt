@@ -47,7 +47,9 @@ same_directory None (Some other) same = absurd same
 same_directory (Some node) None same = absurd same
 same_directory (Some node) (Some other) same = sym (same_kind node.content other.content same.1)
 
-module _ (world : World ℕ) (conditions : IsWorld nat_eq world) (number : ℕ) (overlay : Overlay ℕ) (is : (filesystem_numbered nat_eq world number).overlay ≡ Some overlay) (upper : Layer ℕ) (has : overlay.upper ≡ Some upper) where
+module _ (world : World ℕ) (conditions : IsWorld nat_eq world) (number : ℕ) (overlay : Overlay ℕ)
+    (is : (filesystem_numbered nat_eq world number).overlay ≡ Some overlay) (upper : Layer ℕ)
+    (has : overlay.upper ≡ Some upper) where
   abbrev merged : Filesystem ℕ
   merged = filesystem_numbered nat_eq world number
 
@@ -58,30 +60,47 @@ module _ (world : World ℕ) (conditions : IsWorld nat_eq world) (number : ℕ) 
   lower = map (open_layer nat_eq world) overlay.lowers
 
   -- an inode with a name has an upper object of its own kind
-  kinds : (path : List (List ℕ)) (inode object : ℕ) → number_at_path merged.files path ≡ Some inode → upper_object (overlay.real inode) ≡ Some object
-      → is_directory_node ((filesystem_numbered nat_eq world upper.filesystem).files.tree.node object) ≡ is_directory_node (merged.files.tree.node inode)
+  kinds : (path : List (List ℕ)) (inode object : ℕ) → number_at_path merged.files path ≡ Some inode
+      → upper_object (overlay.real inode) ≡ Some object
+      → is_directory_node ((filesystem_numbered nat_eq world upper.filesystem).files.tree.node object)
+      ≡ is_directory_node (merged.files.tree.node inode)
   kinds path inode object e h =
       by (shown (top ∷ lower) path) refl
       (ap upper_object (sym (real_named world conditions number overlay is upper has path inode e)) ∙ h)
-      (subst (λ o. SameObject (then_some o merged.files.tree.node) (then_some (shown (top ∷ lower) path) (layer_node (top ∷ lower)))) e
-      (subst (λ o. SameObject (then_some (number_at_path merged.files path) merged.files.tree.node) (then_some (shown (map (open_layer nat_eq world) (option_to_list o ++ overlay.lowers)) path) (layer_node (map (open_layer nat_eq world) (option_to_list o ++ overlay.lowers))))) has
+      (subst (λ o. SameObject (then_some o merged.files.tree.node)
+      (then_some (shown (top ∷ lower) path) (layer_node (top ∷ lower)))) e
+      (subst (λ o. SameObject (then_some (number_at_path merged.files path) merged.files.tree.node)
+      (then_some (shown (map (open_layer nat_eq world) (option_to_list o ++ overlay.lowers)) path)
+      (layer_node (map (open_layer nat_eq world) (option_to_list o ++ overlay.lowers))))) has
       ((overlay_merges world conditions number overlay is).shows path)))
     where
-      seen_so : (layer found : ℕ) → upper_object (Some (real_object true layer (record { path = path; seen = record { layer = layer; object = found } }))) ≡ Some object → SameObject (merged.files.tree.node inode) (layer_node (top ∷ lower) (record { layer = layer; object = found })) → is_directory_node (top.tree.node object) ≡ is_directory_node (merged.files.tree.node inode)
-      seen_so zero found u same = ap (λ o. is_directory_node (top.tree.node o)) (sym (some_is_one found object u)) ∙ same_directory (merged.files.tree.node inode) (top.tree.node found) same
+      seen_so : (layer found : ℕ) → upper_object
+          (Some (real_object true layer (record { path = path; seen = record { layer = layer; object = found } })))
+          ≡ Some object → SameObject (merged.files.tree.node inode)
+          (layer_node (top ∷ lower) (record { layer = layer; object = found }))
+          → is_directory_node (top.tree.node object) ≡ is_directory_node (merged.files.tree.node inode)
+      seen_so zero found u same = ap (λ o. is_directory_node (top.tree.node o)) (sym (some_is_one found object u))
+          ∙ same_directory (merged.files.tree.node inode) (top.tree.node found) same
       seen_so (suc layer) found u same = none_is_some object u
 
-      by : (o : Option (Shown ℕ)) → shown (top ∷ lower) path ≡ o → upper_object (option_map (λ m. real_object true m.seen.layer m) (option_map (λ seen. record { path = path; seen = seen }) o)) ≡ Some object → SameObject (merged.files.tree.node inode) (then_some o (layer_node (top ∷ lower))) → is_directory_node (top.tree.node object) ≡ is_directory_node (merged.files.tree.node inode)
+      by : (o : Option (Shown ℕ)) → shown (top ∷ lower) path ≡ o
+          → upper_object (option_map (λ m. real_object true m.seen.layer m)
+          (option_map (λ seen. record { path = path; seen = seen }) o)) ≡ Some object
+          → SameObject (merged.files.tree.node inode) (then_some o (layer_node (top ∷ lower)))
+          → is_directory_node (top.tree.node object) ≡ is_directory_node (merged.files.tree.node inode)
       by None s u same = none_is_some object u
       by (Some seen) s u same = seen_so seen.layer seen.object u same
 
-  pub overlay_is_fit : (fresh : Fresh ℕ) → ((j k : ℕ) → fresh j ≡ fresh k → j ≡ k) → ((k : ℕ) → inode_in world upper.filesystem (fresh k) ≡ None) → IsFitToChange fresh (merge_of nat_eq world merged overlay upper)
+  pub overlay_is_fit : (fresh : Fresh ℕ) → ((j k : ℕ) → fresh j ≡ fresh k → j ≡ k)
+      → ((k : ℕ) → inode_in world upper.filesystem (fresh k) ≡ None)
+      → IsFitToChange fresh (merge_of nat_eq world merged overlay upper)
   overlay_is_fit fresh distinct vacant = record {
     tree = overlay_tree world conditions number overlay is;
     numbers = overlay_numbers world conditions number overlay is;
     root = root_is_upper world conditions number overlay is upper has;
     above = above_upper world conditions number overlay is upper has;
-    one_name = λ directory other name other_name object. one_below world conditions number overlay is upper has directory other name other_name object;
+    one_name = λ directory other name other_name object.
+        one_below world conditions number overlay is upper has directory other name other_name object;
     one_to_one = λ a b object e f.
         let real_a = upper_is (overlay.real a) object e in
         let real_b = upper_is (overlay.real b) object f in
@@ -89,7 +108,8 @@ module _ (world : World ℕ) (conditions : IsWorld nat_eq world) (number : ℕ) 
     kinds = kinds;
     unused = λ k inode e.
         true≢false (sym (ap (holds_of (λ layer. is_there nat_eq world layer.filesystem (fresh k))) (sym has)
-        ∙ (overlay_merges world conditions number overlay is).upper_there inode (fresh k) (upper_is (overlay.real inode) (fresh k) e))
+        ∙ (overlay_merges world conditions number overlay is).upper_there inode (fresh k)
+        (upper_is (overlay.real inode) (fresh k) e))
         ∙ ap is_some (vacant k));
     distinct = distinct;
   }

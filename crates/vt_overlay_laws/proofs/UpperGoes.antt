@@ -1,4 +1,5 @@
--- A plain tree after a change that its call's rules let pass: it is a tree, and the directory of a layer in it is still reached.
+-- A plain tree after a change that its call's rules let pass: it is a tree, and the directory of a layer in it is still
+-- reached.
 use Rattle.std.proofs.Common.{◌≡◌, ◌≢◌, refl, sym, ap, subst, ◌∙◌, true≢false, ℕ, nat_eq, false, List, [], ⊎_elim, inl, inr, Option, Some, None, is_some}
 use Rattle.std.proofs.lemmas.Bool.Decides.{eqb_tells}
 use Rattle.std.specs.FinMap.Entries.{is_sorted}
@@ -36,7 +37,8 @@ pub record Goes (top : ℕ) (before after : FileTree ℕ) : Type 0 where
 pub goes_none : (top : ℕ) (files : FileTree ℕ) → IsGood top files → Goes top files files
 goes_none top files is = record { good = is; numbers = λ n. n; own_parents = λ o. o }
 
-pub goes_both : (top : ℕ) (one middle other : FileTree ℕ) → Goes top one middle → Goes top middle other → Goes top one other
+pub goes_both : (top : ℕ) (one middle other : FileTree ℕ) → Goes top one middle → Goes top middle other
+    → Goes top one other
 goes_both top one middle other a b = record {
   good = b.good;
   numbers = λ n. b.numbers (a.numbers n);
@@ -44,10 +46,13 @@ goes_both top one middle other a b = record {
 }
 
 -- what was reached and keeps a name is reached
-pub stays_reached : (before after : Tree ℕ) (number : ℕ) → IsTree after → after.root ≡ before.root → IsDirectory after number
-    → IsReached before number → ((d : ℕ) (w : List ℕ) → entry_at before d w ≡ Some number → HasName after number) → IsReached after number
+pub stays_reached : (before after : Tree ℕ) (number : ℕ) → IsTree after → after.root ≡ before.root
+    → IsDirectory after number
+    → IsReached before number → ((d : ℕ) (w : List ℕ) → entry_at before d w ≡ Some number → HasName after number)
+    → IsReached after number
 stays_reached before after number conditions root is reached named =
-    ⊎_elim (λ same. ([], ap Some (root ∙ same))) (λ has. conditions.reached number is (named has.0 has.1 has.2)) (reached_named before number reached)
+    ⊎_elim (λ same. ([], ap Some (root ∙ same))) (λ has. conditions.reached number is (named has.0 has.1 has.2))
+    (reached_named before number reached)
 
 -- in a tree whose names are rearranged, what does not leave its name
 pub rearranged_reached : (before after : Tree ℕ) (Leaves : ℕ → Type 0) (Arrives : ℕ → List ℕ → ℕ → Type 0)
@@ -63,14 +68,17 @@ Spares number files (Remove directory name object) = number ≢ object
 Spares number files (Move from old to new object) = (number ≢ object) × (entry_at files.tree to new ≢ Some number)
 Spares number files change = ⊤
 
-made_reached : (files : FileTree ℕ) (d : ℕ) (w : List ℕ) (c : ℕ) (node : Node ℕ) → IsTree files.tree → (may : MayMake files.tree d w c node)
+made_reached : (files : FileTree ℕ) (d : ℕ) (w : List ℕ) (c : ℕ) (node : Node ℕ) → IsTree files.tree
+    → (may : MayMake files.tree d w c node)
     → (number : ℕ) → IsDirectory files.tree number → IsReached files.tree number
-    → IsDirectory (changed nat_eq files (Make d w c node)).tree number × IsReached (changed nat_eq files (Make d w c node)).tree number
+    → IsDirectory (changed nat_eq files (Make d w c node)).tree number
+    × IsReached (changed nat_eq files (Make d w c node)).tree number
 made_reached files d w c node conditions may number is reached =
     subst (λ t. IsDirectory t number × IsReached t number) (made_alike files d w c node differ) (
       still,
       stays_reached files.tree (with_it) number
-          (subst IsTree (sym (made_alike files d w c node differ)) (changes_keep_trees files (Make d w c node) conditions may)) refl still reached
+          (subst IsTree (sym (made_alike files d w c node differ))
+          (changes_keep_trees files (Make d w c node) conditions may)) refl still reached
           (λ e n f. (e, n, entry_kept files.tree d w c node conditions may.name_is_free.in_directory may.name_is_free.reached may.name_is_free.free may.number_is_new may.fits e n number f)),
     )
   where
@@ -84,21 +92,25 @@ made_reached files d w c node conditions may number is reached =
     still : IsDirectory with_it number
     still = directory_kept files.tree d w c node conditions may.name_is_free.in_directory may.name_is_free.reached may.name_is_free.free may.number_is_new may.fits number is
 
-still_reached : (files : FileTree ℕ) (object : ℕ) (change : Option (Node ℕ) → Option (Node ℕ)) → KeepsPlace change → IsTree files.tree
+still_reached : (files : FileTree ℕ) (object : ℕ) (change : Option (Node ℕ) → Option (Node ℕ)) → KeepsPlace change
+    → IsTree files.tree
     → IsTree (changed_node nat_eq files object change).tree
     → (number : ℕ) → IsDirectory files.tree number → IsReached files.tree number
-    → IsDirectory (changed_node nat_eq files object change).tree number × IsReached (changed_node nat_eq files object change).tree number
+    → IsDirectory (changed_node nat_eq files object change).tree number
+    × IsReached (changed_node nat_eq files object change).tree number
 still_reached files object change keeps conditions later number is reached =
     let moves = still_rearranged files object change keeps conditions in (
       moves.directories number ∙ is,
-      rearranged_reached files.tree (changed_node nat_eq files object change).tree Nobody Nowhere moves later refl number (λ no. no) is reached,
+      rearranged_reached files.tree
+          (changed_node nat_eq files object change).tree Nobody Nowhere moves later refl number (λ no. no) is reached,
     )
 
 -- each directory that is reached is so after a change that spares it
 pub change_reaches : (files : FileTree ℕ) (change : Change ℕ) → IsTree files.tree → IsProper files.tree change
     → (number : ℕ) → Spares number files change → IsDirectory files.tree number → IsReached files.tree number
     → IsDirectory (changed nat_eq files change).tree number × IsReached (changed nat_eq files change).tree number
-change_reaches files (Make d w c node) conditions may number spares is reached = made_reached files d w c node conditions may number is reached
+change_reaches files (Make d w c node) conditions may number spares is reached =
+    made_reached files d w c node conditions may number is reached
 change_reaches files (AddName d w object) conditions may number spares is reached =
     let moves = linked_rearranged files d w object conditions may in (
       moves.directories number ∙ is,
@@ -115,19 +127,24 @@ change_reaches files (Move from old to new object) conditions may number spares 
     let moves = moved_rearranged files from old to new object conditions may in (
       moves.directories number ∙ is,
       rearranged_reached files.tree (changed nat_eq files (Move from old to new object)).tree _ _ moves
-          (changes_keep_trees files (Move from old to new object) conditions may) (unparented_root files (entry_at files.tree to new)) number
+          (changes_keep_trees files (Move from old to new object) conditions may)
+          (unparented_root files (entry_at files.tree to new)) number
           (⊎_elim spares.0 spares.1) is reached,
     )
 change_reaches files (SetBytes file bytes) conditions may number spares is reached =
-    still_reached files file (node_with_bytes bytes) (bytes_keep_place bytes) conditions (changes_keep_trees files (SetBytes file bytes) conditions may) number is reached
+    still_reached files file (node_with_bytes bytes) (bytes_keep_place bytes) conditions
+    (changes_keep_trees files (SetBytes file bytes) conditions may) number is reached
 change_reaches files (SetAttr object attr) conditions may number spares is reached =
-    still_reached files object (node_with_attr attr) (attr_keeps_place attr) conditions (changes_keep_trees files (SetAttr object attr) conditions may) number is reached
+    still_reached files object (node_with_attr attr) (attr_keeps_place attr) conditions
+    (changes_keep_trees files (SetAttr object attr) conditions may) number is reached
 change_reaches files (SetMark directory opaque) conditions may number spares is reached =
-    still_reached files directory (node_with_mark opaque) (mark_keeps_place opaque) conditions (changes_keep_trees files (SetMark directory opaque) conditions may) number is reached
+    still_reached files directory (node_with_mark opaque) (mark_keeps_place opaque) conditions
+    (changes_keep_trees files (SetMark directory opaque) conditions may) number is reached
 change_reaches files (CopyUp object) conditions may number spares is reached = (is, reached)
 
 -- so such a tree goes on to be one
-pub goes_by : (top : ℕ) (files : FileTree ℕ) (change : Change ℕ) → IsGood top files → IsProper files.tree change → Spares top files change
+pub goes_by : (top : ℕ) (files : FileTree ℕ) (change : Change ℕ) → IsGood top files → IsProper files.tree change
+    → Spares top files change
     → Goes top files (changed nat_eq files change)
 goes_by top files change is may spares =
     let kept = change_reaches files change is.tree may top spares is.directory is.reached in
@@ -139,7 +156,8 @@ goes_by top files change is may spares =
 
 -- A directory loses its names, none of which leads to a directory
 module _ (files : FileTree ℕ) (r : ℕ) (conditions : IsTree files.tree)
-    (leaves : (word : List ℕ) (k : ℕ) → entry_at files.tree r word ≡ Some k → is_directory_node (files.tree.node k) ≡ false) where
+    (leaves : (word : List ℕ) (k : ℕ) → entry_at files.tree r word ≡ Some k
+    → is_directory_node (files.tree.node k) ≡ false) where
   abbrev pub bare : FileTree ℕ
   bare = changed_node nat_eq files r node_without_entries
 
@@ -170,14 +188,16 @@ module _ (files : FileTree ℕ) (r : ℕ) (conditions : IsTree files.tree)
   bare_elsewhere d differ = elsewhere files r node_without_entries d differ
 
   -- what is left was there, elsewhere
-  pub bare_told : (d : ℕ) (n : List ℕ) (k : ℕ) → entry_at bare.tree d n ≡ Some k → (d ≢ r) × (entry_at files.tree d n ≡ Some k)
+  pub bare_told : (d : ℕ) (n : List ℕ) (k : ℕ) → entry_at bare.tree d n ≡ Some k
+      → (d ≢ r) × (entry_at files.tree d n ≡ Some k)
   bare_told d n k e =
       ⊎_elim
       (λ t. none_is_some k (sym (ap (λ m. entry_at bare.tree m n) t.1 ∙ ap (entry_named n) bare_there) ∙ e))
       (λ t. (t.1, sym (ap (λ o. entry_named n (entries_in o)) (bare_elsewhere d t.1)) ∙ e))
       (eqb_tells d r)
 
-  pub bare_kept : (d : ℕ) (n : List ℕ) (k : ℕ) → d ≢ r → entry_at files.tree d n ≡ Some k → entry_at bare.tree d n ≡ Some k
+  pub bare_kept : (d : ℕ) (n : List ℕ) (k : ℕ) → d ≢ r → entry_at files.tree d n ≡ Some k
+      → entry_at bare.tree d n ≡ Some k
   bare_kept d n k differ e = ap (λ o. entry_named n (entries_in o)) (bare_elsewhere d differ) ∙ e
 
   pub bare_kind : (k : ℕ) → is_directory_node (bare.tree.node k) ≡ is_directory_node (files.tree.node k)
@@ -220,13 +240,20 @@ module _ (files : FileTree ℕ) (r : ℕ) (conditions : IsTree files.tree)
   pub bare_tree : IsTree bare.tree
   bare_tree = is_tree-rearranged files.tree bare.tree.node Nobody Nowhere conditions bare_rearranged
 
-  pub bare_reached : (number : ℕ) → IsDirectory files.tree number → IsReached files.tree number → IsReached bare.tree number
+  pub bare_reached : (number : ℕ) → IsDirectory files.tree number → IsReached files.tree number
+      → IsReached bare.tree number
   bare_reached number is reached =
-      rearranged_reached files.tree bare.tree Nobody Nowhere bare_rearranged bare_tree refl number (λ nobody. nobody) is reached
+      rearranged_reached files.tree bare.tree Nobody Nowhere bare_rearranged bare_tree refl number
+      (λ nobody. nobody) is reached
 
   pub bare_goes : (top : ℕ) → IsGood top files → Goes top files bare
   bare_goes top is = record {
-    good = record { tree = bare_tree; directory = bare_kind top ∙ is.directory; reached = bare_reached top is.directory is.reached };
+    good = record {
+      tree = bare_tree;
+      directory = bare_kind top
+          ∙ is.directory;
+      reached = bare_reached top is.directory is.reached;
+    };
     numbers = numbers_stay files r node_without_entries without_entries_keeps.there;
     own_parents = own_parent-rearranged files.tree bare.tree.node Nobody Nowhere conditions bare_rearranged;
   }

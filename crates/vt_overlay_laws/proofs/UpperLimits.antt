@@ -25,21 +25,27 @@ module _ (fresh : Fresh ℕ) (stack : Stack ℕ) (merge : Merge ℕ) (h : is_fit
   made_sized d w number node name small =
       let inode : Node ℕ = record { attr = node.attr; content = content_with_parent (upper_of merge d) node.content } in
       let first = with_inode nat_eq merge.upper (fresh 0) inode in
-      marked_sized (changed nat_eq merge.upper (Make (upper_of merge d) w (fresh 0) inode)) (hides_directory nat_eq stack merge d w) (fresh 0)
-      (name_sized first (upper_of merge d) w (fresh 0) name (inode_sized merge.upper (fresh 0) inode (above_fits_limits (upper_of merge d) node small) h))
+      marked_sized (changed nat_eq merge.upper (Make (upper_of merge d) w (fresh 0) inode))
+      (hides_directory nat_eq stack merge d w) (fresh 0)
+      (name_sized first (upper_of merge d) w (fresh 0) name
+      (inode_sized merge.upper (fresh 0) inode (above_fits_limits (upper_of merge d) node small) h))
 
-  removed_sized : (d : ℕ) (w : List ℕ) (object : ℕ) → is_fit_name w ≡ true → is_fit_tree (removed nat_eq fresh stack merge d w object).upper ≡ true
+  removed_sized : (d : ℕ) (w : List ℕ) (object : ℕ) → is_fit_name w ≡ true
+      → is_fit_tree (removed nat_eq fresh stack merge d w object).upper ≡ true
   removed_sized d w object name =
-      emptied_sized (name_left_by nat_eq (is_some (shown_below nat_eq stack merge d w)) fresh stack merge.upper (upper_of merge d) w)
+      emptied_sized (name_left_by nat_eq (is_some (shown_below nat_eq stack merge d w)) fresh stack merge.upper
+      (upper_of merge d) w)
       (upper_directory_named merge d w)
       (left_sized fresh stack merge.upper (upper_of merge d) w (is_some (shown_below nat_eq stack merge d w)) name h)
 
-  move_sized : (f : ℕ) (old : List ℕ) (t : ℕ) (to : List ℕ) (object : ℕ) → is_fit_name old ≡ true → is_fit_name to ≡ true
+  move_sized : (f : ℕ) (old : List ℕ) (t : ℕ) (to : List ℕ) (object : ℕ) → is_fit_name old ≡ true
+      → is_fit_name to ≡ true
       → is_fit_tree (moved nat_eq fresh stack merge f old t to object).upper ≡ true
   move_sized f old t to object name new =
       let base = emptied nat_eq merge.upper (upper_directory_named merge t to) in
       let gone = with_moved nat_eq base (upper_of merge f) old (upper_of merge t) to (upper_of merge object) in
-      marked_sized (name_left_by nat_eq (is_some (shown_below nat_eq stack merge f old)) fresh stack gone (upper_of merge f) old)
+      marked_sized (name_left_by nat_eq (is_some (shown_below nat_eq stack merge f old)) fresh stack gone
+      (upper_of merge f) old)
       (hides_directory nat_eq stack merge t to) (upper_of merge object)
       (left_sized fresh stack gone (upper_of merge f) old (is_some (shown_below nat_eq stack merge f old)) name
       (moved_sized base (upper_of merge f) old (upper_of merge t) to (upper_of merge object) new
@@ -63,29 +69,38 @@ module _ (fresh : Fresh ℕ) (stack : Stack ℕ) (merge : Merge ℕ) (whole : Is
   upper_sized (AddName d w object) may fit =
       let first = is_copied fresh stack merge whole distinct unused object may.is_there in
       let one = copied fresh stack merge whole distinct unused object may.is_there in
-      let there = subst (λ files. IsThere files d) (sym first.files) (directory_used merge.files.tree d may.name_is_free.in_directory) in
-      let second = object_copied stack (odds fresh) (odd_distinct fresh distinct) one d first.whole (still_unused fresh stack merge whole distinct unused object may.is_there) there in
+      let there = subst (λ files. IsThere files d) (sym first.files)
+      (directory_used merge.files.tree d may.name_is_free.in_directory) in
+      let second = object_copied stack (odds fresh) (odd_distinct fresh distinct) one d first.whole
+      (still_unused fresh stack merge whole distinct unused object may.is_there) there in
       let two = copied_up nat_eq (odds fresh) one d in
-      name_sized two.upper (upper_of two d) w (upper_of two object) fit (second.copied.sizes (ap is_fit_tree first.files ∙ f) (first.sizes f h))
+      name_sized two.upper (upper_of two d) w (upper_of two object) fit
+      (second.copied.sizes (ap is_fit_tree first.files ∙ f) (first.sizes f h))
   upper_sized (Remove d w object) may fit =
       let there = directory_used merge.files.tree d (has_entries merge.files.tree d w object may.named) in
       removed_sized (odds fresh) stack (copied fresh stack merge whole distinct unused d there)
-      ((is_copied fresh stack merge whole distinct unused d there).sizes f h) d w object (name_fits merge.files whole.numbers f d w object may.named)
+      ((is_copied fresh stack merge whole distinct unused d there).sizes f h) d w object
+      (name_fits merge.files whole.numbers f d w object may.named)
   upper_sized (Move from old t to object) asked fit =
       let m = twice fresh stack merge whole distinct unused from old t to object asked.0 in
-      move_sized (odds (odds fresh)) stack (both_copied fresh stack merge from old t to object) (m.sizes f h) from old t to object
+      move_sized (odds (odds fresh)) stack (both_copied fresh stack merge from old t to object)
+      (m.sizes f h) from old t to object
       (name_fits merge.files whole.numbers f from old object asked.0.named) fit
   upper_sized (SetBytes file bytes) there fit =
       let one = copied_up nat_eq fresh merge file in
-      changes_keep_sizes one.upper (SetBytes (upper_of one file) bytes) ((object_copied stack fresh distinct merge file whole unused there).copied.sizes f h) fit
+      changes_keep_sizes one.upper (SetBytes (upper_of one file) bytes)
+      ((object_copied stack fresh distinct merge file whole unused there).copied.sizes f h) fit
   upper_sized (SetAttr object attr) there fit =
       let one = copied_up nat_eq fresh merge object in
-      changes_keep_sizes one.upper (SetAttr (upper_of one object) attr) ((object_copied stack fresh distinct merge object whole unused there).copied.sizes f h) tt
+      changes_keep_sizes one.upper (SetAttr (upper_of one object) attr)
+      ((object_copied stack fresh distinct merge object whole unused there).copied.sizes f h) tt
   upper_sized (SetMark d opaque) asked fit = absurd asked
-  upper_sized (CopyUp object) there fit = (object_copied stack fresh distinct merge object whole unused there).copied.sizes f h
+  upper_sized (CopyUp object) there fit =
+      (object_copied stack fresh distinct merge object whole unused there).copied.sizes f h
 
 pub sizes_stay : SizesStay
 sizes_stay fresh stack merge change whole new asked fit f h = (
-  ap is_fit_tree (sym (files_changed fresh stack merge whole new change asked)) ∙ changes_keep_sizes merge.files change f fit,
+  ap is_fit_tree (sym (files_changed fresh stack merge whole new change asked))
+      ∙ changes_keep_sizes merge.files change f fit,
   upper_sized fresh stack merge whole new f h change asked fit,
 )

@@ -29,7 +29,8 @@ use Rattle.vt_overlay_laws.proofs.WholeAttributes.{upper_real}
 use Rattle.vt_overlay_laws.proofs.WholeNames.{above_named, directory_above, named_above, top_good}
 
 -- A directory of the overlay that names lead to, in the upper layer
-module _ (stack : Stack ℕ) (merge : Merge ℕ) (whole : IsWhole stack merge) (d ud : ℕ) (real_d : merge.real d ≡ Some (Upper ud))
+module _ (stack : Stack ℕ) (merge : Merge ℕ) (whole : IsWhole stack merge) (d ud : ℕ)
+    (real_d : merge.real d ≡ Some (Upper ud))
     (way : List (List ℕ)) (there : number_at_path merge.files way ≡ Some d) where
   pub up_there : led merge.upper.tree stack.directory way ≡ Some ud
   up_there = named_above stack merge whole way d ud there real_d
@@ -41,12 +42,15 @@ module _ (stack : Stack ℕ) (merge : Merge ℕ) (whole : IsWhole stack merge) (
   )
 
   -- what is named in it has that name in the overlay, but for whiteouts
-  pub named_below : (w : List ℕ) (k : ℕ) → entry_at merge.upper.tree ud w ≡ Some k → is_kind_in White (merge.upper.tree.node k) ≡ false
+  pub named_below : (w : List ℕ) (k : ℕ) → entry_at merge.upper.tree ud w ≡ Some k
+      → is_kind_in White (merge.upper.tree.node k) ≡ false
       → (n : ℕ) × (entry_at merge.files.tree d w ≡ Some n) × (merge.real n ≡ Some (Upper k))
   named_below w k e white =
-      let found = above_named stack merge whole (way ++ w ∷ []) k (led-append merge.upper.tree stack.directory way w ud k up_there e) white in (
+      let found = above_named stack merge whole (way ++ w ∷ []) k
+      (led-append merge.upper.tree stack.directory way w ud k up_there e) white in (
         found.0,
-        sym (last_name merge.files.tree merge.files.tree.root way w ∙ ap (option_and_then (λ x. entry_at merge.files.tree x w)) there) ∙ found.1,
+        sym (last_name merge.files.tree merge.files.tree.root way w
+            ∙ ap (option_and_then (λ x. entry_at merge.files.tree x w)) there) ∙ found.1,
         found.2,
       )
 
@@ -55,13 +59,16 @@ module _ (stack : Stack ℕ) (merge : Merge ℕ) (whole : IsWhole stack merge) (
       → (r : ℕ) → entry_at merge.upper.tree ud w ≡ Some r → is_directory_node (merge.upper.tree.node r) ≡ false
   plain_below w free r e = by (is_directory_node (merge.upper.tree.node r)) refl
     where
-      by : (b : Bool) → is_directory_node (merge.upper.tree.node r) ≡ b → is_directory_node (merge.upper.tree.node r) ≡ false
+      by : (b : Bool) → is_directory_node (merge.upper.tree.node r) ≡ b
+          → is_directory_node (merge.upper.tree.node r) ≡ false
       by true is =
-          let found = named_below w r e (no_white_directory (merge.upper.tree.node r) is) in none_is_some found.0 (sym free ∙ found.1)
+          let found = named_below w r e (no_white_directory (merge.upper.tree.node r) is) in
+          none_is_some found.0 (sym free ∙ found.1)
       by false is = is
 
 -- a new inode fits into the directory of the upper layer
-fits_above : (d ud : ℕ) (node : Node ℕ) → IsNewIn d node → IsNewIn ud (record { attr = node.attr; content = content_with_parent ud node.content })
+fits_above : (d ud : ℕ) (node : Node ℕ) → IsNewIn d node
+    → IsNewIn ud (record { attr = node.attr; content = content_with_parent ud node.content })
 fits_above d ud node (inl e) = inl (ap (content_with_parent ud) e)
 fits_above d ud node (inr e) = inr (by node.content e)
   where
@@ -73,7 +80,8 @@ fits_above d ud node (inr e) = inr (by node.content e)
 
 -- A new inode under a name that no directory has
 pub make_over : (top : ℕ) (files : FileTree ℕ) (d : ℕ) (w : List ℕ) (c : ℕ) (node : Node ℕ) → IsGood top files
-    → IsDirectory files.tree d → IsReached files.tree d → ((r : ℕ) → entry_at files.tree d w ≡ Some r → is_directory_node (files.tree.node r) ≡ false)
+    → IsDirectory files.tree d → IsReached files.tree d
+    → ((r : ℕ) → entry_at files.tree d w ≡ Some r → is_directory_node (files.tree.node r) ≡ false)
     → files.tree.node c ≡ None → IsNewIn d node → Goes top files (changed nat_eq files (Make d w c node))
 make_over top files d w c node good is reached plain vacant fits =
     subst (Goes top files) (freed_made files d w (good.tree.in_order d) c node differ)
@@ -96,15 +104,18 @@ make_over top files d w c node good is reached plain vacant fits =
     first = freed_goes top files good d w plain
 
     differ : d ≢ c
-    differ same = true≢false (sym (directory_used files.tree d is) ∙ ap (λ n. is_some (files.tree.node n)) same ∙ ap is_some vacant)
+    differ same = true≢false (sym (directory_used files.tree d is) ∙ ap (λ n. is_some (files.tree.node n)) same
+        ∙ ap is_some vacant)
 
 -- a mark
-pub mark_goes : (top : ℕ) (files : FileTree ℕ) (b : Bool) (object : ℕ) → IsGood top files → Goes top files (marked nat_eq b files object)
+pub mark_goes : (top : ℕ) (files : FileTree ℕ) (b : Bool) (object : ℕ) → IsGood top files
+    → Goes top files (marked nat_eq b files object)
 mark_goes top files true object good = goes_by top files (SetMark object true) good tt tt
 mark_goes top files false object good = goes_none top files good
 
 pub made_goes : (fresh : Fresh ℕ) (stack : Stack ℕ) (merge : Merge ℕ) (d : ℕ) (w : List ℕ) (number : ℕ) (node : Node ℕ)
-    → IsWhole stack merge → StandsInUpper merge d → merge.upper.tree.node (fresh 0) ≡ None → MayMake merge.files.tree d w number node
+    → IsWhole stack merge → StandsInUpper merge d → merge.upper.tree.node (fresh 0) ≡ None
+    → MayMake merge.files.tree d w number node
     → Goes stack.directory merge.upper (made nat_eq fresh stack merge d w number node).upper
 made_goes fresh stack merge d w number node whole stands vacant may =
     let ud = upper_of merge d in
@@ -114,9 +125,11 @@ made_goes fresh stack merge d w number node whole stands vacant may =
     let first = make_over stack.directory merge.upper ud w (fresh 0) new (top_good stack merge whole)
     (directory_above stack merge whole d ud real_d ∙ may.name_is_free.in_directory)
     (up_reached stack merge whole d ud real_d reached.0 reached.1)
-    (plain_below stack merge whole d ud real_d reached.0 reached.1 w may.name_is_free.free) vacant (fits_above d ud node may.fits) in
+    (plain_below stack merge whole d ud real_d reached.0 reached.1 w may.name_is_free.free) vacant
+    (fits_above d ud node may.fits) in
     goes_both stack.directory merge.upper (changed nat_eq merge.upper (Make ud w (fresh 0) new)) _ first
-    (mark_goes stack.directory (changed nat_eq merge.upper (Make ud w (fresh 0) new)) (hides_directory nat_eq stack merge d w) (fresh 0) first.good)
+    (mark_goes stack.directory (changed nat_eq merge.upper (Make ud w (fresh 0) new))
+    (hides_directory nat_eq stack merge d w) (fresh 0) first.good)
 
 pub linked_goes : (stack : Stack ℕ) (merge : Merge ℕ) (d : ℕ) (w : List ℕ) (object : ℕ)
     → IsWhole stack merge → StandsInUpper merge d → StandsInUpper merge object → MayAddName merge.files.tree d w object
@@ -138,9 +151,11 @@ linked_goes stack merge d w object whole stands own may =
     (record {
       name_is_free = record {
         in_directory = freed_kind stack.directory merge.upper good ud w plain ud ∙ is;
-        reached = freed_reached stack.directory merge.upper good ud w plain ud is (up_reached stack merge whole d ud real_d reached.0 reached.1);
+        reached = freed_reached stack.directory merge.upper good ud w plain ud is
+            (up_reached stack merge whole d ud real_d reached.0 reached.1);
         free = freed_free stack.directory merge.upper good ud w plain;
       };
       is_there = freed_used stack.directory merge.upper good ud w plain uo ∙ whole.shown.upper_there object uo real_o;
-      no_directory = freed_kind stack.directory merge.upper good ud w plain uo ∙ directory_above stack merge whole object uo real_o ∙ may.no_directory;
+      no_directory = freed_kind stack.directory merge.upper good ud w plain uo
+          ∙ directory_above stack merge whole object uo real_o ∙ may.no_directory;
     }) tt))

@@ -39,10 +39,13 @@ parent_twice k (Some node) = ap (λ c. Some (record { attr = node.attr; content 
     by Whiteout = refl
 
 -- What a move takes the place of may have lost its parent already
-moved_twice : (files : FileTree ℕ) (from : ℕ) (old : List ℕ) (to : ℕ) (new : List ℕ) (object r : ℕ) → entry_at files.tree to new ≡ Some r
-    → with_moved nat_eq (without_parent nat_eq files (Some r)) from old to new object ≡ with_moved nat_eq files from old to new object
+moved_twice : (files : FileTree ℕ) (from : ℕ) (old : List ℕ) (to : ℕ) (new : List ℕ) (object r : ℕ)
+    → entry_at files.tree to new ≡ Some r
+    → with_moved nat_eq (without_parent nat_eq files (Some r)) from old to new object
+    ≡ with_moved nat_eq files from old to new object
 moved_twice files from old to new object r named =
-    ap (λ x. changed_node nat_eq (with_name nat_eq (without_name nat_eq x from old) to new object) object (node_with_parent to))
+    ap (λ x. changed_node nat_eq (with_name nat_eq (without_name nat_eq x from old) to new object) object
+    (node_with_parent to))
     (ap (without_parent nat_eq once) still
     ∙ unchanged_node once r (node_with_parent r)
     (ap (node_with_parent r) there ∙ parent_twice r (files.tree.node r) ∙ sym there)
@@ -61,8 +64,10 @@ moved_twice files from old to new object r named =
         (Rattle.vt_tree_laws.proofs.ChangesNodes.entries-node_with_parent r) to)
         ∙ named
 
-module _ (fresh : Fresh ℕ) (stack : Stack ℕ) (merge : Merge ℕ) (whole : IsWhole stack merge) (f : ℕ) (old : List ℕ) (t : ℕ) (new : List ℕ) (o : ℕ)
-    (stands_f : StandsInUpper merge f) (stands_t : StandsInUpper merge t) (stands_o : StandsInUpper merge o) (may : MayMove merge.files.tree f old t new o)
+module _ (fresh : Fresh ℕ) (stack : Stack ℕ) (merge : Merge ℕ) (whole : IsWhole stack merge) (f : ℕ) (old : List ℕ)
+    (t : ℕ) (new : List ℕ) (o : ℕ)
+    (stands_f : StandsInUpper merge f) (stands_t : StandsInUpper merge t) (stands_o : StandsInUpper merge o)
+    (may : MayMove merge.files.tree f old t new o)
     (vacant : merge.upper.tree.node (fresh 0) ≡ None) where
   abbrev uf : ℕ
   uf = upper_of merge f
@@ -99,7 +104,8 @@ module _ (fresh : Fresh ℕ) (stack : Stack ℕ) (merge : Merge ℕ) (whole : Is
 
   uf_reached : IsReached merge.upper.tree uf
   uf_reached =
-      up_reached stack merge whole f uf real_f (WholeMovedTree.from_way fresh stack merge whole f old t new o stands_f stands_t stands_o may vacant)
+      up_reached stack merge whole f uf real_f
+      (WholeMovedTree.from_way fresh stack merge whole f old t new o stands_f stands_t stands_o may vacant)
       (WholeMovedTree.from_number fresh stack merge whole f old t new o stands_f stands_t stands_o may vacant)
 
   ut_reached : IsReached merge.upper.tree ut
@@ -109,8 +115,10 @@ module _ (fresh : Fresh ℕ) (stack : Stack ℕ) (merge : Merge ℕ) (whole : Is
   other_there : entry_at merge.upper.tree ut new ≢ Some uo
   other_there e =
       let found = named_below stack merge whole t ut real_t may.reached.0 may.reached.1 new uo e
-      (no_white_object (merge.files.tree.node o) (merge.upper.tree.node uo) (object_above stack merge whole o uo real_o)) in
-      may.replaced_other (found.1 ∙ ap Some ((is_fine stack merge whole).one found.0 o (ap is_some found.2) (found.2 ∙ sym real_o)))
+      (no_white_object (merge.files.tree.node o) (merge.upper.tree.node uo)
+      (object_above stack merge whole o uo real_o)) in
+      may.replaced_other (found.1 ∙ ap Some
+      ((is_fine stack merge whole).one found.0 o (ap is_some found.2) (found.2 ∙ sym real_o)))
 
   -- From the upper layer, or from the one in which a replaced directory has no whiteouts
   module _ (base : FileTree ℕ) (to_base : Goes top merge.upper base)
@@ -144,7 +152,8 @@ module _ (fresh : Fresh ℕ) (stack : Stack ℕ) (merge : Merge ℕ) (whole : Is
     uf_there : IsDirectory moved_up.tree uf × IsReached moved_up.tree uf
     uf_there =
         change_reaches base (Move uf old ut new uo) to_base.good.tree may_up uf (
-          λ same. WholeMovedTree.not_up fresh stack merge whole f old t new o stands_f stands_t stands_o may vacant [] (ap Some (sym same)),
+          λ same. WholeMovedTree.not_up fresh stack merge whole f old t new o stands_f stands_t stands_o may vacant []
+              (ap Some (sym same)),
           λ e. none_is_some uo (sym (no_entries base.tree uf (empty uf e) old) ∙ named),
         )
         (kind uf ∙ uf_directory) from
@@ -157,11 +166,13 @@ module _ (fresh : Fresh ℕ) (stack : Stack ℕ) (merge : Merge ℕ) (whole : Is
       where
         itself : is_entry uf old uf old ≡ true
         itself =
-            ap (λ b. Rattle.std.proofs.Common.◌&&◌ b (Rattle.std.specs.Str.bytes_eq old old)) (Rattle.std.proofs.Common.eq-eqb uf uf refl)
+            ap (λ b. Rattle.std.proofs.Common.◌&&◌ b (Rattle.std.specs.Str.bytes_eq old old))
+            (Rattle.std.proofs.Common.eq-eqb uf uf refl)
             ∙ Rattle.vt_overlay_laws.proofs.WholeAttributes.bytes_same old
 
         by : (b : Bool) → is_entry ut new uf old ≡ b
-            → cond b (Some uo) (cond (is_entry uf old uf old) None (entry_at base.tree uf old)) ≡ cond (is_entry uf old uf old) None (entry_at base.tree uf old)
+            → cond b (Some uo) (cond (is_entry uf old uf old) None (entry_at base.tree uf old))
+            ≡ cond (is_entry uf old uf old) None (entry_at base.tree uf old)
         by true e = absurd (WholeMovedTree.two_names fresh stack merge whole f old t new o stands_f stands_t stands_o may vacant uf old e itself)
         by false e = refl
 
@@ -171,13 +182,16 @@ module _ (fresh : Fresh ℕ) (stack : Stack ℕ) (merge : Merge ℕ) (whole : Is
     moved_vacant : moved_up.tree.node (fresh 0) ≡ None
     moved_vacant =
         no_some (moved_up.tree.node (fresh 0))
-        ((names_leave_inodes base (Move uf old ut new uo) top (fresh 0) refl).there ∙ used (fresh 0) ∙ ap is_some vacant)
+        ((names_leave_inodes base (Move uf old ut new uo) top (fresh 0) refl).there ∙ used (fresh 0)
+        ∙ ap is_some vacant)
 
     leaves : (b : Bool) → Goes top moved_up (name_left_by nat_eq b fresh stack moved_up uf old)
-    leaves true = make_over top moved_up uf old (fresh 0) (whiteout_of stack.mounter) moves.good uf_there.0 uf_there.1 plain moved_vacant (inr refl)
+    leaves true = make_over top moved_up uf old (fresh 0)
+        (whiteout_of stack.mounter) moves.good uf_there.0 uf_there.1 plain moved_vacant (inr refl)
     leaves false = freed_goes top moved_up moves.good uf old plain
 
-    pub moved_up_goes : (left marks : Bool) → Goes top merge.upper (marked nat_eq marks (name_left_by nat_eq left fresh stack moved_up uf old) uo)
+    pub moved_up_goes : (left marks : Bool)
+        → Goes top merge.upper (marked nat_eq marks (name_left_by nat_eq left fresh stack moved_up uf old) uo)
     moved_up_goes left marks =
         let last = name_left_by nat_eq left fresh stack moved_up uf old in
         goes_both top merge.upper base _ to_base
@@ -185,30 +199,37 @@ module _ (fresh : Fresh ℕ) (stack : Stack ℕ) (merge : Merge ℕ) (whole : Is
         (goes_both top moved_up last _ (leaves left) (mark_goes top last marks uo (leaves left).good)))
 
   pub moved_goes : Goes top merge.upper (moved nat_eq fresh stack merge f old t new o).upper
-  moved_goes = by (upper_directory_named merge t new) refl (is_some (shown_below nat_eq stack merge f old)) (hides_directory nat_eq stack merge t new)
+  moved_goes = by (upper_directory_named merge t new) refl (is_some (shown_below nat_eq stack merge f old))
+      (hides_directory nat_eq stack merge t new)
     where
       by : (x : Option ℕ) → upper_directory_named merge t new ≡ x → (left marks : Bool)
           → Goes top merge.upper (marked nat_eq marks
-          (name_left_by nat_eq left fresh stack (with_moved nat_eq (emptied nat_eq merge.upper x) uf old ut new uo) uf old) uo)
+          (name_left_by nat_eq left fresh stack
+          (with_moved nat_eq (emptied nat_eq merge.upper x) uf old ut new uo) uf old) uo)
       by None e left marks =
           let plain = none_named stack merge whole t ut real_t may.reached.0 may.reached.1 new e in
-          moved_up_goes merge.upper (goes_none top merge.upper good) (λ d n k g. g) (λ k. refl) (λ k. refl) named_up uf_reached ut_reached
+          moved_up_goes merge.upper (goes_none top merge.upper good) (λ d n k g. g) (λ k. refl)
+          (λ k. refl) named_up uf_reached ut_reached
           (λ k g. file_is_empty (merge.upper.tree.node k) (plain k g))
           (λ g. true≢false (sym good.directory ∙ plain top g)) left marks
       by (Some r) e left marks =
           subst (λ x. Goes top merge.upper (marked nat_eq marks (name_left_by nat_eq left fresh stack x uf old) uo))
           (sym (moved_twice base uf old ut new uo r (bare_kept merge.upper r good.tree leaf ut new r ut_apart entry)))
-          (moved_up_goes base (bare_goes merge.upper r good.tree leaf top good) (λ d n k g. (bare_told merge.upper r good.tree leaf d n k g).1)
+          (moved_up_goes base (bare_goes merge.upper r good.tree leaf top good)
+          (λ d n k g. (bare_told merge.upper r good.tree leaf d n k g).1)
           (bare_kind merge.upper r good.tree leaf) (bare_used merge.upper r good.tree leaf)
           (bare_kept merge.upper r good.tree leaf uf old uo uf_apart named_up)
-          (bare_reached merge.upper r good.tree leaf uf uf_directory uf_reached) (bare_reached merge.upper r good.tree leaf ut ut_directory ut_reached)
+          (bare_reached merge.upper r good.tree leaf uf uf_directory uf_reached)
+          (bare_reached merge.upper r good.tree leaf ut ut_directory ut_reached)
           (λ k g. ap (λ n. entries_in (base.tree.node n)) (one k g) ∙ bare_there merge.upper r good.tree leaf)
-          (λ g. own_no_top stack merge whole t ut real_t may.reached.0 may.reached.1 new r e may.replaced_empty (one top g)) left marks)
+          (λ g. own_no_top stack merge whole t ut real_t may.reached.0 may.reached.1 new r e may.replaced_empty
+          (one top g)) left marks)
         where
           entry : entry_at merge.upper.tree ut new ≡ Some r
           entry = own_entry stack merge whole t ut real_t may.reached.0 may.reached.1 new r e may.replaced_empty
 
-          leaf : (word : List ℕ) (k : ℕ) → entry_at merge.upper.tree r word ≡ Some k → is_directory_node (merge.upper.tree.node k) ≡ false
+          leaf : (word : List ℕ) (k : ℕ) → entry_at merge.upper.tree r word ≡ Some k
+              → is_directory_node (merge.upper.tree.node k) ≡ false
           leaf = own_leaves stack merge whole t ut real_t may.reached.0 may.reached.1 new r e may.replaced_empty
 
           base : FileTree ℕ
@@ -220,8 +241,11 @@ module _ (fresh : Fresh ℕ) (stack : Stack ℕ) (merge : Merge ℕ) (whole : Is
           uf_apart : uf ≢ r
           uf_apart same =
               let own = own_upper merge t new r e in
-              let one_inode : own.0 ≡ f = (is_fine stack merge whole).one own.0 f (ap is_some own.2) (own.2 ∙ ap (λ n. Some (Upper n)) (sym same) ∙ sym real_f) in
-              none_is_some o (sym (no_entries merge.files.tree f (ap (λ n. entries_in (merge.files.tree.node n)) (sym one_inode) ∙ may.replaced_empty own.0 own.1) old) ∙ may.named)
+              let one_inode : own.0 ≡ f = (is_fine stack merge whole).one own.0 f (ap is_some own.2)
+              (own.2 ∙ ap (λ n. Some (Upper n)) (sym same) ∙ sym real_f) in
+              none_is_some o (sym (no_entries merge.files.tree f
+              (ap (λ n. entries_in (merge.files.tree.node n)) (sym one_inode)
+              ∙ may.replaced_empty own.0 own.1) old) ∙ may.named)
 
           one : (k : ℕ) → entry_at (bare merge.upper r good.tree leaf).tree ut new ≡ Some k → k ≡ r
           one k g = some_is_one k r (sym (bare_told merge.upper r good.tree leaf ut new k g).1 ∙ entry)

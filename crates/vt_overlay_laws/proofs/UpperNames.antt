@@ -22,16 +22,19 @@ use Rattle.vt_overlay_laws.proofs.UpperGoes.{Goes, IsGood, change_reaches, goes_
 same_key : (x y : List ℕ) → name_cmp x y ≡ Equal → x ≡ y
 same_key x y e = same_name x y (ap is_eq e)
 
-sorted_without : (w : List ℕ) (es : Entries ℕ) → is_sorted name_cmp es ≡ true → Rattle.std.proofs.Common.T (is_sorted name_cmp (without_entry w es))
+sorted_without : (w : List ℕ) (es : Entries ℕ) → is_sorted name_cmp es ≡ true
+    → Rattle.std.proofs.Common.T (is_sorted name_cmp (without_entry w es))
 sorted_without w es h = is_sorted-where_key name_cmp (λ x. not (bytes_eq x w)) es (T_from_true _ h)
 
 -- an entry in the place of another
-pub with_over_without : (w : List ℕ) (k : ℕ) (es : Entries ℕ) → is_sorted name_cmp es ≡ true → with_entry w k (without_entry w es) ≡ with_entry w k es
+pub with_over_without : (w : List ℕ) (k : ℕ) (es : Entries ℕ) → is_sorted name_cmp es ≡ true
+    → with_entry w k (without_entry w es) ≡ with_entry w k es
 with_over_without w k es h =
     same_entries name_cmp nat_list_cmp_total same_key _ _
     (is_sorted-put name_cmp nat_list_cmp_total w k (without_entry w es) (sorted_without w es h))
     (is_sorted-put name_cmp nat_list_cmp_total w k es (T_from_true _ h))
-    (λ q. entry_named-with_entry q w k (without_entry w es) ∙ by q (eq_by_cmp name_cmp q w) refl ∙ sym (entry_named-with_entry q w k es))
+    (λ q. entry_named-with_entry q w k (without_entry w es) ∙ by q (eq_by_cmp name_cmp q w) refl
+    ∙ sym (entry_named-with_entry q w k es))
   where
     by : (q : List ℕ) (b : Bool) → eq_by_cmp name_cmp q w ≡ b
         → cond b (Some k) (entry_named q (without_entry w es)) ≡ cond b (Some k) (entry_named q es)
@@ -42,11 +45,13 @@ with_over_without w k es h =
       where
         other : (b : Bool) → bytes_eq q w ≡ b → bytes_eq q w ≡ false
         other true f =
-            absurd (true≢false (sym (ap (λ x. eq_by_cmp name_cmp x w) ((bytes_decides q w).0 f) ∙ ap is_eq (tied_itself nat_list_cmp_total w)) ∙ e))
+            absurd (true≢false (sym (ap (λ x. eq_by_cmp name_cmp x w) ((bytes_decides q w).0 f)
+            ∙ ap is_eq (tied_itself nat_list_cmp_total w)) ∙ e))
         other false f = f
 
 -- a name that is not there is not taken away
-pub without_none : (w : List ℕ) (es : Entries ℕ) → is_sorted name_cmp es ≡ true → entry_named w es ≡ None → without_entry w es ≡ es
+pub without_none : (w : List ℕ) (es : Entries ℕ) → is_sorted name_cmp es ≡ true → entry_named w es ≡ None
+    → without_entry w es ≡ es
 without_none w es h none =
     same_entries name_cmp nat_list_cmp_total same_key _ _ (sorted_without w es h) (T_from_true _ h)
     (λ q. entry_named-without_entry q w es ∙ by q (bytes_eq q w) refl)
@@ -62,19 +67,23 @@ node_with_over_without w k None h = refl
 node_with_over_without w k (Some node) h = ap (λ c. Some (record { attr = node.attr; content = c })) (by node.content h)
   where
     by : (c : Content ℕ) → is_sorted name_cmp (entries_of c) ≡ true
-        → with_entries (with_entries c (without_entry w (entries_of c))) (with_entry w k (entries_of (with_entries c (without_entry w (entries_of c)))))
+        → with_entries (with_entries c (without_entry w (entries_of c)))
+        (with_entry w k (entries_of (with_entries c (without_entry w (entries_of c)))))
         ≡ with_entries c (with_entry w k (entries_of c))
     by (Directory p n o) h = ap (λ es. Directory p es o) (with_over_without w k n h)
     by (Regular b) h = refl
     by (Symlink b) h = refl
     by Whiteout h = refl
 
-pub node_without_none : (w : List ℕ) (o : Option (Node ℕ)) → is_sorted name_cmp (entries_in o) ≡ true → entry_named w (entries_in o) ≡ None
+pub node_without_none : (w : List ℕ) (o : Option (Node ℕ)) → is_sorted name_cmp (entries_in o) ≡ true
+    → entry_named w (entries_in o) ≡ None
     → node_without_entry w o ≡ o
 node_without_none w None h none = refl
-node_without_none w (Some node) h none = ap (λ c. Some (record { attr = node.attr; content = c })) (by node.content h none)
+node_without_none w (Some node) h none =
+    ap (λ c. Some (record { attr = node.attr; content = c })) (by node.content h none)
   where
-    by : (c : Content ℕ) → is_sorted name_cmp (entries_of c) ≡ true → entry_named w (entries_of c) ≡ None → with_entries c (without_entry w (entries_of c)) ≡ c
+    by : (c : Content ℕ) → is_sorted name_cmp (entries_of c) ≡ true → entry_named w (entries_of c) ≡ None
+        → with_entries c (without_entry w (entries_of c)) ≡ c
     by (Directory p n o) h none = ap (λ es. Directory p es o) (without_none w n h none)
     by (Regular b) h none = refl
     by (Symlink b) h none = refl
@@ -93,20 +102,24 @@ no_parent p (Some node) h = ap (λ c. Some (record { attr = node.attr; content =
 -- trees with the same inodes are the same
 pub same_tree : (one other : FileTree ℕ) → one.tree.root ≡ other.tree.root → one.numbers ≡ other.numbers
     → ((k : ℕ) → one.tree.node k ≡ other.tree.node k) → one ≡ other
-same_tree one other root numbers nodes = λ i. record { tree = record { root = root i; node = λ k. nodes k i }; numbers = numbers i }
+same_tree one other root numbers nodes =
+    λ i. record { tree = record { root = root i; node = λ k. nodes k i }; numbers = numbers i }
 
 -- a change that leaves an inode as it is changes nothing
-pub unchanged_node : (files : FileTree ℕ) (number : ℕ) (change : Option (Node ℕ) → Option (Node ℕ)) → change (files.tree.node number) ≡ files.tree.node number
+pub unchanged_node : (files : FileTree ℕ) (number : ℕ) (change : Option (Node ℕ) → Option (Node ℕ))
+    → change (files.tree.node number) ≡ files.tree.node number
     → changed_node nat_eq files number change ≡ files
 unchanged_node files number change same =
     same_tree (changed_node nat_eq files number change) files refl refl
     (λ k. ⊎_elim
-    (λ t. ap (λ b. cond b (change (files.tree.node number)) (files.tree.node k)) t.0 ∙ same ∙ ap files.tree.node (sym t.1))
+    (λ t. ap (λ b. cond b (change (files.tree.node number)) (files.tree.node k)) t.0 ∙ same
+    ∙ ap files.tree.node (sym t.1))
     (λ t. ap (λ b. cond b (change (files.tree.node number)) (files.tree.node k)) t.0)
     (eqb_tells k number))
 
 -- A name given is the name given in exchange
-module _ (files : FileTree ℕ) (d : ℕ) (w : List ℕ) (in_order : is_sorted name_cmp (entries_in (files.tree.node d)) ≡ true) where
+module _ (files : FileTree ℕ) (d : ℕ) (w : List ℕ)
+    (in_order : is_sorted name_cmp (entries_in (files.tree.node d)) ≡ true) where
   abbrev free : FileTree ℕ
   free = without_name nat_eq files d w
 
@@ -132,23 +145,28 @@ module _ (files : FileTree ℕ) (d : ℕ) (w : List ℕ) (in_order : is_sorted n
   pub freed_made : (c : ℕ) (node : Node ℕ) → d ≢ c
       → with_name nat_eq (with_inode nat_eq free c node) d w c ≡ with_name nat_eq (with_inode nat_eq files c node) d w c
   freed_made c node differ =
-      same_tree (with_name nat_eq (with_inode nat_eq free c node) d w c) (with_name nat_eq (with_inode nat_eq files c node) d w c) refl refl
+      same_tree (with_name nat_eq (with_inode nat_eq free c node) d w c)
+      (with_name nat_eq (with_inode nat_eq files c node) d w c) refl refl
       (λ j. by j (nat_eq j d) refl (nat_eq j c) refl)
     where
       at_d : (o : Option (Node ℕ)) → cond (nat_eq d c) (Some node) o ≡ o
       at_d o = ap (λ b. cond b (Some node) o) (ne_eqb d c differ)
 
       by : (j : ℕ) (a : Bool) → nat_eq j d ≡ a → (b : Bool) → nat_eq j c ≡ b
-          → cond a (node_with_entry w c (cond (nat_eq d c) (Some node) (free.tree.node d))) (cond b (Some node) (free.tree.node j))
-          ≡ cond a (node_with_entry w c (cond (nat_eq d c) (Some node) (files.tree.node d))) (cond b (Some node) (files.tree.node j))
+          → cond a (node_with_entry w c (cond (nat_eq d c) (Some node) (free.tree.node d)))
+          (cond b (Some node) (free.tree.node j))
+          ≡ cond a (node_with_entry w c (cond (nat_eq d c) (Some node) (files.tree.node d)))
+          (cond b (Some node) (files.tree.node j))
       by j true e b f =
-          ap (node_with_entry w c) (at_d (free.tree.node d) ∙ there) ∙ node_with_over_without w c (files.tree.node d) in_order
+          ap (node_with_entry w c) (at_d (free.tree.node d) ∙ there)
+          ∙ node_with_over_without w c (files.tree.node d) in_order
           ∙ sym (ap (node_with_entry w c) (at_d (files.tree.node d)))
       by j false e true f = refl
       by j false e false f = elsewhere j (λ same. true≢false (sym (eq-eqb j d same) ∙ e))
 
 -- a name that is taken away is free
-pub without_name_free : (files : FileTree ℕ) (d : ℕ) (w : List ℕ) → entry_at (without_name nat_eq files d w).tree d w ≡ None
+pub without_name_free : (files : FileTree ℕ) (d : ℕ) (w : List ℕ)
+    → entry_at (without_name nat_eq files d w).tree d w ≡ None
 without_name_free files d w =
     ap (entry_named w)
     (ap entries_in (Rattle.vt_tree_laws.proofs.ChangesNodes.there files d (node_without_entry w))
@@ -160,22 +178,28 @@ without_name_free files d w =
 pub two_changed : (files : FileTree ℕ) (a b : ℕ) (f g : Option (Node ℕ) → Option (Node ℕ)) → a ≢ b
     → changed_node nat_eq (changed_node nat_eq files a f) b g ≡ changed_node nat_eq (changed_node nat_eq files b g) a f
 two_changed files a b f g differ =
-    same_tree (changed_node nat_eq (changed_node nat_eq files a f) b g) (changed_node nat_eq (changed_node nat_eq files b g) a f) refl refl
+    same_tree (changed_node nat_eq (changed_node nat_eq files a f) b g)
+    (changed_node nat_eq (changed_node nat_eq files b g) a f) refl refl
     (λ j. by j (nat_eq j a) refl (nat_eq j b) refl)
   where
     by : (j : ℕ) (p : Bool) → nat_eq j a ≡ p → (q : Bool) → nat_eq j b ≡ q
-        → cond q (g (cond (nat_eq b a) (f (files.tree.node a)) (files.tree.node b))) (cond p (f (files.tree.node a)) (files.tree.node j))
-        ≡ cond p (f (cond (nat_eq a b) (g (files.tree.node b)) (files.tree.node a))) (cond q (g (files.tree.node b)) (files.tree.node j))
+        → cond q (g (cond (nat_eq b a) (f (files.tree.node a)) (files.tree.node b)))
+        (cond p (f (files.tree.node a)) (files.tree.node j))
+        ≡ cond p (f (cond (nat_eq a b) (g (files.tree.node b)) (files.tree.node a)))
+        (cond q (g (files.tree.node b)) (files.tree.node j))
     by j true e true h = absurd (differ (sym (eqb-true j a e) ∙ eqb-true j b h))
     by j true e false h = sym (ap (λ x. f (cond x (g (files.tree.node b)) (files.tree.node a))) (ne_eqb a b differ))
-    by j false e true h = ap (λ x. g (cond x (f (files.tree.node a)) (files.tree.node b))) (ne_eqb b a (λ same. differ (sym same)))
+    by j false e true h = ap (λ x. g (cond x (f (files.tree.node a)) (files.tree.node b)))
+        (ne_eqb b a (λ same. differ (sym same)))
     by j false e false h = refl
 
 -- a new inode beside the change of another
 pub inode_changed : (files : FileTree ℕ) (c : ℕ) (node : Node ℕ) (b : ℕ) (g : Option (Node ℕ) → Option (Node ℕ)) → c ≢ b
-    → changed_node nat_eq (with_inode nat_eq files c node) b g ≡ with_inode nat_eq (changed_node nat_eq files b g) c node
+    → changed_node nat_eq (with_inode nat_eq files c node) b g
+    ≡ with_inode nat_eq (changed_node nat_eq files b g) c node
 inode_changed files c node b g differ =
-    same_tree (changed_node nat_eq (with_inode nat_eq files c node) b g) (with_inode nat_eq (changed_node nat_eq files b g) c node) refl refl
+    same_tree (changed_node nat_eq (with_inode nat_eq files c node) b g)
+    (with_inode nat_eq (changed_node nat_eq files b g) c node) refl refl
     (λ j. by j (nat_eq j c) refl (nat_eq j b) refl)
   where
     by : (j : ℕ) (p : Bool) → nat_eq j c ≡ p → (q : Bool) → nat_eq j b ≡ q
@@ -225,7 +249,8 @@ module _ (top : ℕ) (files : FileTree ℕ) (good : IsGood top files) (d : ℕ) 
           (λ same. true≢false (sym good.directory ∙ ap (λ n. is_directory_node (files.tree.node n)) same ∙ plain r e)))
 
   -- directories are still reached
-  pub freed_reached : (number : ℕ) → IsDirectory files.tree number → IsReached files.tree number → IsReached freed.tree number
+  pub freed_reached : (number : ℕ) → IsDirectory files.tree number → IsReached files.tree number
+      → IsReached freed.tree number
   freed_reached number is reached = by (entry_at files.tree d w) refl
     where
       by : (o : Option ℕ) → entry_at files.tree d w ≡ o → IsReached freed.tree number
@@ -234,7 +259,8 @@ module _ (top : ℕ) (files : FileTree ℕ) (good : IsGood top files) (d : ℕ) 
           subst (λ f. IsReached f.tree number) (as_removed r e)
           ((change_reaches files (Remove d w r) good.tree
           (record { named = e; empty = file_is_empty (files.tree.node r) (plain r e) }) number
-          (λ same. true≢false (sym is ∙ ap (λ n. is_directory_node (files.tree.node n)) same ∙ plain r e)) is reached).1)
+          (λ same. true≢false (sym is ∙ ap (λ n. is_directory_node (files.tree.node n)) same
+          ∙ plain r e)) is reached).1)
 
   pub freed_free : entry_at freed.tree d w ≡ None
   freed_free = without_name_free files d w

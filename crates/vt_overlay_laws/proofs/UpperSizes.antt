@@ -20,26 +20,33 @@ use Rattle.vt_layer_laws.proofs.ShownAtPath.{none_is_some}
 use Rattle.vt_layer_laws.proofs.UpperLine.{and_first, and_second, has_entries}
 
 -- one that is there
-pub fits_here : (files : FileTree ℕ) → ListsNumbers nat_eq files → is_fit_tree files ≡ true → (n : ℕ) → is_some (files.tree.node n) ≡ true
+pub fits_here : (files : FileTree ℕ) → ListsNumbers nat_eq files → is_fit_tree files ≡ true → (n : ℕ)
+    → is_some (files.tree.node n) ≡ true
     → fits (files.tree.node n) ≡ true
 fits_here files numbers h n there =
-    among_from_list_all (λ m. fits (files.tree.node m)) files.numbers h n (among_numbers files.numbers n (numbers n ∙ there))
+    among_from_list_all (λ m. fits (files.tree.node m)) files.numbers h n
+    (among_numbers files.numbers n (numbers n ∙ there))
 
 -- each name of a directory
-pub name_fits : (files : FileTree ℕ) → ListsNumbers nat_eq files → is_fit_tree files ≡ true → (d : ℕ) (w : List ℕ) (object : ℕ)
+pub name_fits : (files : FileTree ℕ) → ListsNumbers nat_eq files → is_fit_tree files ≡ true
+    → (d : ℕ) (w : List ℕ) (object : ℕ)
     → entry_at files.tree d w ≡ Some object → is_fit_name w ≡ true
 name_fits files numbers h d w object e =
     by (entries_in (files.tree.node d))
-    (of_node (files.tree.node d) (fits_here files numbers h d (directory_used files.tree d (has_entries files.tree d w object e)))) e
+    (of_node (files.tree.node d) (fits_here files numbers h d
+    (directory_used files.tree d (has_entries files.tree d w object e)))) e
   where
     of_node : (o : Option (Node ℕ)) → fits o ≡ true → list_all is_fit_name (map (λ x. x.0) (entries_in o)) ≡ true
     of_node o k =
         let files : FileTree ℕ = record { tree = record { root = 0; node = λ n. o }; numbers = [] } in
-        and_second (is_no_larger files 0) (has_fit_names files 0) (and_first (is_no_larger files 0 && has_fit_names files 0) (has_fit_text files 0) k)
+        and_second (is_no_larger files 0) (has_fit_names files 0)
+        (and_first (is_no_larger files 0 && has_fit_names files 0) (has_fit_text files 0) k)
 
-    by : (entries : Entries ℕ) → list_all is_fit_name (map (λ x. x.0) entries) ≡ true → entry_named w entries ≡ Some object → is_fit_name w ≡ true
+    by : (entries : Entries ℕ) → list_all is_fit_name (map (λ x. x.0) entries) ≡ true
+        → entry_named w entries ≡ Some object → is_fit_name w ≡ true
     by [] k e = none_is_some object e
-    by (entry ∷ entries) k e = at (eq_by_cmp name_cmp w entry.0) refl e (by entries (and_second (is_fit_name entry.0) _ k))
+    by (entry ∷ entries) k e = at (eq_by_cmp name_cmp w entry.0) refl e
+        (by entries (and_second (is_fit_name entry.0) _ k))
       where
         at : (b : Bool) → eq_by_cmp name_cmp w entry.0 ≡ b → cond b (Some entry.1) (entry_named w entries) ≡ Some object
             → (entry_named w entries ≡ Some object → is_fit_name w ≡ true) → is_fit_name w ≡ true
@@ -47,22 +54,28 @@ name_fits files numbers h d w object e =
         at false f g rest = rest g
 
 -- the parts of a change
-pub name_sized : (files : FileTree ℕ) (d : ℕ) (w : List ℕ) (k : ℕ) → is_fit_name w ≡ true → is_fit_tree files ≡ true → is_fit_tree (with_name nat_eq files d w k) ≡ true
+pub name_sized : (files : FileTree ℕ) (d : ℕ) (w : List ℕ) (k : ℕ) → is_fit_name w ≡ true → is_fit_tree files ≡ true
+    → is_fit_tree (with_name nat_eq files d w k) ≡ true
 name_sized files d w k fit h = changes_keep_sizes files (AddName d w k) h fit
 
-pub marked_sized : (files : FileTree ℕ) (b : Bool) (object : ℕ) → is_fit_tree files ≡ true → is_fit_tree (marked nat_eq b files object) ≡ true
+pub marked_sized : (files : FileTree ℕ) (b : Bool) (object : ℕ) → is_fit_tree files ≡ true
+    → is_fit_tree (marked nat_eq b files object) ≡ true
 marked_sized files true object h = changes_keep_sizes files (SetMark object true) h tt
 marked_sized files false object h = h
 
-pub moved_sized : (files : FileTree ℕ) (from : ℕ) (old : List ℕ) (to : ℕ) (new : List ℕ) (object : ℕ) → is_fit_name new ≡ true → is_fit_tree files ≡ true
+pub moved_sized : (files : FileTree ℕ) (from : ℕ) (old : List ℕ) (to : ℕ) (new : List ℕ) (object : ℕ)
+    → is_fit_name new ≡ true → is_fit_tree files ≡ true
     → is_fit_tree (with_moved nat_eq files from old to new object) ≡ true
 moved_sized files from old to new object fit h = changes_keep_sizes files (Move from old to new object) h fit
 
-pub inode_sized : (files : FileTree ℕ) (c : ℕ) (node : Node ℕ) → is_fit_node node ≡ true → is_fit_tree files ≡ true → is_fit_tree (with_inode nat_eq files c node) ≡ true
+pub inode_sized : (files : FileTree ℕ) (c : ℕ) (node : Node ℕ) → is_fit_node node ≡ true → is_fit_tree files ≡ true
+    → is_fit_tree (with_inode nat_eq files c node) ≡ true
 inode_sized files c node fit h =
-    list_all_from_among (λ n. fits ((with_inode nat_eq files c node).tree.node n)) (c ∷ files.numbers) (λ n m. by n m (nat_eq n c) refl)
+    list_all_from_among (λ n. fits ((with_inode nat_eq files c node).tree.node n)) (c ∷ files.numbers)
+    (λ n m. by n m (nat_eq n c) refl)
   where
-    by : (n : ℕ) → Among n (c ∷ files.numbers) → (b : Bool) → nat_eq n c ≡ b → fits (cond b (Some node) (files.tree.node n)) ≡ true
+    by : (n : ℕ) → Among n (c ∷ files.numbers) → (b : Bool) → nat_eq n c ≡ b
+        → fits (cond b (Some node) (files.tree.node n)) ≡ true
     by n m true e = fit
     by n m false e =
         Rattle.std.proofs.Common.⊎_elim (λ same. absurd (true≢false (sym (eq-eqb n c same) ∙ e)))
@@ -72,9 +85,11 @@ inode_sized files c node fit h =
 without_fits : (w : List ℕ) (o : Option (Node ℕ)) → fits o ≡ true → fits (node_without_entry w o) ≡ true
 without_fits w o k =
     and_first (fits (node_without_entry w o)) true
-    (changes_keep_sizes (record { tree = record { root = 0; node = λ n. o }; numbers = 0 ∷ [] }) (Remove 0 w 1) (ap (λ b. b && true) k) tt)
+    (changes_keep_sizes (record { tree = record { root = 0; node = λ n. o }; numbers = 0 ∷ [] }) (Remove 0 w 1)
+    (ap (λ b. b && true) k) tt)
 
-pub without_sized : (files : FileTree ℕ) (d : ℕ) (w : List ℕ) → is_fit_tree files ≡ true → is_fit_tree (without_name nat_eq files d w) ≡ true
+pub without_sized : (files : FileTree ℕ) (d : ℕ) (w : List ℕ) → is_fit_tree files ≡ true
+    → is_fit_tree (without_name nat_eq files d w) ≡ true
 without_sized files d w h = changed_fits_there files d (node_without_entry w) (without_fits w (files.tree.node d)) h
 
 parent_fits : (p : ℕ) (o : Option (Node ℕ)) → fits o ≡ true → fits (node_with_parent p o) ≡ true
@@ -99,14 +114,16 @@ bare_fits (Some node) k = by node.attr node.content k
     by attr (Symlink b) g = g
     by attr Whiteout g = g
 
-pub emptied_sized : (files : FileTree ℕ) (o : Option ℕ) → is_fit_tree files ≡ true → is_fit_tree (emptied nat_eq files o) ≡ true
+pub emptied_sized : (files : FileTree ℕ) (o : Option ℕ) → is_fit_tree files ≡ true
+    → is_fit_tree (emptied nat_eq files o) ≡ true
 emptied_sized files None h = h
 emptied_sized files (Some r) h =
     let bare = changed_node nat_eq files r node_without_entries in
     changed_fits_there bare r (node_with_parent r) (parent_fits r (bare.tree.node r))
     (changed_fits_there files r node_without_entries (bare_fits (files.tree.node r)) h)
 
-pub left_sized : (fresh : Fresh ℕ) (stack : Stack ℕ) (files : FileTree ℕ) (d : ℕ) (w : List ℕ) (b : Bool) → is_fit_name w ≡ true → is_fit_tree files ≡ true
+pub left_sized : (fresh : Fresh ℕ) (stack : Stack ℕ) (files : FileTree ℕ) (d : ℕ) (w : List ℕ) (b : Bool)
+    → is_fit_name w ≡ true → is_fit_tree files ≡ true
     → is_fit_tree (name_left_by nat_eq b fresh stack files d w) ≡ true
 left_sized fresh stack files d w true fit h =
     let white = with_inode nat_eq files (fresh 0) (whiteout_of stack.mounter) in
@@ -114,7 +131,8 @@ left_sized fresh stack files d w true fit h =
 left_sized fresh stack files d w false fit h = without_sized files d w h
 
 -- a copy, and an inode in another directory
-pub copy_fits_limits : (p : ℕ) (node : Node ℕ) → fits (Some node) ≡ true → is_fit_node (record { attr = node.attr; content = copied_content p node.content }) ≡ true
+pub copy_fits_limits : (p : ℕ) (node : Node ℕ) → fits (Some node) ≡ true
+    → is_fit_node (record { attr = node.attr; content = copied_content p node.content }) ≡ true
 copy_fits_limits p node k = by node.attr node.content k
   where
     by : (attr : Attr) (content : Content ℕ) → fits (Some (record { attr = attr; content = content })) ≡ true
@@ -124,7 +142,8 @@ copy_fits_limits p node k = by node.attr node.content k
     by attr (Symlink b) g = g
     by attr Whiteout g = g
 
-pub above_fits_limits : (p : ℕ) (node : Node ℕ) → is_fit_node node ≡ true → is_fit_node (record { attr = node.attr; content = content_with_parent p node.content }) ≡ true
+pub above_fits_limits : (p : ℕ) (node : Node ℕ) → is_fit_node node ≡ true
+    → is_fit_node (record { attr = node.attr; content = content_with_parent p node.content }) ≡ true
 above_fits_limits p node k = by node.attr node.content k
   where
     by : (attr : Attr) (content : Content ℕ) → fits (Some (record { attr = attr; content = content })) ≡ true

@@ -24,19 +24,24 @@ Told Among before after =
 pub told_none : (P : ℕ → Type 0) (files : FileTree ℕ) → Told P files files
 told_none P files d w y e = inl e
 
-pub told_both : (P : ℕ → Type 0) (one middle other : FileTree ℕ) → Told P one middle → Told P middle other → Told P one other
+pub told_both : (P : ℕ → Type 0) (one middle other : FileTree ℕ) → Told P one middle → Told P middle other
+    → Told P one other
 told_both P one middle other a b d w y e = ⊎_elim (λ f. a d w y f) inr (b d w y e)
 
-pub told_wider : (P Q : ℕ → Type 0) (one other : FileTree ℕ) → ((y : ℕ) → P y → Q y) → Told P one other → Told Q one other
+pub told_wider : (P Q : ℕ → Type 0) (one other : FileTree ℕ) → ((y : ℕ) → P y → Q y) → Told P one other
+    → Told Q one other
 told_wider P Q one other wider a d w y e = ⊎_elim inl (λ p. inr (wider y p)) (a d w y e)
 
 -- a change of one inode that keeps its entries
 pub told_stay : (P : ℕ → Type 0) (files : FileTree ℕ) (number : ℕ) (change : Option (Node ℕ) → Option (Node ℕ))
-    → ((o : Option (Node ℕ)) → entries_in (change o) ≡ entries_in o) → Told P files (changed_node nat_eq files number change)
-told_stay P files number change same d w y e = inl (sym (ap (entry_named w) (entries_stay files number change same d)) ∙ e)
+    → ((o : Option (Node ℕ)) → entries_in (change o) ≡ entries_in o)
+    → Told P files (changed_node nat_eq files number change)
+told_stay P files number change same d w y e =
+    inl (sym (ap (entry_named w) (entries_stay files number change same d)) ∙ e)
 
 -- a name that is given
-pub told_name : (P : ℕ → Type 0) (files : FileTree ℕ) (d : ℕ) (w : List ℕ) (k : ℕ) → P k → Told P files (with_name nat_eq files d w k)
+pub told_name : (P : ℕ → Type 0) (files : FileTree ℕ) (d : ℕ) (w : List ℕ) (k : ℕ) → P k
+    → Told P files (with_name nat_eq files d w k)
 told_name P files d w k p x n y e = by (is_directory_node (files.tree.node d)) refl
   where
     moved : (a b : ℕ) → P a → b ≡ a → P b
@@ -50,17 +55,20 @@ told_name P files d w k p x n y e = by (is_directory_node (files.tree.node d)) r
         here t =
             none_is_some y (sym (ap (λ m. entry_at (with_name nat_eq files d w k).tree m n) t.1
             ∙ ap (entry_named n) (file_is_empty ((with_name nat_eq files d w k).tree.node d)
-            (ap is_directory_node (there files d (node_with_entry w k)) ∙ is_directory-node_with_entry w k (files.tree.node d) ∙ is))) ∙ e)
+            (ap is_directory_node (there files d (node_with_entry w k))
+            ∙ is_directory-node_with_entry w k (files.tree.node d) ∙ is))) ∙ e)
 
         other : (nat_eq x d ≡ false) × (x ≢ d) → (entry_at files.tree x n ≡ Some y) ⊎ P y
         other t = inl (sym (ap (λ o. entry_named n (entries_in o)) (elsewhere files d (node_with_entry w k) x t.1)) ∙ e)
 
 -- one that is taken away
-pub told_without : (P : ℕ → Type 0) (files : FileTree ℕ) (d : ℕ) (w : List ℕ) → Told P files (without_name nat_eq files d w)
+pub told_without : (P : ℕ → Type 0) (files : FileTree ℕ) (d : ℕ) (w : List ℕ)
+    → Told P files (without_name nat_eq files d w)
 told_without P files d w x n y e = inl (untaken_told files d w x n y e).0
 
 -- an inode without names in it
-pub told_inode : (P : ℕ → Type 0) (files : FileTree ℕ) (c : ℕ) (node : Node ℕ) → entries_of node.content ≡ [] → Told P files (with_inode nat_eq files c node)
+pub told_inode : (P : ℕ → Type 0) (files : FileTree ℕ) (c : ℕ) (node : Node ℕ) → entries_of node.content ≡ []
+    → Told P files (with_inode nat_eq files c node)
 told_inode P files c node bare x n y e = ⊎_elim here other (eqb_tells x c)
   where
     here : (nat_eq x c ≡ true) × (x ≡ c) → (entry_at files.tree x n ≡ Some y) ⊎ P y
@@ -72,7 +80,8 @@ told_inode P files c node bare x n y e = ⊎_elim here other (eqb_tells x c)
     other t = inl (sym (ap (λ o. entry_named n (entries_in o)) (node_other files.tree c (Some node) x t.1)) ∙ e)
 
 -- a directory that loses its names
-pub told_bare : (P : ℕ → Type 0) (files : FileTree ℕ) (r : ℕ) → Told P files (changed_node nat_eq files r node_without_entries)
+pub told_bare : (P : ℕ → Type 0) (files : FileTree ℕ) (r : ℕ)
+    → Told P files (changed_node nat_eq files r node_without_entries)
 told_bare P files r x n y e = ⊎_elim here other (eqb_tells x r)
   where
     none_of : (o : Option (Node ℕ)) → entries_in (node_without_entries o) ≡ []
@@ -97,28 +106,34 @@ told_bare P files r x n y e = ⊎_elim here other (eqb_tells x r)
 pub told_emptied : (P : ℕ → Type 0) (files : FileTree ℕ) (o : Option ℕ) → Told P files (emptied nat_eq files o)
 told_emptied P files None = told_none P files
 told_emptied P files (Some r) =
-    told_both P files (changed_node nat_eq files r node_without_entries) (emptied nat_eq files (Some r)) (told_bare P files r)
+    told_both P files (changed_node nat_eq files r node_without_entries) (emptied nat_eq files (Some r))
+    (told_bare P files r)
     (told_stay P (changed_node nat_eq files r node_without_entries) r (node_with_parent r) (entries-node_with_parent r))
 
-pub told_unparented : (P : ℕ → Type 0) (files : FileTree ℕ) (o : Option ℕ) → Told P files (without_parent nat_eq files o)
+pub told_unparented : (P : ℕ → Type 0) (files : FileTree ℕ) (o : Option ℕ)
+    → Told P files (without_parent nat_eq files o)
 told_unparented P files None = told_none P files
 told_unparented P files (Some r) = told_stay P files r (node_with_parent r) (entries-node_with_parent r)
 
-pub told_marked : (P : ℕ → Type 0) (files : FileTree ℕ) (b : Bool) (object : ℕ) → Told P files (marked nat_eq b files object)
+pub told_marked : (P : ℕ → Type 0) (files : FileTree ℕ) (b : Bool) (object : ℕ)
+    → Told P files (marked nat_eq b files object)
 told_marked P files true object = told_stay P files object (node_with_mark true) (mark_entries true)
 told_marked P files false object = told_none P files
 
 -- a name that is left, with a whiteout or without one
-pub told_left : (P : ℕ → Type 0) (fresh : Fresh ℕ) (stack : Stack ℕ) (files : FileTree ℕ) (d : ℕ) (w : List ℕ) (b : Bool) → P (fresh 0)
+pub told_left : (P : ℕ → Type 0) (fresh : Fresh ℕ) (stack : Stack ℕ) (files : FileTree ℕ) (d : ℕ) (w : List ℕ)
+    (b : Bool) → P (fresh 0)
     → Told P files (name_left_by nat_eq b fresh stack files d w)
 told_left P fresh stack files d w true p =
-    told_both P files (with_inode nat_eq files (fresh 0) (whiteout_of stack.mounter)) (name_left_by nat_eq true fresh stack files d w)
+    told_both P files (with_inode nat_eq files (fresh 0) (whiteout_of stack.mounter))
+    (name_left_by nat_eq true fresh stack files d w)
     (told_inode P files (fresh 0) (whiteout_of stack.mounter) refl)
     (told_name P (with_inode nat_eq files (fresh 0) (whiteout_of stack.mounter)) d w (fresh 0) p)
 told_left P fresh stack files d w false p = told_without P files d w
 
 -- a move
-pub told_moved : (P : ℕ → Type 0) (files : FileTree ℕ) (from : ℕ) (old : List ℕ) (to : ℕ) (new : List ℕ) (object : ℕ) → P object
+pub told_moved : (P : ℕ → Type 0) (files : FileTree ℕ) (from : ℕ) (old : List ℕ) (to : ℕ) (new : List ℕ) (object : ℕ)
+    → P object
     → Told P files (with_moved nat_eq files from old to new object)
 told_moved P files from old to new object p =
     let first = without_parent nat_eq files (entry_named new (entries_in (files.tree.node to))) in

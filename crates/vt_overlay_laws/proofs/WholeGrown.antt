@@ -55,10 +55,12 @@ alike_objects (Some a) (Some b) None d s x y = absurd (true≢false (sym x.there
 alike_objects (Some a) (Some b) (Some c) None s x y = absurd (true≢false (sym y.there))
 alike_objects (Some a) (Some b) (Some c) (Some d) s x y = (
   x.attr ∙ s.0 ∙ sym y.attr,
-  content_by c.content d.content ∙ (λ i. same_by (x.kind i) (y.kind i) (x.bytes i) (y.bytes i)) ∙ sym (content_by a.content b.content) ∙ s.1,
+  content_by c.content d.content ∙ (λ i. same_by (x.kind i) (y.kind i) (x.bytes i) (y.bytes i))
+      ∙ sym (content_by a.content b.content) ∙ s.1,
 )
 
-pub directory_alike : (one other : Option (Node ℕ)) → IsAlike one other → is_directory_node other ≡ is_directory_node one
+pub directory_alike : (one other : Option (Node ℕ)) → IsAlike one other
+    → is_directory_node other ≡ is_directory_node one
 directory_alike None None x = refl
 directory_alike None (Some other) x = absurd (true≢false x.there)
 directory_alike (Some one) None x = absurd (true≢false (sym x.there))
@@ -69,7 +71,8 @@ module _ (stack : Stack ℕ) (merge : Merge ℕ) (is_fine : IsFine stack merge) 
     (others : (n : ℕ) → n ≢ number → IsAlike (merge.files.tree.node n) (files.tree.node n))
     (above : (u : ℕ) → u ≢ copy → IsAlike (merge.upper.tree.node u) (upper.tree.node u))
     (new : SameObject (files.tree.node number) (upper.tree.node copy)) (there : is_some (files.tree.node number) ≡ true)
-    (white : is_kind_in White (files.tree.node number) ≡ false) (mark : is_opaque_in (files.tree.node number) ≡ false) where
+    (white : is_kind_in White (files.tree.node number) ≡ false)
+    (mark : is_opaque_in (files.tree.node number) ≡ false) where
   abbrev real : ℕ → Option (Real ℕ)
   real = with_real nat_eq merge.real number (Upper copy)
 
@@ -80,33 +83,46 @@ module _ (stack : Stack ℕ) (merge : Merge ℕ) (is_fine : IsFine stack merge) 
   differs n e same = true≢false (sym (eq-eqb n number same) ∙ e)
 
   not_new : (n u : ℕ) → merge.real n ≡ Some (Upper u) → u ≢ copy
-  not_new n u r same = true≢false (sym (is_fine.upper n u r) ∙ ap (λ k. is_some (merge.upper.tree.node k)) same ∙ ap is_some vacant)
+  not_new n u r same = true≢false
+      (sym (is_fine.upper n u r) ∙ ap (λ k. is_some (merge.upper.tree.node k)) same ∙ ap is_some vacant)
 
-  object_same : (n : ℕ) (b : Bool) → nat_eq n number ≡ b → SameObject (files.tree.node n) (then_some (cond b (Some (Upper copy)) (merge.real n)) (inode_behind stack grown))
-  object_same n true e = subst (λ k. SameObject (files.tree.node k) (upper.tree.node copy)) (sym (eqb-true n number e)) new
+  object_same : (n : ℕ) (b : Bool) → nat_eq n number ≡ b
+      → SameObject (files.tree.node n)
+      (then_some (cond b (Some (Upper copy)) (merge.real n)) (inode_behind stack grown))
+  object_same n true e = subst (λ k. SameObject (files.tree.node k) (upper.tree.node copy))
+      (sym (eqb-true n number e)) new
   object_same n false e = by (merge.real n) refl (is_fine.objects n)
     where
       itself : (o : Option (Node ℕ)) → IsAlike o o
       itself o = record { there = refl; kind = refl; attr = refl; bytes = refl; mark = refl }
 
-      by : (o : Option (Real ℕ)) → merge.real n ≡ o → SameObject (merge.files.tree.node n) (then_some o (inode_behind stack merge))
+      by : (o : Option (Real ℕ)) → merge.real n ≡ o
+          → SameObject (merge.files.tree.node n) (then_some o (inode_behind stack merge))
           → SameObject (files.tree.node n) (then_some o (inode_behind stack grown))
-      by None r same = alike_objects (merge.files.tree.node n) None (files.tree.node n) None same (others n (differs n e)) (itself None)
+      by None r same = alike_objects (merge.files.tree.node n) None (files.tree.node n) None same
+          (others n (differs n e)) (itself None)
       by (Some (Upper u)) r same =
-          alike_objects (merge.files.tree.node n) (merge.upper.tree.node u) (files.tree.node n) (upper.tree.node u) same (others n (differs n e)) (above u (not_new n u r))
+          alike_objects (merge.files.tree.node n) (merge.upper.tree.node u) (files.tree.node n)
+          (upper.tree.node u) same (others n (differs n e)) (above u (not_new n u r))
       by (Some (Below layer path)) r same =
-          alike_objects (merge.files.tree.node n) (inode_behind stack merge (Below layer path)) (files.tree.node n) (inode_behind stack merge (Below layer path)) same (others n (differs n e)) (itself _)
+          alike_objects (merge.files.tree.node n) (inode_behind stack merge (Below layer path)) (files.tree.node n)
+          (inode_behind stack merge (Below layer path)) same (others n (differs n e)) (itself _)
 
   none_before : (a b : Option (Node ℕ)) → is_some b ≡ is_some a → b ≡ None → a ≡ None
   none_before None b e n = refl
   none_before (Some a) b e n = absurd (true≢false (sym e ∙ ap is_some n))
 
-  real_there : (n : ℕ) (b : Bool) → nat_eq n number ≡ b → files.tree.node n ≡ None → cond b (Some (Upper copy)) (merge.real n) ≡ None
-  real_there n true e none = absurd (true≢false (sym there ∙ ap (λ k. is_some (files.tree.node k)) (sym (eqb-true n number e)) ∙ ap is_some none))
-  real_there n false e none = is_fine.there n (none_before (merge.files.tree.node n) (files.tree.node n) (others n (differs n e)).there none)
+  real_there : (n : ℕ) (b : Bool) → nat_eq n number ≡ b → files.tree.node n ≡ None
+      → cond b (Some (Upper copy)) (merge.real n) ≡ None
+  real_there n true e none = absurd
+      (true≢false (sym there ∙ ap (λ k. is_some (files.tree.node k)) (sym (eqb-true n number e)) ∙ ap is_some none))
+  real_there n false e none = is_fine.there n
+      (none_before (merge.files.tree.node n) (files.tree.node n) (others n (differs n e)).there none)
 
-  upper_there : (n object : ℕ) (b : Bool) → cond b (Some (Upper copy)) (merge.real n) ≡ Some (Upper object) → is_some (upper.tree.node object) ≡ true
-  upper_there n object true r = subst (λ k. is_some (upper.tree.node k) ≡ true) (some_is_one copy object (ap upper_object r)) (by (files.tree.node number) (upper.tree.node copy) there new)
+  upper_there : (n object : ℕ) (b : Bool) → cond b (Some (Upper copy)) (merge.real n) ≡ Some (Upper object)
+      → is_some (upper.tree.node object) ≡ true
+  upper_there n object true r = subst (λ k. is_some (upper.tree.node k) ≡ true)
+      (some_is_one copy object (ap upper_object r)) (by (files.tree.node number) (upper.tree.node copy) there new)
     where
       by : (a b : Option (Node ℕ)) → is_some a ≡ true → SameObject a b → is_some b ≡ true
       by None b t s = absurd (true≢false (sym t))
@@ -114,14 +130,16 @@ module _ (stack : Stack ℕ) (merge : Merge ℕ) (is_fine : IsFine stack merge) 
       by (Some a) (Some b) t s = refl
   upper_there n object false r = (above object (not_new n object r)).there ∙ is_fine.upper n object r
 
-  one_to_one : (a b : ℕ) (x y : Bool) → nat_eq a number ≡ x → nat_eq b number ≡ y → is_some (cond x (Some (Upper copy)) (merge.real a)) ≡ true
+  one_to_one : (a b : ℕ) (x y : Bool) → nat_eq a number ≡ x → nat_eq b number ≡ y
+      → is_some (cond x (Some (Upper copy)) (merge.real a)) ≡ true
       → cond x (Some (Upper copy)) (merge.real a) ≡ cond y (Some (Upper copy)) (merge.real b) → a ≡ b
   one_to_one a b true true e f h s = eqb-true a number e ∙ sym (eqb-true b number f)
   one_to_one a b true false e f h s = absurd (not_new b copy (sym s) refl)
   one_to_one a b false true e f h s = absurd (not_new a copy s refl)
   one_to_one a b false false e f h s = is_fine.one a b h s
 
-  pub grown_is_fine : ((path : List (List ℕ)) → then_some (number_at_path files path) real ≡ real_seen stack grown path) → IsFine stack grown
+  pub grown_is_fine : ((path : List (List ℕ))
+      → then_some (number_at_path files path) real ≡ real_seen stack grown path) → IsFine stack grown
   grown_is_fine paths = record {
     paths = paths;
     objects = λ n. object_same n (nat_eq n number) refl;

@@ -33,11 +33,17 @@ use Rattle.vt_overlay_laws.proofs.WholeTogether.{changes_keep_shown}
 use Rattle.vt_overlay_laws.proofs.WholeWorlds.{overlays_are_whole, shown_is_merged}
 
 -- what is asked well speaks of what is there
-pub spoken : (stack : Stack ℕ) (merge : Merge ℕ) (change : Change ℕ) → Rattle.vt_spec.specs.TreeLaws.IsTree merge.files.tree → IsAskedWell stack merge change → SpeaksOfWhatIsThere merge.files change
-spoken stack merge (Make d w number node) tree asked = directory_used merge.files.tree d asked.0.name_is_free.in_directory
-spoken stack merge (AddName d w o) tree may = (directory_used merge.files.tree d may.name_is_free.in_directory, may.is_there)
-spoken stack merge (Remove d w o) tree may = directory_used merge.files.tree d (has_entries merge.files.tree d w o may.named)
-spoken stack merge (Move f old t new o) tree asked = (asked.0.named, directory_used merge.files.tree t asked.0.in_directory)
+pub spoken : (stack : Stack ℕ) (merge : Merge ℕ) (change : Change ℕ)
+    → Rattle.vt_spec.specs.TreeLaws.IsTree merge.files.tree → IsAskedWell stack merge change
+    → SpeaksOfWhatIsThere merge.files change
+spoken stack merge (Make d w number node) tree asked =
+    directory_used merge.files.tree d asked.0.name_is_free.in_directory
+spoken stack merge (AddName d w o) tree may =
+    (directory_used merge.files.tree d may.name_is_free.in_directory, may.is_there)
+spoken stack merge (Remove d w o) tree may =
+    directory_used merge.files.tree d (has_entries merge.files.tree d w o may.named)
+spoken stack merge (Move f old t new o) tree asked =
+    (asked.0.named, directory_used merge.files.tree t asked.0.in_directory)
 spoken stack merge (SetBytes file bytes) tree there = there
 spoken stack merge (SetAttr o attr) tree there = there
 spoken stack merge (SetMark d opaque) tree asked = absurd asked
@@ -48,10 +54,12 @@ in_list : (list : List (Layer ℕ)) (layer : Layer ℕ) → Among list layer →
 in_list [] layer m = absurd m
 in_list (first ∷ list) layer m = ⊎_elim (λ e. inl (sym e)) (λ l. inr (in_list list layer l)) m
 
-module _ (fresh : Fresh ℕ) (world : World ℕ) (location : Location ℕ) (change : Change ℕ) (overlay : Overlay ℕ) (upper : Layer ℕ) (conditions : IsWorld nat_eq world)
+module _ (fresh : Fresh ℕ) (world : World ℕ) (location : Location ℕ) (change : Change ℕ) (overlay : Overlay ℕ)
+    (upper : Layer ℕ) (conditions : IsWorld nat_eq world)
     (is : (filesystem_at nat_eq world location).overlay ≡ Some overlay) (has : overlay.upper ≡ Some upper)
     (distinct : (j k : ℕ) → fresh j ≡ fresh k → j ≡ k) (none : (filesystem : ℕ) → AreNoInodes fresh world filesystem)
-    (asked : IsAskedWell (stack_of nat_eq world overlay upper) (merge_of nat_eq world (filesystem_at nat_eq world location) overlay upper) change) where
+    (asked : IsAskedWell (stack_of nat_eq world overlay upper)
+    (merge_of nat_eq world (filesystem_at nat_eq world location) overlay upper) change) where
   abbrev pub number : ℕ
   number = (mount_at nat_eq world location).filesystem
 
@@ -77,7 +85,8 @@ module _ (fresh : Fresh ℕ) (world : World ℕ) (location : Location ℕ) (chan
   later = with_merge nat_eq world merged overlay upper merge
 
   pub later_is : with_change nat_eq fresh world location change ≡ later
-  later_is = ap (λ o. filesystem_changed nat_eq fresh world merged o change) is ∙ ap (λ o. overlay_changed nat_eq fresh world merged overlay o change) has
+  later_is = ap (λ o. filesystem_changed nat_eq fresh world merged o change) is
+      ∙ ap (λ o. overlay_changed nat_eq fresh world merged overlay o change) has
 
   pub plain : (layer : Layer ℕ) → Among (layers_of overlay) layer → is_plain_layer nat_eq world layer ≡ true
   plain layer m = layer_plain world conditions number overlay is layer (in_list (layers_of overlay) layer m)
@@ -87,21 +96,28 @@ module _ (fresh : Fresh ℕ) (world : World ℕ) (location : Location ℕ) (chan
 
   pub overlay_later : filesystem_numbered nat_eq later number ≡ changed_filesystem
   overlay_later =
-      filesystem_elsewhere (with_filesystem nat_eq world changed_filesystem) changed_upper number (λ e. apart (sym (e ∙ number_of_filesystem world upper.filesystem)))
-      ∙ filesystem_there (λ f. f ≡ changed_filesystem) world changed_filesystem number (sym (number_of_filesystem world number)) refl
+      filesystem_elsewhere (with_filesystem nat_eq world changed_filesystem) changed_upper number
+      (λ e. apart (sym (e ∙ number_of_filesystem world upper.filesystem)))
+      ∙ filesystem_there (λ f. f ≡ changed_filesystem) world changed_filesystem number
+      (sym (number_of_filesystem world number)) refl
       (λ no. none_is_some overlay (sym (ap (λ f. f.overlay) no) ∙ is))
 
   pub upper_later : filesystem_numbered nat_eq later upper.filesystem ≡ changed_upper
   upper_later =
-      filesystem_there (λ f. f ≡ changed_upper) (with_filesystem nat_eq world changed_filesystem) changed_upper upper.filesystem
+      filesystem_there (λ f. f ≡ changed_upper)
+      (with_filesystem nat_eq world changed_filesystem) changed_upper upper.filesystem
       (sym (number_of_filesystem world upper.filesystem)) refl
-      (λ no. absurd (true≢false (sym (and_second (not (is_overlay (filesystem_numbered nat_eq world upper.filesystem))) _
-      (plain upper (subst (λ o. Among (option_to_list o ++ option_to_list overlay.work ++ overlay.lowers) upper) (sym has) (inl refl))))
+      (λ no. absurd (true≢false (sym
+      (and_second (not (is_overlay (filesystem_numbered nat_eq world upper.filesystem))) _
+      (plain upper (subst (λ o. Among (option_to_list o ++ option_to_list overlay.work ++ overlay.lowers) upper)
+      (sym has) (inl refl))))
       ∙ ap (λ f. is_directory_node (f.files.tree.node upper.directory))
-      (sym (filesystem_elsewhere world changed_filesystem upper.filesystem (λ e. apart (e ∙ number_of_filesystem world number))) ∙ no))))
+      (sym (filesystem_elsewhere world changed_filesystem upper.filesystem
+      (λ e. apart (e ∙ number_of_filesystem world number))) ∙ no))))
 
   -- lower layers lead where they led
-  lower_leads : (lower : Layer ℕ) → Lists.Among lower overlay.lowers → LeadsAsBefore world (with_change nat_eq fresh world location change) lower
+  lower_leads : (lower : Layer ℕ) → Lists.Among lower overlay.lowers
+      → LeadsAsBefore world (with_change nat_eq fresh world location change) lower
   lower_leads lower m =
       leads_as_before world conditions lower lower_plain (with_change nat_eq fresh world location change)
       (λ inode lies there. by inode lies there (nat_eq lower.filesystem upper.filesystem) refl)
@@ -115,15 +131,20 @@ module _ (fresh : Fresh ℕ) (world : World ℕ) (location : Location ℕ) (chan
       no_overlay : (filesystem_numbered nat_eq world lower.filesystem).overlay ≡ None
       no_overlay = Rattle.vt_layer_laws.proofs.LockedApart.no_overlay_in world conditions lower lower_plain
 
-      by : (inode : ℕ) → lies_or_counts_under nat_eq world lower.filesystem inode lower ≡ true → is_some (inode_in world lower.filesystem inode) ≡ true
+      by : (inode : ℕ) → lies_or_counts_under nat_eq world lower.filesystem inode lower ≡ true
+          → is_some (inode_in world lower.filesystem inode) ≡ true
           → (b : Bool) → nat_eq lower.filesystem upper.filesystem ≡ b
-          → IsKept (inode_in world lower.filesystem inode) (inode_in (with_change nat_eq fresh world location change) lower.filesystem inode)
+          → IsKept (inode_in world lower.filesystem inode)
+          (inode_in (with_change nat_eq fresh world location change) lower.filesystem inode)
       by inode lies there true e =
           let same = eqb-true lower.filesystem upper.filesystem e in
-          subst (λ n. IsKept (inode_in world n inode) (inode_in (with_change nat_eq fresh world location change) n inode)) (sym same)
+          subst (λ n. IsKept (inode_in world n inode)
+          (inode_in (with_change nat_eq fresh world location change) n inode)) (sym same)
           (upper_filesystem_keeps fresh world location change overlay upper inode conditions is has
-          (spoken (stack_of nat_eq world overlay upper) before change (Rattle.vt_layer_laws.proofs.UpperWorld.overlay_tree world conditions number overlay is) asked)
-          (no_new fresh world upper.filesystem inode (none upper.filesystem) (subst (λ n. is_some (inode_in world n inode) ≡ true) same there))
+          (spoken (stack_of nat_eq world overlay upper) before change
+          (Rattle.vt_layer_laws.proofs.UpperWorld.overlay_tree world conditions number overlay is) asked)
+          (no_new fresh world upper.filesystem inode (none upper.filesystem)
+          (subst (λ n. is_some (inode_in world n inode) ≡ true) same there))
           (λ object. no_lower world conditions number overlay is upper has inode object lower
           (layer_among world conditions (λ o. o.lowers) number overlay is lower m)
           (subst (λ n. lies_or_counts_under nat_eq world n inode lower ≡ true) same lies)))
@@ -133,13 +154,15 @@ module _ (fresh : Fresh ℕ) (world : World ℕ) (location : Location ℕ) (chan
           (others_elsewhere fresh world location change lower.filesystem
           (λ s. none_is_some overlay (sym no_overlay ∙ ap (λ n. (filesystem_numbered nat_eq world n).overlay) s ∙ is))
           (λ o u f g s. true≢false (sym (eq-eqb lower.filesystem upper.filesystem
-          (s ∙ ap (λ l. l.filesystem) (some_is_one u upper (sym g ∙ ap (λ v. v.upper) (some_is_one o overlay (sym f ∙ is)) ∙ has)))) ∙ e))))
+          (s ∙ ap (λ l. l.filesystem) (some_is_one u upper
+          (sym g ∙ ap (λ v. v.upper) (some_is_one o overlay (sym f ∙ is)) ∙ has)))) ∙ e))))
 
   -- so it is what they show
   shown_later : IsWhatIsShown (stack_of nat_eq later changed_overlay upper) merge
   shown_later =
       shown_alike (open_layer nat_eq world) (open_layer nat_eq later) overlay.lowers
-      (λ lower m. subst (λ w. LeadsAsBefore world w lower) later_is (lower_leads lower (in_list overlay.lowers lower m)))
+      (λ lower m. subst (λ w. LeadsAsBefore world w lower) later_is
+      (lower_leads lower (in_list overlay.lowers lower m)))
       upper.directory overlay.mounter merge
       (changes_keep_shown fresh (stack_of nat_eq world overlay upper) before change
       (overlays_are_whole world number overlay upper conditions is has) distinct (λ k. none upper.filesystem k) asked)
@@ -147,11 +170,14 @@ module _ (fresh : Fresh ℕ) (world : World ℕ) (location : Location ℕ) (chan
   merge_is : merge_of nat_eq later (filesystem_numbered nat_eq later number) changed_overlay upper ≡ merge
   merge_is = λ i. record { files = (overlay_later i).files; real = merge.real; upper = (upper_later i).files }
 
-  pub later_is_merged : (after : Overlay ℕ) → (filesystem_numbered nat_eq (with_change nat_eq fresh world location change) number).overlay ≡ Some after
-      → IsMerged nat_eq (with_change nat_eq fresh world location change) (filesystem_numbered nat_eq (with_change nat_eq fresh world location change) number) after
+  pub later_is_merged : (after : Overlay ℕ)
+      → (filesystem_numbered nat_eq (with_change nat_eq fresh world location change) number).overlay ≡ Some after
+      → IsMerged nat_eq (with_change nat_eq fresh world location change)
+      (filesystem_numbered nat_eq (with_change nat_eq fresh world location change) number) after
   later_is_merged after e =
       let same : changed_overlay ≡ after = some_is_one changed_overlay after
-      (sym (ap (λ f. f.overlay) overlay_later) ∙ ap (λ w. (filesystem_numbered nat_eq w number).overlay) (sym later_is) ∙ e) in
+      (sym (ap (λ f. f.overlay) overlay_later) ∙ ap (λ w. (filesystem_numbered nat_eq w number).overlay) (sym later_is)
+      ∙ e) in
       subst (λ w. IsMerged nat_eq w (filesystem_numbered nat_eq w number) after) (sym later_is)
       (subst (IsMerged nat_eq later (filesystem_numbered nat_eq later number)) same
       (shown_is_merged later (filesystem_numbered nat_eq later number) changed_overlay upper has

@@ -13,7 +13,8 @@ use Rattle.vt_layer_laws.proofs.ShownFronts.{front_found, front_passes}
 use Rattle.vt_layer_laws.proofs.ViewsFronts.{hides_so, hiding_alike}
 use Rattle.vt_layer_laws.proofs.ViewsNames.{make_adds_inode, make_adds_path, make_is_seen}
 
-module _ (upper : FileTree ℕ) (top : ℕ) (top_tree : IsTree upper.tree) (top_directory : IsDirectory upper.tree top) (ud c : ℕ) (w : List ℕ) (new : Node ℕ)
+module _ (upper : FileTree ℕ) (top : ℕ) (top_tree : IsTree upper.tree) (top_directory : IsDirectory upper.tree top)
+    (ud c : ℕ) (w : List ℕ) (new : Node ℕ)
     (takes : TakesName upper.tree ud w) (vacant : upper.tree.node c ≡ None) (bare : entries_of new.content ≡ []) where
   abbrev pub grown : FileTree ℕ
   grown = changed nat_eq upper (Make ud w c new)
@@ -24,7 +25,8 @@ module _ (upper : FileTree ℕ) (top : ℕ) (top_tree : IsTree upper.tree) (top_
   abbrev pub after : View ℕ
   after = view_in grown top
 
-  pub leads_same : (path : List (List ℕ)) → names_entry before ud w path ≡ false → led grown.tree top path ≡ led upper.tree top path
+  pub leads_same : (path : List (List ℕ)) → names_entry before ud w path ≡ false
+      → led grown.tree top path ≡ led upper.tree top path
   leads_same path e =
       make_adds_path upper top ud c w new takes vacant bare path ∙ ap (λ b. cond b (Some c) (led upper.tree top path)) e
 
@@ -52,10 +54,13 @@ module _ (upper : FileTree ℕ) (top : ℕ) (top_tree : IsTree upper.tree) (top_
       by : (b : Bool) → IsAlike (cond b (Some new) (node_led before front)) (node_led after front)
           → hides (node_led after front) ≡ cond b (hides (Some new)) (hides (node_led before front))
       by true alike = hiding_alike (Some new) (node_led after front) (hides_so (Some new) (node_led after front) alike)
-      by false alike = hiding_alike (node_led before front) (node_led after front) (hides_so (node_led before front) (node_led after front) alike)
+      by false alike = hiding_alike (node_led before front) (node_led after front)
+          (hides_so (node_led before front) (node_led after front) alike)
 
   -- where it hides, it cuts all below it
-  pub cuts_through : hides (Some new) ≡ true → (path : List (List ℕ)) → goes_through before ud w path ≡ true → cuts after path ≡ true
+  pub cuts_through : hides (Some new) ≡ true → (path : List (List ℕ)) → goes_through before ud w path ≡ true
+      → cuts after path ≡ true
   cuts_through h path through =
       let found = front_found (names_entry before ud w) path through in
-      front_passes (λ front. hides (node_led after front)) path found.0 found.1.0 found.1.1 found.1.2 (hides_at found.0 true found.2 ∙ h)
+      front_passes (λ front. hides (node_led after front)) path found.0 found.1.0 found.1.1 found.1.2
+      (hides_at found.0 true found.2 ∙ h)

@@ -22,19 +22,24 @@ module _ (stack : Stack ℕ) (merge : Merge ℕ) (is_fine : IsFine stack merge) 
   itself : (o : Option (Node ℕ)) → IsAlike o o
   itself o = record { there = refl; kind = refl; attr = refl; bytes = refl; mark = refl }
 
-  object_same : (n : ℕ) (o : Option (Real ℕ)) → merge.real n ≡ o → SameObject (merge.files.tree.node n) (then_some o (inode_behind stack merge))
+  object_same : (n : ℕ) (o : Option (Real ℕ)) → merge.real n ≡ o
+      → SameObject (merge.files.tree.node n) (then_some o (inode_behind stack merge))
       → SameObject (files.tree.node n) (then_some o (inode_behind stack rearranged))
-  object_same n None r same = alike_objects (merge.files.tree.node n) None (files.tree.node n) None same (others n) (itself None)
+  object_same n None r same = alike_objects (merge.files.tree.node n) None (files.tree.node n) None same (others n)
+      (itself None)
   object_same n (Some (Upper u)) r same =
-      alike_objects (merge.files.tree.node n) (merge.upper.tree.node u) (files.tree.node n) (upper.tree.node u) same (others n) (above n u r)
+      alike_objects (merge.files.tree.node n) (merge.upper.tree.node u) (files.tree.node n) (upper.tree.node u) same
+      (others n) (above n u r)
   object_same n (Some (Below layer path)) r same =
-      alike_objects (merge.files.tree.node n) (inode_behind stack merge (Below layer path)) (files.tree.node n) (inode_behind stack merge (Below layer path)) same (others n) (itself _)
+      alike_objects (merge.files.tree.node n) (inode_behind stack merge (Below layer path)) (files.tree.node n)
+      (inode_behind stack merge (Below layer path)) same (others n) (itself _)
 
   none_before : (a b : Option (Node ℕ)) → is_some b ≡ is_some a → b ≡ None → a ≡ None
   none_before None b e n = refl
   none_before (Some a) b e n = absurd (true≢false (sym e ∙ ap is_some n))
 
-  pub rearranged_is_fine : ((path : List (List ℕ)) → then_some (number_at_path files path) merge.real ≡ real_seen stack rearranged path) → IsFine stack rearranged
+  pub rearranged_is_fine : ((path : List (List ℕ))
+      → then_some (number_at_path files path) merge.real ≡ real_seen stack rearranged path) → IsFine stack rearranged
   rearranged_is_fine paths = record {
     paths = paths;
     objects = λ n. object_same n (merge.real n) refl (is_fine.objects n);

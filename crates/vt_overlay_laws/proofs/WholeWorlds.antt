@@ -26,12 +26,14 @@ module _ (world : World ℕ) (filesystem : Filesystem ℕ) (overlay : Overlay �
   abbrev merge : Merge ℕ
   merge = merge_of nat_eq world filesystem overlay upper
 
-  behind_same : (o : Option (Real ℕ)) → then_some o (real_node nat_eq world with_upper) ≡ then_some o (inode_behind stack merge)
+  behind_same : (o : Option (Real ℕ))
+      → then_some o (real_node nat_eq world with_upper) ≡ then_some o (inode_behind stack merge)
   behind_same None = refl
   behind_same (Some (Upper object)) = refl
   behind_same (Some (Below layer path)) =
       by (slice_get overlay.lowers layer)
-      ∙ sym (ap (λ o. then_some o (λ lower. node_at_path lower path)) (slice_get-map (open_layer nat_eq world) overlay.lowers layer))
+      ∙ sym (ap (λ o. then_some o (λ lower. node_at_path lower path))
+      (slice_get-map (open_layer nat_eq world) overlay.lowers layer))
     where
       by : (o : Option (Layer ℕ)) → then_some o (λ lower. node_at_path (open_layer nat_eq world lower) path)
           ≡ then_some (option_map (open_layer nat_eq world) o) (λ lower. node_at_path lower path)
@@ -42,7 +44,8 @@ module _ (world : World ℕ) (filesystem : Filesystem ℕ) (overlay : Overlay �
   to_shown is = record {
     shows = is.shows;
     names = is.names;
-    real_objects = λ number. subst (SameObject (filesystem.files.tree.node number)) (behind_same (overlay.real number)) (is.real_objects number);
+    real_objects = λ number. subst (SameObject (filesystem.files.tree.node number)) (behind_same (overlay.real number))
+        (is.real_objects number);
     real_there = is.real_there;
     no_whiteout = is.no_whiteout;
     no_mark = is.no_mark;
@@ -54,7 +57,8 @@ module _ (world : World ℕ) (filesystem : Filesystem ℕ) (overlay : Overlay �
   from_shown is = record {
     shows = is.shows;
     names = is.names;
-    real_objects = λ number. subst (SameObject (filesystem.files.tree.node number)) (sym (behind_same (overlay.real number))) (is.real_objects number);
+    real_objects = λ number. subst (SameObject (filesystem.files.tree.node number))
+        (sym (behind_same (overlay.real number))) (is.real_objects number);
     real_there = is.real_there;
     no_whiteout = is.no_whiteout;
     no_mark = is.no_mark;
@@ -67,7 +71,8 @@ module _ (world : World ℕ) (filesystem : Filesystem ℕ) (overlay : Overlay �
 
 pub shown_is_merged : ShownIsMerged
 shown_is_merged world filesystem overlay upper has is =
-    subst (IsMerged nat_eq world filesystem) (sym (is_with_upper world filesystem overlay upper has)) (from_shown world filesystem overlay upper is)
+    subst (IsMerged nat_eq world filesystem) (sym (is_with_upper world filesystem overlay upper has))
+    (from_shown world filesystem overlay upper is)
 
 pub overlays_are_whole : OverlaysAreWhole
 overlays_are_whole world number overlay upper conditions is has = record {
@@ -78,6 +83,7 @@ overlays_are_whole world number overlay upper conditions is has = record {
       (are_open world conditions overlay (overlay_layers world conditions number overlay is));
   reached = conditions.overlays.uppers_reached number overlay upper is has;
   shown = to_shown world (filesystem_numbered nat_eq world number) overlay upper
-      (subst (IsMerged nat_eq world (filesystem_numbered nat_eq world number)) (is_with_upper world (filesystem_numbered nat_eq world number) overlay upper has)
+      (subst (IsMerged nat_eq world (filesystem_numbered nat_eq world number))
+      (is_with_upper world (filesystem_numbered nat_eq world number) overlay upper has)
       (overlay_merges world conditions number overlay is));
 }

@@ -155,8 +155,11 @@ module _ (fresh : Fresh ℕ) (world : World ℕ) (whole : IsWorld nat_eq world) 
       permits_walk fresh world task (λ here. ⊤) (directory_walk nat_eq looks task path) _
       (ends_anyhow (directory_walk nat_eq looks task path)) (λ here any.
       permits_unless fresh world task (lazy_rules nat_eq looks task here.location) _ (λ passed.
-      permitted fresh world task (ToUnmountLazily here.location.mount) refl
-      (own_if here.location passed.0, not_true (is_some (mount_at nat_eq world here.location).mount_point) passed.1.1.0))))
+      permitted fresh world task (ToUnmountLazily here.location.mount) refl (
+        own_if here.location passed.0,
+        not_true
+            (is_some (mount_at nat_eq world here.location).mount_point) passed.1.1.0,
+      ))))
 
   pub remount_fits : (path : List ℕ) (flags : MountFlags) → Fit (remount_permit nat_eq looks task path flags)
   unfolding remount_permit

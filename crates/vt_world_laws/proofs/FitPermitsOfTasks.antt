@@ -193,7 +193,8 @@ module _ (fresh : Fresh ℕ) (world : World ℕ) (whole : IsWorld nat_eq world) 
   pub setns_fits : (name : TaskName) → Fit (setns_permit looks task name)
   unfolding setns_permit
   setns_fits name =
-      permits_then fresh world task (ok_or (option_map (λ (t : Task ℕ). t.namespace) (task_called world name)) (denial S2)) _
+      permits_then fresh world task (ok_or (option_map (λ (t : Task ℕ). t.namespace) (task_called world name))
+      (denial S2)) _
       (λ namespace e.
       permits_unless fresh world task ((lacks task cap_sys_admin || lacks task cap_sys_chroot, K1) ∷ []) _ (λ passed.
       permitted fresh world task (ToEnterNamespace namespace) refl
@@ -206,4 +207,5 @@ module _ (fresh : Fresh ℕ) (world : World ℕ) (whole : IsWorld nat_eq world) 
       listed (Some target) f namespace e =
           ap (is_listed nat_eq world) (sym (same_Some target.namespace namespace e))
           ∙ among_from_list_all (λ (t : Task ℕ). is_listed nat_eq world t.namespace) world.tasks
-          whole.namespaces.tasks_listed target (found_among (λ (t : Task ℕ). same_name name t.name) world.tasks target f)
+          whole.namespaces.tasks_listed target
+          (found_among (λ (t : Task ℕ). same_name name t.name) world.tasks target f)

@@ -59,7 +59,8 @@ mounts_of_files before after same kept = same_mounts before after (sym same.moun
 module _ (fresh : Fresh ℕ) (world : World ℕ) where
   pub change_of_files : (location : Location ℕ) (change : Change ℕ)
       → IsOfFiles world (with_change nat_eq fresh world location change)
-  change_of_files location change = by (filesystem_at nat_eq world location) (filesystem_at nat_eq world location).overlay
+  change_of_files location change =
+      by (filesystem_at nat_eq world location) (filesystem_at nat_eq world location).overlay
     where
       upper : (filesystem : Filesystem ℕ) (overlay : Overlay ℕ) (layer : Option (Layer ℕ))
           → IsOfFiles world (overlay_changed nat_eq fresh world filesystem overlay layer change)
@@ -80,4 +81,5 @@ module _ (fresh : Fresh ℕ) (world : World ℕ) where
       → IsOfFiles world (pwritten nat_eq fresh world file offset bytes)
   writing_of_files file offset [] = itself_of_files world
   writing_of_files file offset (byte ∷ bytes) =
-      change_of_files file (SetBytes file.node (overwritten offset (byte ∷ bytes) (bytes_in (node_at nat_eq world file))))
+      change_of_files file (SetBytes file.node
+      (overwritten offset (byte ∷ bytes) (bytes_in (node_at nat_eq world file))))

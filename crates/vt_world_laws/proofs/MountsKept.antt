@@ -115,4 +115,5 @@ all_mounts_kept world fresh task permit is serves called fits =
     mounts_kept_by world fresh task serves is.mounts permit fits.names
 
 pub mounts_kept : KeptByPermits (MountInvariants nat_eq)
-mounts_kept world fresh task permit is plain serves called fits = all_mounts_kept world fresh task permit is serves called fits
+mounts_kept world fresh task permit is plain serves called fits =
+    all_mounts_kept world fresh task permit is serves called fits

@@ -240,4 +240,5 @@ all_namespaces_kept world fresh task permit is serves called fits =
     fits.few_mounts
 
 pub namespaces_kept : KeptByPermits (NamespaceInvariants nat_eq)
-namespaces_kept world fresh task permit is plain serves called fits = all_namespaces_kept world fresh task permit is serves called fits
+namespaces_kept world fresh task permit is plain serves called fits =
+    all_namespaces_kept world fresh task permit is serves called fits

@@ -131,7 +131,8 @@ all_permits_keep_names world fresh task permit is serves called fits =
     (tasks_go_on world fresh task permit fits.names)
 
 pub permits_keep_names : KeptByPermits OneTaskAName
-permits_keep_names world fresh task permit is plain serves called fits = all_permits_keep_names world fresh task permit is serves called fits
+permits_keep_names world fresh task permit is plain serves called fits =
+    all_permits_keep_names world fresh task permit is serves called fits
 
 pub all_permits_keep_counting_forks : KeptByAllPermits ForksAreCounted
 all_permits_keep_counting_forks world fresh task permit is serves called fits =
@@ -142,7 +143,8 @@ all_permits_keep_counting_forks world fresh task permit is serves called fits =
     (tasks_go_on world fresh task permit fits.names))
 
 pub permits_keep_counting_forks : KeptByPermits ForksAreCounted
-permits_keep_counting_forks world fresh task permit is plain serves called fits = all_permits_keep_counting_forks world fresh task permit is serves called fits
+permits_keep_counting_forks world fresh task permit is plain serves called fits =
+    all_permits_keep_counting_forks world fresh task permit is serves called fits
 
 -- All invariants of tasks, where tasks stay within their limits
 pub permits_keep_tasks : KeptByPermits (λ after. TasksAreWithinLimits after → TaskInvariants nat_eq after)

@@ -73,7 +73,8 @@ opened_placed world task file access at opens =
 -- A new file is made where there is a layer to write to: EROFS of open(2)
 abbrev pub HasLayerToWrite : World ℕ → Permit ℕ → Type 0
 HasLayerToWrite world (ToOpenNew directory name node access) =
-    overlay_or false (λ (overlay : Overlay ℕ). not (is_some overlay.upper)) (filesystem_at nat_eq world directory).overlay ≡ false
+    overlay_or false (λ (overlay : Overlay ℕ). not (is_some overlay.upper))
+    (filesystem_at nat_eq world directory).overlay ≡ false
 HasLayerToWrite world permit = ⊤
 
 module _ (world : World ℕ) (fresh : Fresh ℕ) (task : Task ℕ) (is : IsWorld nat_eq world)
@@ -157,7 +158,8 @@ module _ (world : World ℕ) (fresh : Fresh ℕ) (task : Task ℕ) (is : IsWorld
         regular = kind_is File (node_at nat_eq (after permit) location) ∙ ap (holds_of (is_kind File)) kind ∙ fits.1;
       }
 
-  pub permits_keep_tasks_placed : (permit : Permit ℕ) → Fits permit → HasLayerToWrite world permit → ArePlaced (after permit) (after permit).tasks
+  pub permits_keep_tasks_placed : (permit : Permit ℕ) → Fits permit → HasLayerToWrite world permit
+      → ArePlaced (after permit) (after permit).tasks
   permits_keep_tasks_placed Allowed fits writes = all_placed
   permits_keep_tasks_placed (ToList directory) fits writes = all_placed
   permits_keep_tasks_placed (ToStat object) fits writes = all_placed
@@ -276,7 +278,8 @@ module _ (world : World ℕ) (fresh : Fresh ℕ) (task : Task ℕ) (is : IsWorld
       (record { root = at; directory = at; files = still.files }))
   permits_keep_tasks_placed (ToMountPlain place flags) fits writes = unchanged (ToMountPlain place flags) fits refl
   permits_keep_tasks_placed (ToMountOverlay place overlay flags) fits writes = absurd fits
-  permits_keep_tasks_placed (ToBind source place recursive) fits writes = unchanged (ToBind source place recursive) fits refl
+  permits_keep_tasks_placed (ToBind source place recursive) fits writes =
+      unchanged (ToBind source place recursive) fits refl
   permits_keep_tasks_placed (ToMove mount place) fits writes = unchanged (ToMove mount place) fits refl
   permits_keep_tasks_placed (ToUnmount mount) fits writes =
       unchanged (ToUnmount mount) fits (taken_tasks world (going nat_eq world (mount_numbered nat_eq world mount)))
@@ -300,9 +303,11 @@ module _ (world : World ℕ) (fresh : Fresh ℕ) (task : Task ℕ) (is : IsWorld
 
 -- So the invariants of locations, of where tasks stand, and of open files are kept.
 module _ (world : World ℕ) (fresh : Fresh ℕ) (task : Task ℕ) (permit : Permit ℕ) (is : IsWorld nat_eq world)
-    (serves : Serves nat_eq world fresh) (called : task_called world task.name ≡ Some task) (fits : IsFitPermit fresh world task permit)
+    (serves : Serves nat_eq world fresh) (called : task_called world task.name ≡ Some task)
+    (fits : IsFitPermit fresh world task permit)
     (writes : HasLayerToWrite world permit) where
-  placed_later : ArePlaced (after world fresh task is serves called permit) (after world fresh task is serves called permit).tasks
+  placed_later : ArePlaced (after world fresh task is serves called permit)
+      (after world fresh task is serves called permit).tasks
   placed_later = permits_keep_tasks_placed world fresh task is serves called permit fits.names writes
 
   pub locations_stay : LocationsAreThere (after world fresh task is serves called permit)

@@ -92,11 +92,14 @@ replaced_filesystems world (Some location) = taken_filesystems world (gone_on wo
 -- a change in a world with these filesystems
 pub change_seen_in : (fresh : Fresh ℕ) (world middle : World ℕ) → UppersAreElsewhere world → AreNewInodes fresh world
     → middle.filesystems ≡ world.filesystems → (location : Location ℕ) (change : Change ℕ)
-    → MakesNew (files_at nat_eq middle location) change → KeepsWhatIsSeen middle (with_change nat_eq fresh middle location change)
+    → MakesNew (files_at nat_eq middle location) change
+    → KeepsWhatIsSeen middle (with_change nat_eq fresh middle location change)
 change_seen_in fresh world middle elsewhere are_new same location change =
-    change_keeps_seen fresh middle (elsewhere_in middle world same elsewhere) (new_in fresh middle world same are_new) location change
+    change_keeps_seen fresh middle (elsewhere_in middle world same elsewhere)
+    (new_in fresh middle world same are_new) location change
 
-module _ (fresh : Fresh ℕ) (world : World ℕ) (elsewhere : UppersAreElsewhere world) (are_new : AreNewInodes fresh world) where
+module _ (fresh : Fresh ℕ) (world : World ℕ) (elsewhere : UppersAreElsewhere world)
+    (are_new : AreNewInodes fresh world) where
   pub copy_seen : (b : Bool) (file : Location ℕ)
       → KeepsWhatIsSeen world (with_copy nat_eq b fresh world file)
   copy_seen true file = change_keeps_seen fresh world elsewhere are_new file (CopyUp file.node) tt
@@ -140,7 +143,8 @@ module _ (world : World ℕ) (fresh : Fresh ℕ) (task : Task ℕ) (is : IsWorld
   permits_keep_what_is_seen (ToRemoveDirectory parent name directory) names =
       let middle_one = without_mounts_on nat_eq world directory in
       seen_on world middle_one (after (ToRemoveDirectory parent name directory)) (point_removed_seen world directory)
-      (change_seen_in fresh world middle_one elsewhere are_new (taken_filesystems world (gone_on world directory)) parent
+      (change_seen_in fresh world middle_one elsewhere are_new
+      (taken_filesystems world (gone_on world directory)) parent
       (Remove parent.node name directory.node) tt)
   permits_keep_what_is_seen (ToRename from old to new object replaced) names =
       let middle_one = without_replaced nat_eq world replaced in

@@ -62,7 +62,8 @@ module _ (world : World ℕ) (fresh : Fresh ℕ) (task : Task ℕ) (is : IsWorld
   writing file offset [] = shows
   writing file offset (byte ∷ bytes) =
       changing fresh world shows file _
-      (written_seen fresh world (elsewhere world fresh task is serves) (are_new world fresh task is serves) file offset (byte ∷ bytes))
+      (written_seen fresh world (elsewhere world fresh task is serves) (are_new world fresh task is serves) file offset
+      (byte ∷ bytes))
 
   replacing : (replaced : Option (Location ℕ)) → AllShow (without_replaced nat_eq world replaced)
   replacing None = shows
@@ -82,23 +83,27 @@ module _ (world : World ℕ) (fresh : Fresh ℕ) (task : Task ℕ) (is : IsWorld
   permits_keep_all_shown (ToReadPart file offset size) fits = shows
   permits_keep_all_shown (ToChange location change) fits =
       changing fresh world shows location change
-      (change_keeps_seen fresh world (elsewhere world fresh task is serves) (are_new world fresh task is serves) location change (makes_none world location change fits.1))
+      (change_keeps_seen fresh world (elsewhere world fresh task is serves)
+      (are_new world fresh task is serves) location change (makes_none world location change fits.1))
   permits_keep_all_shown (ToMake directory name node) fits =
       changing (odds fresh) world shows directory (Make directory.node name (evens fresh 0) node)
-      (change_keeps_seen (odds fresh) world (elsewhere world fresh task is serves) (odds_are_new world fresh task is serves) directory
+      (change_keeps_seen (odds fresh) world (elsewhere world fresh task is serves)
+      (odds_are_new world fresh task is serves) directory
       (Make directory.node name (evens fresh 0) node)
       (new_at world fresh task is serves directory))
   permits_keep_all_shown (ToRemoveDirectory parent name directory) fits =
       changing fresh (without_mounts_on nat_eq world directory)
       (taken_show world (gone_on world directory) shows) parent
       (Remove parent.node name directory.node)
-      (change_seen_in fresh world (without_mounts_on nat_eq world directory) (elsewhere world fresh task is serves) (are_new world fresh task is serves)
+      (change_seen_in fresh world (without_mounts_on nat_eq world directory) (elsewhere world fresh task is serves)
+      (are_new world fresh task is serves)
       (taken_filesystems world (gone_on world directory)) parent
       (Remove parent.node name directory.node) tt)
   permits_keep_all_shown (ToRename from old to new object replaced) fits =
       changing fresh (without_replaced nat_eq world replaced) (replacing replaced) from
       (Move from.node old to.node new object.node)
-      (change_seen_in fresh world (without_replaced nat_eq world replaced) (elsewhere world fresh task is serves) (are_new world fresh task is serves)
+      (change_seen_in fresh world (without_replaced nat_eq world replaced) (elsewhere world fresh task is serves)
+      (are_new world fresh task is serves)
       (replaced_filesystems world replaced) from
       (Move from.node old to.node new object.node) tt)
   permits_keep_all_shown (ToOpen file access) fits =
@@ -108,7 +113,8 @@ module _ (world : World ℕ) (fresh : Fresh ℕ) (task : Task ℕ) (is : IsWorld
   permits_keep_all_shown (ToOpenNew directory name node access) fits =
       alike (after (ToMake directory name node)) (after (ToOpenNew directory name node access)) refl refl
       (changing (odds fresh) world shows directory (Make directory.node name (evens fresh 0) node)
-      (change_keeps_seen (odds fresh) world (elsewhere world fresh task is serves) (odds_are_new world fresh task is serves) directory
+      (change_keeps_seen (odds fresh) world (elsewhere world fresh task is serves)
+      (odds_are_new world fresh task is serves) directory
       (Make directory.node name (evens fresh 0) node)
       (new_at world fresh task is serves directory)))
   permits_keep_all_shown (ToWritePart file offset bytes) fits = writing file offset bytes

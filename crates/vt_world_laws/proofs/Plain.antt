@@ -44,7 +44,8 @@ module _ (world : World ℕ) (plain : IsPlain world) where
     plain_layers = of_plain _;
     changed_apart = ap (any_pair (overlap nat_eq world)) no_changed_layers;
     lowers_apart = ap (list_any (overlaps_one_of nat_eq world (live_lowers nat_eq world))) no_changed_layers;
-    uppers_reached = λ number overlay upper e. absurd (true≢false (sym (ap is_some e) ∙ ap is_some (plain_numbered number)));
+    uppers_reached = λ number overlay upper e.
+        absurd (true≢false (sym (ap is_some e) ∙ ap is_some (plain_numbered number)));
   }
 
   pub uppers_plain : UppersArePlain world

@@ -183,7 +183,8 @@ module _ (before : World ℕ) (name : TaskName) (changed : List ℕ) (world : Wo
     change = raised world.change;
   }
 
-  pub raising_numbers_keeps : IsWorldButForUse world → IsWorldButForUse (numbers_raised nat_eq before name changed world)
+  pub raising_numbers_keeps : IsWorldButForUse world
+      → IsWorldButForUse (numbers_raised nat_eq before name changed world)
   raising_numbers_keeps is =
       subst IsWorldButForUse (sym numbers_raised_are)
       (unsettled_counted (number_if changed world) namespace_if task_if (raised world.change) world is)

@@ -144,7 +144,8 @@ module _ (world : World ℕ) (whole : IsWorld nat_eq world) (task : Task ℕ)
   no_link_there : (place : Place ℕ) → symlink_there nat_eq world place ≡ None → (object : Location ℕ)
       → place.object ≡ Some object
       → symlink_text (node_at nat_eq world object) ≡ None
-  no_link_there place none object e = ap (λ o. then_some o (λ at. symlink_text (node_at nat_eq world at))) (sym e) ∙ none
+  no_link_there place none object e =
+      ap (λ o. then_some o (λ at. symlink_text (node_at nat_eq world at))) (sym e) ∙ none
 
   file_or_link_end : (place : Place ℕ) (follow : List ℕ → Result (Place ℕ) (Stop ℕ)) → IsFoundPlace place
       → ((inner : List ℕ) → Ends IsEndPlace (follow inner))

@@ -89,7 +89,8 @@ module _ (world : World ℕ) (whole : IsWorld nat_eq world) (task : Task ℕ)
 
   if_link_end : (next : Here ℕ) (follow : List ℕ → Result (Here ℕ) (Stop ℕ)) → Found next.location
       → ((text : List ℕ) → EndsAtEnd (follow text))
-      → (o : Option (List ℕ)) → symlink_text (node_at nat_eq world next.location) ≡ o → EndsAtEnd (if_symlink next o follow)
+      → (o : Option (List ℕ)) → symlink_text (node_at nat_eq world next.location) ≡ o
+      → EndsAtEnd (if_symlink next o follow)
   if_link_end next follow found goes None e = (found, e)
   if_link_end next follow found goes (Some text) e = goes text
 
@@ -105,7 +106,8 @@ module _ (world : World ℕ) (whole : IsWorld nat_eq world) (task : Task ℕ)
       if_link_end next (follow reached.location next) found (λ text. goes reached.location next text end)
       (symlink_text (node_at nat_eq world next.location)) refl))
 
-  link_end : (depth : ℕ) → FollowEnds (λ directory link text. symlink_walked nat_eq depth world task directory link text)
+  link_end : (depth : ℕ) → FollowEnds
+      (λ directory link text. symlink_walked nat_eq depth world task directory link text)
   link_end zero directory link text is = tt
   link_end (suc depth) directory link text is =
       ends_then (λ start. End start.location) (λ next. End next.location)

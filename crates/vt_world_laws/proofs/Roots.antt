@@ -103,7 +103,8 @@ module _ (world : World ℕ) (is : IsWorld nat_eq world) where
       }
 
   -- what stands over a place is in its namespace
-  pub child_in : (own : ℕ) (child : Mount ℕ) → Among child world.mounts → (here : Location ℕ) → child.mount_point ≡ Some here
+  pub child_in : (own : ℕ) (child : Mount ℕ) → Among child world.mounts → (here : Location ℕ)
+      → child.mount_point ≡ Some here
       → is_in own (mount_at nat_eq world here) ≡ true → is_in own child ≡ true
   child_in own child m here at inside =
       by (among_from_all (λ (x : Mount ℕ). Stands nat_eq world x.number) world.mounts is.mounts.standing child m)
@@ -111,7 +112,8 @@ module _ (world : World ℕ) (is : IsWorld nat_eq world) where
     where
       by : Stands nat_eq world child.number → mount_numbered nat_eq world child.number ≡ child → is_in own child ≡ true
       by (at_root number e) same =
-          absurd (true≢false (sym (ap is_some at) ∙ ap (λ (x : Mount ℕ). is_some x.mount_point) (sym same) ∙ ap is_some e))
+          absurd (true≢false (sym (ap is_some at) ∙ ap (λ (x : Mount ℕ). is_some x.mount_point) (sym same)
+          ∙ ap is_some e))
       by (on_parent number place e namespace later) same =
           let it : Some place ≡ Some here = sym e ∙ ap (λ (x : Mount ℕ). x.mount_point) same ∙ at in
           ap (is_in own) (sym same)

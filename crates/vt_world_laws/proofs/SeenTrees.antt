@@ -88,7 +88,8 @@ pub kinds-without_name : (files : FileTree ℕ) (directory : ℕ) (name : List �
 kinds-without_name files directory name =
     part_stays files directory (node_without_entry name) kind_seen (kind-without_entry name)
 
-pub kinds-without_parent : (files : FileTree ℕ) (object : Option ℕ) → SameKinds files (without_parent nat_eq files object)
+pub kinds-without_parent : (files : FileTree ℕ) (object : Option ℕ)
+    → SameKinds files (without_parent nat_eq files object)
 kinds-without_parent files None k = refl
 kinds-without_parent files (Some object) k =
     part_stays files object (node_with_parent object) kind_seen (kind-with_parent object) k

@@ -94,7 +94,8 @@ module _ (world : World ℕ) (unsettled : IsUnderWay world) where
       ∙ (and_parts (is_among nat_eq location.mount (map (λ (mount : Mount ℕ). mount.number) world.mounts)) _
       (passes (is_located_well nat_eq world) (all_locations world) unsettled.tasks.locations_live location m)).1)
 
-  pub task_location : (task : Task ℕ) → Among task world.tasks → (location : Location ℕ) → Among location (locations_of task)
+  pub task_location : (task : Task ℕ) → Among task world.tasks → (location : Location ℕ)
+      → Among location (locations_of task)
       → Among location (all_locations world)
   task_location task m location l = among-flat_map locations_of world.tasks task location m l
 
@@ -269,7 +270,8 @@ under_way world unsettled = record {
 }
 
 module _ (world : World ℕ) (unsettled : IsWorldButForUse world) where
-  pub same_node : (location : Location ℕ) → Among location (all_locations world) → node_at nat_eq (settled nat_eq world) location
+  pub same_node : (location : Location ℕ) → Among location (all_locations world)
+      → node_at nat_eq (settled nat_eq world) location
       ≡ node_at nat_eq world location
   same_node = still_there world (under_way world unsettled)
 
@@ -299,7 +301,9 @@ module _ (world : World ℕ) (unsettled : IsWorldButForUse world) where
 
   settled_leaves : IsWorld nat_eq (settled nat_eq world) × IsPlain (settled nat_eq world)
   settled_leaves = (
-    world_of (settled nat_eq world) settled_is (one_sweep_is_enough world (listed_trees world (under_way world unsettled)) (uppers_plain world unsettled.plain)),
+    world_of (settled nat_eq world) settled_is
+        (one_sweep_is_enough world (listed_trees world (under_way world unsettled))
+        (uppers_plain world unsettled.plain)),
     settled_plain,
   )
 

@@ -96,7 +96,8 @@ module _ (world : World ℕ) (is : IsWorld nat_eq world) where
       by : Stands nat_eq world mount.number → mount_numbered nat_eq world mount.number ≡ mount
           → mount.namespace ≡ (mount_at nat_eq world place).namespace
       by (at_root number e) same =
-          absurd (true≢false (sym (ap is_some at) ∙ ap (λ (x : Mount ℕ). is_some x.mount_point) (sym same) ∙ ap is_some e))
+          absurd (true≢false (sym (ap is_some at) ∙ ap (λ (x : Mount ℕ). is_some x.mount_point) (sym same)
+          ∙ ap is_some e))
       by (on_parent number other e namespace later) same =
           let it : Some other ≡ Some place = sym e ∙ ap (λ (x : Mount ℕ). x.mount_point) same ∙ at in
           ap (λ (x : Mount ℕ). x.namespace) (sym same) ∙ namespace

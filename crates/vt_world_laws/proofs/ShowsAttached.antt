@@ -192,7 +192,8 @@ module _ (world : World ℕ) (new : Copies ℕ) (place : Location ℕ) (moves : 
           let takes = (among-from_filter (takes_part nat_eq world place)
           (receivers_of nat_eq world destination) part n).1 in
           let before_reach = (and_parts
-          (not (nat_eq place.mount part.number) && is_some part.namespace && nat_eq destination.filesystem part.filesystem)
+          (not (nat_eq place.mount part.number) && is_some part.namespace
+          && nat_eq destination.filesystem part.filesystem)
           (reaches nat_eq world place.node part) takes).0 in
           let same = (and_parts (not (nat_eq place.mount part.number) && is_some part.namespace)
           (nat_eq destination.filesystem part.filesystem) before_reach).1 in

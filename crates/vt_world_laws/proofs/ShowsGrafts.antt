@@ -257,7 +257,8 @@ module _ (world : World ℕ) (is : IsWorld nat_eq world) (fresh : Fresh ℕ) (se
           (among-append world.filesystems (filesystem ∷ []) from.0 from.1))
           (among-append mounts (flat_map used_by_filesystem (world.filesystems ++ (filesystem ∷ []))) number front))
           (λ in_namespaces. unused_number world fresh serves (2 * k + 1) number
-          (among-append_right (mounts ++ flat_map used_by_filesystem world.filesystems) namespaces number in_namespaces))
+          (among-append_right (mounts
+          ++ flat_map used_by_filesystem world.filesystems) namespaces number in_namespaces))
           (among-append (mounts ++ flat_map used_by_filesystem
           (world.filesystems ++ (filesystem ∷ []))) namespaces number m)
 

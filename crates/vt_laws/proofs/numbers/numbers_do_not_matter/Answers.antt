@@ -18,7 +18,8 @@ returns-clause-lines c = lines_renamed
 
 pub returns-clause-turns : goal.returns-clause-turns
 returns-clause-turns c renaming fresh sched who =
-    commutes_nat HandedTurn Turned named_turn named_turned (λ A eq handed. turn eq handed.1 who handed.0) renaming (fresh, sched)
+    commutes_nat HandedTurn Turned named_turn named_turned (λ A eq handed. turn eq handed.1 who handed.0) renaming
+    (fresh, sched)
 
 pub returns-clause-same : goal.returns-clause-same
 returns-clause-same c = same_worlds_answer_alike

@@ -64,7 +64,8 @@ module _ (fresh : Fresh ℕ) (world : World ℕ) (task : Task ℕ) where
 
   abbrev HasItOpen : Permit ℕ → Type 0
   HasItOpen (ToReadPart file offset size) =
-      (descriptor : Descriptor ℕ) × (which : ℕ) × (descriptor_numbered task which ≡ Some descriptor) × (descriptor.reads ≡ true)
+      (descriptor : Descriptor ℕ) × (which : ℕ) × (descriptor_numbered task which ≡ Some descriptor)
+      × (descriptor.reads ≡ true)
       × (descriptor.location ≡ file)
   HasItOpen permit = ⊤
 
@@ -72,24 +73,28 @@ module _ (fresh : Fresh ℕ) (world : World ℕ) (task : Task ℕ) where
   unfolding list_permit
   listed path =
       anyhow fresh world task ReadsIt (walk_end (directory_walk nat_eq (looks_of nat_eq world) task path)) _ (λ here e.
-      ruled fresh world task ReadsIt (list_rules (looks_of nat_eq world) task here.location) _ (λ pass. not_true _ pass.0))
+      ruled fresh world task ReadsIt (list_rules (looks_of nat_eq world) task here.location) _
+      (λ pass. not_true _ pass.0))
 
   read : (path : List ℕ) → IfOk (judge_in nat_eq fresh world task (Read path)) ReadsIt
   unfolding read_permit
   read path =
       anyhow fresh world task ReadsIt (walk_end (object_walk nat_eq (looks_of nat_eq world) task path)) _ (λ here e.
-      ruled fresh world task ReadsIt (read_rules (looks_of nat_eq world) task here.location) _ (λ pass. not_true _ pass.1.1.0))
+      ruled fresh world task ReadsIt (read_rules (looks_of nat_eq world) task here.location) _
+      (λ pass. not_true _ pass.1.1.0))
 
   link_read : (path : List ℕ) → IfOk (judge_in nat_eq fresh world task (Readlink path)) IsLinkRead
   unfolding readlink_permit
   link_read path =
       anyhow fresh world task IsLinkRead (walk_end (symlink_walk nat_eq (looks_of nat_eq world) task path)) _ (λ here e.
-      ruled fresh world task IsLinkRead (readlink_rules (looks_of nat_eq world) here.location) _ (λ pass. not_true _ pass.0))
+      ruled fresh world task IsLinkRead (readlink_rules (looks_of nat_eq world) here.location) _
+      (λ pass. not_true _ pass.0))
 
   part_read : (which offset size : ℕ) → IfOk (judge_in nat_eq fresh world task (Pread which offset size)) HasItOpen
   unfolding pread_permit
   part_read which offset size =
-      anyhow fresh world task HasItOpen (ok_or (find (λ (d : Descriptor ℕ). d.reads) (option_to_list (descriptor_numbered task which)))
+      anyhow fresh world task HasItOpen
+      (ok_or (find (λ (d : Descriptor ℕ). d.reads) (option_to_list (descriptor_numbered task which)))
       (denial S4)) _
       (λ descriptor e.
       let found = open_found (descriptor_numbered task which) (λ d. d.reads) descriptor e in
@@ -97,7 +102,8 @@ module _ (fresh : Fresh ℕ) (world : World ℕ) (task : Task ℕ) where
 
   -- the permits that tell names, and bytes
   names_of : (call : Call) (names : List (List ℕ)) (permit : Permit ℕ) → IsFor (looks_of nat_eq world) task call permit
-      → judge_in nat_eq fresh world task call ≡ Ok permit → (apply nat_eq fresh world task permit).answer ≡ Ok (Names names)
+      → judge_in nat_eq fresh world task call ≡ Ok permit
+      → (apply nat_eq fresh world task permit).answer ≡ Ok (Names names)
       → (directory : Location ℕ) × (names ≡ names_in (node_at nat_eq world directory))
       × (node_allows task.credentials read_right (node_at nat_eq world directory) ≡ true)
   unfolding are_names
@@ -116,10 +122,12 @@ module _ (fresh : Fresh ℕ) (world : World ℕ) (task : Task ℕ) where
       ⊎ (((file : Location ℕ) × (bytes ≡ bytes_in (node_at nat_eq world file))
       × (is_kind_in Symlink (node_at nat_eq world file) ≡ true))
       ⊎ ((descriptor : Descriptor ℕ) × (which offset size : ℕ) × (descriptor_numbered task which ≡ Some descriptor)
-      × (descriptor.reads ≡ true) × (bytes ≡ take size (drop offset (bytes_in (node_at nat_eq world descriptor.location))))))
+      × (descriptor.reads ≡ true) × (bytes
+      ≡ take size (drop offset (bytes_in (node_at nat_eq world descriptor.location))))))
 
   bytes_of : (call : Call) (bytes : List ℕ) (permit : Permit ℕ) → IsFor (looks_of nat_eq world) task call permit
-      → judge_in nat_eq fresh world task call ≡ Ok permit → (apply nat_eq fresh world task permit).answer ≡ Ok (Bytes bytes)
+      → judge_in nat_eq fresh world task call ≡ Ok permit
+      → (apply nat_eq fresh world task permit).answer ≡ Ok (Bytes bytes)
       → ToldBytes bytes
   unfolding are_bytes
   bytes_of call bytes (ToRead file) (inl for) judged e =
@@ -137,7 +145,8 @@ module _ (fresh : Fresh ℕ) (world : World ℕ) (task : Task ℕ) where
             (ap (judge_in nat_eq fresh world task) (sym for.1) ∙ judged) (link_read for.0),
       ))
   bytes_of call bytes (ToReadPart file offset size) for judged e =
-      let open_it = given HasItOpen (judge_in nat_eq fresh world task (Pread for.0 offset size)) (ToReadPart file offset size)
+      let open_it = given HasItOpen (judge_in nat_eq fresh world task (Pread for.0 offset size))
+      (ToReadPart file offset size)
       (ap (judge_in nat_eq fresh world task) (sym for.1) ∙ judged) (part_read for.0 offset size) in
       inr (inr (
         open_it.0,
@@ -146,7 +155,8 @@ module _ (fresh : Fresh ℕ) (world : World ℕ) (task : Task ℕ) where
         size,
         open_it.2,
         open_it.3,
-        sym (same_bytes _ bytes e) ∙ ap (λ l. take size (drop offset (bytes_in (node_at nat_eq world l)))) (sym open_it.4),
+        sym (same_bytes _ bytes e) ∙ ap (λ l. take size (drop offset (bytes_in (node_at nat_eq world l))))
+            (sym open_it.4),
       ))
   bytes_of call bytes permit for judged e = absurd (true≢false (sym (ap are_bytes e)))
 
@@ -160,7 +170,8 @@ module _ (fresh : Fresh ℕ) (world : World ℕ) (task : Task ℕ) where
   OpensIt (ToOpen file access) = node_allows task.credentials (access_rights access) (node_at nat_eq world file) ≡ true
   OpensIt permit = ⊤
 
-  opened_there : (file : Location ℕ) (access : Access) → IfOk (open_file_permit nat_eq (looks_of nat_eq world) task file access) OpensIt
+  opened_there : (file : Location ℕ) (access : Access)
+      → IfOk (open_file_permit nat_eq (looks_of nat_eq world) task file access) OpensIt
   opened_there file access =
       ruled fresh world task OpensIt (open_rules (looks_of nat_eq world) task file access) _ (λ pass.
       not_true _ pass.1.1.1.1.1.0)
@@ -191,13 +202,16 @@ module _ (fresh : Fresh ℕ) (world : World ℕ) (task : Task ℕ) where
   opens : (path : List ℕ) (access : Access) (creation : Creation)
       → IfOk (judge_in nat_eq fresh world task (OpenFile path access creation)) OpensIt
   unfolding open_permit
-  opens path access creation = ruled fresh world task OpensIt (descriptor_rules task) _ (λ pass. opened_by path access creation)
+  opens path access creation = ruled fresh world task OpensIt (descriptor_rules task) _
+      (λ pass. opened_by path access creation)
 
   opens_of : (call : Call) (number : ℕ) (permit : Permit ℕ) → IsFor (looks_of nat_eq world) task call permit
-      → judge_in nat_eq fresh world task call ≡ Ok permit → (apply nat_eq fresh world task permit).answer ≡ Ok (Opened number)
+      → judge_in nat_eq fresh world task call ≡ Ok permit
+      → (apply nat_eq fresh world task permit).answer ≡ Ok (Opened number)
       → (file : Location ℕ) × (access : Access) × (left : World ℕ)
       × (apply nat_eq fresh world task permit ≡ opened left task file access)
-      × ((node_allows task.credentials (access_rights access) (node_at nat_eq world file) ≡ true) ⊎ (file.node ≡ fresh 0))
+      × ((node_allows task.credentials (access_rights access) (node_at nat_eq world file) ≡ true)
+      ⊎ (file.node ≡ fresh 0))
   unfolding are_opened
   opens_of call number (ToOpen file access) for judged e = (
     file,
@@ -218,12 +232,15 @@ module _ (fresh : Fresh ℕ) (world : World ℕ) (task : Task ℕ) where
 
 pub opens_are_by_right : OpensAreByRight
 opens_are_by_right fresh world call task permit number judged e =
-    opens_of fresh world task call number permit (permits_are_for_their_calls fresh world task call permit judged) judged e
+    opens_of fresh world task call number permit
+    (permits_are_for_their_calls fresh world task call permit judged) judged e
 
 pub names_are_told_by_right : NamesAreToldByRight
 names_are_told_by_right fresh world call task permit names judged e =
-    names_of fresh world task call names permit (permits_are_for_their_calls fresh world task call permit judged) judged e
+    names_of fresh world task call names permit
+    (permits_are_for_their_calls fresh world task call permit judged) judged e
 
 pub bytes_are_told_by_right : BytesAreToldByRight
 bytes_are_told_by_right fresh world call task permit bytes judged e =
-    bytes_of fresh world task call bytes permit (permits_are_for_their_calls fresh world task call permit judged) judged e
+    bytes_of fresh world task call bytes permit
+    (permits_are_for_their_calls fresh world task call permit judged) judged e

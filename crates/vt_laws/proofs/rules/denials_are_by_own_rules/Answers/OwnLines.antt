@@ -25,11 +25,13 @@ abbrev StepRefusesOwn : List Rule → Step ℕ → Type 0
 StepRefusesOwn rules Silent = Unit {0}
 StepRefusesOwn rules (Answered outcome) = RefusesOwn rules outcome.answer
 
-own_among_more : {A : Type 0} (own rules : List Rule) (answer : Result A Deny) → RefusesOwn rules answer → RefusesOwn (own ++ rules) answer
+own_among_more : {A : Type 0} (own rules : List Rule) (answer : Result A Deny) → RefusesOwn rules answer
+    → RefusesOwn (own ++ rules) answer
 own_among_more own rules (Ok a) h = tt
 own_among_more own rules (Err deny) h = (h.0, among_more own deny.rule rules h.1)
 
-directive_own : (world : World ℕ) (directive : Directive) → RefusesOwn (S1 ∷ S5 ∷ S2 ∷ []) (directed nat_eq world directive).answer
+directive_own : (world : World ℕ) (directive : Directive)
+    → RefusesOwn (S1 ∷ S5 ∷ S2 ∷ []) (directed nat_eq world directive).answer
 directive_own world AskPeers = tt
 directive_own world (AskSealed names) = by_test (list_any (no_such_task world) names) _ tt
   where
@@ -47,7 +49,8 @@ request_own world (Some (Calling task call)) fresh =
 request_own world (Some (Asking directive)) fresh = directive_own world directive
 
 -- S1 and S5 are rules of every line
-line_rules : (request : Option Request) → IsOwn (rules_of_request request) (denial S1) × IsOwn (rules_of_request request) (denial S5)
+line_rules : (request : Option Request)
+    → IsOwn (rules_of_request request) (denial S1) × IsOwn (rules_of_request request) (denial S5)
 line_rules None = ((refl, refl), (refl, refl))
 line_rules (Some (Calling task call)) = ((refl, refl), (refl, refl))
 line_rules (Some (Asking directive)) = ((refl, refl), (refl, refl))
@@ -58,7 +61,8 @@ spoken_own grammar world line None = (line_rules (request_of grammar line)).1
 spoken_own grammar world line (Some fresh) = request_own world (request_of grammar line) fresh
 
 line_own : (long silent : Bool) (grammar : Grammar) (world : World ℕ) (line : List ℕ) (fresh : Option (Fresh ℕ))
-    → StepRefusesOwn (rules_of_request (request_of grammar line)) (line_step_by nat_eq long silent grammar world line fresh)
+    → StepRefusesOwn (rules_of_request (request_of grammar line))
+    (line_step_by nat_eq long silent grammar world line fresh)
 line_own true silent grammar world line fresh = (line_rules (request_of grammar line)).0
 line_own false true grammar world line fresh = tt
 line_own false false grammar world line fresh = spoken_own grammar world line fresh

@@ -17,13 +17,15 @@ use Rattle.std.proofs.lemmas.Bool.{and_from}
 module _ (world : World ℕ) (task : Task ℕ) (here : Location ℕ) where
   -- a refusal that comes after the search rules in order
   abbrev StandsAfterSearch : {A : Type 0} → Result A Deny → Type 0
-  StandsAfterSearch result = IfErr result (λ deny. IsInOrder (search_rules nat_eq world task here ++ ((true, deny.rule) ∷ [])))
+  StandsAfterSearch result = IfErr result
+      (λ deny. IsInOrder (search_rules nat_eq world task here ++ ((true, deny.rule) ∷ [])))
 
   found : {A : Type 0} (object : Option A) → StandsAfterSearch (ok_or object (denial W6))
   found None = refl
   found (Some object) = tt
 
-  lost : {A : Type 0} (top gone : Bool) (stays parent : A) → StandsAfterSearch (cond top (Ok stays) (unless ((gone, W8) ∷ []) (Ok parent)))
+  lost : {A : Type 0} (top gone : Bool) (stays parent : A)
+      → StandsAfterSearch (cond top (Ok stays) (unless ((gone, W8) ∷ []) (Ok parent)))
   lost true gone stays parent = tt
   lost false true stays parent = refl
   lost false false stays parent = tt
@@ -38,7 +40,8 @@ module _ (world : World ℕ) (task : Task ℕ) (here : Location ℕ) where
 
 pub step_rules_in_order : StepRulesInOrder
 step_rules_in_order world task here word deny e =
-    error_is (λ d. IsInOrder (search_rules nat_eq world task here ++ ((true, d.rule) ∷ []))) (stepped nat_eq world task here word) deny e
+    error_is (λ d. IsInOrder (search_rules nat_eq world task here ++ ((true, d.rule) ∷ [])))
+    (stepped nat_eq world task here word) deny e
     (steps world task here word)
 
 -- a place that a rule stops at goes no further
@@ -48,9 +51,11 @@ stops true rule place next e = refl
 stops false rule place next e = cc
 
 -- a walk to that place is refused so, whatever is asked behind it
-stops_there : (walk : Result (Place ℕ) (Stop ℕ)) (place : Place ℕ) (fails : Place ℕ → Bool) (rule : Rule) (more : Place ℕ → Rules)
+stops_there : (walk : Result (Place ℕ) (Stop ℕ)) (place : Place ℕ) (fails : Place ℕ → Bool) (rule : Rule)
+    (more : Place ℕ → Rules)
     → walk ≡ Ok place → fails place ≡ true
-    → walk_end (then_walk (then_walk walk (λ p. walk_unless p.steps ((fails p, rule) ∷ []) p)) (λ p. walk_unless p.steps (more p) p)) ≡ Err
+    → walk_end (then_walk (then_walk walk (λ p. walk_unless p.steps ((fails p, rule) ∷ []) p))
+    (λ p. walk_unless p.steps (more p) p)) ≡ Err
     (denial rule)
 stops_there (Ok found) place fails rule more leads e =
     let same : place ≡ found = cc in
@@ -63,9 +68,11 @@ missing (Some object) e = cc
 
 pub removed_before_slash : RemovedBeforeSlash
 removed_before_slash world task path place leads none removed =
-    stops_there (place_walk nat_eq world task path) place (λ p. not (is_some p.object) && is_removed_at nat_eq world p.parent) W8
+    stops_there (place_walk nat_eq world task path) place
+    (λ p. not (is_some p.object) && is_removed_at nat_eq world p.parent) W8
     (λ p. (p.slash && not (is_some p.object), W6) ∷ []) leads
-    (and_from (not (is_some place.object)) (is_removed_at nat_eq world place.parent) (missing place.object none) removed)
+    (and_from (not (is_some place.object)) (is_removed_at nat_eq world place.parent)
+    (missing place.object none) removed)
 
 pub missing_before_slash : MissingBeforeSlash
 missing_before_slash world task path place leads none =
@@ -74,6 +81,8 @@ missing_before_slash world task path place leads none =
 
 pub removed_before_slash_of_rename : RemovedBeforeSlashOfRename
 removed_before_slash_of_rename world task path place old_is_directory leads none removed =
-    stops_there (place_walk nat_eq world task path) place (λ p. not (is_some p.object) && is_removed_at nat_eq world p.parent) W8
+    stops_there (place_walk nat_eq world task path) place
+    (λ p. not (is_some p.object) && is_removed_at nat_eq world p.parent) W8
     (λ p. (p.slash && not old_is_directory, W3) ∷ []) leads
-    (and_from (not (is_some place.object)) (is_removed_at nat_eq world place.parent) (missing place.object none) removed)
+    (and_from (not (is_some place.object)) (is_removed_at nat_eq world place.parent)
+    (missing place.object none) removed)

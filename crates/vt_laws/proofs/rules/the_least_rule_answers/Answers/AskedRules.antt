@@ -60,7 +60,8 @@ module _ (world : World ℕ) where
   words_asked ((true, rule) ∷ rows) outcome last e = refl
   words_asked ((false, rule) ∷ rows) outcome last e = words_asked rows outcome last e
 
-  exclusive_asked : (special slash there : Bool) (outcome : Outcome ℕ) (more : Rules) → IsAnsweredAs outcome (unless more (Ok true))
+  exclusive_asked : (special slash there : Bool) (outcome : Outcome ℕ) (more : Rules)
+      → IsAnsweredAs outcome (unless more (Ok true))
       → IsAnsweredAs (judged world ((special, E1) ∷ (slash, E2) ∷ (there, E1) ∷ []) outcome)
       (decided (unless ((special, E1) ∷ (slash, E2) ∷ []) (Ok ((there, E1) ∷ more))))
   exclusive_asked true slash there outcome more e = refl
@@ -69,12 +70,14 @@ module _ (world : World ℕ) where
   exclusive_asked false false false outcome more e = e
 
   walk_asked : {A : Type 0} (first : Result A Deny) (next : A → Outcome ℕ) (last : A → Result Rules Deny)
-      → ((a : A) → IsAnsweredAs (next a) (decided (last a))) → IsAnsweredAs (after world first next) (decided (and_then first last))
+      → ((a : A) → IsAnsweredAs (next a) (decided (last a)))
+      → IsAnsweredAs (after world first next) (decided (and_then first last))
   walk_asked (Ok a) next last e = e a
   walk_asked (Err deny) next last e = refl
 
   -- a descriptor that there must be
-  descriptor_asked : {A : Type 0} (rule : Rule) (object : Option A) (next : A → Outcome ℕ) (last : A → Result Rules Deny)
+  descriptor_asked : {A : Type 0} (rule : Rule) (object : Option A) (next : A → Outcome ℕ)
+      (last : A → Result Rules Deny)
       → ((a : A) → IsAnsweredAs (next a) (decided (last a)))
       → IsAnsweredAs (after world (ok_or object (denial rule)) next)
       (unless ((is_err (ok_or object (denial rule)), rule) ∷ []) (decided (and_then (ok_or object (denial rule)) last)))
@@ -84,7 +87,8 @@ module _ (world : World ℕ) where
   -- one of which no more is asked
   descriptor_asked_alone : {A : Type 0} (rule : Rule) (object : Option A) (next : A → Outcome ℕ)
       → ((a : A) → IsAnsweredAs (next a) (Ok true))
-      → IsAnsweredAs (after world (ok_or object (denial rule)) next) (unless ((is_err (ok_or object (denial rule)), rule) ∷ []) (Ok true))
+      → IsAnsweredAs (after world (ok_or object (denial rule)) next)
+      (unless ((is_err (ok_or object (denial rule)), rule) ∷ []) (Ok true))
   descriptor_asked_alone rule (Some a) next e = e a
   descriptor_asked_alone rule None next e = refl
 
@@ -98,7 +102,8 @@ module _ (world : World ℕ) where
 abbrev pub asked : Fresh ℕ → World ℕ → Task ℕ → Call → Result Bool Deny
 asked fresh world task call = unless (asked_first world task call) (decided (asked_last fresh world task call))
 
-write_asked : (fresh : Fresh ℕ) (world : World ℕ) (task : Task ℕ) (place : Place ℕ) (bytes : List ℕ) (object : Option (Location ℕ))
+write_asked : (fresh : Fresh ℕ) (world : World ℕ) (task : Task ℕ) (place : Place ℕ) (bytes : List ℕ)
+    (object : Option (Location ℕ))
     → IsAnsweredAs (judged world (file_word_rules place) (written nat_eq fresh world task place bytes object))
     (decided (Ok (asked_of_write fresh world task place bytes object)))
 write_asked fresh world task place bytes (Some file) =
@@ -112,7 +117,8 @@ write_asked fresh world task place bytes None =
 
 open_asked : (fresh : Fresh ℕ) (world : World ℕ) (task : Task ℕ) (place : Place ℕ) (access : Access) (mode : ℕ)
     (object : Option (Location ℕ))
-    → IsAnsweredAs (judged world (file_word_rules place) (opened_or_created nat_eq fresh world task place access mode object))
+    → IsAnsweredAs (judged world (file_word_rules place)
+    (opened_or_created nat_eq fresh world task place access mode object))
     (decided (Ok (asked_of_open fresh world task place access mode object)))
 open_asked fresh world task place access mode (Some file) =
     tables_asked world (file_word_rules place) (open_rules nat_eq world task file access) _
@@ -121,10 +127,14 @@ open_asked fresh world task place access mode None =
     tables_asked world (file_word_rules place) (asked_of_creation fresh world task place mode) _
     (table_asked world (asked_of_creation fresh world task place mode) _ (Ok true) refl)
 
-rename_asked : (fresh : Fresh ℕ) (world : World ℕ) (task : Task ℕ) (from to : Place ℕ) (object : Location ℕ) (one : Bool)
-    → IsAnsweredAs (renamed_by nat_eq one fresh world task from to object) (decided (Ok (asked_of_rename world task from to object one)))
-rename_asked fresh world task from to object true = table_asked world (same_object_rules nat_eq world from to) _ (Ok true) refl
-rename_asked fresh world task from to object false = table_asked world (rename_rules nat_eq world task from to object) _ (Ok true) refl
+rename_asked : (fresh : Fresh ℕ) (world : World ℕ) (task : Task ℕ) (from to : Place ℕ) (object : Location ℕ)
+    (one : Bool)
+    → IsAnsweredAs (renamed_by nat_eq one fresh world task from to object)
+    (decided (Ok (asked_of_rename world task from to object one)))
+rename_asked fresh world task from to object true =
+    table_asked world (same_object_rules nat_eq world from to) _ (Ok true) refl
+rename_asked fresh world task from to object false =
+    table_asked world (rename_rules nat_eq world task from to object) _ (Ok true) refl
 
 overlay_asked : (fresh : Fresh ℕ) (world : World ℕ) (task : Task ℕ) (place : Location ℕ) (flags : MountFlags)
     (options : Option OverlayWords)
@@ -173,11 +183,13 @@ call_asked fresh world task (Write path bytes) =
 call_asked fresh world task (Mkdir path mode) =
     walk_asked world (walk_end (new_walk nat_eq world task path)) _ _ (λ place.
     table_asked world (new_rules nat_eq fresh world task place
-    (record { attr = new_attr task (unwrap_or mode directory_mode); content = new_directory place.parent.node })) _ (Ok true) refl)
+    (record { attr = new_attr task (unwrap_or mode directory_mode); content = new_directory place.parent.node })) _
+    (Ok true) refl)
 call_asked fresh world task (SymlinkAt text path) =
     words_asked world (symlink_text_rules text) _ _
     (walk_asked world (walk_end (new_leaf_walk nat_eq world task path)) _ _ (λ place.
-    table_asked world (new_rules nat_eq fresh world task place (record { attr = exact_attr task symlink_mode; content = Symlink text })) _
+    table_asked world (new_rules nat_eq fresh world task place
+    (record { attr = exact_attr task symlink_mode; content = Symlink text })) _
     (Ok true) refl))
 call_asked fresh world task (MakeWhiteout path) =
     walk_asked world (walk_end (new_leaf_walk nat_eq world task path)) _ _ (λ place.
@@ -187,7 +199,8 @@ call_asked fresh world task (LinkTo old new) =
     walk_asked world (walk_end (new_leaf_walk nat_eq world task new)) _ _ (λ place.
     tables_asked world ((is_special place.last, E1) ∷ [])
     (hard_link_rules nat_eq world task from.location place (linking from.location place)) _
-    (table_asked world (hard_link_rules nat_eq world task from.location place (linking from.location place)) _ (Ok true) refl)))
+    (table_asked world (hard_link_rules nat_eq world task from.location place (linking from.location place)) _
+    (Ok true) refl)))
 call_asked fresh world task (Unlink path) =
     walk_asked world (walk_end (old_leaf_walk nat_eq world task path)) _ _ (λ place.
     tables_asked world ((is_special place.last, E2) ∷ []) (unlink_rules nat_eq world task place (object_there place)) _
@@ -199,35 +212,43 @@ call_asked fresh world task (Rmdir path) =
 call_asked fresh world task (Rename old new) =
     walk_asked world (walk_end (old_leaf_walk nat_eq world task old)) _ _ (λ from.
     words_asked world (old_word_rules from) _ _
-    (walk_asked world (walk_end (rename_new_walk nat_eq world task new (is_directory_there nat_eq world from))) _ _ (λ to.
+    (walk_asked world (walk_end (rename_new_walk nat_eq world task new (is_directory_there nat_eq world from))) _ _
+    (λ to.
     words_asked world (old_word_rules to) _ _
-    (rename_asked fresh world task from to (object_there from) (is_one_object nat_eq world (object_there from) to.object)))))
+    (rename_asked fresh world task from to (object_there from)
+    (is_one_object nat_eq world (object_there from) to.object)))))
 call_asked fresh world task (Chmod path mode) =
     walk_asked world (walk_end (object_walk nat_eq world task path)) _ _ (λ here.
-    table_asked world (attr_rules nat_eq world here.location (owns task.credentials (attr_at nat_eq world here.location))
+    table_asked world (attr_rules nat_eq world here.location
+    (owns task.credentials (attr_at nat_eq world here.location))
     (attr_with_mode (attr_at nat_eq world here.location) mode)) _ (Ok true) refl)
 call_asked fresh world task (Chown path uid gid) =
     walk_asked world (walk_end (object_walk nat_eq world task path)) _ _ (λ here.
     table_asked world
     (attr_rules nat_eq world here.location
-    (may_chown task.credentials (attr_at nat_eq world here.location) (attr_with_owner (attr_at nat_eq world here.location) uid gid))
+    (may_chown task.credentials (attr_at nat_eq world here.location)
+    (attr_with_owner (attr_at nat_eq world here.location) uid gid))
     (attr_with_owner (attr_at nat_eq world here.location) uid gid)) _ (Ok true) refl)
 call_asked fresh world task (Opaque path mark) =
     table_asked world (admin_rules task) _ (decided (asked_last fresh world task (Opaque path mark)))
     (walk_asked world (walk_end (directory_walk nat_eq world task path)) _ _ (λ here.
     table_asked world (opaque_rules nat_eq world here.location) _ (Ok true) refl))
 call_asked fresh world task (OpenFile path access NoCreation) =
-    table_asked world (descriptor_rules task) _ (decided (asked_last fresh world task (OpenFile path access NoCreation)))
+    table_asked world (descriptor_rules task) _
+    (decided (asked_last fresh world task (OpenFile path access NoCreation)))
     (walk_asked world (walk_end (object_walk nat_eq world task path)) _ _ (λ here.
     table_asked world (open_rules nat_eq world task here.location access) _ (Ok true) refl))
 call_asked fresh world task (OpenFile path access (OrCreate mode)) =
-    table_asked world (descriptor_rules task) _ (decided (asked_last fresh world task (OpenFile path access (OrCreate mode))))
+    table_asked world (descriptor_rules task) _
+    (decided (asked_last fresh world task (OpenFile path access (OrCreate mode))))
     (walk_asked world (walk_end (file_walk nat_eq world task path)) _ _ (λ place.
     open_asked fresh world task place access mode place.object))
 call_asked fresh world task (OpenFile path access (Exclusive mode)) =
-    table_asked world (descriptor_rules task) _ (decided (asked_last fresh world task (OpenFile path access (Exclusive mode))))
+    table_asked world (descriptor_rules task) _
+    (decided (asked_last fresh world task (OpenFile path access (Exclusive mode))))
     (walk_asked world (walk_end (new_walk nat_eq world task path)) _ _ (λ place.
-    exclusive_asked world (is_special place.last) place.slash (is_some place.object) _ (asked_of_creation fresh world task place mode)
+    exclusive_asked world (is_special place.last) place.slash (is_some place.object) _
+    (asked_of_creation fresh world task place mode)
     (table_asked world (asked_of_creation fresh world task place mode) _ (Ok true) refl)))
 call_asked fresh world task (Pread number offset size) =
     descriptor_asked_alone world S4 _ _ (λ descriptor. refl)
@@ -253,7 +274,8 @@ call_asked fresh world task (Fork words) =
 call_asked fresh world task Unshare =
     table_asked world (admin_rules task) _ (Ok true) refl
 call_asked fresh world task (Setns name) =
-    task_asked world S2 (task_called world name) _ ((lacks task cap_sys_admin || lacks task cap_sys_chroot, K1) ∷ []) (λ target.
+    task_asked world S2 (task_called world name) _ ((lacks task cap_sys_admin || lacks task cap_sys_chroot, K1) ∷ [])
+    (λ target.
     table_asked world ((lacks task cap_sys_admin || lacks task cap_sys_chroot, K1) ∷ []) _ (Ok true) refl)
 call_asked fresh world task (MountPlain path flags) =
     table_asked world (admin_rules task) _ (decided (asked_last fresh world task (MountPlain path flags)))
@@ -269,13 +291,15 @@ call_asked fresh world task (Bind source path recursive) =
     (walk_asked world (walk_end (source_walk nat_eq world task source)) _ _ (λ from.
     walk_asked world (walk_end (destination_walk nat_eq world task path)) _ _ (λ here.
     table_asked world
-    (bind_rules nat_eq world task from.location here.location (bound_at nat_eq fresh world from.location here.location recursive)) _
+    (bind_rules nat_eq world task from.location here.location
+    (bound_at nat_eq fresh world from.location here.location recursive)) _
     (Ok true) refl)))
 call_asked fresh world task (MoveMount source path) =
     table_asked world (admin_rules task) _ (decided (asked_last fresh world task (MoveMount source path)))
     (walk_asked world (walk_end (source_walk nat_eq world task source)) _ _ (λ from.
     walk_asked world (walk_end (destination_walk nat_eq world task path)) _ _ (λ here.
-    table_asked world (move_rules nat_eq world task from.location here.location (moved_to nat_eq fresh world from.location here.location)) _
+    table_asked world (move_rules nat_eq world task from.location here.location
+    (moved_to nat_eq fresh world from.location here.location)) _
     (Ok true) refl)))
 call_asked fresh world task (Umount path) =
     table_asked world (admin_rules task) _ (decided (asked_last fresh world task (Umount path)))
@@ -300,14 +324,16 @@ call_asked fresh world task (PivotRoot new put) =
     table_asked world (pivot_rules nat_eq world task root.location here.location) _ (Ok true) refl)))
 
 -- change numbers do not change the answer
-finished_asked : (finished : Bool) (before : World ℕ) (name : TaskName) (changed : List ℕ) (outcome : Outcome ℕ) (result : Result Bool Deny)
+finished_asked : (finished : Bool) (before : World ℕ) (name : TaskName) (changed : List ℕ) (outcome : Outcome ℕ)
+    (result : Result Bool Deny)
     → IsAnsweredAs outcome result
     → IsAnsweredAs (finished_by nat_eq finished before name changed outcome) result
 finished_asked true before name changed outcome result e = e
 finished_asked false before name changed outcome result e = e
 
 -- a task's call is answered by what it asks
-pub policy_asked : (fresh : Fresh ℕ) (world : World ℕ) (name : TaskName) (task : Task ℕ) (call : Call) → task_called world name ≡ Some task
+pub policy_asked : (fresh : Fresh ℕ) (world : World ℕ) (name : TaskName) (task : Task ℕ) (call : Call)
+    → task_called world name ≡ Some task
     → IsAnsweredAs (policy nat_eq fresh world name call) (asked fresh world task call)
 policy_asked fresh world name task call there =
     subst (λ found. IsAnsweredAs

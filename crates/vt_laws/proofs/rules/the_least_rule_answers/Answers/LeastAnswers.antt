@@ -28,7 +28,8 @@ no_task_is_refused fresh world name call none =
 
 pub first_rules_answer : FirstRulesAnswer
 first_rules_answer fresh world name task call there some =
-    refused_as (λ deny. IsLeastOf deny.rule (failing (asked_first world task call))) (policy nat_eq fresh world name call).answer
+    refused_as (λ deny. IsLeastOf deny.rule (failing (asked_first world task call)))
+    (policy nat_eq fresh world name call).answer
     (asked fresh world task call)
     (policy_asked fresh world name task call there)
     (before_least 0 (asked_first world task call) (decided (asked_last fresh world task call))
@@ -36,7 +37,8 @@ first_rules_answer fresh world name task call there some =
 
 -- where no first rule fails, what is left decides
 left_to_decide : (fresh : Fresh ℕ) (world : World ℕ) (task : Task ℕ) (call : Call) (last : Result Rules Deny)
-    → failing (asked_first world task call) ≡ [] → asked_last fresh world task call ≡ last → asked fresh world task call ≡ decided last
+    → failing (asked_first world task call) ≡ [] → asked_last fresh world task call ≡ last
+    → asked fresh world task call ≡ decided last
 left_to_decide fresh world task call last none e =
     none_fails (asked_first world task call) (decided (asked_last fresh world task call)) none ∙ ap decided e
 
@@ -47,11 +49,14 @@ walks_answer_next fresh world name task call deny there none e =
     (left_to_decide fresh world task call (Err deny) none e)
 
 -- the table at the end of the walks is in order
-ends_in_order : (last : Result Rules Deny) (rules : Rules) → last ≡ Ok rules → IfOk last IsInOrderAfterWalk → IsInOrderAfterWalk rules
+ends_in_order : (last : Result Rules Deny) (rules : Rules) → last ≡ Ok rules → IfOk last IsInOrderAfterWalk
+    → IsInOrderAfterWalk rules
 ends_in_order last rules e h = subst (λ l. IfOk l IsInOrderAfterWalk) e h
 
 pub last_rules_answer : LastRulesAnswer
 last_rules_answer fresh world name task call rules there none e =
     least_as (policy nat_eq fresh world name call).answer (unless rules (Ok true)) (failing rules)
-    (policy_asked fresh world name task call there ∙ ap result_err (left_to_decide fresh world task call (Ok rules) none e))
-    (table_least (rank W9 + 1) rules (ends_in_order (asked_last fresh world task call) rules e (last_in_order fresh world task call)))
+    (policy_asked fresh world name task call there
+    ∙ ap result_err (left_to_decide fresh world task call (Ok rules) none e))
+    (table_least (rank W9 + 1) rules
+    (ends_in_order (asked_last fresh world task call) rules e (last_in_order fresh world task call)))

@@ -26,14 +26,16 @@ same_rank a b e =
     ((bytes_eq-Decides (rule_name a) (rule_name b)).0 e)
 
 -- each rule of a table in order that fails stands at or after its begin
-from_least : (least : ℕ) (rows : Rules) (other : Rule) → is_in_order_from least rows ≡ true → is_among other (failing rows) ≡ true
+from_least : (least : ℕ) (rows : Rules) (other : Rule) → is_in_order_from least rows ≡ true
+    → is_among other (failing rows) ≡ true
     → least ≤ rank other
 from_least least [] other order among = cc
 from_least least ((true, rule) ∷ rows) other order among =
     let below : least ≤ rank rule = leb-true least (rank rule) ((and_parts (nat_le least (rank rule)) _ order).0) in
     either_so (bytes_eq (rule_name rule) (rule_name other)) (is_among other (failing rows)) among
     (λ same. subst (λ n. least ≤ n) (same_rank rule other same) below)
-    (λ later. below_all below (from_least (rank rule) rows other ((and_parts (nat_le least (rank rule)) _ order).1) later))
+    (λ later. below_all below (from_least (rank rule) rows other
+    ((and_parts (nat_le least (rank rule)) _ order).1) later))
 from_least least ((false, rule) ∷ rows) other order among =
     below_all (leb-true least (rank rule) ((and_parts (nat_le least (rank rule)) _ order).0))
     (from_least (rank rule) rows other ((and_parts (nat_le least (rank rule)) _ order).1) among)
@@ -49,13 +51,16 @@ first_is_least least rule rows order = (
       (λ later. from_least (rank rule) rows other ((and_parts (nat_le least (rank rule)) _ order).1) later),
 )
 
-pub table_least : (least : ℕ) (rows : Rules) → is_in_order_from least rows ≡ true → IsAnsweredByLeast (unless rows (Ok true)) (failing rows)
+pub table_least : (least : ℕ) (rows : Rules) → is_in_order_from least rows ≡ true
+    → IsAnsweredByLeast (unless rows (Ok true)) (failing rows)
 table_least least [] order = refl
 table_least least ((true, rule) ∷ rows) order = first_is_least least rule rows order
-table_least least ((false, rule) ∷ rows) order = table_least (rank rule) rows ((and_parts (nat_le least (rank rule)) _ order).1)
+table_least least ((false, rule) ∷ rows) order =
+    table_least (rank rule) rows ((and_parts (nat_le least (rank rule)) _ order).1)
 
 -- a table that is asked before something else
-pub before_least : {A : Type 0} (least : ℕ) (rows : Rules) (answer : Result A Deny) → is_in_order_from least rows ≡ true → failing rows ≢ []
+pub before_least : {A : Type 0} (least : ℕ) (rows : Rules) (answer : Result A Deny)
+    → is_in_order_from least rows ≡ true → failing rows ≢ []
     → IsErrAnd (unless rows answer) (λ deny. IsLeastOf deny.rule (failing rows))
 before_least least [] answer order some = absurd (some refl)
 before_least least ((true, rule) ∷ rows) answer order some = first_is_least least rule rows order
@@ -69,7 +74,8 @@ none_fails ((true, rule) ∷ rows) answer none = cc
 none_fails ((false, rule) ∷ rows) answer none = none_fails rows answer none
 
 -- the front of a table in order
-pub front_in_order : (least : ℕ) (rows more : Rules) → is_in_order_from least (rows ++ more) ≡ true → is_in_order_from least rows ≡ true
+pub front_in_order : (least : ℕ) (rows more : Rules) → is_in_order_from least (rows ++ more) ≡ true
+    → is_in_order_from least rows ≡ true
 front_in_order least [] more order = refl
 front_in_order least ((fails, rule) ∷ rows) more order =
     both (nat_le least (rank rule)) _ ((and_parts (nat_le least (rank rule)) _ order).0)
@@ -81,22 +87,26 @@ front_in_order least ((fails, rule) ∷ rows) more order =
 
 -- what is told of one result is told of another that is refused alike
 module _ {A B : Type 0} where
-  pub least_as : (answer : Result A Deny) (other : Result B Deny) (rules : List Rule) → result_err answer ≡ result_err other
+  pub least_as : (answer : Result A Deny) (other : Result B Deny) (rules : List Rule)
+      → result_err answer ≡ result_err other
       → IsAnsweredByLeast other rules → IsAnsweredByLeast answer rules
   least_as (Ok a) (Ok b) [] e h = refl
   least_as (Ok a) (Ok b) (rule ∷ rules) e h = h
   least_as (Ok a) (Err deny) rules e h = cc
   least_as (Err deny) (Ok b) rules e h = cc
   least_as (Err deny) (Err other) [] e h = h
-  least_as (Err deny) (Err other) (rule ∷ rules) e h = let same : other ≡ deny = cc in subst (λ d. IsLeastOf d.rule (rule ∷ rules)) same h
+  least_as (Err deny) (Err other) (rule ∷ rules) e h = let same : other ≡ deny = cc in
+      subst (λ d. IsLeastOf d.rule (rule ∷ rules)) same h
 
-  pub refused_as : (P : Deny → Type 0) (answer : Result A Deny) (other : Result B Deny) → result_err answer ≡ result_err other
+  pub refused_as : (P : Deny → Type 0) (answer : Result A Deny) (other : Result B Deny)
+      → result_err answer ≡ result_err other
       → IsErrAnd other P → IsErrAnd answer P
   refused_as P answer (Ok b) e h = absurd h
   refused_as P (Ok a) (Err other) e h = cc
   refused_as P (Err deny) (Err other) e h = let same : other ≡ deny = cc in subst P same h
 
-  pub denied_as : (answer : Result A Deny) (other : Result B Deny) (deny : Deny) → result_err answer ≡ result_err other → other ≡ Err deny
+  pub denied_as : (answer : Result A Deny) (other : Result B Deny) (deny : Deny) → result_err answer ≡ result_err other
+      → other ≡ Err deny
       → answer ≡ Err deny
   denied_as (Ok a) other deny e denied = cc
   denied_as (Err one) other deny e denied = cc
