@@ -45,7 +45,8 @@ found_same [] [] same k = same_itself (no_filesystem k)
 found_same [] (other ∷ others) same k = absurd same
 found_same (one ∷ ones) [] same k = absurd same
 found_same (one ∷ ones) (other ∷ others) same k =
-    subst (λ n. SameFilesystem (unwrap_or (cond (nat_eq k one.number) (Some one) (find (λ f. nat_eq k f.number) ones)) (no_filesystem k))
+    subst (λ n. SameFilesystem (unwrap_or (cond (nat_eq k one.number) (Some one) (find (λ f. nat_eq k f.number) ones))
+    (no_filesystem k))
     (unwrap_or (cond (nat_eq k n) (Some other) (find (λ f. nat_eq k f.number) others)) (no_filesystem k)))
     same.0.number (by (nat_eq k one.number) (found_same ones others same.1 k))
   where
@@ -56,7 +57,8 @@ found_same (one ∷ ones) (other ∷ others) same k =
     by true later = same.0
     by false later = later
 
-plain_same : (ones others : List (Filesystem ℕ)) → SameFilesystems ones others → list_any is_overlay ones ≡ list_any is_overlay others
+plain_same : (ones others : List (Filesystem ℕ)) → SameFilesystems ones others
+    → list_any is_overlay ones ≡ list_any is_overlay others
 plain_same [] [] same = refl
 plain_same [] (other ∷ others) same = absurd same
 plain_same (one ∷ ones) [] same = absurd same
@@ -85,7 +87,8 @@ same_worlds_count_alike one other k inodes same plain counted = record {
       ∙ (λ i. (one_if n g.files.tree.root + same_located one other same g.number n i) + named_alike n i)
       ∙ sym (plain_uses_are other plain_other g n);
   count = counted.count ∙ sym (length_permutation f.files.numbers g.files.numbers alike.files.numbers);
-  once = no_repeats g.files.numbers (λ n. let few = once_times n f.files.numbers counted.once in let e = times_alike n in omega arith);
+  once = no_repeats g.files.numbers
+      (λ n. let few = once_times n f.files.numbers counted.once in let e = times_alike n in omega arith);
 }
   where
     f : Filesystem ℕ
@@ -113,5 +116,6 @@ same_worlds_count_alike one other k inodes same plain counted = record {
 
     times_alike : (n : ℕ) → times_in n f.files.numbers ≡ times_in n g.files.numbers
     times_alike n =
-        times_sum n f.files.numbers ∙ sym (sum_by-IsPermutation (one_if n) f.files.numbers g.files.numbers alike.files.numbers)
+        times_sum n f.files.numbers ∙ sym
+        (sum_by-IsPermutation (one_if n) f.files.numbers g.files.numbers alike.files.numbers)
         ∙ sym (times_sum n g.files.numbers)

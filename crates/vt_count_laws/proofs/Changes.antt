@@ -50,16 +50,19 @@ module _ (base : ℕ → ℕ) (files : FileTree ℕ) (inodes : Inodes ℕ) (root
   is_bare : (n : ℕ) → entries_in (node_in (inodes.inode n)) ≡ [] → entries_in (node n) ≡ []
   is_bare n e = ap entries_in (sym (start.same n)) ∙ e
 
-  moves : (from : ℕ) (old : List ℕ) (to : ℕ) (new : List ℕ) (object : ℕ) → entry_named old (entries_in (node from)) ≡ Some object
+  moves : (from : ℕ) (old : List ℕ) (to : ℕ) (new : List ℕ) (object : ℕ)
+      → entry_named old (entries_in (node from)) ≡ Some object
       → is_directory_node (node to) ≡ true
       → (o : Option ℕ) → entry_named new (entries_in (node to)) ≡ o → MayReplace (tree_of inodes) object o
       → Tallied (Changes.changed_node nat_eq (Changes.with_name nat_eq
-      (Changes.without_name nat_eq (Changes.without_parent nat_eq files o) from old) to new object) object (node_with_parent to))
+      (Changes.without_name nat_eq (Changes.without_parent nat_eq files o) from old) to new object) object
+      (node_with_parent to))
       (without_replaced nat_eq
       (with_changed nat_eq (with_changed nat_eq (with_changed nat_eq inodes from (Changes.node_without_entry old)) to
       (node_with_entry new object)) object (node_with_parent to)) o)
   moves from old to new object leads is None finds may =
-      Names.moved base node files.numbers inodes start from old to new object None leads is finds refl (λ n gone. absurd (omega arith))
+      Names.moved base node files.numbers inodes start from old to new object None leads is finds refl
+      (λ n gone. absurd (omega arith))
   moves from old to new object leads is (Some gone) finds may =
       Names.moved base node files.numbers inodes start from old to new object (Some gone) leads is finds
       (other_if object gone (λ e. may.0 (sym e)))
@@ -76,7 +79,8 @@ module _ (base : ℕ → ℕ) (files : FileTree ℕ) (inodes : Inodes ℕ) (root
   tallied (AddName directory name object) fits links = linked base node files.numbers inodes start directory name object
       (is_there directory fits.0) (leads_to directory name None fits.1) links
   tallied (Remove directory name object) fits links =
-      Names.removed_name base node files.numbers inodes start directory name object (leads_to directory name (Some object) fits.0)
+      Names.removed_name base node files.numbers inodes start directory name object
+      (leads_to directory name (Some object) fits.0)
       (is_bare object fits.1)
   tallied (Move from old to new object) fits links =
       subst (λ o. Tallied (Changes.with_moved nat_eq files from old to new object)
@@ -94,7 +98,8 @@ module _ (base : ℕ → ℕ) (files : FileTree ℕ) (inodes : Inodes ℕ) (root
       (same_entries_bytes bytes) refl (λ some. (_, refl))
   tallied (SetAttr object attr) fits links = rewritten base node files.numbers inodes start object (node_with_attr attr)
       (same_entries_attr attr) refl (λ some. (_, refl))
-  tallied (SetMark directory opaque) fits links = rewritten base node files.numbers inodes start directory (node_with_mark opaque)
+  tallied (SetMark directory opaque) fits links =
+      rewritten base node files.numbers inodes start directory (node_with_mark opaque)
       (same_entries_mark opaque) refl (λ some. (_, refl))
   tallied (CopyUp object) fits links = start.tallied
 
@@ -120,7 +125,8 @@ module _ (base : ℕ → ℕ) (files : FileTree ℕ) (inodes : Inodes ℕ) (root
   root_of_inodes (Move from old to new object) = by (entry_named new (entries_in (node_in (inodes.inode to))))
     where
       by : (o : Option ℕ) → (without_replaced nat_eq
-          (with_changed nat_eq (with_changed nat_eq (with_changed nat_eq inodes from (Changes.node_without_entry old)) to
+          (with_changed nat_eq (with_changed nat_eq
+          (with_changed nat_eq inodes from (Changes.node_without_entry old)) to
           (node_with_entry new object)) object (node_with_parent to)) o).root ≡ inodes.root
       by None = refl
       by (Some gone) = refl
@@ -129,7 +135,8 @@ module _ (base : ℕ → ℕ) (files : FileTree ℕ) (inodes : Inodes ℕ) (root
   root_of_inodes (SetMark directory opaque) = refl
   root_of_inodes (CopyUp object) = refl
 
-  pub root_is : (change : Change ℕ) → (changed nat_eq inodes change).root ≡ (Changes.changed nat_eq files change).tree.root
+  pub root_is : (change : Change ℕ)
+      → (changed nat_eq inodes change).root ≡ (Changes.changed nat_eq files change).tree.root
   root_is change = root_of_inodes change ∙ root ∙ sym (root_of_files change)
 
 -- The world
@@ -158,7 +165,8 @@ module _ (fresh : Fresh ℕ) (world : World ℕ) (location : Location ℕ) (inod
   old_there = found_is world.filesystems number there
 
   tree : IsListedTree old.files
-  tree = among_from_all (λ f. IsListedTree f.files) world.filesystems (worlds_have_trees world is.in_world) old old_there
+  tree = among_from_all (λ f. IsListedTree f.files) world.filesystems
+      (worlds_have_trees world is.in_world) old old_there
 
   pub start : IsStart (base_of world old) old.files.tree.node old.files.numbers inodes
   start =
@@ -182,7 +190,8 @@ module _ (fresh : Fresh ℕ) (world : World ℕ) (location : Location ℕ) (inod
       no_overlay : is_some old.overlay ≡ false
       no_overlay = fails is_overlay world.filesystems plain old old_there
 
-      by : (o : Option (Overlay ℕ)) → is_some o ≡ false → filesystem_changed nat_eq fresh world old o change ≡ with_tree world number files
+      by : (o : Option (Overlay ℕ)) → is_some o ≡ false
+          → filesystem_changed nat_eq fresh world old o change ≡ with_tree world number files
       by None e = refl
       by (Some overlay) e = cc
 
@@ -192,7 +201,8 @@ module _ (fresh : Fresh ℕ) (world : World ℕ) (location : Location ℕ) (inod
   found : filesystem_numbered nat_eq done number ≡ with_files old left
   found = Swept.found_done world number files in_use plain there new_tallied.once
 
-  mounts_same : (after : World ℕ) → after ≡ done → filesystem_at nat_eq after location ≡ filesystem_numbered nat_eq after number
+  mounts_same : (after : World ℕ) → after ≡ done
+      → filesystem_at nat_eq after location ≡ filesystem_numbered nat_eq after number
   mounts_same after e = subst (λ w. filesystem_at nat_eq w location ≡ filesystem_numbered nat_eq w number) (sym e) refl
 
   only_files : after_change fresh world location change ≡ with_tree world number
@@ -218,7 +228,8 @@ module _ (fresh : Fresh ℕ) (world : World ℕ) (location : Location ℕ) (inod
       subst (λ w. IsCounted w (filesystem_at nat_eq w location) (changed nat_eq inodes change)) (sym after_is)
       (subst (λ f. IsCounted done f (changed nat_eq inodes change)) (sym found) counted_then)
 
-  others : (other : ℕ) (counts : Inodes ℕ) → other ≢ number → IsCounted world (filesystem_numbered nat_eq world other) counts
+  others : (other : ℕ) (counts : Inodes ℕ) → other ≢ number
+      → IsCounted world (filesystem_numbered nat_eq world other) counts
       → IsCounted (after_change fresh world location change)
       (filesystem_numbered nat_eq (after_change fresh world location change) other) counts
   others other counts apart counted =

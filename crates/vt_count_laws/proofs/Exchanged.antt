@@ -46,10 +46,12 @@ module _ (k : ℕ) (node : ℕ → Option (Node ℕ)) where
           → ((some : ℕ → ℕ) (counts : Inodes ℕ) → Counts.IsCounted some node counts
           → ((inode : Inode) → Among inode rest → nat_eq k inode.0 ≡ true → 1 ≤ some inode.1)
           → Counts.IsCounted (λ n. some n + times (is_inode k n) rest) node (folded (pinned_if k) counts rest))
-          → Counts.IsCounted (λ n. uses n + (cond (nat_eq k first.0 && nat_eq n first.1) 1 0 + times (is_inode k n) rest)) node
+          → Counts.IsCounted (λ n. uses n +
+          (cond (nat_eq k first.0 && nat_eq n first.1) 1 0 + times (is_inode k n) rest)) node
           (folded (pinned_if k) (cond b (Trees.pinned nat_eq inodes first.1) inodes) rest)
       by true e later =
-          let inode = some_inode (inodes.inode first.1) (counted_some uses node inodes counted first.1 (used first (inl refl) e)) in
+          let inode = some_inode (inodes.inode first.1)
+          (counted_some uses node inodes counted first.1 (used first (inl refl) e)) in
           other_uses (λ n. (one_if n first.1 + uses n) + times (is_inode k n) rest)
           (λ n. uses n + (cond (nat_eq k first.0 && nat_eq n first.1) 1 0 + times (is_inode k n) rest)) node
           (folded (pinned_if k) (Trees.pinned nat_eq inodes first.1) rest)
@@ -79,20 +81,25 @@ module _ (k : ℕ) (node : ℕ → Option (Node ℕ)) where
       by : (b : Bool) → nat_eq k first.0 ≡ b
           → ((some now : ℕ → ℕ) (counts : Inodes ℕ) → Counts.IsCounted some node counts
           → ((n : ℕ) → now n + times (is_inode k n) rest ≡ some n)
-          → ((n : ℕ) → now n ≡ 0 → targets_in (node n) ≡ []) → Counts.IsCounted now node (folded (unpinned_if k) counts rest))
-          → Counts.IsCounted left node (folded (unpinned_if k) (cond b (Trees.unpinned nat_eq inodes first.1) inodes) rest)
+          → ((n : ℕ) → now n ≡ 0 → targets_in (node n) ≡ [])
+          → Counts.IsCounted now node (folded (unpinned_if k) counts rest))
+          → Counts.IsCounted left node (folded (unpinned_if k)
+          (cond b (Trees.unpinned nat_eq inodes first.1) inodes) rest)
       by true e later =
           later abbrev_left left (Trees.unpinned nat_eq inodes first.1)
           (unpinned_counts uses abbrev_left node inodes first.1 counted
           (λ n. let here : cond (nat_eq k first.0 && nat_eq n first.1) 1 0
           ≡ one_if n first.1 = ap (λ b. cond (b && nat_eq n first.1) 1 0) e in
-          let all : left n + (cond (nat_eq k first.0 && nat_eq n first.1) 1 0 + times (is_inode k n) rest) ≡ uses n = less n in omega arith)
+          let all : left n + (cond (nat_eq k first.0 && nat_eq n first.1) 1 0 + times (is_inode k n) rest) ≡ uses n =
+          less n in omega arith)
           (λ none. empty first.1 (let all : left first.1 + times (is_inode k first.1) rest ≡ 0 = none in omega arith)))
           (λ n. refl) empty
       by false e later =
           later uses left inodes counted
-          (λ n. let here : one_when (nat_eq k first.0 && nat_eq n first.1) ≡ 0 = ap (λ b. one_when (b && nat_eq n first.1)) e in
-          let all : left n + (cond (nat_eq k first.0 && nat_eq n first.1) 1 0 + times (is_inode k n) rest) ≡ uses n = less n in omega arith)
+          (λ n. let here : one_when (nat_eq k first.0 && nat_eq n first.1)
+          ≡ 0 = ap (λ b. one_when (b && nat_eq n first.1)) e in
+          let all : left n + (cond (nat_eq k first.0 && nat_eq n first.1) 1 0 + times (is_inode k n) rest) ≡ uses n =
+          less n in omega arith)
           empty
 
   pub root_pinned : (gained : List Inode) (inodes : Inodes ℕ) → (folded (pinned_if k) inodes gained).root ≡ inodes.root
@@ -121,12 +128,14 @@ pub found_mapped : (step : Filesystem ℕ → Filesystem ℕ) → ((f : Filesyst
     ≡ step (unwrap_or (find (λ f. nat_eq k f.number) filesystems) (no_filesystem k))
 found_mapped step same [] k there = absurd (true≢false (sym there))
 found_mapped step same (first ∷ rest) k there =
-    ap (λ n. unwrap_or (cond (nat_eq k n) (Some (step first)) (find (λ f. nat_eq k f.number) (map step rest))) (no_filesystem k))
+    ap (λ n. unwrap_or (cond (nat_eq k n) (Some (step first)) (find (λ f. nat_eq k f.number) (map step rest)))
+    (no_filesystem k))
     (same first)
     ∙ by (nat_eq k first.number) there (found_mapped step same rest k)
   where
     by : (b : Bool) → (b || is_among nat_eq k (map (λ f. f.number) rest)) ≡ true
-        → (is_among nat_eq k (map (λ f. f.number) rest) ≡ true → unwrap_or (find (λ f. nat_eq k f.number) (map step rest))
+        → (is_among nat_eq k (map (λ f. f.number) rest) ≡ true
+        → unwrap_or (find (λ f. nat_eq k f.number) (map step rest))
         (no_filesystem k) ≡ step (unwrap_or (find (λ f. nat_eq k f.number) rest) (no_filesystem k)))
         → unwrap_or (cond b (Some (step first)) (find (λ f. nat_eq k f.number) (map step rest))) (no_filesystem k)
         ≡ step (unwrap_or (cond b (Some first) (find (λ f. nat_eq k f.number) rest)) (no_filesystem k))
@@ -143,22 +152,26 @@ pub record IsLeft (k : ℕ) (world : World ℕ) (filesystem : Filesystem ℕ) (l
     (left : Filesystem ℕ) : Type 0 where
   pub uses : (n : ℕ) → inode_uses after left n ≡ inode_uses world filesystem n
   pub used : (n : ℕ) → 1 ≤ inode_uses world filesystem n → left.files.tree.node n ≡ filesystem.files.tree.node n
-  pub gone : (n : ℕ) → inode_uses world filesystem n ≡ 0 → is_inode_among k n lost ≡ true → left.files.tree.node n ≡ None
+  pub gone : (n : ℕ) → inode_uses world filesystem n ≡ 0 → is_inode_among k n lost ≡ true
+      → left.files.tree.node n ≡ None
   pub other : (n : ℕ) → is_inode_among k n lost ≡ false → left.files.tree.node n ≡ filesystem.files.tree.node n
   pub root : left.files.tree.root ≡ filesystem.files.tree.root
   pub once : (n : ℕ) → times_in n left.files.numbers ≡ cond (is_some (left.files.tree.node n)) 1 0
 
 abbrev pub EmptyUnused : World ℕ → Filesystem ℕ → Type 0
-EmptyUnused world filesystem = (n : ℕ) → inode_uses world filesystem n ≡ 0 → targets_in (filesystem.files.tree.node n) ≡ []
+EmptyUnused world filesystem = (n : ℕ) → inode_uses world filesystem n ≡ 0
+    → targets_in (filesystem.files.tree.node n) ≡ []
 
 abbrev pub StandOnce : Filesystem ℕ → Type 0
 StandOnce filesystem = (n : ℕ) → times_in n filesystem.files.numbers ≡ cond (is_some (filesystem.files.tree.node n)) 1 0
 
 -- an inode is used or counted zero
-used_or_zero : (world : World ℕ) (filesystem : Filesystem ℕ) (n : ℕ) (b : Bool) → is_inode_used world filesystem n ≡ b → b ≡ false
+used_or_zero : (world : World ℕ) (filesystem : Filesystem ℕ) (n : ℕ) (b : Bool) → is_inode_used world filesystem n ≡ b
+    → b ≡ false
     → inode_uses world filesystem n ≡ 0
 used_or_zero world filesystem n b e none =
-    times_is n (used_in nat_eq world filesystem) ∙ Rattle.vt_count_laws.proofs.Listed.none_times n (used_in nat_eq world filesystem)
+    times_is n (used_in nat_eq world filesystem)
+    ∙ Rattle.vt_count_laws.proofs.Listed.none_times n (used_in nat_eq world filesystem)
     (e ∙ none)
 
 -- One inode is looked at
@@ -203,7 +216,8 @@ module _ (world : World ℕ) (inode : Inode) (plain : LettingGo.IsPlain world) w
         by false = refl
 
     -- it stays
-    left_same : (nat_eq f.number inode.0 && not (is_inode_used world f inode.1)) ≡ false → IsLeft k world f (inode ∷ []) next f
+    left_same : (nat_eq f.number inode.0 && not (is_inode_used world f inode.1)) ≡ false
+        → IsLeft k world f (inode ∷ []) next f
     left_same e = record {
       uses = same_uses;
       used = λ n some. refl;
@@ -247,12 +261,15 @@ module _ (world : World ℕ) (inode : Inode) (plain : LettingGo.IsPlain world) w
       once = λ n. times_filter (λ m. not (nat_eq m inode.1)) n f.files.numbers ∙ by n (nat_eq n inode.1);
     }
       where
-        by : (n : ℕ) (b : Bool) → cond (not b) (times_in n f.files.numbers) 0 ≡ cond (is_some (cond b None (f.files.tree.node n))) 1 0
+        by : (n : ℕ) (b : Bool) → cond (not b) (times_in n f.files.numbers) 0
+            ≡ cond (is_some (cond b None (f.files.tree.node n))) 1 0
         by n true = refl
         by n false = stand n
 
-        bare : (d : ℕ) (b : Bool) → nat_eq d inode.1 ≡ b → targets_in (cond b None (f.files.tree.node d)) ≡ targets_in (f.files.tree.node d)
-        bare d true e = sym (ap (λ m. targets_in (f.files.tree.node m)) (eqb-true d inode.1 e) ∙ empty inode.1 zero_uses)
+        bare : (d : ℕ) (b : Bool) → nat_eq d inode.1 ≡ b
+            → targets_in (cond b None (f.files.tree.node d)) ≡ targets_in (f.files.tree.node d)
+        bare d true e = sym (ap (λ m. targets_in (f.files.tree.node m)) (eqb-true d inode.1 e)
+            ∙ empty inode.1 zero_uses)
         bare d false e = refl
 
         skipped : (d : ℕ) (b : Bool) → nat_eq d inode.1 ≡ b → not b ≡ false → targets_in (f.files.tree.node d) ≡ []
@@ -261,7 +278,8 @@ module _ (world : World ℕ) (inode : Inode) (plain : LettingGo.IsPlain world) w
 
         named : named_in (without_inode inode.1 f.files) ≡ named_in f.files
         named =
-            flat_map_alike (λ d. targets_in (cond (nat_eq d inode.1) None (f.files.tree.node d))) (λ d. targets_in (f.files.tree.node d))
+            flat_map_alike (λ d. targets_in (cond (nat_eq d inode.1) None (f.files.tree.node d)))
+            (λ d. targets_in (f.files.tree.node d))
             (filter (λ d. not (nat_eq d inode.1)) f.files.numbers)
             (λ d m. bare d (nat_eq d inode.1) refl)
             ∙ flat_map-filter (λ d. not (nat_eq d inode.1)) (λ d. targets_in (f.files.tree.node d)) f.files.numbers
@@ -271,14 +289,18 @@ module _ (world : World ℕ) (inode : Inode) (plain : LettingGo.IsPlain world) w
     one_left = by (nat_eq f.number inode.0) refl (is_inode_used world f inode.1) refl
       where
         by : (a : Bool) → nat_eq f.number inode.0 ≡ a → (u : Bool) → is_inode_used world f inode.1 ≡ u
-            → IsLeft k world f (inode ∷ []) next (cond (nat_eq f.number inode.0 && not (is_inode_used world f inode.1)) gone_f f)
+            → IsLeft k world f (inode ∷ []) next
+            (cond (nat_eq f.number inode.0 && not (is_inode_used world f inode.1)) gone_f f)
         by true e true u =
-            let not_so : (nat_eq f.number inode.0 && not (is_inode_used world f inode.1)) ≡ false = (λ i. e i && not (u i)) in
+            let not_so : (nat_eq f.number inode.0 && not (is_inode_used world f inode.1))
+            ≡ false = (λ i. e i && not (u i)) in
             subst (λ b. IsLeft k world f (inode ∷ []) next (cond b gone_f f)) (sym not_so) (left_same not_so)
         by true e false u =
-            let so : (nat_eq f.number inode.0 && not (is_inode_used world f inode.1)) ≡ true = (λ i. e i && not (u i)) in
+            let so : (nat_eq f.number inode.0 && not (is_inode_used world f inode.1))
+            ≡ true = (λ i. e i && not (u i)) in
             subst (λ b. IsLeft k world f (inode ∷ []) next (cond b gone_f f)) (sym so)
-            (left_without (ap (λ m. nat_eq m inode.0) (sym is) ∙ e) (used_or_zero world f inode.1 (is_inode_used world f inode.1) refl u))
+            (left_without (ap (λ m. nat_eq m inode.0) (sym is) ∙ e)
+            (used_or_zero world f inode.1 (is_inode_used world f inode.1) refl u))
         by false e u h =
             let not_so : (nat_eq f.number inode.0 && not (is_inode_used world f inode.1))
             ≡ false = ap (λ b. b && not (is_inode_used world f inode.1)) e in
@@ -304,7 +326,8 @@ all_left k world [] plain there empty stand = record {
 }
 all_left k world (inode ∷ rest) plain there empty stand =
     then_left (all_left k (let_go_inode world inode) rest (plain_next world inode plain)
-    (ap (is_among nat_eq k) (numbers_mapped (step world inode plain) (step_number world inode plain) world.filesystems) ∙ there)
+    (ap (is_among nat_eq k) (numbers_mapped (step world inode plain) (step_number world inode plain) world.filesystems)
+    ∙ there)
     (λ n none. empty_left n (sym (first_left.uses n) ∙ none)) first_left.once)
   where
     f : Filesystem ℕ
@@ -343,7 +366,8 @@ all_left k world (inode ∷ rest) plain there empty stand =
       once = later.once;
     }
       where
-        by : (n : ℕ) → inode_uses world f n ≡ 0 → (a : Bool) → is_inode k n inode ≡ a → (b : Bool) → is_inode_among k n rest ≡ b
+        by : (n : ℕ) → inode_uses world f n ≡ 0 → (a : Bool) → is_inode k n inode ≡ a → (b : Bool)
+            → is_inode_among k n rest ≡ b
             → (is_inode k n inode || is_inode_among k n rest) ≡ true
             → (filesystem_numbered nat_eq (let_go_inodes (let_go_inode world inode) rest) k).files.tree.node n ≡ None
         by n none a e true h both = later.gone n (first_left.uses n ∙ none) h
@@ -351,15 +375,18 @@ all_left k world (inode ∷ rest) plain there empty stand =
         by n none false e false h both = absurd (true≢false (sym both ∙ (λ i. e i || h i)))
 
         neither : (n : ℕ) (a : Bool) → is_inode k n inode ≡ a → (is_inode k n inode || is_inode_among k n rest) ≡ false
-            → (filesystem_numbered nat_eq (let_go_inodes (let_go_inode world inode) rest) k).files.tree.node n ≡ f.files.tree.node n
+            → (filesystem_numbered nat_eq (let_go_inodes (let_go_inode world inode) rest) k).files.tree.node n
+            ≡ f.files.tree.node n
         neither n true e h = absurd (true≢false (sym (ap (λ b. b || is_inode_among k n rest) e) ∙ h))
-        neither n false e h = later.other n (sym (ap (λ b. b || is_inode_among k n rest) e) ∙ h) ∙ first_left.other n (among_one n false e)
+        neither n false e h = later.other n (sym (ap (λ b. b || is_inode_among k n rest) e) ∙ h)
+            ∙ first_left.other n (among_one n false e)
 
 -- Together
 
 module _ (world after : World ℕ) (gained lost : List Inode) (k : ℕ) (inodes : Inodes ℕ) (trees : HasTrees world)
     (in_use : InodesInUse world) (plain : IsPlain after)
-    (exchange : Exchanges gained lost k world after) (counted : IsCounted world (filesystem_numbered nat_eq world k) inodes)
+    (exchange : Exchanges gained lost k world after)
+    (counted : IsCounted world (filesystem_numbered nat_eq world k) inodes)
     (gains : AreThere k inodes gained) where
   abbrev pub f : Filesystem ℕ
   f = filesystem_numbered nat_eq world k
@@ -389,7 +416,8 @@ module _ (world after : World ℕ) (gained lost : List Inode) (k : ℕ) (inodes 
       by : (b : Bool) → is_among nat_eq n (used_in nat_eq after f) ≡ b → b ≡ false
       by true e =
           let some = among_times n (used_in nat_eq after f) e in
-          let all : times (nat_eq n) (used_in nat_eq after f) ≡ times_in n (used_in nat_eq after f) = times_is n (used_in nat_eq after f) in
+          let all : times (nat_eq n) (used_in nat_eq after f) ≡ times_in n (used_in nat_eq after f) =
+          times_is n (used_in nat_eq after f) in
           let zero_uses : times (nat_eq n) (used_in nat_eq after f) ≡ 0 = none in absurd (omega arith)
       by false e = refl
 
@@ -398,7 +426,8 @@ module _ (world after : World ℕ) (gained lost : List Inode) (k : ℕ) (inodes 
       all_unpinned k f.files.tree.node lost (λ n. inode_uses world f n + times (is_inode k n) gained) used_then
       (folded (pinned_if k) inodes gained)
       (all_pinned k f.files.tree.node gained (inode_uses world f) inodes start
-      (λ inode m here. let some = start.in_use inode.1 (is_there inode m here) in let e = start.uses_are inode.1 in omega arith))
+      (λ inode m here. let some = start.in_use inode.1
+      (is_there inode m here) in let e = start.uses_are inode.1 in omega arith))
       (λ n. sym (exchange_uses n)) empty_then
     where
       is_there : (inode : Inode) → Among inode gained → nat_eq k inode.0 ≡ true → is_some (inodes.inode inode.1) ≡ true
@@ -413,7 +442,8 @@ module _ (world after : World ℕ) (gained lost : List Inode) (k : ℕ) (inodes 
   f_last = filesystem_numbered nat_eq last k
 
   pub once_f : StandOnce f
-  once_f n = Rattle.vt_count_laws.proofs.Listed.once_or_none n f.files.numbers counted.once ∙ ap (λ b. cond b 1 0) (tree.numbers n)
+  once_f n = Rattle.vt_count_laws.proofs.Listed.once_or_none n f.files.numbers counted.once
+      ∙ ap (λ b. cond b 1 0) (tree.numbers n)
 
   left : IsLeft k after f lost last f_last
   left =
@@ -449,7 +479,8 @@ module _ (world after : World ℕ) (gained lost : List Inode) (k : ℕ) (inodes 
           (let some = counted_then.in_use n e in let same = counted_then.uses_are n in omega arith))
       by false e =
           missing ((exchanged k gained lost inodes).inode n) e
-          ∙ sym (gone (is_inode_among k n lost) refl (sym (counted_then.uses_are n) ∙ unused ((exchanged k gained lost inodes).inode n) e))
+          ∙ sym (gone (is_inode_among k n lost) refl
+          (sym (counted_then.uses_are n) ∙ unused ((exchanged k gained lost inodes).inode n) e))
         where
           gone : (b : Bool) → is_inode_among k n lost ≡ b → used_then n ≡ 0 → f_last.files.tree.node n ≡ None
           gone true h none = left.gone n none h
@@ -465,7 +496,8 @@ module _ (world after : World ℕ) (gained lost : List Inode) (k : ℕ) (inodes 
 
   counted_last : IsCounted last f_last (exchanged k gained lost inodes)
   counted_last = record {
-    root = root_unpinned k f.files.tree.node lost (folded (pinned_if k) inodes gained) ∙ root_pinned k f.files.tree.node gained inodes
+    root = root_unpinned k f.files.tree.node lost (folded (pinned_if k) inodes gained)
+        ∙ root_pinned k f.files.tree.node gained inodes
         ∙ counted.root ∙ sym left.root;
     node = node_last;
     uses = λ n. counted_then.uses_are n ∙ sym (left.uses n);
@@ -483,4 +515,5 @@ uses_are_exchanged world after gained lost filesystem inodes trees in_use plain 
     counted_last world after gained lost filesystem inodes trees in_use plain exchange counted gains
 
 pub exchanges_turn : ExchangesTurn
-exchanges_turn world after gained lost filesystem exchange = record { same = sym exchange.same; uses = λ n. sym (exchange.uses n) }
+exchanges_turn world after gained lost filesystem exchange =
+    record { same = sym exchange.same; uses = λ n. sym (exchange.uses n) }

@@ -27,7 +27,8 @@ filesystem_goes_at_zero world number plain =
     filesystem_is_looked_up world number
     ∙ ap (λ b. cond (is_mounted nat_eq world number || b) world (without_filesystem world number))
     (no_layers number world world.filesystems (plain_of world plain))
-    ∙ ap (λ b. cond b world (without_filesystem world number)) (alone (is_mounted nat_eq world number) ∙ mounted_while_counted world number)
+    ∙ ap (λ b. cond b world (without_filesystem world number))
+    (alone (is_mounted nat_eq world number) ∙ mounted_while_counted world number)
   where
     alone : (b : Bool) → (b || false) ≡ b
     alone true = refl
@@ -45,23 +46,29 @@ one_taken test (first ∷ rest) number one there =
   where
     parts : (list_any (λ b. nat_eq first.number b.number) rest ≡ false)
         × (any_pair (λ (a b : Mount ℕ). nat_eq a.number b.number) rest ≡ false)
-    parts = or_parts (list_any (λ b. nat_eq first.number b.number) rest) (any_pair (λ (a b : Mount ℕ). nat_eq a.number b.number) rest) one
+    parts = or_parts (list_any (λ b. nat_eq first.number b.number) rest)
+        (any_pair (λ (a b : Mount ℕ). nat_eq a.number b.number) rest) one
 
     left : List (Mount ℕ)
     left = filter (λ mount. not (nat_eq mount.number number)) rest
 
-    by : (b : Bool) → nat_eq number first.number ≡ b → (b || is_among nat_eq number (map (λ mount. mount.number) rest)) ≡ true
+    by : (b : Bool) → nat_eq number first.number ≡ b
+        → (b || is_among nat_eq number (map (λ mount. mount.number) rest)) ≡ true
         → (is_among nat_eq number (map (λ mount. mount.number) rest) ≡ true → times test rest
         ≡ times test left + cond (test (mount_in nat_eq rest number)) 1 0)
         → times test (first ∷ rest) ≡ times test (cond (not (nat_eq first.number number)) (first ∷ left) left)
-        + cond (test (unwrap_or (cond b (Some first) (find (λ mount. nat_eq number mount.number) rest)) (no_mount number))) 1 0
+        + cond (test (unwrap_or (cond b (Some first) (find (λ mount. nat_eq number mount.number) rest))
+        (no_mount number))) 1 0
     by true e h later =
         let all : left ≡ rest = filter_all (λ mount. not (nat_eq mount.number number)) rest
-        (λ mount m. ap not (turned number mount.number false (ap (λ k. nat_eq k mount.number) (eqb-true number first.number e)
+        (λ mount m. ap not (turned number mount.number false
+        (ap (λ k. nat_eq k mount.number) (eqb-true number first.number e)
         ∙ fails (λ b. nat_eq first.number b.number) rest parts.0 mount m))) in
-        (let aside : cond (test first) 1 0 + times test rest ≡ times test rest + cond (test first) 1 0 = omega arith in aside)
+        (let aside : cond (test first) 1 0 + times test rest
+        ≡ times test rest + cond (test first) 1 0 = omega arith in aside)
         ∙ ap (λ l. times test l + cond (test first) 1 0) (sym all)
-        ∙ ap (λ b. times test (cond (not b) (first ∷ left) left) + cond (test first) 1 0) (sym (turned number first.number true e))
+        ∙ ap (λ b. times test (cond (not b) (first ∷ left) left) + cond (test first) 1 0)
+        (sym (turned number first.number true e))
     by false e h later =
         (let l = later h in
         let aside : cond (test first) 1 0 + times test rest ≡ (cond (test first) 1 0 + times test left) + cond

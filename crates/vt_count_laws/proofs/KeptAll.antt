@@ -22,10 +22,12 @@ use Rattle.vt_count_laws.proofs.Swept.{base_of}
 use Rattle.vt_count_laws.proofs.TreeCounts.{IsStart, changed_same}
 
 -- a use more leaves the node
-pinned_same : (inodes : Inodes ℕ) (object n : ℕ) → node_in ((pinned nat_eq inodes object).inode n) ≡ node_in (inodes.inode n)
+pinned_same : (inodes : Inodes ℕ) (object n : ℕ)
+    → node_in ((pinned nat_eq inodes object).inode n) ≡ node_in (inodes.inode n)
 pinned_same inodes object n =
     ⊎_elim
-    (λ t. ap (λ b. node_in (cond b (used_once_more (inodes.inode object)) (inodes.inode n))) t.0 ∙ by (inodes.inode object)
+    (λ t. ap (λ b. node_in (cond b (used_once_more (inodes.inode object)) (inodes.inode n))) t.0
+    ∙ by (inodes.inode object)
     ∙ ap (λ m. node_in (inodes.inode m)) (sym t.1))
     (λ t. ap (λ b. node_in (cond b (used_once_more (inodes.inode object)) (inodes.inode n))) t.0)
     (eqb_tells n object)
@@ -35,29 +37,36 @@ pinned_same inodes object n =
     by (Some inode) = refl
 
 -- the changed inodes are those of the changed tree
-module _ (base : ℕ → ℕ) (files : FileTree ℕ) (inodes : Inodes ℕ) (start : IsStart base files.tree.node files.numbers inodes) where
+module _ (base : ℕ → ℕ) (files : FileTree ℕ) (inodes : Inodes ℕ)
+    (start : IsStart base files.tree.node files.numbers inodes) where
   nodes_same : (change : Change ℕ) → Fits inodes change → TakesNoName change → (n : ℕ)
       → node_in ((changed nat_eq inodes change).inode n) ≡ (Changes.changed nat_eq files change).tree.node n
   nodes_same (Make directory name number new) fits none n =
       by (nat_eq n number)
       ∙ Names.either_way base files.tree.node files.numbers inodes start directory name number new
       (ap Rattle.vt_spec.specs.Tree.is_directory_node (sym (start.same directory)) ∙ fits.0)
-      (ap (λ x. Rattle.vt_spec.specs.Tree.entry_named name (Rattle.vt_spec.specs.Tree.entries_in x)) (sym (start.same directory))
+      (ap (λ x. Rattle.vt_spec.specs.Tree.entry_named name (Rattle.vt_spec.specs.Tree.entries_in x))
+      (sym (start.same directory))
       ∙ fits.1) fits.2 fits.3 n
     where
       by : (b : Bool) → node_in (cond b (Some (record { node = new; uses = 1 }))
           ((with_changed nat_eq inodes directory (node_with_entry name number)).inode n))
-          ≡ cond b (Some new) (cond (nat_eq n directory) (node_with_entry name number (files.tree.node directory)) (files.tree.node n))
+          ≡ cond b (Some new) (cond (nat_eq n directory) (node_with_entry name number (files.tree.node directory))
+          (files.tree.node n))
       by true = refl
-      by false = changed_same files.tree.node inodes directory (node_with_entry name number) start.same refl (λ some. (_, refl)) n
+      by false = changed_same files.tree.node inodes directory (node_with_entry name number) start.same refl
+          (λ some. (_, refl)) n
   nodes_same (AddName directory name object) fits none n =
       pinned_same (with_changed nat_eq inodes directory (node_with_entry name object)) object n
-      ∙ changed_same files.tree.node inodes directory (node_with_entry name object) start.same refl (λ some. (_, refl)) n
+      ∙ changed_same files.tree.node inodes directory (node_with_entry name object) start.same refl
+      (λ some. (_, refl)) n
   nodes_same (Remove directory name object) fits none n = absurd none
   nodes_same (Move from old to new object) fits none n = absurd none
-  nodes_same (SetBytes file bytes) fits none n = changed_same files.tree.node inodes file (node_with_bytes bytes) start.same refl
+  nodes_same (SetBytes file bytes) fits none n =
+      changed_same files.tree.node inodes file (node_with_bytes bytes) start.same refl
       (λ some. (_, refl)) n
-  nodes_same (SetAttr object attr) fits none n = changed_same files.tree.node inodes object (node_with_attr attr) start.same refl
+  nodes_same (SetAttr object attr) fits none n =
+      changed_same files.tree.node inodes object (node_with_attr attr) start.same refl
       (λ some. (_, refl)) n
   nodes_same (SetMark directory opaque) fits none n = changed_same files.tree.node inodes directory
       (node_with_mark opaque) start.same refl (λ some. (_, refl)) n
@@ -87,7 +96,8 @@ names_keep_all fresh world location inodes change is keeps =
     before : FileTree ℕ
     before = (After.old fresh world location inodes change is).files
 
-    begins : IsStart (base_of world (After.old fresh world location inodes change is)) before.tree.node before.numbers inodes
+    begins : IsStart (base_of world
+        (After.old fresh world location inodes change is)) before.tree.node before.numbers inodes
     begins = After.start fresh world location inodes change is
 
     tallied_once : (n : ℕ) → times_in n files.numbers ≡ cond (is_some (files.tree.node n)) 1 0
@@ -101,16 +111,20 @@ names_keep_all fresh world location inodes change is keeps =
         ≡ is_some ((changed nat_eq inodes change).inode n)
     is_used =
         Swept.used_there world number files in_use plain there (changed nat_eq inodes change)
-        (After.root_is (base_of world (After.old fresh world location inodes change is)) before inodes is.counted.root begins change)
-        (After.root_of_files (base_of world (After.old fresh world location inodes change is)) before inodes is.counted.root begins change)
+        (After.root_is (base_of world
+        (After.old fresh world location inodes change is)) before inodes is.counted.root begins change)
+        (After.root_of_files (base_of world
+        (After.old fresh world location inodes change is)) before inodes is.counted.root begins change)
         (After.new_tallied fresh world location inodes change is)
 
     all_used : list_all (λ n. is_among nat_eq n (Swept.used world number files in_use plain there)) files.numbers ≡ true
     all_used = all_pass (λ n. is_among nat_eq n (Swept.used world number files in_use plain there)) files.numbers
         (λ n m. is_used n ∙ there_in ((changed nat_eq inodes change).inode n)
-        ∙ ap is_some (nodes_same (base_of world (After.old fresh world location inodes change is)) before inodes begins change is.fits
+        ∙ ap is_some (nodes_same (base_of world
+        (After.old fresh world location inodes change is)) before inodes begins change is.fits
         keeps n)
-        ∙ stands n (is_some (files.tree.node n)) (tallied_once n) (among_times n files.numbers (is_among_numbers n files.numbers m)))
+        ∙ stands n (is_some (files.tree.node n)) (tallied_once n)
+        (among_times n files.numbers (is_among_numbers n files.numbers m)))
       where
         stands : (n : ℕ) (b : Bool) → times_in n files.numbers ≡ cond b 1 0 → 1 ≤ times_in n files.numbers → b ≡ true
         stands n true e some = refl

@@ -21,7 +21,8 @@ use Rattle.vt_count_laws.proofs.Places.{mounts_are_uses}
 
 pub locations_of_worlds_stand : LocationsOfWorldsStand
 locations_of_worlds_stand world is =
-    all_pass (λ location. is_among nat_eq location.mount (map (λ mount. mount.number) world.mounts)) (all_locations world)
+    all_pass (λ location. is_among nat_eq location.mount (map (λ mount. mount.number) world.mounts))
+    (all_locations world)
     (λ location m. (and_parts (is_among nat_eq location.mount (map (λ mount. mount.number) world.mounts))
     (is_there nat_eq world (mount_at nat_eq world location).filesystem location.node)
     (passes (is_located_well nat_eq world) (all_locations world) is.tasks.locations_live location m)).0)
@@ -34,7 +35,8 @@ attached_is (first ∷ rest) number e = by (nat_eq number first.number) e (attac
   where
     by : (b : Bool) → is_some (unwrap_or (cond b (Some first) (find (λ mount. nat_eq number mount.number) rest))
         (no_mount number)).namespace ≡ true
-        → (is_some (mount_in nat_eq rest number).namespace ≡ true → is_among nat_eq number (map (λ mount. mount.number) rest) ≡ true)
+        → (is_some (mount_in nat_eq rest number).namespace ≡ true
+        → is_among nat_eq number (map (λ mount. mount.number) rest) ≡ true)
         → (b || is_among nat_eq number (map (λ mount. mount.number) rest)) ≡ true
     by true e later = refl
     by false e later = later e
@@ -70,10 +72,13 @@ around (first ∷ rest) number one there = by (nat_eq number first.number) refl 
   where
     parts : (list_any (λ b. nat_eq first.number b.number) rest ≡ false)
         × (any_pair (λ (a b : Mount ℕ). nat_eq a.number b.number) rest ≡ false)
-    parts = or_parts (list_any (λ b. nat_eq first.number b.number) rest) (any_pair (λ (a b : Mount ℕ). nat_eq a.number b.number) rest) one
+    parts = or_parts (list_any (λ b. nat_eq first.number b.number) rest)
+        (any_pair (λ (a b : Mount ℕ). nat_eq a.number b.number) rest) one
 
-    by : (b : Bool) → nat_eq number first.number ≡ b → (b || is_among nat_eq number (map (λ mount. mount.number) rest)) ≡ true
-        → (is_among nat_eq number (map (λ mount. mount.number) rest) ≡ true → IsAround rest number) → IsAround (first ∷ rest) number
+    by : (b : Bool) → nat_eq number first.number ≡ b
+        → (b || is_among nat_eq number (map (λ mount. mount.number) rest)) ≡ true
+        → (is_among nat_eq number (map (λ mount. mount.number) rest) ≡ true → IsAround rest number)
+        → IsAround (first ∷ rest) number
     by true e h later = record {
       front = [];
       mount = first;
@@ -82,7 +87,8 @@ around (first ∷ rest) number one there = by (nat_eq number first.number) refl 
       left = ap (λ b. cond (not b) (first ∷ filter (λ other. not (nat_eq other.number number)) rest)
           (filter (λ other. not (nat_eq other.number number)) rest)) (turned number first.number true e)
           ∙ filter_all (λ other. not (nat_eq other.number number)) rest
-          (λ other m. ap not (turned number other.number false (ap (λ k. nat_eq k other.number) (eqb-true number first.number e)
+          (λ other m. ap not (turned number other.number false
+          (ap (λ k. nat_eq k other.number) (eqb-true number first.number e)
           ∙ fails (λ b. nat_eq first.number b.number) rest parts.0 other m)));
       numbered = sym (eqb-true number first.number e);
     }
@@ -98,9 +104,11 @@ around (first ∷ rest) number one there = by (nat_eq number first.number) refl 
     }
 
 module _ (world : World ℕ) (number : ℕ) (stand : MountsStand world)
-    (locations : list_all (λ location. is_among nat_eq location.mount (map (λ mount. mount.number) world.mounts)) (all_locations world)
+    (locations : list_all (λ location. is_among nat_eq location.mount (map (λ mount. mount.number) world.mounts))
+    (all_locations world)
     ≡ true)
-    (there : is_among nat_eq number (map (λ mount. mount.number) world.mounts) ≡ true) (unused : is_mount_used world number ≡ false) where
+    (there : is_among nat_eq number (map (λ mount. mount.number) world.mounts) ≡ true)
+    (unused : is_mount_used world number ≡ false) where
   split : IsAround world.mounts number
   split = around world.mounts number stand.one_number there
 
@@ -108,16 +116,20 @@ module _ (world : World ℕ) (number : ℕ) (stand : MountsStand world)
   left = without_mount world number
 
   in_world : Among split.mount world.mounts
-  in_world = subst (Among split.mount) (sym split.whole) (among-append_right split.front (split.mount ∷ split.back) split.mount (inl refl))
+  in_world = subst (Among split.mount) (sym split.whole)
+      (among-append_right split.front (split.mount ∷ split.back) split.mount (inl refl))
 
   itself : mount_numbered nat_eq world number ≡ split.mount
-  itself = ap (mount_numbered nat_eq world) (sym split.numbered) ∙ found_itself world.mounts stand.one_number split.mount in_world
+  itself = ap (mount_numbered nat_eq world) (sym split.numbered)
+      ∙ found_itself world.mounts stand.one_number split.mount in_world
 
   not_attached : is_some (mount_numbered nat_eq world number).namespace ≡ false
-  not_attached = (or_parts (is_some (mount_numbered nat_eq world number).namespace) (is_located nat_eq world number) unused).0
+  not_attached = (or_parts (is_some (mount_numbered nat_eq world number).namespace)
+      (is_located nat_eq world number) unused).0
 
   not_located : is_located nat_eq world number ≡ false
-  not_located = (or_parts (is_some (mount_numbered nat_eq world number).namespace) (is_located nat_eq world number) unused).1
+  not_located = (or_parts (is_some (mount_numbered nat_eq world number).namespace)
+      (is_located nat_eq world number) unused).1
 
   no_point : is_some split.mount.mount_point ≡ false
   no_point =
@@ -133,7 +145,8 @@ module _ (world : World ℕ) (number : ℕ) (stand : MountsStand world)
       is_among_numbers location.mount (map (λ mount. mount.number) left.mounts)
       (subst (λ n. Among n (map (λ (mount : Mount ℕ). mount.number) left.mounts)) (sym from.2)
       (among-map (λ (mount : Mount ℕ). mount.number) left.mounts from.0
-      (Rattle.vt_letting_go.proofs.Lists.among-filter (λ other. not (nat_eq other.number number)) world.mounts from.0 from.1
+      (Rattle.vt_letting_go.proofs.Lists.among-filter
+      (λ other. not (nat_eq other.number number)) world.mounts from.0 from.1
       (ap not (ap (λ n. nat_eq n number) (sym from.2) ∙ turned number location.mount false apart)))))
 
   all_on_left : list_all (is_on left.mounts) (all_locations left ++ places_of left.mounts) ≡ true
@@ -169,7 +182,8 @@ module _ (world : World ℕ) (number : ℕ) (stand : MountsStand world)
   root_left k =
       exchanges_turn left world (root_inode world number ∷ []) [] k
       (subst (λ l. Exchanges l [] k left world) uses_one
-      (mounts_are_uses left world split.front (split.mount ∷ []) split.back refl refl split.left split.whole stand.one_number all_on_left
+      (mounts_are_uses left world split.front
+      (split.mount ∷ []) split.back refl refl split.left split.whole stand.one_number all_on_left
       k))
     where
       none : (o : Option (Location ℕ)) → is_some o ≡ false → cons_option o [] ≡ []

@@ -27,14 +27,16 @@ pub directory_with : (name : List ℕ) (object : ℕ) (o : Option (Node ℕ)) �
 directory_with name object None e = cc
 directory_with name object (Some node) e = by node.content e
   where
-    by : (content : Content ℕ) → entry_named name (entries_of content) ≡ Some object → is_directory (kind_of content) ≡ true
+    by : (content : Content ℕ) → entry_named name (entries_of content) ≡ Some object
+        → is_directory (kind_of content) ≡ true
     by (Directory parent entries opaque) e = refl
     by (Regular bytes) e = cc
     by (Symlink text) e = cc
     by Whiteout e = cc
 
 -- A new inode
-module _ (base : ℕ → ℕ) (node : ℕ → Option (Node ℕ)) (numbers : List ℕ) (inodes : Inodes ℕ) (start : IsStart base node numbers inodes)
+module _ (base : ℕ → ℕ) (node : ℕ → Option (Node ℕ)) (numbers : List ℕ) (inodes : Inodes ℕ)
+    (start : IsStart base node numbers inodes)
     (directory : ℕ) (name : List ℕ) (number : ℕ) (new : Node ℕ) (is : is_directory_node (node directory) ≡ true)
     (free : entry_named name (entries_in (node directory)) ≡ None) (vacant : inodes.inode number ≡ None)
     (fits : IsNewIn directory new) where
@@ -57,7 +59,8 @@ module _ (base : ℕ → ℕ) (node : ℕ → Option (Node ℕ)) (numbers : List
   no_node = sym (start.same number) ∙ ap node_in vacant
 
   apart : number ≢ directory
-  apart e = true≢false (sym (there_directory base node numbers inodes start directory is) ∙ ap (λ n. is_some (node n)) (sym e)
+  apart e = true≢false (sym (there_directory base node numbers inodes start directory is)
+      ∙ ap (λ n. is_some (node n)) (sym e)
       ∙ ap is_some no_node)
 
   pub either_way : (n : ℕ) → node_made n ≡ node_made_there n
@@ -65,10 +68,13 @@ module _ (base : ℕ → ℕ) (node : ℕ → Option (Node ℕ)) (numbers : List
       sym (ap (λ b. cond (nat_eq n directory) (node_with_entry name number (cond b (Some new) (node directory)))
       (cond (nat_eq n number) (Some new) (node n))) (ne_eqb directory number (λ e. apart (sym e)))
       ∙ ⊎_elim
-      (λ t. ap (λ b. cond (nat_eq n directory) (node_with_entry name number (node directory)) (cond b (Some new) (node n))) t.0
-      ∙ ap (λ b. cond b (node_with_entry name number (node directory)) (Some new)) (ne_eqb n directory (λ e. apart (sym t.1 ∙ e)))
+      (λ t. ap (λ b. cond (nat_eq n directory) (node_with_entry name number (node directory))
+      (cond b (Some new) (node n))) t.0
+      ∙ ap (λ b. cond b (node_with_entry name number (node directory)) (Some new))
+      (ne_eqb n directory (λ e. apart (sym t.1 ∙ e)))
       ∙ sym (ap (λ b. cond b (Some new) (node_on n)) t.0))
-      (λ t. ap (λ b. cond (nat_eq n directory) (node_with_entry name number (node directory)) (cond b (Some new) (node n))) t.0
+      (λ t. ap (λ b. cond (nat_eq n directory) (node_with_entry name number (node directory))
+      (cond b (Some new) (node n))) t.0
       ∙ sym (ap (λ b. cond b (Some new) (node_on n)) t.0))
       (eqb_tells n number))
 
@@ -83,7 +89,8 @@ module _ (base : ℕ → ℕ) (node : ℕ → Option (Node ℕ)) (numbers : List
       (start.same directory) refl (λ some. (_, refl))
 
   vacant_on : inodes_on.inode number ≡ None
-  vacant_on = ap (λ b. cond b (inode_with_node (node_with_entry name number (node_in (inodes.inode directory))) (inodes.inode directory))
+  vacant_on = ap (λ b. cond b (inode_with_node (node_with_entry name number (node_in (inodes.inode directory)))
+      (inodes.inode directory))
       (inodes.inode number)) (ne_eqb number directory apart) ∙ vacant
 
   more : (n : ℕ) → one_if n number + made_uses n ≡ uses_of base node_made (number ∷ numbers) n
@@ -91,7 +98,8 @@ module _ (base : ℕ → ℕ) (node : ℕ → Option (Node ℕ)) (numbers : List
       let names = named_changed n node directory (node_with_entry name number (node directory)) numbers
       (once_directory base node numbers inodes start directory is) in
       let put = added_targets base node numbers inodes start directory name number is free n in
-      let all : times_in n (named_by node_made (number ∷ numbers)) ≡ times_in n (targets_in (node_made number)) + times_in n
+      let all : times_in n (named_by node_made (number ∷ numbers))
+      ≡ times_in n (targets_in (node_made number)) + times_in n
       (named_by node_made numbers) = times_append n (targets_in (node_made number)) (named_by node_made numbers) in
       let none : times_in n (targets_in (node_made number)) ≡ 0 = ap (λ o. times_in n (targets_in o)) made_new
       ∙ ap (λ e. times_in n (targets e)) (new_entries directory new.content fits) in
@@ -109,12 +117,14 @@ module _ (base : ℕ → ℕ) (node : ℕ → Option (Node ℕ)) (numbers : List
       (λ t. (let one : one_if n number ≡ 0 = ap (λ b. cond b 1 0) t.0 in let all : one_if n number + times_in n numbers
       ≡ times_in n numbers = omega arith in all)
       ∙ start.tallied.once n
-      ∙ ap (λ b. cond b 1 0) (sym (part_at is_some node directory (node_with_entry name number) (some_with name number (node directory)) n))
+      ∙ ap (λ b. cond b 1 0) (sym (part_at is_some node directory (node_with_entry name number)
+      (some_with name number (node directory)) n))
       ∙ sym (ap (λ b. cond (is_some (cond b (Some new) (node_on n))) 1 0) t.0))
       (eqb_tells n number)
 
   pub made : IsTallied base node_made_there (number ∷ numbers) (with_new nat_eq inodes directory name number new)
-  made = subst (λ f. IsTallied base f (number ∷ numbers) (with_new nat_eq inodes directory name number new)) (λ i. λ n. either_way n i)
+  made = subst (λ f. IsTallied base f (number ∷ numbers) (with_new nat_eq inodes directory name number new))
+      (λ i. λ n. either_way n i)
       (record {
         counted = other_uses (λ n. one_if n number + made_uses n) (uses_of base node_made (number ∷ numbers)) node_made
             (with_new nat_eq inodes directory name number new) more
@@ -123,8 +133,10 @@ module _ (base : ℕ → ℕ) (node : ℕ → Option (Node ℕ)) (numbers : List
       })
 
 -- A name less
-module _ (base : ℕ → ℕ) (node : ℕ → Option (Node ℕ)) (numbers : List ℕ) (inodes : Inodes ℕ) (start : IsStart base node numbers inodes)
-    (directory : ℕ) (name : List ℕ) (object : ℕ) (leads : entry_named name (entries_in (node directory)) ≡ Some object) where
+module _ (base : ℕ → ℕ) (node : ℕ → Option (Node ℕ)) (numbers : List ℕ) (inodes : Inodes ℕ)
+    (start : IsStart base node numbers inodes)
+    (directory : ℕ) (name : List ℕ) (object : ℕ)
+    (leads : entry_named name (entries_in (node directory)) ≡ Some object) where
   abbrev uses : ℕ → ℕ
   uses = uses_of base node numbers
 
@@ -140,7 +152,8 @@ module _ (base : ℕ → ℕ) (node : ℕ → Option (Node ℕ)) (numbers : List
       let less : times_in n (targets (without_entry name (entries_in (node directory)))) + one_if_some n
       (entry_named name (entries_in (node directory))) ≡ times_in n (targets (entries_in (node directory)))
       = times_without n name (entries_in (node directory)) (start.in_order directory) in
-      let own : one_if_some n (entry_named name (entries_in (node directory))) ≡ one_if n object = ap (one_if_some n) leads in
+      let own : one_if_some n (entry_named name (entries_in (node directory))) ≡ one_if n object =
+      ap (one_if_some n) leads in
       let same : times_in n (targets_in (node_without_entry name (node directory)))
       ≡ times_in n (targets (without_entry name (entries_in (node directory)))) = ap (λ e. times_in n (targets e))
       (entries_without name (node directory)) in
@@ -149,7 +162,8 @@ module _ (base : ℕ → ℕ) (node : ℕ → Option (Node ℕ)) (numbers : List
   pub is_target : 1 ≤ times_in object (targets_in (node directory))
   is_target = let off = off_targets object in let one = own_one object in omega arith
 
-module _ (base : ℕ → ℕ) (node : ℕ → Option (Node ℕ)) (numbers : List ℕ) (inodes : Inodes ℕ) (start : IsStart base node numbers inodes)
+module _ (base : ℕ → ℕ) (node : ℕ → Option (Node ℕ)) (numbers : List ℕ) (inodes : Inodes ℕ)
+    (start : IsStart base node numbers inodes)
     (directory : ℕ) (name : List ℕ) (object : ℕ) (leads : entry_named name (entries_in (node directory)) ≡ Some object)
     (empty : entries_in (node object) ≡ []) where
   abbrev uses_r : ℕ → ℕ
@@ -166,12 +180,14 @@ module _ (base : ℕ → ℕ) (node : ℕ → Option (Node ℕ)) (numbers : List
 
   apart_r : object ≢ directory
   apart_r e =
-      let none : times_in object (targets_in (node directory)) ≡ 0 = ap (λ n. times_in object (targets_in (node n))) (sym e)
+      let none : times_in object (targets_in (node directory)) ≡ 0 =
+      ap (λ n. times_in object (targets_in (node n))) (sym e)
       ∙ ap (λ l. times_in object (targets l)) empty in
       let some = is_target base node numbers inodes start directory name object leads in absurd (omega arith)
 
   removed_entries : (n : ℕ) → entries_in (node_removed n) ≡ entries_in (node_less n)
-  removed_entries = part_at entries_in node_less object (node_with_parent object) (entries_with_parent object (node_less object))
+  removed_entries = part_at entries_in node_less object (node_with_parent object)
+      (entries_with_parent object (node_less object))
 
   named_same : (list : List ℕ) → named_by node_removed list ≡ named_by node_less list
   named_same [] = refl
@@ -197,7 +213,8 @@ module _ (base : ℕ → ℕ) (node : ℕ → Option (Node ℕ)) (numbers : List
         (λ some. (_, refl)) in
         unpinned_counts uses_r (uses_of base node_removed numbers) node_removed
         (with_changed nat_eq inodes_less object (node_with_parent object)) object second one_less
-        (λ none. ap targets (removed_entries object ∙ ap entries_in (at_other node directory (node_without_entry name) object apart_r)
+        (λ none. ap targets (removed_entries object
+        ∙ ap entries_in (at_other node directory (node_without_entry name) object apart_r)
         ∙ empty));
     once = λ n. start.tallied.once n ∙ ap (λ b. cond b 1 0) (sym
         (part_at is_some node_less object (node_with_parent object) (some_with_parent object (node_less object)) n
@@ -206,11 +223,13 @@ module _ (base : ℕ → ℕ) (node : ℕ → Option (Node ℕ)) (numbers : List
 
 -- A name that is moved
 
-module _ (base : ℕ → ℕ) (node : ℕ → Option (Node ℕ)) (numbers : List ℕ) (inodes : Inodes ℕ) (start : IsStart base node numbers inodes)
+module _ (base : ℕ → ℕ) (node : ℕ → Option (Node ℕ)) (numbers : List ℕ) (inodes : Inodes ℕ)
+    (start : IsStart base node numbers inodes)
     (from : ℕ) (old : List ℕ) (to : ℕ) (new : List ℕ) (object : ℕ) (replaced : Option ℕ)
     (leads : entry_named old (entries_in (node from)) ≡ Some object)
     (to_is : is_directory_node (node to) ≡ true) (finds : entry_named new (entries_in (node to)) ≡ replaced)
-    (other : one_if_some object replaced ≡ 0) (empty : (n : ℕ) → 1 ≤ one_if_some n replaced → entries_in (node n) ≡ []) where
+    (other : one_if_some object replaced ≡ 0)
+    (empty : (n : ℕ) → 1 ≤ one_if_some n replaced → entries_in (node n) ≡ []) where
   abbrev uses_m : ℕ → ℕ
   uses_m = uses_of base node numbers
 
@@ -239,7 +258,8 @@ module _ (base : ℕ → ℕ) (node : ℕ → Option (Node ℕ)) (numbers : List
   from_is : is_directory_node (node from) ≡ true
   from_is = is_directory_off base node numbers inodes start from old object leads
 
-  off : (n : ℕ) → times_in n (targets_in (node_without_entry old (node from))) + one_if n object ≡ times_in n (targets_in (node from))
+  off : (n : ℕ) → times_in n (targets_in (node_without_entry old (node from))) + one_if n object
+      ≡ times_in n (targets_in (node from))
   off = off_targets base node numbers inodes start from old object leads
 
   object_target : 1 ≤ times_in object (targets_in (node from))
@@ -251,7 +271,8 @@ module _ (base : ℕ → ℕ) (node : ℕ → Option (Node ℕ)) (numbers : List
   order_from : (n : ℕ) → is_sorted name_cmp (entries_in (node_from n)) ≡ true
   order_from =
       sorted_at node from (node_without_entry old) start.in_order
-      (ap (is_sorted name_cmp) (entries_without old (node from)) ∙ sorted_without old (entries_in (node from)) (start.in_order from))
+      (ap (is_sorted name_cmp) (entries_without old (node from))
+      ∙ sorted_without old (entries_in (node from)) (start.in_order from))
 
   -- the new name still leads where it led
   finds_from : entry_named new (entries_in (node_from to)) ≡ replaced
@@ -263,14 +284,17 @@ module _ (base : ℕ → ℕ) (node : ℕ → Option (Node ℕ)) (numbers : List
       (λ t. ap (λ b. entry_named new (entries_in (cond b (node_without_entry old (node from)) (node to)))) t.0 ∙ finds)
       (eqb_tells to from)
     where
-      here : to ≡ from → (b : Bool) → bytes_eq new old ≡ b → entry_named new (without_entry old (entries_in (node from))) ≡ replaced
+      here : to ≡ from → (b : Bool) → bytes_eq new old ≡ b
+          → entry_named new (without_entry old (entries_in (node from))) ≡ replaced
       here same true e =
           let name : new ≡ old = (bytes_decides new old).0 e in
-          let it : replaced ≡ Some object = sym finds ∙ (λ i. entry_named (name i) (entries_in (node (same i)))) ∙ leads in
+          let it : replaced ≡ Some object =
+          sym finds ∙ (λ i. entry_named (name i) (entries_in (node (same i)))) ∙ leads in
           let one : one_if_some object replaced ≡ one_if object object = ap (one_if_some object) it in
           let self = own_one object in
           absurd (omega (arith, other))
-      here same false e = find_without old new (entries_in (node from)) e ∙ ap (λ n. entry_named new (entries_in (node n))) (sym same)
+      here same false e = find_without old new (entries_in (node from)) e
+          ∙ ap (λ n. entry_named new (entries_in (node n))) (sym same)
           ∙ finds
 
   on_targets : (n : ℕ) → times_in n (targets_in (node_with_entry new object (node_from to))) + one_if_some n replaced
@@ -279,7 +303,8 @@ module _ (base : ℕ → ℕ) (node : ℕ → Option (Node ℕ)) (numbers : List
       let put : times_in n (targets (with_entry new object (entries_in (node_from to)))) + one_if_some n
       (entry_named new (entries_in (node_from to))) ≡ times_in n (targets (entries_in (node_from to))) + one_if n object
       = times_put n new object (entries_in (node_from to)) (order_from to) in
-      let it : one_if_some n (entry_named new (entries_in (node_from to))) ≡ one_if_some n replaced = ap (one_if_some n) finds_from in
+      let it : one_if_some n (entry_named new (entries_in (node_from to))) ≡ one_if_some n replaced =
+      ap (one_if_some n) finds_from in
       let same : times_in n (targets_in (node_with_entry new object (node_from to)))
       ≡ times_in n (targets (with_entry new object (entries_in (node_from to)))) = ap (λ e. times_in n (targets e))
       (entries_with_entry new object (node_from to) to_from) in
@@ -293,7 +318,8 @@ module _ (base : ℕ → ℕ) (node : ℕ → Option (Node ℕ)) (numbers : List
 
       by : (o : Option ℕ) → entries_in (node_moved o n) ≡ entries_in (node_to n)
       by None = under
-      by (Some gone) = part_at entries_in node_under gone (node_with_parent gone) (entries_with_parent gone (node_under gone)) n ∙ under
+      by (Some gone) = part_at entries_in node_under gone (node_with_parent gone)
+          (entries_with_parent gone (node_under gone)) n ∙ under
 
   some_moved : (n : ℕ) → is_some (node_moved replaced n) ≡ is_some (node n)
   some_moved n = by replaced
@@ -306,7 +332,8 @@ module _ (base : ℕ → ℕ) (node : ℕ → Option (Node ℕ)) (numbers : List
 
       by : (o : Option ℕ) → is_some (node_moved o n) ≡ is_some (node n)
       by None = under
-      by (Some gone) = part_at is_some node_under gone (node_with_parent gone) (some_with_parent gone (node_under gone)) n ∙ under
+      by (Some gone) = part_at is_some node_under gone (node_with_parent gone)
+          (some_with_parent gone (node_under gone)) n ∙ under
 
   named_moved : (list : List ℕ) → named_by (node_moved replaced) list ≡ named_by node_to list
   named_moved [] = refl
@@ -318,7 +345,8 @@ module _ (base : ℕ → ℕ) (node : ℕ → Option (Node ℕ)) (numbers : List
       (once_directory base node numbers inodes start from from_is) in
       let two = named_changed n node_from to (node_with_entry new object (node_from to)) numbers
       (once_directory base node numbers inodes start to to_is) in
-      let same : times_in n (named_by (node_moved replaced) numbers) ≡ times_in n (named_by node_to numbers) = ap (times_in n)
+      let same : times_in n (named_by (node_moved replaced) numbers) ≡ times_in n (named_by node_to numbers) =
+      ap (times_in n)
       (named_moved numbers) in
       let a = off n in
       let b = on_targets n in
@@ -337,7 +365,8 @@ module _ (base : ℕ → ℕ) (node : ℕ → Option (Node ℕ)) (numbers : List
   counted_under =
       changed_counts uses_m node_to inodes_to object (node_with_parent to)
       (changed_counts uses_m node_from inodes_from to (node_with_entry new object)
-      (changed_counts uses_m node inodes from (node_without_entry old) start.tallied.counted (start.same from) refl (λ some. (_, refl)))
+      (changed_counts uses_m node inodes from (node_without_entry old) start.tallied.counted (start.same from) refl
+      (λ some. (_, refl)))
       (same_from to) refl (λ some. (_, refl)))
       (same_to object) refl (λ some. (_, refl))
 
@@ -352,7 +381,8 @@ module _ (base : ℕ → ℕ) (node : ℕ → Option (Node ℕ)) (numbers : List
   full_stays : (d n : ℕ) → 1 ≤ times_in n (targets_in (node d)) → one_if_some d replaced ≡ 0
   full_stays d n full =
       ⊎_elim (λ none. none)
-      (λ gone. absurd (let none : times_in n (targets_in (node d)) ≡ 0 = ap (λ l. times_in n (targets l)) (empty d gone) in omega arith))
+      (λ gone. absurd (let none : times_in n (targets_in (node d))
+      ≡ 0 = ap (λ l. times_in n (targets l)) (empty d gone) in omega arith))
       (none_or_one d)
 
   from_stays : one_if_some from replaced ≡ 0
@@ -362,7 +392,8 @@ module _ (base : ℕ → ℕ) (node : ℕ → Option (Node ℕ)) (numbers : List
   gone_target n =
       let found : one_if_some n (entry_named new (entries_in (node to))) ≤ times_in n
       (targets (entries_in (node to))) = found_target n new (entries_in (node to)) in
-      let it : one_if_some n (entry_named new (entries_in (node to))) ≡ one_if_some n replaced = ap (one_if_some n) finds in
+      let it : one_if_some n (entry_named new (entries_in (node to))) ≡ one_if_some n replaced =
+      ap (one_if_some n) finds in
       omega arith
 
   to_stays : one_if_some to replaced ≡ 0
@@ -379,17 +410,20 @@ module _ (base : ℕ → ℕ) (node : ℕ → Option (Node ℕ)) (numbers : List
           (without_replaced nat_eq inodes_under o)
       by None e =
           other_uses uses_m (uses_of base (node_moved replaced) numbers) node_under inodes_under
-          (λ n. let l = less n in let none : one_if_some n replaced ≡ 0 = ap (one_if_some n) e in omega arith) counted_under
+          (λ n. let l = less n in let none : one_if_some n replaced
+          ≡ 0 = ap (one_if_some n) e in omega arith) counted_under
       by (Some gone) e =
           let one : one_if_some gone replaced ≡ 1 = ap (one_if_some gone) e ∙ own_one gone in
-          let second = changed_counts uses_m node_under inodes_under gone (node_with_parent gone) counted_under (same_under gone) refl
+          let second = changed_counts uses_m node_under inodes_under gone (node_with_parent gone) counted_under
+          (same_under gone) refl
           (λ some. (_, refl)) in
           unpinned_counts uses_m (uses_of base (node_moved replaced) numbers) (node_moved (Some gone))
           (with_changed nat_eq inodes_under gone (node_with_parent gone)) gone second
           (λ n. ap (λ o. one_if_some n o + uses_of base (node_moved replaced) numbers n) (sym e) ∙ less n)
           (λ left. ap targets (ap (λ o. entries_in (node_moved o gone)) (sym e) ∙ entries_moved gone
           ∙ ap entries_in (at_other node_from to (node_with_entry new object) gone
-          (λ same. let none : one_if_some gone replaced ≡ 0 = ap (λ n. one_if_some n replaced) same ∙ to_stays in absurd (omega arith))
+          (λ same. let none : one_if_some gone replaced ≡ 0 = ap (λ n. one_if_some n replaced) same
+          ∙ to_stays in absurd (omega arith))
           ∙ at_other node from (node_without_entry old) gone (λ same. let none : one_if_some gone replaced
           ≡ 0 = ap (λ n. one_if_some n replaced) same ∙ from_stays in absurd (omega arith)))
           ∙ empty gone (omega arith)))
@@ -397,17 +431,20 @@ module _ (base : ℕ → ℕ) (node : ℕ → Option (Node ℕ)) (numbers : List
   -- what the whole machine does first, is done last here
   abbrev pub node_there : Option ℕ → ℕ → Option (Node ℕ)
   node_there None = node_under
-  node_there (Some gone) = at_place (at_place (at_place (at_place node gone (node_with_parent gone)) from (node_without_entry old)) to
+  node_there (Some gone) = at_place
+      (at_place (at_place (at_place node gone (node_with_parent gone)) from (node_without_entry old)) to
       (node_with_entry new object)) object (node_with_parent to)
 
-  same_there : (o : Option ℕ) → one_if_some from o ≡ 0 → one_if_some to o ≡ 0 → one_if_some object o ≡ 0 → node_there o ≡ node_moved o
+  same_there : (o : Option ℕ) → one_if_some from o ≡ 0 → one_if_some to o ≡ 0 → one_if_some object o ≡ 0
+      → node_there o ≡ node_moved o
   same_there None a b c = refl
   same_there (Some gone) a b c =
       (λ i. at_place (at_place (λ n. commute node gone from (node_with_parent gone) (node_without_entry old)
       (λ e. apart_one from gone a (sym e)) n i) to (node_with_entry new object)) object (node_with_parent to))
       ∙ (λ i. at_place (λ n. commute node_from gone to (node_with_parent gone) (node_with_entry new object)
       (λ e. apart_one to gone b (sym e)) n i) object (node_with_parent to))
-      ∙ (λ i. λ n. commute node_to gone object (node_with_parent gone) (node_with_parent to) (λ e. apart_one object gone c (sym e)) n i)
+      ∙ (λ i. λ n. commute node_to gone object (node_with_parent gone) (node_with_parent to)
+      (λ e. apart_one object gone c (sym e)) n i)
 
   pub moved : IsTallied base (node_there replaced) numbers (without_replaced nat_eq inodes_under replaced)
   moved = subst (λ f. IsTallied base f numbers (without_replaced nat_eq inodes_under replaced))

@@ -37,15 +37,18 @@ module _ (mounts : List (Mount ℕ)) (k n : ℕ) where
   count_append (first ∷ rest) other = by (shown first) (count_append rest other)
     where
       by : (b : Bool) → count_in (rest ++ other) ≡ count_in rest + count_in other
-          → times_in n (map (λ location. location.node) (cond b (first ∷ filter shown (rest ++ other)) (filter shown (rest ++ other))))
-          ≡ times_in n (map (λ location. location.node) (cond b (first ∷ filter shown rest) (filter shown rest))) + count_in other
+          → times_in n (map (λ location. location.node)
+          (cond b (first ∷ filter shown (rest ++ other)) (filter shown (rest ++ other))))
+          ≡ times_in n (map (λ location. location.node)
+          (cond b (first ∷ filter shown rest) (filter shown rest))) + count_in other
       by true e = omega arith
       by false e = e
 
   abbrev place_inode : Location ℕ → Inode
   place_inode location = ((mount_in nat_eq mounts location.mount).filesystem, location.node)
 
-  pub count_places : (locations : List (Location ℕ)) → times (is_inode k n) (map place_inode locations) ≡ count_in locations
+  pub count_places : (locations : List (Location ℕ))
+      → times (is_inode k n) (map place_inode locations) ≡ count_in locations
   count_places [] = refl
   count_places (first ∷ rest) = by (shown first) (count_places rest)
     where
@@ -55,7 +58,8 @@ module _ (mounts : List (Mount ℕ)) (k n : ℕ) where
       by true e = ap (λ m. cond (nat_eq n first.node) 1 0 + m) e
       by false e = let later : times (is_inode k n) (map place_inode rest) ≡ count_in rest = e in omega arith
 
-  pub count_none : (locations : List (Location ℕ)) → list_all (λ location. not (shown location)) locations ≡ true → count_in locations ≡ 0
+  pub count_none : (locations : List (Location ℕ)) → list_all (λ location. not (shown location)) locations ≡ true
+      → count_in locations ≡ 0
   count_none [] e = refl
   count_none (first ∷ rest) e =
       let parts = and_parts (not (shown first)) (list_all (λ location. not (shown location)) rest) e in
@@ -85,9 +89,11 @@ module _ (world after : World ℕ) (filesystems : after.filesystems ≡ world.fi
       let two : inode_uses after (filesystem_numbered nat_eq after k) n
       ≡ inode_uses after f n = ap (λ g. inode_uses after g n) same_found in
       let three = uses_split after f n in
-      let here : times_in n (located_in nat_eq world f.number) ≡ located world n = ap (λ m. times_in n (located_in nat_eq world m))
+      let here : times_in n (located_in nat_eq world f.number) ≡ located world n =
+      ap (λ m. times_in n (located_in nat_eq world m))
       (found_number world.filesystems k) in
-      let there : times_in n (located_in nat_eq after f.number) ≡ located after n = ap (λ m. times_in n (located_in nat_eq after m))
+      let there : times_in n (located_in nat_eq after f.number) ≡ located after n =
+      ap (λ m. times_in n (located_in nat_eq after m))
       (found_number world.filesystems k) in
       let layers : times_in n (layers_in nat_eq after f.number) ≡ times_in n (layers_in nat_eq world f.number)
       = (λ i. times_in n (map (λ layer. layer.directory)
@@ -104,8 +110,10 @@ locations_are_uses world after gained lost front back mounts filesystems locatio
       located_uses world after filesystems k n (times (is_inode k n) (map (inode_at world) gained))
       (times (is_inode k n) (map (inode_at world) lost))
       (let was : times_in n (located_in nat_eq world k) ≡ count_in world.mounts k n
-      ((front ++ (lost ++ back)) ++ roots ++ points) = (λ i. count_in world.mounts k n (locations i ++ roots ++ points)) in
-      let is : times_in n (located_in nat_eq after k) ≡ count_in world.mounts k n ((front ++ (gained ++ back)) ++ roots ++ points)
+      ((front ++ (lost ++ back)) ++ roots ++ points) =
+      (λ i. count_in world.mounts k n (locations i ++ roots ++ points)) in
+      let is : times_in n (located_in nat_eq after k)
+      ≡ count_in world.mounts k n ((front ++ (gained ++ back)) ++ roots ++ points)
       = (λ i. count_in (mounts i) k n (now i ++ map root_of (mounts i) ++ filter_map (λ mount. mount.mount_point) (mounts i))) in
       let first = split n lost in
       let second = split n gained in
@@ -120,8 +128,10 @@ locations_are_uses world after gained lost front back mounts filesystems locatio
     points : List (Location ℕ)
     points = filter_map (λ mount. mount.mount_point) world.mounts
 
-    split : (n : ℕ) (some : List (Location ℕ)) → count_in world.mounts k n ((front ++ (some ++ back)) ++ roots ++ points)
-        ≡ ((count_in world.mounts k n front + (count_in world.mounts k n some + count_in world.mounts k n back)) + count_in world.mounts
+    split : (n : ℕ) (some : List (Location ℕ))
+        → count_in world.mounts k n ((front ++ (some ++ back)) ++ roots ++ points)
+        ≡ ((count_in world.mounts k n front +
+        (count_in world.mounts k n some + count_in world.mounts k n back)) + count_in world.mounts
         k n roots) + count_in world.mounts k n points
     split n some =
         let one = count_append world.mounts k n ((front ++ (some ++ back)) ++ roots) points in
@@ -157,14 +167,16 @@ mount_is (first ∷ rest) number there = by (nat_eq number first.number) there (
   where
     by : (b : Bool) → (b || is_among nat_eq number (map (λ mount. mount.number) rest)) ≡ true
         → (is_among nat_eq number (map (λ mount. mount.number) rest) ≡ true → Among (mount_in nat_eq rest number) rest)
-        → Among (unwrap_or (cond b (Some first) (find (λ mount. nat_eq number mount.number) rest)) (no_mount number)) (first ∷ rest)
+        → Among (unwrap_or (cond b (Some first) (find (λ mount. nat_eq number mount.number) rest)) (no_mount number))
+        (first ∷ rest)
     by true h later = inl refl
     by false h later = inr (later h)
 
 -- among more mounts, each with its own number, it is found still
 found_still : (front added back : List (Mount ℕ)) (number : ℕ)
     → any_pair (λ (a b : Mount ℕ). nat_eq a.number b.number) (front ++ (added ++ back)) ≡ false
-    → is_among nat_eq number (map (λ mount. mount.number) (front ++ back)) ≡ true → mount_in nat_eq (front ++ (added ++ back)) number
+    → is_among nat_eq number (map (λ mount. mount.number) (front ++ back)) ≡ true
+    → mount_in nat_eq (front ++ (added ++ back)) number
     ≡ mount_in nat_eq (front ++ back) number
 found_still front added back number one there =
     ap (mount_in nat_eq (front ++ (added ++ back))) (sym (number_found (front ++ back) number))
@@ -182,14 +194,18 @@ mounts_are_uses world after front added back filesystems locations were are one 
   same = same_found world after filesystems k;
   uses = λ n.
       located_uses world after filesystems k n (times (is_inode k n) (map (inode_at after) (places_of added))) 0
-      (let was : times_in n (located_in nat_eq world k) ≡ count_in old k n ((all_locations world ++ map root_of old) ++ points old)
+      (let was : times_in n (located_in nat_eq world k)
+      ≡ count_in old k n ((all_locations world ++ map root_of old) ++ points old)
       = (λ i. count_in (were i) k n (all_locations world ++ map root_of (were i) ++ points (were i))) in
-      let is : times_in n (located_in nat_eq after k) ≡ count_in new k n ((all_locations world ++ map root_of new) ++ points new)
+      let is : times_in n (located_in nat_eq after k)
+      ≡ count_in new k n ((all_locations world ++ map root_of new) ++ points new)
       = (λ i. count_in (are i) k n (locations i ++ map root_of (are i) ++ points (are i))) in
       let alike : count_in new k n ((all_locations world ++ map root_of old) ++ points old)
       ≡ count_in old k n ((all_locations world ++ map root_of old) ++ points old) = same_counts n in
-      let gains : times (is_inode k n) (map (inode_at after) (places_of added)) ≡ count_in new k n (map root_of added ++ points added)
-      = (λ i. times (is_inode k n) (map (λ (l : Location ℕ). ((mount_in nat_eq (are i) l.mount).filesystem, l.node)) (places_of added)))
+      let gains : times (is_inode k n) (map (inode_at after) (places_of added))
+      ≡ count_in new k n (map root_of added ++ points added)
+      = (λ i. times (is_inode k n) (map (λ (l : Location ℕ). ((mount_in nat_eq (are i) l.mount).filesystem, l.node))
+      (places_of added)))
       ∙ count_places new k n (places_of added) in
       let a = count_append new k n (map root_of added) (points added) in
       let b = count_append new k n (all_locations world ++ map root_of old) (points old) in
@@ -220,7 +236,8 @@ mounts_are_uses world after front added back filesystems locations were are one 
         append_again [] b c = refl
         append_again (x ∷ a) b c = ap (λ l. x ∷ l) (append_again a b c)
 
-        assoc : (p : List (Location ℕ) → Bool) → p ((all_locations world ++ map root_of world.mounts) ++ points world.mounts)
+        assoc : (p : List (Location ℕ) → Bool)
+            → p ((all_locations world ++ map root_of world.mounts) ++ points world.mounts)
             ≡ p (all_locations world ++ (map root_of world.mounts ++ points world.mounts))
         assoc p = ap p (append_again (all_locations world) (map root_of world.mounts) (points world.mounts))
 
@@ -233,11 +250,15 @@ mounts_are_uses world after front added back filesystems locations were are one 
         (found_still front added back l.mount one_new
         (passes (is_on old) ((all_locations world ++ map root_of old) ++ points old) on_old l m))))
 
-    roots : (n : ℕ) → count_in new k n (map root_of new) ≡ count_in new k n (map root_of old) + count_in new k n (map root_of added)
+    roots : (n : ℕ) → count_in new k n (map root_of new)
+        ≡ count_in new k n (map root_of old) + count_in new k n (map root_of added)
     roots n =
-        let a : count_in new k n (map root_of new) ≡ count_in new k n (map root_of front ++ (map root_of added ++ map root_of back))
-        = ap (count_in new k n) (roots_append front (added ++ back) ∙ ap (λ l. map root_of front ++ l) (roots_append added back)) in
-        let b : count_in new k n (map root_of old) ≡ count_in new k n (map root_of front ++ map root_of back) = ap (count_in new k n)
+        let a : count_in new k n (map root_of new)
+        ≡ count_in new k n (map root_of front ++ (map root_of added ++ map root_of back))
+        = ap (count_in new k n) (roots_append front (added ++ back)
+        ∙ ap (λ l. map root_of front ++ l) (roots_append added back)) in
+        let b : count_in new k n (map root_of old) ≡ count_in new k n (map root_of front ++ map root_of back) =
+        ap (count_in new k n)
         (roots_append front back) in
         let c = count_append new k n (map root_of front) (map root_of added ++ map root_of back) in
         let d = count_append new k n (map root_of added) (map root_of back) in
@@ -247,7 +268,8 @@ mounts_are_uses world after front added back filesystems locations were are one 
     parts : (n : ℕ) → count_in new k n (points new) ≡ count_in new k n (points old) + count_in new k n (points added)
     parts n =
         let a : count_in new k n (points new) ≡ count_in new k n (points front ++ (points added ++ points back))
-        = ap (count_in new k n) (points_append front (added ++ back) ∙ ap (λ l. points front ++ l) (points_append added back)) in
+        = ap (count_in new k n) (points_append front (added ++ back)
+        ∙ ap (λ l. points front ++ l) (points_append added back)) in
         let b : count_in new k n (points old) ≡ count_in new k n (points front ++ points back) = ap (count_in new k n)
         (points_append front back) in
         let c = count_append new k n (points front) (points added ++ points back) in
@@ -257,13 +279,16 @@ mounts_are_uses world after front added back filesystems locations were are one 
 
 -- A mount that is placed
 
-found_placed : (front back : List (Mount ℕ)) (old new : Mount ℕ) → new.number ≡ old.number → new.filesystem ≡ old.filesystem → (number : ℕ)
-    → (mount_in nat_eq (front ++ (new ∷ back)) number).filesystem ≡ (mount_in nat_eq (front ++ (old ∷ back)) number).filesystem
+found_placed : (front back : List (Mount ℕ)) (old new : Mount ℕ) → new.number ≡ old.number
+    → new.filesystem ≡ old.filesystem → (number : ℕ)
+    → (mount_in nat_eq (front ++ (new ∷ back)) number).filesystem
+    ≡ (mount_in nat_eq (front ++ (old ∷ back)) number).filesystem
 found_placed [] back old new numbered shows number =
     (λ i. (unwrap_or (cond (nat_eq number (numbered i)) (Some new) (find (λ mount. nat_eq number mount.number) back))
     (no_mount number)).filesystem) ∙ by (nat_eq number old.number)
   where
-    by : (b : Bool) → (unwrap_or (cond b (Some new) (find (λ mount. nat_eq number mount.number) back)) (no_mount number)).filesystem
+    by : (b : Bool) → (unwrap_or (cond b (Some new) (find (λ mount. nat_eq number mount.number) back))
+        (no_mount number)).filesystem
         ≡ (unwrap_or (cond b (Some old) (find (λ mount. nat_eq number mount.number) back)) (no_mount number)).filesystem
     by true = shows
     by false = refl
@@ -283,11 +308,14 @@ pub mount_is_placed : MountIsPlaced
 mount_is_placed world after front back old new filesystems locations were are numbered shows rooted k = record {
   same = same_found world after filesystems k;
   uses = λ n.
-      located_uses world after filesystems k n (times (is_inode k n) (map (inode_at world) (option_to_list new.mount_point)))
+      located_uses world after filesystems k n
+      (times (is_inode k n) (map (inode_at world) (option_to_list new.mount_point)))
       (times (is_inode k n) (map (inode_at world) (option_to_list old.mount_point)))
-      (let was : times_in n (located_in nat_eq world k) ≡ count_in olds k n ((all_locations world ++ map root_of olds) ++ points olds)
+      (let was : times_in n (located_in nat_eq world k)
+      ≡ count_in olds k n ((all_locations world ++ map root_of olds) ++ points olds)
       = (λ i. count_in (were i) k n (all_locations world ++ map root_of (were i) ++ points (were i))) in
-      let is : times_in n (located_in nat_eq after k) ≡ count_in olds k n ((all_locations world ++ map root_of olds) ++ points news)
+      let is : times_in n (located_in nat_eq after k)
+      ≡ count_in olds k n ((all_locations world ++ map root_of olds) ++ points news)
       = (λ i. count_in (are i) k n (locations i ++ map root_of (are i) ++ points (are i)))
       ∙ (λ i. times_in n (map (λ location. location.node)
       (filter (λ (location : Location ℕ). nat_eq k (found_placed front back old new numbered shows location.mount i))
@@ -316,8 +344,10 @@ mount_is_placed world after front back old new filesystems locations were are nu
         ∙ (λ i. map root_of front ++ (record { mount = numbered i; node = rooted i } ∷ map root_of back))
         ∙ sym (roots_append front (old ∷ back))
 
-    gains : (n : ℕ) (some : List (Location ℕ)) → times (is_inode k n) (map (inode_at world) some) ≡ count_in olds k n some
-    gains n some = (λ i. times (is_inode k n) (map (λ (l : Location ℕ). ((mount_in nat_eq (were i) l.mount).filesystem, l.node)) some))
+    gains : (n : ℕ) (some : List (Location ℕ))
+        → times (is_inode k n) (map (inode_at world) some) ≡ count_in olds k n some
+    gains n some = (λ i. times (is_inode k n)
+        (map (λ (l : Location ℕ). ((mount_in nat_eq (were i) l.mount).filesystem, l.node)) some))
         ∙ count_places olds k n some
 
     parts : (n : ℕ) (mount : Mount ℕ) → count_in olds k n (points (front ++ (mount ∷ back)))
@@ -327,8 +357,10 @@ mount_is_placed world after front back old new filesystems locations were are nu
         ∙ by mount.mount_point
       where
         by : (o : Option (Location ℕ)) → count_in olds k n (points front ++ cons_option o (points back))
-            ≡ (count_in olds k n (points front) + count_in olds k n (option_to_list o)) + count_in olds k n (points back)
-        by None = let a = count_append olds k n (points front) (points back) in let none : count_in olds k n [] ≡ 0 = refl in omega arith
+            ≡ (count_in olds k n (points front) + count_in olds k n (option_to_list o)) + count_in olds k n
+            (points back)
+        by None = let a = count_append olds k n (points front) (points back) in let none : count_in olds k n [] ≡ 0 =
+            refl in omega arith
         by (Some place) =
             let a = count_append olds k n (points front) (place ∷ points back) in
             let b : count_in olds k n (place ∷ points back) ≡ count_in olds k n (place ∷ []) + count_in olds k n
@@ -337,7 +369,8 @@ mount_is_placed world after front back old new filesystems locations were are nu
 
 -- Exchanges
 
-times_both : {A : Type 0} (test : A → Bool) (one other : List A) → times test (one ++ other) ≡ times test one + times test other
+times_both : {A : Type 0} (test : A → Bool) (one other : List A)
+    → times test (one ++ other) ≡ times test one + times test other
 times_both test [] other = omega arith
 times_both test (first ∷ rest) other = let later = times_both test rest other in omega arith
 
@@ -356,7 +389,8 @@ others_use_nothing world after k plain plain_after mounts locations same = recor
       let f = filesystem_numbered nat_eq world k in
       let one = plain_uses_are world (plain_of world plain) f n in
       let two = plain_uses_are after (plain_of after plain_after) f n in
-      let there : inode_uses after (filesystem_numbered nat_eq after k) n ≡ inode_uses after f n = ap (λ g. inode_uses after g n) same in
+      let there : inode_uses after (filesystem_numbered nat_eq after k) n ≡ inode_uses after f n =
+      ap (λ g. inode_uses after g n) same in
       let here : base_of after f n ≡ base_of world f n
       = (λ i. one_if n f.files.tree.root + count_in (mounts i) f.number n
       (locations i ++ map root_of (mounts i) ++ filter_map (λ mount. mount.mount_point) (mounts i))) in
@@ -421,7 +455,8 @@ new_tree_is_counted world number root plain one own outside = record {
         (filter (shown world.mounts number n) (map root_of rest)))))
         (found_itself world.mounts one first (within first (inl refl)))
         ∙ by (nat_eq number first.filesystem) (passes (λ mount. not (nat_eq number mount.filesystem)
-        || nat_eq root mount.root) world.mounts own first (within first (inl refl))) (roots n rest (λ mount m. within mount (inr m)))
+        || nat_eq root mount.root) world.mounts own first (within first (inl refl)))
+        (roots n rest (λ mount m. within mount (inr m)))
       where
         by : (b : Bool) → (not b || nat_eq root first.root) ≡ true
             → count_in world.mounts number n (map root_of rest) ≡ cond (nat_eq n root)
@@ -431,8 +466,10 @@ new_tree_is_counted world number root plain one own outside = record {
             (filter (shown world.mounts number n) (map root_of rest))))
             ≡ cond (nat_eq n root) (cond b 1 0 + times (λ mount. nat_eq number mount.filesystem) rest) 0
         by true same later =
-            ap (λ r. one_if n r + count_in world.mounts number n (map root_of rest)) (sym (eqb-true root first.root same))
-            ∙ (λ i. one_if n root + later i) ∙ add (nat_eq n root) (times (λ mount. nat_eq number mount.filesystem) rest)
+            ap (λ r. one_if n r + count_in world.mounts number n (map root_of rest))
+            (sym (eqb-true root first.root same))
+            ∙ (λ i. one_if n root + later i)
+            ∙ add (nat_eq n root) (times (λ mount. nat_eq number mount.filesystem) rest)
           where
             add : (b : Bool) (m : ℕ) → cond b 1 0 + cond b m 0 ≡ cond b (1 + m) 0
             add true m = refl
@@ -456,13 +493,16 @@ new_tree_is_counted world number root plain one own outside = record {
         by (nat_eq n root) refl
         ∙ sym (let split = uses_split world (new_plain nat_eq number root) n in
         let bare : times_in n (named_in (new_plain nat_eq number root).files)
-        ≡ 0 = ap (λ b. times_in n (targets_in (cond b (Some (record { attr = root_attr; content = new_directory root })) None) ++ []))
+        ≡ 0 = ap (λ b. times_in n (targets_in
+        (cond b (Some (record { attr = root_attr; content = new_directory root })) None) ++ []))
         (eq-eqb root root refl) in
-        let layers : times_in n (layers_in nat_eq world number) ≡ 0 = ap (times_in n) (no_layers_of world (plain_of world plain) number) in
+        let layers : times_in n (layers_in nat_eq world number) ≡ 0 =
+        ap (times_in n) (no_layers_of world (plain_of world plain) number) in
         let objects : times_in n (flat_map (objects_of_overlay nat_eq number) world.filesystems)
         ≡ 0 = ap (times_in n) (no_objects_of world (plain_of world plain) number) in
         let a : times_in n (located_in nat_eq world number) ≡ count_in world.mounts number n
-        (locs ++ tops) + count_in world.mounts number n points = count_append world.mounts number n (locs ++ tops) points in
+        (locs ++ tops) + count_in world.mounts number n points =
+        count_append world.mounts number n (locs ++ tops) points in
         let b = count_append world.mounts number n locs tops in
         let c = count_append world.mounts number n locs points in
         let none = count_none world.mounts number n (locs ++ points) outside in
@@ -513,32 +553,38 @@ opening_is_counted fresh = subst (λ f. IsCounted world f (one_counted root 4)) 
 
     is_shown : shown world.mounts (fresh 2) 0 here ≡ true
     is_shown =
-        ap (λ b. nat_eq (fresh 2) (unwrap_or (cond b (Some (first_mount nat_eq fresh)) None) (no_mount (fresh 0))).filesystem)
+        ap (λ b. nat_eq (fresh 2) (unwrap_or (cond b (Some (first_mount nat_eq fresh)) None)
+        (no_mount (fresh 0))).filesystem)
         (eq-eqb (fresh 0) (fresh 0) refl)
         ∙ eq-eqb (fresh 2) (fresh 2) refl
 
     one_here : (n : ℕ) (rest : List (Location ℕ)) → count_in world.mounts (fresh 2) n (here ∷ rest)
         ≡ one_if n root + count_in world.mounts (fresh 2) n rest
     one_here n rest = ap (λ b. times_in n (map (λ location. location.node)
-        (cond b (here ∷ filter (shown world.mounts (fresh 2) n) rest) (filter (shown world.mounts (fresh 2) n) rest)))) is_shown
+        (cond b (here ∷ filter (shown world.mounts (fresh 2) n) rest)
+        (filter (shown world.mounts (fresh 2) n) rest)))) is_shown
 
     uses : (n : ℕ) → uses_in ((one_counted root 4).inode n) ≡ inode_uses world tree n
     uses n =
         by (nat_eq n root)
         ∙ sym (let split = uses_split world tree n in
         let bare : times_in n (named_in tree.files)
-        ≡ 0 = ap (λ b. times_in n (targets_in (cond b (Some (record { attr = root_attr; content = new_directory root })) None) ++ []))
+        ≡ 0 = ap (λ b. times_in n (targets_in
+        (cond b (Some (record { attr = root_attr; content = new_directory root })) None) ++ []))
         (eq-eqb root root refl) in
         let layers : times_in n (layers_in nat_eq world (fresh 2)) ≡ 0 = refl in
         let objects : times_in n (flat_map (objects_of_overlay nat_eq (fresh 2)) world.filesystems) ≡ 0 = refl in
-        let a : times_in n (located_in nat_eq world (fresh 2)) ≡ count_in world.mounts (fresh 2) n (here ∷ here ∷ here ∷ []) = refl in
+        let a : times_in n (located_in nat_eq world (fresh 2))
+        ≡ count_in world.mounts (fresh 2) n (here ∷ here ∷ here ∷ []) = refl in
         let b = one_here n (here ∷ here ∷ []) in
         let c = one_here n (here ∷ []) in
         let d = one_here n [] in
         let none : count_in world.mounts (fresh 2) n [] ≡ 0 = refl in
-        let all : inode_uses world tree n ≡ one_if n root + (one_if n root + (one_if n root + one_if n root)) = omega arith in
+        let all : inode_uses world tree n ≡ one_if n root + (one_if n root + (one_if n root + one_if n root)) =
+        omega arith in
         all)
       where
-        by : (b : Bool) → uses_in (cond b (Some (root_counted root 4)) None) ≡ cond b 1 0 + (cond b 1 0 + (cond b 1 0 + cond b 1 0))
+        by : (b : Bool) → uses_in (cond b (Some (root_counted root 4)) None)
+            ≡ cond b 1 0 + (cond b 1 0 + (cond b 1 0 + cond b 1 0))
         by true = refl
         by false = refl

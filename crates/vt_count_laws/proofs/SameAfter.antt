@@ -12,11 +12,14 @@ use Rattle.vt_count_laws.proofs.Listed.{among_by_times, same_numbers_are_permute
 use Rattle.vt_count_laws.proofs.Alike.{same_itself}
 
 -- two worlds that differ in the order of the numbers of one filesystem
-same_filesystems : (one other : Filesystem ℕ) → one.number ≡ other.number → SameFilesystem one other → (filesystems : List (Filesystem ℕ))
-    → SameFilesystems (map (replaced_if_numbered nat_eq one) filesystems) (map (replaced_if_numbered nat_eq other) filesystems)
+same_filesystems : (one other : Filesystem ℕ) → one.number ≡ other.number → SameFilesystem one other
+    → (filesystems : List (Filesystem ℕ))
+    → SameFilesystems (map (replaced_if_numbered nat_eq one) filesystems)
+    (map (replaced_if_numbered nat_eq other) filesystems)
 same_filesystems one other number same [] = tt
 same_filesystems one other number same (first ∷ rest) = (
-  subst (λ n. SameFilesystem (cond (nat_eq one.number first.number) one first) (cond (nat_eq n first.number) other first)) number
+  subst (λ n. SameFilesystem (cond (nat_eq one.number first.number) one first)
+      (cond (nat_eq n first.number) other first)) number
       (by (nat_eq one.number first.number)),
   same_filesystems one other number same rest,
 )
@@ -52,11 +55,13 @@ counted_changes_are_swept fresh world location inodes change is files tree once 
 
     same_numbers : Rattle.std.specs.List.Sorted.IsPermutation files.numbers left.numbers
     same_numbers =
-        same_numbers_are_permuted files.numbers left.numbers once (Changes.counted_then fresh world location inodes change is).once
+        same_numbers_are_permuted files.numbers left.numbers once
+        (Changes.counted_then fresh world location inodes change is).once
         (λ n. lists n ∙ ap (λ t. is_some (t.node n)) tree ∙ there ((changed nat_eq inodes change).inode n)
         ∙ sym (among_by_times n left.numbers (is_some ((changed nat_eq inodes change).inode n))
         (Changes.left_times fresh world location inodes change is n)))
       where
-        there : (o : Rattle.std.specs.Prelude.Option (Rattle.vt_spec.specs.Inodes.Inode ℕ)) → is_some (node_in o) ≡ is_some o
+        there : (o : Rattle.std.specs.Prelude.Option (Rattle.vt_spec.specs.Inodes.Inode ℕ))
+            → is_some (node_in o) ≡ is_some o
         there Rattle.std.specs.Prelude.None = refl
         there (Rattle.std.specs.Prelude.Some inode) = refl

@@ -27,7 +27,8 @@ use Rattle.vt_count_laws.proofs.Swept.{base_of, found_is, plain_of, plain_uses_a
 
 module _ (world after : World ℕ) (gained lost : List Inode) (k : ℕ) (inodes : Inodes ℕ) (trees : HasTrees world)
     (in_use : InodesInUse world) (plain : IsPlain after)
-    (exchange : Exchanges gained lost k world (living after)) (counted : IsCounted world (filesystem_numbered nat_eq world k) inodes)
+    (exchange : Exchanges gained lost k world (living after))
+    (counted : IsCounted world (filesystem_numbered nat_eq world k) inodes)
     (gains : AreThere k inodes gained) where
   abbrev f : Filesystem ℕ
   f = filesystem_numbered nat_eq world k
@@ -59,7 +60,8 @@ module _ (world after : World ℕ) (gained lost : List Inode) (k : ℕ) (inodes 
   plain_f =
       ap is_overlay (sym exchange.same)
       ∙ fails is_overlay lives.filesystems (plain_of lives plain_living) (filesystem_numbered nat_eq lives k)
-      (found_is lives.filesystems k (Exchanged.there_after world lives gained lost k inodes trees in_use plain_living exchange counted
+      (found_is lives.filesystems k
+      (Exchanged.there_after world lives gained lost k inodes trees in_use plain_living exchange counted
       gains))
 
   plain_swept : LettingGo.IsPlain swept
@@ -75,7 +77,8 @@ module _ (world after : World ℕ) (gained lost : List Inode) (k : ℕ) (inodes 
       (list_all (λ n. is_among nat_eq n (used_in nat_eq lives g)) g.files.numbers)) lives.filesystems k
       (Exchanged.there_after world lives gained lost k inodes trees in_use plain_living exchange counted gains)
       ∙ ap step exchange.same
-      ∙ left_of_plain used f (Exchanged.tree world lives gained lost k inodes trees in_use plain_living exchange counted gains).numbers
+      ∙ left_of_plain used f
+      (Exchanged.tree world lives gained lost k inodes trees in_use plain_living exchange counted gains).numbers
       plain_f
 
   counts : Rattle.vt_one_text.proofs.OneTreeCounts.IsCounted (inode_uses lives f) f.files.tree.node result
@@ -100,7 +103,8 @@ module _ (world after : World ℕ) (gained lost : List Inode) (k : ℕ) (inodes 
       by false e = none (is_among nat_eq n used) refl (used_times n ∙ unused (result.inode n) e)
 
   node_last : (n : ℕ) → node_in (result.inode n) ≡ cond (not (is_among nat_eq n used)) None (f.files.tree.node n)
-  node_last n = by (is_some (result.inode n)) refl ∙ sym (ap (λ b. cond (not b) None (f.files.tree.node n)) (used_there n))
+  node_last n = by (is_some (result.inode n)) refl
+      ∙ sym (ap (λ b. cond (not b) None (f.files.tree.node n)) (used_there n))
     where
       missing : (o : Option (Trees.Inode ℕ)) → is_some o ≡ false → node_in o ≡ None
       missing None e = refl
@@ -119,7 +123,8 @@ module _ (world after : World ℕ) (gained lost : List Inode) (k : ℕ) (inodes 
       flat_map_alike (λ d. targets_in (cond (not (is_among nat_eq d used)) None (f.files.tree.node d)))
       (λ d. targets_in (f.files.tree.node d)) (filter (λ d. not (not (is_among nat_eq d used))) f.files.numbers)
       (λ d m. by d (is_among nat_eq d used) refl)
-      ∙ flat_map-filter (λ d. not (not (is_among nat_eq d used))) (λ d. targets_in (f.files.tree.node d)) f.files.numbers
+      ∙ flat_map-filter (λ d. not (not (is_among nat_eq d used)))
+      (λ d. targets_in (f.files.tree.node d)) f.files.numbers
       (λ d h. bare d (twice (is_among nat_eq d used) h))
     where
       by : (d : ℕ) (b : Bool) → is_among nat_eq d used ≡ b → targets_in (cond (not b) None (f.files.tree.node d))
@@ -170,13 +175,15 @@ module _ (world after : World ℕ) (gained lost : List Inode) (k : ℕ) (inodes 
 
   -- groups do not use inodes
   grouped : (some : World ℕ) → IsCounted some (filesystem_numbered nat_eq some k) result
-      → IsCounted (without_dead_groups nat_eq some) (filesystem_numbered nat_eq (without_dead_groups nat_eq some) k) result
+      → IsCounted (without_dead_groups nat_eq some)
+      (filesystem_numbered nat_eq (without_dead_groups nat_eq some) k) result
   grouped some is = record { root = is.root; node = is.node; uses = is.uses; count = is.count; once = is.once }
 
   counted_settled : IsCounted (settled nat_eq after) (filesystem_numbered nat_eq (settled nat_eq after) k) result
   counted_settled =
       grouped (without_dead_inodes nat_eq lives)
-      (subst (λ w. IsCounted w (filesystem_numbered nat_eq w k) result) (sym (plain_sweep lives (plain_of lives plain_living)))
+      (subst (λ w. IsCounted w (filesystem_numbered nat_eq w k) result)
+      (sym (plain_sweep lives (plain_of lives plain_living)))
       (subst (λ g. IsCounted swept g result) (sym found) counted_swept))
 
 pub uses_are_swept : UsesAreSwept

@@ -32,13 +32,17 @@ plain_of world plain = none_passes is_overlay world.filesystems
 -- What uses an inode
 
 pub uses_split : (world : World ℕ) (f : Filesystem ℕ) (n : ℕ)
-    → inode_uses world f n ≡ one_if n f.files.tree.root + (((times_in n (named_in f.files) + times_in n (located_in nat_eq world f.number))
-    + times_in n (layers_in nat_eq world f.number)) + times_in n (flat_map (objects_of_overlay nat_eq f.number) world.filesystems))
+    → inode_uses world f n ≡ one_if n f.files.tree.root +
+    (((times_in n (named_in f.files) + times_in n (located_in nat_eq world f.number))
+    + times_in n (layers_in nat_eq world f.number)) + times_in n
+    (flat_map (objects_of_overlay nat_eq f.number) world.filesystems))
 uses_split world f n =
-    let all : times (nat_eq n) (used_in nat_eq world f) ≡ times_in n (used_in nat_eq world f) = times_is n (used_in nat_eq world f) in
+    let all : times (nat_eq n) (used_in nat_eq world f) ≡ times_in n (used_in nat_eq world f) =
+    times_is n (used_in nat_eq world f) in
     let one : times_in n (((named ++ located) ++ layers) ++ objects) ≡ times_in n
     ((named ++ located) ++ layers) + times_in n objects = times_append n ((named ++ located) ++ layers) objects in
-    let two : times_in n ((named ++ located) ++ layers) ≡ times_in n (named ++ located) + times_in n layers = times_append n
+    let two : times_in n ((named ++ located) ++ layers) ≡ times_in n (named ++ located) + times_in n layers =
+    times_append n
     (named ++ located) layers in
     let three : times_in n (named ++ located) ≡ times_in n named + times_in n located = times_append n named located in
     let split : times_in n (used_in nat_eq world f) ≡ one_if n f.files.tree.root + times_in n
@@ -60,13 +64,16 @@ uses_split world f n =
 -- In a world of plain filesystems an inode is used as the root, by names, and at locations.
 
 abbrev pub base_of : World ℕ → Filesystem ℕ → ℕ → ℕ
-base_of world filesystem n = one_if n filesystem.files.tree.root + times_in n (located_in nat_eq world filesystem.number)
+base_of world filesystem n = one_if n filesystem.files.tree.root + times_in n
+    (located_in nat_eq world filesystem.number)
 
 pub plain_uses_are : (world : World ℕ) → LettingGo.IsPlain world → (filesystem : Filesystem ℕ) (n : ℕ)
-    → inode_uses world filesystem n ≡ uses_of (base_of world filesystem) filesystem.files.tree.node filesystem.files.numbers n
+    → inode_uses world filesystem n
+    ≡ uses_of (base_of world filesystem) filesystem.files.tree.node filesystem.files.numbers n
 plain_uses_are world plain filesystem n =
     let split = uses_split world filesystem n in
-    let none : times_in n (layers_in nat_eq world filesystem.number) ≡ 0 = ap (times_in n) (no_layers_of world plain filesystem.number) in
+    let none : times_in n (layers_in nat_eq world filesystem.number) ≡ 0 =
+    ap (times_in n) (no_layers_of world plain filesystem.number) in
     let nothing : times_in n (flat_map (objects_of_overlay nat_eq filesystem.number) world.filesystems) ≡ 0 =
     ap (times_in n) (no_objects_of world plain filesystem.number) in
     omega arith
@@ -75,9 +82,11 @@ plain_uses_are world plain filesystem n =
 
 pub found_changed : (filesystems : List (Filesystem ℕ)) (number : ℕ) (new : Filesystem ℕ) → new.number ≡ number
     → is_among nat_eq number (map (λ f. f.number) filesystems) ≡ true
-    → unwrap_or (find (λ f. nat_eq number f.number) (map (replaced_if_numbered nat_eq new) filesystems)) (no_filesystem number) ≡ new
+    → unwrap_or (find (λ f. nat_eq number f.number) (map (replaced_if_numbered nat_eq new) filesystems))
+    (no_filesystem number) ≡ new
 found_changed [] number new is there = absurd (true≢false (sym there))
-found_changed (first ∷ rest) number new is there = by (nat_eq new.number first.number) refl (found_changed rest number new is)
+found_changed (first ∷ rest) number new is there =
+    by (nat_eq new.number first.number) refl (found_changed rest number new is)
   where
     Found : Filesystem ℕ → Type 0
     Found f = unwrap_or (cond (nat_eq number f.number) (Some f)
@@ -85,20 +94,23 @@ found_changed (first ∷ rest) number new is there = by (nat_eq new.number first
 
     by : (b : Bool) → nat_eq new.number first.number ≡ b
         → (is_among nat_eq number (map (λ f. f.number) rest) ≡ true
-        → unwrap_or (find (λ f. nat_eq number f.number) (map (replaced_if_numbered nat_eq new) rest)) (no_filesystem number) ≡ new)
+        → unwrap_or (find (λ f. nat_eq number f.number) (map (replaced_if_numbered nat_eq new) rest))
+        (no_filesystem number) ≡ new)
         → Found (cond b new first)
     by true e later = ap (λ b. unwrap_or (cond b (Some new)
         (find (λ f. nat_eq number f.number) (map (replaced_if_numbered nat_eq new) rest))) (no_filesystem number))
         (eq-eqb number new.number (sym is))
     by false e later =
         let apart : nat_eq number first.number ≡ false = ap (λ k. nat_eq k first.number) (sym is) ∙ e in
-        ap (λ b. unwrap_or (cond b (Some first) (find (λ f. nat_eq number f.number) (map (replaced_if_numbered nat_eq new) rest)))
+        ap (λ b. unwrap_or (cond b (Some first)
+        (find (λ f. nat_eq number f.number) (map (replaced_if_numbered nat_eq new) rest)))
         (no_filesystem number)) apart
         ∙ later (⊎_elim (λ here. absurd (true≢false (sym here ∙ apart))) (λ rest. rest)
         (or_cases (nat_eq number first.number) (is_among nat_eq number (map (λ f. f.number) rest)) there))
 
 pub found_other : (filesystems : List (Filesystem ℕ)) (other : ℕ) (new : Filesystem ℕ) → other ≢ new.number
-    → unwrap_or (find (λ f. nat_eq other f.number) (map (replaced_if_numbered nat_eq new) filesystems)) (no_filesystem other)
+    → unwrap_or (find (λ f. nat_eq other f.number) (map (replaced_if_numbered nat_eq new) filesystems))
+    (no_filesystem other)
     ≡ unwrap_or (find (λ f. nat_eq other f.number) filesystems) (no_filesystem other)
 found_other [] other new apart = refl
 found_other (first ∷ rest) other new apart = by (nat_eq new.number first.number) refl (found_other rest other new apart)
@@ -111,7 +123,8 @@ found_other (first ∷ rest) other new apart = by (nat_eq new.number first.numbe
 
     by : (b : Bool) → nat_eq new.number first.number ≡ b → unwrap_or later_new (no_filesystem other)
         ≡ unwrap_or later_old (no_filesystem other)
-        → unwrap_or (cond (nat_eq other (cond b new first).number) (Some (cond b new first)) later_new) (no_filesystem other)
+        → unwrap_or (cond (nat_eq other (cond b new first).number) (Some (cond b new first)) later_new)
+        (no_filesystem other)
         ≡ unwrap_or (cond (nat_eq other first.number) (Some first) later_old) (no_filesystem other)
     by true e later =
         ap (λ c. unwrap_or (cond c (Some new) later_new) (no_filesystem other)) (ne_eqb other new.number apart)
@@ -125,14 +138,16 @@ found_other (first ∷ rest) other new apart = by (nat_eq new.number first.numbe
         here true = refl
         here false = later
 
-pub found_is : (filesystems : List (Filesystem ℕ)) (number : ℕ) → is_among nat_eq number (map (λ f. f.number) filesystems) ≡ true
+pub found_is : (filesystems : List (Filesystem ℕ)) (number : ℕ)
+    → is_among nat_eq number (map (λ f. f.number) filesystems) ≡ true
     → Among (unwrap_or (find (λ f. nat_eq number f.number) filesystems) (no_filesystem number)) filesystems
 found_is [] number there = absurd (true≢false (sym there))
 found_is (first ∷ rest) number there = by (nat_eq number first.number) refl (found_is rest number)
   where
     by : (b : Bool) → nat_eq number first.number ≡ b → (is_among nat_eq number (map (λ f. f.number) rest) ≡ true
         → Among (unwrap_or (find (λ f. nat_eq number f.number) rest) (no_filesystem number)) rest)
-        → Among (unwrap_or (cond b (Some first) (find (λ f. nat_eq number f.number) rest)) (no_filesystem number)) (first ∷ rest)
+        → Among (unwrap_or (cond b (Some first) (find (λ f. nat_eq number f.number) rest)) (no_filesystem number))
+        (first ∷ rest)
     by true e later = inl refl
     by false e later = inr (later (⊎_elim (λ here. absurd (true≢false (sym here ∙ e))) (λ rest. rest)
         (or_cases (nat_eq number first.number) (is_among nat_eq number (map (λ f. f.number) rest)) there)))
@@ -144,19 +159,23 @@ found_number (first ∷ rest) number = by (nat_eq number first.number) refl (fou
   where
     by : (b : Bool) → nat_eq number first.number ≡ b
         → (unwrap_or (find (λ f. nat_eq number f.number) rest) (no_filesystem number)).number ≡ number
-        → (unwrap_or (cond b (Some first) (find (λ f. nat_eq number f.number) rest)) (no_filesystem number)).number ≡ number
+        → (unwrap_or (cond b (Some first) (find (λ f. nat_eq number f.number) rest)) (no_filesystem number)).number
+        ≡ number
     by true e later = sym (eqb-true number first.number e)
     by false e later = later
 
-not_found : (filesystems : List (Filesystem ℕ)) (number : ℕ) → is_among nat_eq number (map (λ f. f.number) filesystems) ≡ false
+not_found : (filesystems : List (Filesystem ℕ)) (number : ℕ)
+    → is_among nat_eq number (map (λ f. f.number) filesystems) ≡ false
     → unwrap_or (find (λ f. nat_eq number f.number) filesystems) (no_filesystem number) ≡ no_filesystem number
 not_found [] number none = refl
 not_found (first ∷ rest) number none = by (nat_eq number first.number) none (not_found rest number)
   where
     by : (b : Bool) → (b || is_among nat_eq number (map (λ f. f.number) rest)) ≡ false
-        → (is_among nat_eq number (map (λ f. f.number) rest) ≡ false → unwrap_or (find (λ f. nat_eq number f.number) rest)
+        → (is_among nat_eq number (map (λ f. f.number) rest) ≡ false
+        → unwrap_or (find (λ f. nat_eq number f.number) rest)
         (no_filesystem number) ≡ no_filesystem number)
-        → unwrap_or (cond b (Some first) (find (λ f. nat_eq number f.number) rest)) (no_filesystem number) ≡ no_filesystem number
+        → unwrap_or (cond b (Some first) (find (λ f. nat_eq number f.number) rest)) (no_filesystem number)
+        ≡ no_filesystem number
     by true e later = absurd (true≢false e)
     by false e later = later e
 
@@ -164,7 +183,8 @@ not_found (first ∷ rest) number none = by (nat_eq number first.number) none (n
 pub there_if_some : (searched world : World ℕ) (number : ℕ) (inodes : Inodes ℕ)
     → IsCounted world (filesystem_numbered nat_eq searched number) inodes
     → is_among nat_eq number (map (λ f. f.number) searched.filesystems) ≡ true
-there_if_some searched world number inodes counted = by (is_among nat_eq number (map (λ f. f.number) searched.filesystems)) refl
+there_if_some searched world number inodes counted =
+    by (is_among nat_eq number (map (λ f. f.number) searched.filesystems)) refl
   where
     by : (b : Bool) → is_among nat_eq number (map (λ f. f.number) searched.filesystems) ≡ b
         → is_among nat_eq number (map (λ f. f.number) searched.filesystems) ≡ true
@@ -188,7 +208,8 @@ there_if_some searched world number inodes counted = by (is_among nat_eq number 
         others = named_in (no_filesystem number).files ++ located_in nat_eq world number
             ++ layers_in nat_eq world number ++ flat_map (objects_of_overlay nat_eq number) world.filesystems
 
-pub there_if_counted : (world : World ℕ) (number : ℕ) (inodes : Inodes ℕ) → IsCounted world (filesystem_numbered nat_eq world number) inodes
+pub there_if_counted : (world : World ℕ) (number : ℕ) (inodes : Inodes ℕ)
+    → IsCounted world (filesystem_numbered nat_eq world number) inodes
     → is_among nat_eq number (map (λ f. f.number) world.filesystems) ≡ true
 there_if_counted world number inodes counted = there_if_some world world number inodes counted
 
@@ -204,7 +225,8 @@ start_counts world filesystem inodes tree used counted = record {
   uses_are = counted.uses;
   in_use = λ n there.
       let e = counted.uses n in
-      let all : times (nat_eq n) (used_in nat_eq world filesystem) ≡ times_in n (used_in nat_eq world filesystem) = times_is n
+      let all : times (nat_eq n) (used_in nat_eq world filesystem) ≡ times_in n (used_in nat_eq world filesystem) =
+      times_is n
       (used_in nat_eq world filesystem) in
       let some = among_times n (used_in nat_eq world filesystem)
       (passes (is_inode_used world filesystem) filesystem.files.numbers used n
@@ -213,7 +235,8 @@ start_counts world filesystem inodes tree used counted = record {
   kept = λ n there. sym (counted.node n);
   emptied = λ n none. ap targets_in (sym (counted.node n)) ∙ no_targets (inodes.inode n) none;
   list = filesystem.files.numbers;
-  listed = λ n. once_or_none n filesystem.files.numbers counted.once ∙ ap (λ b. cond b 1 0) (tree.numbers n ∙ sym (same_there n));
+  listed = λ n. once_or_none n filesystem.files.numbers counted.once
+      ∙ ap (λ b. cond b 1 0) (tree.numbers n ∙ sym (same_there n));
   as_many = counted.count;
 }
   where
@@ -282,23 +305,27 @@ module _ (world : World ℕ) (number : ℕ) (files : FileTree ℕ) (in_use : All
 
     pub plain_with : LettingGo.IsPlain (with_tree world number some)
     plain_with = none_passes is_overlay (with_tree world number some).filesystems (λ f m.
-        ⊎_elim (λ e. ap is_overlay e ∙ plain_old) (λ n. fails is_overlay world.filesystems plain f n) (is_new_or_old f m))
+        ⊎_elim (λ e. ap is_overlay e ∙ plain_old) (λ n. fails is_overlay world.filesystems plain f n)
+        (is_new_or_old f m))
 
   mounted_old : (f : Filesystem ℕ) → Among f world.filesystems → is_mounted nat_eq world f.number ≡ true
   mounted_old f m =
       ⊎_elim (λ e. e) (λ layered. absurd (true≢false (sym layered ∙ no_layers f.number world world.filesystems plain)))
-      (or_cases (is_mounted nat_eq world f.number) _ (passes (filesystem_lives nat_eq world) world.filesystems in_use.filesystems f m))
+      (or_cases (is_mounted nat_eq world f.number) _
+      (passes (filesystem_lives nat_eq world) world.filesystems in_use.filesystems f m))
 
   filesystems_raw : FilesystemsInUse raw
   filesystems_raw =
       all_pass (filesystem_lives nat_eq raw) raw.filesystems (λ f m.
       ⊎_elim
-      (λ e. ap (filesystem_lives nat_eq raw) e ∙ or_first (is_mounted nat_eq raw new.number) _ (mounted_old old old_there))
+      (λ e. ap (filesystem_lives nat_eq raw) e
+      ∙ or_first (is_mounted nat_eq raw new.number) _ (mounted_old old old_there))
       (λ n. or_first (is_mounted nat_eq raw f.number) _ (mounted_old f n))
       (is_new_or_old files f m))
 
   same_living : without_dead_filesystems nat_eq (without_dead_mounts nat_eq raw) ≡ raw
-  same_living = ap (without_dead_filesystems nat_eq) (mounts_stay raw in_use.mounts) ∙ filesystems_stay raw filesystems_raw
+  same_living = ap (without_dead_filesystems nat_eq) (mounts_stay raw in_use.mounts)
+      ∙ filesystems_stay raw filesystems_raw
 
   no_overlays : without_dead_in nat_eq is_overlay raw ≡ raw
   no_overlays =
@@ -307,10 +334,13 @@ module _ (world : World ℕ) (number : ℕ) (files : FileTree ℕ) (in_use : All
       (λ f m. ap (λ b. only_used nat_eq raw b f) (fails is_overlay raw.filesystems (plain_with files) f m)))
 
   -- inodes of other filesystems stay
-  used_same : (some : FileTree ℕ) (f : Filesystem ℕ) → used_in nat_eq (with_tree world number some) f ≡ used_in nat_eq world f
+  used_same : (some : FileTree ℕ) (f : Filesystem ℕ)
+      → used_in nat_eq (with_tree world number some) f ≡ used_in nat_eq world f
   used_same some f = λ i. f.files.tree.root ∷ (named_in f.files ++ located_in nat_eq world f.number
-      ++ (no_layers_of (with_tree world number some) (plain_with some) f.number ∙ sym (no_layers_of world plain f.number)) i
-      ++ (no_objects_of (with_tree world number some) (plain_with some) f.number ∙ sym (no_objects_of world plain f.number)) i)
+      ++ (no_layers_of (with_tree world number some) (plain_with some) f.number
+      ∙ sym (no_layers_of world plain f.number)) i
+      ++ (no_objects_of (with_tree world number some) (plain_with some) f.number
+      ∙ sym (no_objects_of world plain f.number)) i)
 
   abbrev step : Filesystem ℕ → Filesystem ℕ
   step f = only_used nat_eq raw (not (is_overlay f)) f
@@ -320,7 +350,8 @@ module _ (world : World ℕ) (number : ℕ) (files : FileTree ℕ) (in_use : All
       ap (λ b. only_used nat_eq raw (not b) f) (fails is_overlay world.filesystems plain f m)
       ∙ ap (λ b. only_used_by nat_eq b (used_in nat_eq raw f) f)
       (ap (λ u. list_all (λ n. is_among nat_eq n u) f.files.numbers) (used_same files f)
-      ∙ among_from_all (λ g. list_all (is_inode_used world g) g.files.numbers ≡ true) world.filesystems in_use.inodes f m)
+      ∙ among_from_all (λ g. list_all (is_inode_used world g) g.files.numbers
+      ≡ true) world.filesystems in_use.inodes f m)
 
   module _ (once : (n : ℕ) → times_in n files.numbers ≡ cond (is_some (files.tree.node n)) 1 0) where
     -- where all are used, all are kept
@@ -338,7 +369,8 @@ module _ (world : World ℕ) (number : ℕ) (files : FileTree ℕ) (in_use : All
             none None false e = refl
             none (Some x) b e = cc
 
-            by : (b : Bool) → is_some (files.tree.node n) ≡ b → files.tree.node n ≡ cond (is_among nat_eq n used) (files.tree.node n) None
+            by : (b : Bool) → is_some (files.tree.node n) ≡ b
+                → files.tree.node n ≡ cond (is_among nat_eq n used) (files.tree.node n) None
             by true e =
                 sym (ap (λ b. cond b (files.tree.node n) None) (passes (λ m. is_among nat_eq m used) files.numbers all n
                 (among_numbers n files.numbers (times_among n files.numbers
@@ -350,13 +382,15 @@ module _ (world : World ℕ) (number : ℕ) (files : FileTree ℕ) (in_use : All
             (passes (λ n. is_among nat_eq n used) files.numbers all))
 
     step_new : step new ≡ with_files old swept
-    step_new = ap (λ b. only_used nat_eq raw (not b) new) plain_old ∙ by (list_all (λ n. is_among nat_eq n used) files.numbers) refl
+    step_new = ap (λ b. only_used nat_eq raw (not b) new) plain_old
+        ∙ by (list_all (λ n. is_among nat_eq n used) files.numbers) refl
       where
         no_real : (o : Option (Overlay ℕ)) → is_some o ≡ false → option_map (real_among nat_eq used) o ≡ o
         no_real None e = refl
         no_real (Some overlay) e = cc
 
-        by : (b : Bool) → list_all (λ n. is_among nat_eq n used) files.numbers ≡ b → only_used_by nat_eq b used new ≡ with_files old swept
+        by : (b : Bool) → list_all (λ n. is_among nat_eq n used) files.numbers ≡ b
+            → only_used_by nat_eq b used new ≡ with_files old swept
         by true e = ap (with_files old) (all_kept e)
         by false e = λ i. record old { files = swept; overlay = no_real old.overlay plain_old i }
 
@@ -364,10 +398,12 @@ module _ (world : World ℕ) (number : ℕ) (files : FileTree ℕ) (in_use : All
     inodes_swept =
         ap (λ filesystems. record world { filesystems = filesystems })
         (map_twice step (replaced_if_numbered nat_eq new) world.filesystems
-        ∙ map_alike (λ f. step (replaced_if_numbered nat_eq new f)) (replaced_if_numbered nat_eq (with_files old swept)) world.filesystems
+        ∙ map_alike (λ f. step (replaced_if_numbered nat_eq new f))
+        (replaced_if_numbered nat_eq (with_files old swept)) world.filesystems
         (λ f m. by f m (nat_eq old.number f.number)))
       where
-        by : (f : Filesystem ℕ) → Among f world.filesystems → (b : Bool) → step (cond b new f) ≡ cond b (with_files old swept) f
+        by : (f : Filesystem ℕ) → Among f world.filesystems → (b : Bool)
+            → step (cond b new f) ≡ cond b (with_files old swept) f
         by f m true = step_new
         by f m false = stays f m
 
@@ -379,29 +415,35 @@ module _ (world : World ℕ) (number : ℕ) (files : FileTree ℕ) (in_use : All
         ∙ groups_stay done in_use.groups
 
     pub found_done : filesystem_numbered nat_eq done number ≡ with_files old swept
-    found_done = found_changed world.filesystems number (with_files old swept) (found_number world.filesystems number) there
+    found_done = found_changed world.filesystems number (with_files old swept)
+        (found_number world.filesystems number) there
 
   -- the inodes of other filesystems are used as before
-  pub others_stay : (other : ℕ) (inodes : Inodes ℕ) → other ≢ number → IsCounted world (filesystem_numbered nat_eq world other) inodes
+  pub others_stay : (other : ℕ) (inodes : Inodes ℕ) → other ≢ number
+      → IsCounted world (filesystem_numbered nat_eq world other) inodes
       → IsCounted done (filesystem_numbered nat_eq done other) inodes
   others_stay other inodes apart counted =
       subst (λ f. IsCounted done f inodes)
-      (sym (found_other world.filesystems other (with_files old swept) (λ e. apart (e ∙ found_number world.filesystems number))))
+      (sym (found_other world.filesystems other (with_files old swept)
+      (λ e. apart (e ∙ found_number world.filesystems number))))
       (record {
         root = counted.root;
         node = counted.node;
-        uses = λ n. counted.uses n ∙ ap (times (nat_eq n)) (sym (used_same swept (filesystem_numbered nat_eq world other)));
+        uses = λ n. counted.uses n ∙ ap (times (nat_eq n))
+            (sym (used_same swept (filesystem_numbered nat_eq world other)));
         count = counted.count;
         once = counted.once;
       })
 
   -- what is left are the counted inodes
-  module _ (inodes : Inodes ℕ) (root : inodes.root ≡ files.tree.root) (root_same : files.tree.root ≡ old.files.tree.root)
+  module _ (inodes : Inodes ℕ) (root : inodes.root ≡ files.tree.root)
+      (root_same : files.tree.root ≡ old.files.tree.root)
       (tallied : IsTallied (base_of world old) files.tree.node files.numbers inodes) where
     used_times : (n : ℕ) → uses_in (inodes.inode n) ≡ times_in n used
     used_times n =
         tallied.counted.uses_are n
-        ∙ ap (λ r. (one_if n r + times_in n (located_in nat_eq world old.number)) + times_in n (named_by files.tree.node files.numbers))
+        ∙ ap (λ r. (one_if n r + times_in n (located_in nat_eq world old.number)) + times_in n
+        (named_by files.tree.node files.numbers))
         (sym root_same)
         ∙ sym (plain_uses_are raw (plain_with files) new n)
         ∙ times_is n used
@@ -431,13 +473,15 @@ module _ (world : World ℕ) (number : ℕ) (files : FileTree ℕ) (in_use : All
         missing None e = refl
         missing (Some inode) e = cc
 
-        by : (b : Bool) → is_some (inodes.inode n) ≡ b → node_in (inodes.inode n) ≡ cond (is_some (inodes.inode n)) (files.tree.node n) None
+        by : (b : Bool) → is_some (inodes.inode n) ≡ b
+            → node_in (inodes.inode n) ≡ cond (is_some (inodes.inode n)) (files.tree.node n) None
         by true e = sym (tallied.counted.kept n e) ∙ sym (ap (λ b. cond b (files.tree.node n) None) e)
         by false e = missing (inodes.inode n) e ∙ sym (ap (λ b. cond b (files.tree.node n) None) e)
 
     pub times_left : (n : ℕ) → times_in n swept.numbers ≡ cond (is_some (inodes.inode n)) 1 0
     times_left n =
-        times_filter (λ m. is_among nat_eq m used) n files.numbers ∙ ap (λ b. cond b (times_in n files.numbers) 0) (used_there n)
+        times_filter (λ m. is_among nat_eq m used) n files.numbers
+        ∙ ap (λ b. cond b (times_in n files.numbers) 0) (used_there n)
         ∙ by (is_some (inodes.inode n)) refl
       where
         there_in : (o : Option (Inode ℕ)) → is_some o ≡ true → is_some (node_in o) ≡ true
@@ -445,7 +489,8 @@ module _ (world : World ℕ) (number : ℕ) (files : FileTree ℕ) (in_use : All
         there_in (Some inode) e = refl
 
         by : (b : Bool) → is_some (inodes.inode n) ≡ b → cond b (times_in n files.numbers) 0 ≡ cond b 1 0
-        by true e = tallied.once n ∙ ap (λ b. cond b 1 0) (ap is_some (tallied.counted.kept n e) ∙ there_in (inodes.inode n) e)
+        by true e = tallied.once n ∙ ap (λ b. cond b 1 0)
+            (ap is_some (tallied.counted.kept n e) ∙ there_in (inodes.inode n) e)
         by false e = refl
 
     few : (n : ℕ) → times_in n swept.numbers ≤ 1
@@ -464,6 +509,7 @@ module _ (world : World ℕ) (number : ℕ) (files : FileTree ℕ) (in_use : All
           ∙ (λ i. (one_if n (sym root_same i) + times_in n (located_in nat_eq world old.number)) + times_in n
           (sym (named-left used new unused_empty false) i))
           ∙ sym (plain_uses_are done (plain_with swept) (with_files old swept) n);
-      count = tallied.counted.as_many ∙ as_long tallied.counted.list swept.numbers (λ n. tallied.counted.listed n ∙ sym (times_left n));
+      count = tallied.counted.as_many
+          ∙ as_long tallied.counted.list swept.numbers (λ n. tallied.counted.listed n ∙ sym (times_left n));
       once = no_repeats swept.numbers few;
     }

@@ -44,9 +44,11 @@ other_nodes : (uses : ℕ → ℕ) (node now : ℕ → Option (Node ℕ)) (inode
 other_nodes uses node now inodes same counted = subst (λ f. Counts.IsCounted uses f inodes) (λ i. λ n. same n i) counted
 
 -- A node that is changed where it is, if it is there
-pub changed_counts : (uses : ℕ → ℕ) (node : ℕ → Option (Node ℕ)) (inodes : Inodes ℕ) (place : ℕ) (change : Option (Node ℕ)
+pub changed_counts : (uses : ℕ → ℕ) (node : ℕ → Option (Node ℕ)) (inodes : Inodes ℕ) (place : ℕ)
+    (change : Option (Node ℕ)
     → Option (Node ℕ)) → Counts.IsCounted uses node inodes
-    → node_in (inodes.inode place) ≡ node place → change None ≡ None → ((some : Node ℕ) → (new : Node ℕ) × (change (Some some) ≡ Some new))
+    → node_in (inodes.inode place) ≡ node place → change None ≡ None
+    → ((some : Node ℕ) → (new : Node ℕ) × (change (Some some) ≡ Some new))
     → Counts.IsCounted uses (at_place node place change) (with_changed nat_eq inodes place change)
 changed_counts uses node inodes place change counted same none some = by (inodes.inode place) refl
   where
@@ -67,8 +69,10 @@ changed_counts uses node inodes place change counted same none some = by (inodes
             (inode_with_node (change (node_in (inodes.inode place))) (inodes.inode place)) (inodes.inode n)
         inode_kept n =
             ⊎_elim
-            (λ t. ap inodes.inode t.1 ∙ is ∙ sym (ap (λ o. inode_with_node (change (node_in o)) o) is ∙ still_none (change None))
-            ∙ sym (ap (λ b. cond b (inode_with_node (change (node_in (inodes.inode place))) (inodes.inode place)) (inodes.inode n)) t.0))
+            (λ t. ap inodes.inode t.1 ∙ is
+            ∙ sym (ap (λ o. inode_with_node (change (node_in o)) o) is ∙ still_none (change None))
+            ∙ sym (ap (λ b. cond b (inode_with_node (change (node_in (inodes.inode place))) (inodes.inode place))
+            (inodes.inode n)) t.0))
             (λ t. sym (ap (λ b. cond b (inode_with_node (change (node_in (inodes.inode place))) (inodes.inode place))
             (inodes.inode n)) t.0))
             (eqb_tells n place)
@@ -76,35 +80,43 @@ changed_counts uses node inodes place change counted same none some = by (inodes
         node_kept : (n : ℕ) → node n ≡ at_place node place change n
         node_kept n =
             ⊎_elim
-            (λ t. ap node t.1 ∙ no_node ∙ sym (ap change no_node ∙ none) ∙ sym (ap (λ b. cond b (change (node place)) (node n)) t.0))
+            (λ t. ap node t.1 ∙ no_node ∙ sym (ap change no_node ∙ none)
+            ∙ sym (ap (λ b. cond b (change (node place)) (node n)) t.0))
             (λ t. sym (ap (λ b. cond b (change (node place)) (node n)) t.0))
             (eqb_tells n place)
-    by (Some inode) is = counted_changed uses node inodes counted place inode is change (some inode.node).0 (some inode.node).1
+    by (Some inode) is = counted_changed uses node inodes counted place inode is change (some inode.node).0
+        (some inode.node).1
 
 -- the nodes of inodes that are changed
-pub changed_same : (node : ℕ → Option (Node ℕ)) (inodes : Inodes ℕ) (place : ℕ) (change : Option (Node ℕ) → Option (Node ℕ))
+pub changed_same : (node : ℕ → Option (Node ℕ)) (inodes : Inodes ℕ) (place : ℕ)
+    (change : Option (Node ℕ) → Option (Node ℕ))
     → ((n : ℕ) → node_in (inodes.inode n) ≡ node n)
     → change None ≡ None → ((some : Node ℕ) → (new : Node ℕ) × (change (Some some) ≡ Some new))
     → (n : ℕ) → node_in ((with_changed nat_eq inodes place change).inode n) ≡ at_place node place change n
 changed_same node inodes place change same none some n =
     ⊎_elim
-    (λ t. ap (λ b. node_in (cond b (inode_with_node (change (node_in (inodes.inode place))) (inodes.inode place)) (inodes.inode n))) t.0
+    (λ t. ap (λ b. node_in (cond b (inode_with_node (change (node_in (inodes.inode place))) (inodes.inode place))
+    (inodes.inode n))) t.0
     ∙ by (inodes.inode place) (same place)
     ∙ sym (ap (λ b. cond b (change (node place)) (node n)) t.0))
-    (λ t. ap (λ b. node_in (cond b (inode_with_node (change (node_in (inodes.inode place))) (inodes.inode place)) (inodes.inode n))) t.0
+    (λ t. ap (λ b. node_in (cond b (inode_with_node (change (node_in (inodes.inode place))) (inodes.inode place))
+    (inodes.inode n))) t.0
     ∙ same n ∙ sym (ap (λ b. cond b (change (node place)) (node n)) t.0))
     (eqb_tells n place)
   where
-    by : (o : Option (Inode ℕ)) → node_in o ≡ node place → node_in (inode_with_node (change (node_in o)) o) ≡ change (node place)
+    by : (o : Option (Inode ℕ)) → node_in o ≡ node place
+        → node_in (inode_with_node (change (node_in o)) o) ≡ change (node place)
     by None e = missing (change None) ∙ sym none ∙ ap change e
       where
         missing : (o : Option (Node ℕ)) → node_in (inode_with_node o None) ≡ None
         missing None = refl
         missing (Some x) = refl
-    by (Some inode) e = let t = some inode.node in ap (λ o. node_in (inode_with_node o (Some inode))) t.1 ∙ sym t.1 ∙ ap change e
+    by (Some inode) e = let t = some inode.node in
+        ap (λ o. node_in (inode_with_node o (Some inode))) t.1 ∙ sym t.1 ∙ ap change e
 
 -- One use less. An inode that is left with none has no entries.
-module _ (uses left : ℕ → ℕ) (node : ℕ → Option (Node ℕ)) (inodes : Inodes ℕ) (place : ℕ) (counted : Counts.IsCounted uses node inodes)
+module _ (uses left : ℕ → ℕ) (node : ℕ → Option (Node ℕ)) (inodes : Inodes ℕ) (place : ℕ)
+    (counted : Counts.IsCounted uses node inodes)
     (less : (n : ℕ) → one_if n place + left n ≡ uses n) (empty : left place ≡ 0 → targets_in (node place) ≡ [])
     (inode : Inode ℕ) (is : inodes.inode place ≡ Some inode) where
   here_uses : inode.uses ≡ uses place
@@ -120,7 +132,8 @@ module _ (uses left : ℕ → ℕ) (node : ℕ → Option (Node ℕ)) (inodes : 
   left_here = let e = here_uses in let one = own_one place in let f = less place in omega arith
 
   left_there : (n : ℕ) → n ≢ place → uses_in (inodes.inode n) ≡ left n
-  left_there n apart = let e = counted.uses_are n in let none : one_if n place ≡ 0 = other_if n place apart in let f = less n in omega arith
+  left_there n apart = let e = counted.uses_are n in let none : one_if n place ≡ 0 = other_if n place apart in let f =
+      less n in omega arith
 
   abbrev one_less : Option (Inode ℕ)
   one_less = Some (record inode { uses = inode.uses - 1 })
@@ -134,8 +147,10 @@ module _ (uses left : ℕ → ℕ) (node : ℕ → Option (Node ℕ)) (inodes : 
   last : inode.uses ≤ 1 → Left true
   last low = record {
     uses_are = at_or (λ n o. uses_in o ≡ left n) inodes.inode place None (let h = left_here in omega arith) left_there;
-    in_use = at_or (λ n o. is_some o ≡ true → 1 ≤ uses_in o) inodes.inode place None (λ e. cc) (λ n apart. counted.in_use n);
-    kept = at_or (λ n o. is_some o ≡ true → node n ≡ node_in o) inodes.inode place None (λ e. cc) (λ n apart. counted.kept n);
+    in_use = at_or (λ n o. is_some o ≡ true → 1 ≤ uses_in o) inodes.inode place None (λ e. cc)
+        (λ n apart. counted.in_use n);
+    kept = at_or (λ n o. is_some o ≡ true → node n ≡ node_in o) inodes.inode place None (λ e. cc)
+        (λ n apart. counted.kept n);
     emptied = at_or (λ n o. is_some o ≡ false → targets_in (node n) ≡ []) inodes.inode place None
         (λ e. empty (let h = left_here in omega arith)) (λ n apart. counted.emptied n);
     list = removed place counted.list;
@@ -146,16 +161,21 @@ module _ (uses left : ℕ → ℕ) (node : ℕ → Option (Node ℕ)) (inodes : 
         (λ n apart. (let all : one_if n place + times_in n (removed place counted.list)
         ≡ times_in n counted.list = times_removed place n counted.list (let h = here_listed in omega arith) in
         let none : one_if n place ≡ 0 = other_if n place apart in
-        let same : times_in n (removed place counted.list) ≡ times_in n counted.list = omega arith in same) ∙ counted.listed n);
-    as_many = let h : suc (length (removed place counted.list)) ≡ length counted.list = length_removed place counted.list
+        let same : times_in n (removed place counted.list) ≡ times_in n counted.list = omega arith in same)
+        ∙ counted.listed n);
+    as_many = let h : suc (length (removed place counted.list)) ≡ length counted.list =
+        length_removed place counted.list
         (let h = here_listed in omega arith) in let g = counted.as_many in omega arith;
   }
 
   stays : 2 ≤ inode.uses → Left false
   stays high = record {
-    uses_are = at_or (λ n o. uses_in o ≡ left n) inodes.inode place one_less (let h = left_here in omega arith) left_there;
-    in_use = at_or (λ n o. is_some o ≡ true → 1 ≤ uses_in o) inodes.inode place one_less (λ e. omega arith) (λ n apart. counted.in_use n);
-    kept = at_or (λ n o. is_some o ≡ true → node n ≡ node_in o) inodes.inode place one_less (λ e. here_node) (λ n apart. counted.kept n);
+    uses_are = at_or (λ n o. uses_in o ≡ left n) inodes.inode place one_less
+        (let h = left_here in omega arith) left_there;
+    in_use = at_or (λ n o. is_some o ≡ true → 1 ≤ uses_in o) inodes.inode place one_less (λ e. omega arith)
+        (λ n apart. counted.in_use n);
+    kept = at_or (λ n o. is_some o ≡ true → node n ≡ node_in o) inodes.inode place one_less (λ e. here_node)
+        (λ n apart. counted.kept n);
     emptied = at_or (λ n o. is_some o ≡ false → targets_in (node n) ≡ []) inodes.inode place one_less (λ e. cc)
         (λ n apart. counted.emptied n);
     list = counted.list;
@@ -175,7 +195,8 @@ module _ (uses left : ℕ → ℕ) (node : ℕ → Option (Node ℕ)) (inodes : 
       (λ t. subst Left (sym t.0) (stays (let h = t.1 in omega arith)))
       (leb_tells inode.uses 1))
 
-pub unpinned_counts : (uses left : ℕ → ℕ) (node : ℕ → Option (Node ℕ)) (inodes : Inodes ℕ) (place : ℕ) → Counts.IsCounted uses node inodes
+pub unpinned_counts : (uses left : ℕ → ℕ) (node : ℕ → Option (Node ℕ)) (inodes : Inodes ℕ) (place : ℕ)
+    → Counts.IsCounted uses node inodes
     → ((n : ℕ) → one_if n place + left n ≡ uses n) → (left place ≡ 0 → targets_in (node place) ≡ [])
     → Counts.IsCounted left node (unpinned nat_eq inodes place)
 unpinned_counts uses left node inodes place counted less empty =
@@ -184,7 +205,8 @@ unpinned_counts uses left node inodes place counted less empty =
     unpinned_here uses left node inodes place counted less empty found.0 found.1
 
 -- Changes that keep entries
-module _ (base : ℕ → ℕ) (node : ℕ → Option (Node ℕ)) (numbers : List ℕ) (inodes : Inodes ℕ) (start : IsStart base node numbers inodes) where
+module _ (base : ℕ → ℕ) (node : ℕ → Option (Node ℕ)) (numbers : List ℕ) (inodes : Inodes ℕ)
+    (start : IsStart base node numbers inodes) where
   abbrev uses : ℕ → ℕ
   uses = uses_of base node numbers
 
@@ -194,7 +216,8 @@ module _ (base : ℕ → ℕ) (node : ℕ → Option (Node ℕ)) (numbers : List
   once : (n : ℕ) → times_in n numbers ≡ cond (is_some (node n)) 1 0
   once = start.tallied.once
 
-  pub rewritten : (place : ℕ) (change : Option (Node ℕ) → Option (Node ℕ)) → ((o : Option (Node ℕ)) → entries_in (change o) ≡ entries_in o)
+  pub rewritten : (place : ℕ) (change : Option (Node ℕ) → Option (Node ℕ))
+      → ((o : Option (Node ℕ)) → entries_in (change o) ≡ entries_in o)
       → change None ≡ None → ((some : Node ℕ) → (new : Node ℕ) × (change (Some some) ≡ Some new))
       → IsTallied base (at_place node place change) numbers (with_changed nat_eq inodes place change)
   rewritten place change entries none some = record {
@@ -207,7 +230,8 @@ module _ (base : ℕ → ℕ) (node : ℕ → Option (Node ℕ)) (numbers : List
     where
       names : (list : List ℕ) → named_by (at_place node place change) list ≡ named_by node list
       names [] = refl
-      names (first ∷ rest) = λ i. targets (part_at entries_in node place change (entries (node place)) first i) ++ names rest i
+      names (first ∷ rest) = λ i. targets (part_at entries_in node place change (entries (node place)) first i)
+          ++ names rest i
 
       there : (o : Option (Node ℕ)) → is_some (change o) ≡ is_some o
       there None = ap is_some none
@@ -230,7 +254,8 @@ module _ (base : ℕ → ℕ) (node : ℕ → Option (Node ℕ)) (numbers : List
       ≡ times_in n (targets_in (node directory)) + one_if n object
   added_targets directory name object is free n =
       let put : times_in n (targets (with_entry name object (entries_in (node directory)))) + one_if_some n
-      (entry_named name (entries_in (node directory))) ≡ times_in n (targets (entries_in (node directory))) + one_if n object
+      (entry_named name (entries_in (node directory)))
+      ≡ times_in n (targets (entries_in (node directory))) + one_if n object
       = times_put n name object (entries_in (node directory)) (start.in_order directory) in
       let none : one_if_some n (entry_named name (entries_in (node directory))) ≡ 0 = ap (one_if_some n) free in
       let same : times_in n (targets_in (node_with_entry name object (node directory)))
@@ -241,11 +266,13 @@ module _ (base : ℕ → ℕ) (node : ℕ → Option (Node ℕ)) (numbers : List
   -- Another name
   pub linked : (directory : ℕ) (name : List ℕ) (object : ℕ) → is_directory_node (node directory) ≡ true
       → entry_named name (entries_in (node directory)) ≡ None
-      → is_some (inodes.inode object) ≡ true → IsTallied base (at_place node directory (node_with_entry name object)) numbers
+      → is_some (inodes.inode object) ≡ true
+      → IsTallied base (at_place node directory (node_with_entry name object)) numbers
       (with_name nat_eq inodes directory name object)
   linked directory name object is free there = record {
     counted =
-        let inode = some_inode (inodes_on.inode object) (counted_some uses node_on inodes_on counted_on object object_used) in
+        let inode = some_inode (inodes_on.inode object)
+        (counted_some uses node_on inodes_on counted_on object object_used) in
         other_uses (λ n. one_if n object + uses n) (uses_of base node_on numbers) node_on
         (with_name nat_eq inodes directory name object) more
         (counted_pinned uses node_on inodes_on counted_on object inode.0 inode.1);
@@ -260,7 +287,8 @@ module _ (base : ℕ → ℕ) (node : ℕ → Option (Node ℕ)) (numbers : List
       inodes_on = with_changed nat_eq inodes directory (node_with_entry name object)
 
       counted_on : Counts.IsCounted uses node_on inodes_on
-      counted_on = changed_counts uses node inodes directory (node_with_entry name object) counted (start.same directory) refl
+      counted_on = changed_counts uses node inodes directory (node_with_entry name object) counted
+          (start.same directory) refl
           (λ some. (_, refl))
 
       object_used : 1 ≤ uses object
@@ -268,6 +296,7 @@ module _ (base : ℕ → ℕ) (node : ℕ → Option (Node ℕ)) (numbers : List
 
       more : (n : ℕ) → one_if n object + uses n ≡ uses_of base node_on numbers n
       more n =
-          let names = named_changed n node directory (node_with_entry name object (node directory)) numbers (once_directory directory is) in
+          let names = named_changed n node directory (node_with_entry name object (node directory)) numbers
+          (once_directory directory is) in
           let put = added_targets directory name object is free n in
           omega arith

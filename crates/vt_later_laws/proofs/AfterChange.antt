@@ -1,5 +1,5 @@
--- The world that a granted call leaves which changed a tree: mounts are as they were, and each inode is as the change left
--- it, or is gone.
+-- The world that a granted call leaves which changed a tree: mounts are as they were, and each inode is as the change
+-- left it, or is gone.
 use Rattle.std.proofs.Common.{◌≡◌, refl, sym, ap, subst, ◌∙◌, inl, inr, ◌⊎◌, ⊎_elim, true≢false, ℕ, nat_eq, eqb-true, Bool, true, false, cond, ◌||◌, ◌++◌, List, [], ◌∷◌, map, find, Some, None, is_some}
 use Rattle.std.specs.Prelude.{unwrap_or}
 use Rattle.vt_spec.specs.declared.errors.Deny.{Deny}
@@ -54,13 +54,15 @@ mapped_root : (change : Filesystem ℕ → Filesystem ℕ) → ((f : Filesystem 
     → (numbered number (map change list)).files.tree.root ≡ (numbered number list).files.tree.root
 mapped_root change same root number [] = refl
 mapped_root change same root number (first ∷ rest) =
-    ap (λ n. (unwrap_or (cond (nat_eq number n) (Some (change first)) (find (λ (f : Filesystem ℕ). nat_eq number f.number)
+    ap (λ n. (unwrap_or (cond (nat_eq number n) (Some (change first))
+    (find (λ (f : Filesystem ℕ). nat_eq number f.number)
     (map change rest)))
     (no_filesystem number)).files.tree.root) (same first)
     ∙ by (nat_eq number first.number) (mapped_root change same root number rest)
   where
     by : (b : Bool) → (numbered number (map change rest)).files.tree.root ≡ (numbered number rest).files.tree.root
-        → (unwrap_or (cond b (Some (change first)) (find (λ (f : Filesystem ℕ). nat_eq number f.number) (map change rest)))
+        → (unwrap_or (cond b (Some (change first))
+        (find (λ (f : Filesystem ℕ). nat_eq number f.number) (map change rest)))
         (no_filesystem number)).files.tree.root
         ≡ (unwrap_or (cond b (Some first) (find (λ (f : Filesystem ℕ). nat_eq number f.number) rest))
         (no_filesystem number)).files.tree.root
@@ -74,17 +76,20 @@ module _ (chosen : Filesystem ℕ → Bool) where
   let_go_root [] world number = refl
   let_go_root (inode ∷ rest) world number =
       let_go_root rest (let_go_in chosen world inode) number
-      ∙ mapped_root (let_go_in_of chosen world inode) (λ f. same_number f _) (λ f. same_root f _) number world.filesystems
+      ∙ mapped_root (let_go_in_of chosen world inode) (λ f. same_number f _)
+      (λ f. same_root f _) number world.filesystems
     where
       same_number : (f : Filesystem ℕ) (b : Bool) → (cond b (without_inode_of inode.1 f) f).number ≡ f.number
       same_number f true = refl
       same_number f false = refl
 
-      same_root : (f : Filesystem ℕ) (b : Bool) → (cond b (without_inode_of inode.1 f) f).files.tree.root ≡ f.files.tree.root
+      same_root : (f : Filesystem ℕ) (b : Bool)
+          → (cond b (without_inode_of inode.1 f) f).files.tree.root ≡ f.files.tree.root
       same_root f true = refl
       same_root f false = refl
 
-  let_go_mounts_stay : (list : List Inode) (world : World ℕ) → (folded (let_go_in chosen) world list).mounts ≡ world.mounts
+  let_go_mounts_stay : (list : List Inode) (world : World ℕ)
+      → (folded (let_go_in chosen) world list).mounts ≡ world.mounts
   let_go_mounts_stay [] world = refl
   let_go_mounts_stay (inode ∷ rest) world = let_go_mounts_stay rest (let_go_in chosen world inode)
 
@@ -100,7 +105,8 @@ module _ (world : World ℕ) (inodes : List Inode) where
       ∙ let_go_mounts_stay is_overlay inodes world
 
 -- a filesystem that shows something is one of the list
-pub listed : (number : ℕ) (list : List (Filesystem ℕ)) (object : ℕ) → is_some ((numbered number list).files.tree.node object) ≡ true
+pub listed : (number : ℕ) (list : List (Filesystem ℕ)) (object : ℕ)
+    → is_some ((numbered number list).files.tree.node object) ≡ true
     → is_among nat_eq number (map (λ (f : Filesystem ℕ). f.number) list) ≡ true
 listed number [] object there = absurd (true≢false (sym there))
 listed number (first ∷ rest) object there = by (nat_eq number first.number) there (listed number rest object)
@@ -141,10 +147,12 @@ module _ (world : World ℕ) (fresh : Fresh ℕ) (name : TaskName) (call : Call)
   pub later_is : IsWorld nat_eq later × IsPlain later
   later_is =
       subst (λ w. IsWorld nat_eq w × IsPlain w) (sym did.left)
-      (let settles = settling_leaves_a_world spent (spent_unsettled world fresh name call answer is plain serves other few did) in
+      (let settles = settling_leaves_a_world spent
+      (spent_unsettled world fresh name call answer is plain serves other few did) in
       raising_numbers_keeps_world world name (filesystems_changed nat_eq world did.permit) left settles.0 settles.1)
 
-  pub later_files : (number : ℕ) → (filesystem_numbered nat_eq later number).files ≡ (filesystem_numbered nat_eq left number).files
+  pub later_files : (number : ℕ)
+      → (filesystem_numbered nat_eq later number).files ≡ (filesystem_numbered nat_eq left number).files
   later_files number =
       ap (λ w. (filesystem_numbered nat_eq w number).files) did.left
       ∙ raised_files world name (filesystems_changed nat_eq world did.permit) left number
@@ -153,9 +161,11 @@ module _ (world : World ℕ) (fresh : Fresh ℕ) (name : TaskName) (call : Call)
   or_gone : (filesystem number : ℕ) → (node_in later filesystem number ≡ node_in spent filesystem number)
       ⊎ (node_in later filesystem number ≡ None)
   or_gone filesystem number =
-      subst (λ (files : FileTree ℕ). (files.tree.node number ≡ node_in spent filesystem number) ⊎ (files.tree.node number ≡ None))
+      subst (λ (files : FileTree ℕ). (files.tree.node number ≡ node_in spent filesystem number)
+      ⊎ (files.tree.node number ≡ None))
       (sym (later_files filesystem))
-      (settled_holds (λ o. (o ≡ node_in spent filesystem number) ⊎ (o ≡ None)) filesystem number (inr refl) spent (inl refl))
+      (settled_holds (λ o. (o ≡ node_in spent filesystem number) ⊎ (o ≡ None)) filesystem number (inr refl) spent
+      (inl refl))
 
   pub as_spent : (filesystem number : ℕ) → is_some (node_in later filesystem number) ≡ true
       → node_in later filesystem number ≡ node_in spent filesystem number
@@ -164,9 +174,11 @@ module _ (world : World ℕ) (fresh : Fresh ℕ) (name : TaskName) (call : Call)
 
   -- A change of a tree
   module _ (location : Location ℕ) (change : Change ℕ) (from : Fresh ℕ)
-      (asks : change_of fresh world did.permit ≡ Some (location, change)) (does : spent ≡ with_change nat_eq from world location change)
+      (asks : change_of fresh world did.permit ≡ Some (location, change))
+      (does : spent ≡ with_change nat_eq from world location change)
       (something : is_some (node_at nat_eq world location) ≡ true)
-      (may : MayChange (files_at nat_eq world location) change) (tree : IsFileTree (files_at nat_eq world location)) where
+      (may : MayChange (files_at nat_eq world location) change)
+      (tree : IsFileTree (files_at nat_eq world location)) where
     abbrev files : FileTree ℕ
     files = files_at nat_eq world location
 
@@ -185,7 +197,8 @@ module _ (world : World ℕ) (fresh : Fresh ℕ) (name : TaskName) (call : Call)
     goes =
         ap (settled nat_eq) does
         ∙ file_changes_let_go from world location change (worlds_are_settled world is) is.files.one_filesystem
-        (listed shown world.filesystems location.node something) (ap is_some (plain_numbered world plain shown)) after_tree may
+        (listed shown world.filesystems location.node something)
+        (ap is_some (plain_numbered world plain shown)) after_tree may
 
     pub later_mounts : later.mounts ≡ world.mounts
     later_mounts =
@@ -194,7 +207,8 @@ module _ (world : World ℕ) (fresh : Fresh ℕ) (name : TaskName) (call : Call)
         ∙ all_let_go_mounts (with_change nat_eq from world location change) (inodes_lost world location change)
         ∙ change_mounts from world plain location change
 
-    later_root : (number : ℕ) → (tree_in later number).root ≡ (tree_in (with_change nat_eq from world location change) number).root
+    later_root : (number : ℕ) → (tree_in later number).root
+        ≡ (tree_in (with_change nat_eq from world location change) number).root
     later_root number =
         ap (λ (f : FileTree ℕ). f.tree.root) (later_files number)
         ∙ ap (λ w. (tree_in w number).root) goes
@@ -234,7 +248,8 @@ module _ (world : World ℕ) (fresh : Fresh ℕ) (name : TaskName) (call : Call)
             subst (λ n. P n (filesystem_numbered nat_eq spent n).files) (eqb-true shown number e)
             (subst (P shown) (sym spent_shown) here)
         by false e =
-            subst (P number) (sym (spent_files number ∙ files_other from world plain location change number e)) (elsewhere number)
+            subst (P number) (sym (spent_files number ∙ files_other from world plain location change number e))
+            (elsewhere number)
 
     -- So ways that stay in the changed tree stay in the world.
     pub world_stays : (Refused : Deny → Type 0) → TreeStays files.tree (changed nat_eq files change).tree Refused
@@ -248,7 +263,8 @@ module _ (world : World ℕ) (fresh : Fresh ℕ) (name : TaskName) (call : Call)
       link = λ number n was now. ap symlink_text (as_spent number n now) ∙ (each number).link n was;
       entry = λ number directory entry n e now.
           subst (λ o. (entry_named entry (entries_in o) ≡ Some n)
-          ⊎ ((entry_named entry (entries_in o) ≡ None) × (is_directory_node (node_in world number n) ≡ false) × Refused (denial W6)))
+          ⊎ ((entry_named entry (entries_in o) ≡ None) × (is_directory_node (node_in world number n) ≡ false)
+          × Refused (denial W6)))
           (sym (as_spent number directory now)) ((each number).entry directory entry n e);
     }
       where
@@ -269,9 +285,11 @@ module _ (world : World ℕ) (fresh : Fresh ℕ) (name : TaskName) (call : Call)
     pub world_rights : RightsStay files.tree (changed nat_eq files change).tree
         → (filesystem number wanted : ℕ) (who : Credentials) → is_some (node_in world filesystem number) ≡ true
         → is_some (node_in later filesystem number) ≡ true
-        → node_allows who wanted (node_in later filesystem number) ≡ node_allows who wanted (node_in world filesystem number)
+        → node_allows who wanted (node_in later filesystem number)
+        ≡ node_allows who wanted (node_in world filesystem number)
     world_rights rights filesystem number wanted who was now =
         ap (node_allows who wanted) (as_spent filesystem number now)
-        ∙ in_each (λ f t. is_some (node_in world f number) ≡ true → node_allows who wanted (t.tree.node number) ≡ node_allows who wanted
+        ∙ in_each (λ f t. is_some (node_in world f number) ≡ true
+        → node_allows who wanted (t.tree.node number) ≡ node_allows who wanted
         (node_in world f number))
         (λ there_before. rights who wanted number there_before) (λ f there_before. refl) filesystem was

@@ -1,5 +1,5 @@
--- The world that a granted rmdir leaves: the task's own mounts are seen as they were, the directory has lost its name, and walks that do
--- not go up from it lead where they led.
+-- The world that a granted rmdir leaves: the task's own mounts are seen as they were, the directory has lost its name,
+-- and walks that do not go up from it lead where they led.
 use Rattle.std.proofs.Common.{◌≡◌, ◌≢◌, refl, sym, ap, subst, ◌∙◌, inl, inr, ◌⊎◌, ⊎_elim, ℕ, nat_eq, eqb-true, Bool, true, false, ◌||◌, List, filter, Some, None, Ok, is_some, find}
 use Rattle.std.specs.Prelude.{unwrap_or}
 use Rattle.std.proofs.lemmas.Bool.{and_parts}
@@ -89,13 +89,15 @@ module _ (world : World ℕ) (fresh : Fresh ℕ) (name : TaskName) (call : Call)
   pub seen_to : SeesTo world did.task (ToRemoveDirectory parent word object)
   seen_to =
       subst (SeesTo world did.task) permit_is
-      (given_permits_are_seen_to world fresh did.task did.permit is plain (given_of world fresh name call answer serves other few did))
+      (given_permits_are_seen_to world fresh did.task did.permit is plain
+      (given_of world fresh name call answer serves other few did))
 
   pub may : MayRemove (files_at nat_eq world parent).tree parent.node word object.node
   may = seen_to.1
 
   -- the parent is reached, and no mount of the task's namespace stands on the directory
-  pub reaches : IsReached world did.task parent × (is_point_in nat_eq (looks_of nat_eq world) did.task.namespace object ≡ false)
+  pub reaches : IsReached world did.task parent
+      × (is_point_in nat_eq (looks_of nat_eq world) did.task.namespace object ≡ false)
   reaches =
       parent_reached fresh world is did.task own_task call parent word object (did.judged ∙ ap Ok permit_is)
 
@@ -127,7 +129,8 @@ module _ (world : World ℕ) (fresh : Fresh ℕ) (name : TaskName) (call : Call)
   living : left.mounts ≡ filter (mount_lives nat_eq spent) middle.mounts
   living =
       ap (λ (w : World ℕ). w.mounts) did.left
-      ∙ ap (filter (mount_lives nat_eq spent)) (ap (λ (w : World ℕ). w.mounts) does ∙ change_mounts fresh middle middle_plain parent change)
+      ∙ ap (filter (mount_lives nat_eq spent))
+      (ap (λ (w : World ℕ). w.mounts) does ∙ change_mounts fresh middle middle_plain parent change)
 
   attached_live : (mount : Mount ℕ) → is_some mount.namespace ≡ true → mount_lives nat_eq spent mount ≡ true
   attached_live mount e = ap (λ b. b || is_located nat_eq spent mount.number) e
@@ -145,8 +148,10 @@ module _ (world : World ℕ) (fresh : Fresh ℕ) (name : TaskName) (call : Call)
       → MountsSeen world left is plain is_left.0 is_left.1 did.task reader
   mounts_seen reader roots = record {
     own = own_mount world left is is_left.0 did.task gone closed (mount_lives nat_eq spent) living attached_live stays;
-    topmost_is = topmost_same world left is is_left.0 did.task gone closed (mount_lives nat_eq spent) living attached_live stays;
-    top_is = top_same world left is is_left.0 did.task gone closed (mount_lives nat_eq spent) living attached_live stays reader roots;
+    topmost_is = topmost_same world left is is_left.0 did.task gone closed
+        (mount_lives nat_eq spent) living attached_live stays;
+    top_is = top_same world left is is_left.0 did.task gone closed
+        (mount_lives nat_eq spent) living attached_live stays reader roots;
   }
 
   -- Filesystems
@@ -167,10 +172,12 @@ module _ (world : World ℕ) (fresh : Fresh ℕ) (name : TaskName) (call : Call)
       ≡ (filesystem_numbered nat_eq (with_change nat_eq fresh middle parent change) number).files
   spent_files number = ap (λ w. (filesystem_numbered nat_eq w number).files) does
 
-  pub spent_shown : (filesystem_numbered nat_eq spent shown).files ≡ changed nat_eq (files_at nat_eq world parent) change
+  pub spent_shown : (filesystem_numbered nat_eq spent shown).files
+      ≡ changed nat_eq (files_at nat_eq world parent) change
   spent_shown =
       spent_files shown
-      ∙ ap (λ n. (filesystem_numbered nat_eq (with_change nat_eq fresh middle parent change) n).files) (sym middle_shown)
+      ∙ ap (λ n. (filesystem_numbered nat_eq (with_change nat_eq fresh middle parent change) n).files)
+      (sym middle_shown)
       ∙ files_changed fresh middle middle_plain parent change
       (ap (λ (f : FileTree ℕ). is_some (f.tree.node parent.node)) middle_files ∙ parent_there)
       ∙ ap (λ f. changed nat_eq f change) middle_files
@@ -195,7 +202,8 @@ module _ (world : World ℕ) (fresh : Fresh ℕ) (name : TaskName) (call : Call)
         directory = removed_kind (files_at nat_eq world parent) parent.node word object.node may;
         link = removed_link (files_at nat_eq world parent) parent.node word object.node may;
         rights = removed_rights (files_at nat_eq world parent) parent.node word object.node may;
-        parents = λ n differs. removed_parent (files_at nat_eq world parent) parent.node word object.node may n (differs refl);
+        parents = λ n differs. removed_parent (files_at nat_eq world parent) parent.node word object.node may n
+            (differs refl);
         entry = λ at any next e. ⊎_elim (λ same. inl same) (λ lost. inr (lost.0, refl, lost.1))
             (removed_entry (files_at nat_eq world parent) parent.node word object.node may at any next e);
       }
@@ -222,18 +230,21 @@ module _ (world : World ℕ) (fresh : Fresh ℕ) (name : TaskName) (call : Call)
 
   pub node_left : (filesystem number : ℕ) → is_some (node_in left filesystem number) ≡ true
       → node_in left filesystem number ≡ node_in spent filesystem number
-  node_left filesystem number there = as_spent world fresh name call answer is plain serves other few did filesystem number there
+  node_left filesystem number there =
+      as_spent world fresh name call answer is plain serves other few did filesystem number there
 
   pub root_left : (filesystem number : ℕ) → is_some (node_in left filesystem number) ≡ true
       → (tree_in left filesystem).root ≡ (tree_in world filesystem).root
   root_left filesystem number there =
       let files = later_files world fresh name call answer is plain serves other few did filesystem in
       ap (λ (f : FileTree ℕ). f.tree.root) files
-      ∙ root_settled spent (spent_unsettled world fresh name call answer is plain serves other few did).files.one_filesystem filesystem number
+      ∙ root_settled spent
+      (spent_unsettled world fresh name call answer is plain serves other few did).files.one_filesystem filesystem number
       (ap (λ (f : FileTree ℕ). is_some (f.tree.node number)) (sym files) ∙ there)
       ∙ (each filesystem).root
 
-  pub rights_left : (filesystem number : ℕ) → is_some (node_in left filesystem number) ≡ true → is_some (node_in world filesystem number) ≡ true
+  pub rights_left : (filesystem number : ℕ) → is_some (node_in left filesystem number) ≡ true
+      → is_some (node_in world filesystem number) ≡ true
       → (who : Credentials) (wanted : ℕ)
       → node_allows who wanted (node_in left filesystem number)
       ≡ node_allows who wanted (node_in world filesystem number)
@@ -243,8 +254,10 @@ module _ (world : World ℕ) (fresh : Fresh ℕ) (name : TaskName) (call : Call)
 
   pub objects_stay : (Refused : Deny → Type 0) → Refused (denial W6) → ObjectsStay world left Refused
   objects_stay Refused missing = record {
-    directory = λ filesystem number was now. ap is_directory_node (node_left filesystem number now) ∙ (each filesystem).directory number;
-    link = λ filesystem number was now. ap symlink_text (node_left filesystem number now) ∙ (each filesystem).link number;
+    directory = λ filesystem number was now. ap is_directory_node (node_left filesystem number now)
+        ∙ (each filesystem).directory number;
+    link = λ filesystem number was now. ap symlink_text (node_left filesystem number now)
+        ∙ (each filesystem).link number;
     entry = λ filesystem here any next e now. by filesystem here any next now ((each filesystem).entry here any next e);
   }
     where
@@ -259,7 +272,8 @@ module _ (world : World ℕ) (fresh : Fresh ℕ) (name : TaskName) (call : Call)
           inr (ap (λ o. entry_named any (entries_in o)) (node_left filesystem here now) ∙ lost.0, missing)
 
   -- the name is missing
-  pub name_left : is_some (node_in left shown parent.node) ≡ true → entry_at (tree_in left shown) parent.node word ≡ None
+  pub name_left : is_some (node_in left shown parent.node) ≡ true
+      → entry_at (tree_in left shown) parent.node word ≡ None
   name_left there =
       ap (λ o. entry_named word (entries_in o))
       (node_left shown parent.node there ∙ ap (λ (f : FileTree ℕ). f.tree.node parent.node) spent_shown)

@@ -66,11 +66,13 @@ module _ (world : World ℕ) (is : IsWorld nat_eq world) (object : Location ℕ)
     (uncovered : is_point_anywhere (looks_of nat_eq world) object ≡ false) where
   -- there is none
   pub none_on_it : (mount : Mount ℕ) (place : Location ℕ) → Among mount world.mounts → mount.mount_point ≡ Some place
-      → (mount_at nat_eq world place).filesystem ≡ (mount_at nat_eq world object).filesystem → place.node ≡ object.node → ⊥
+      → (mount_at nat_eq world place).filesystem ≡ (mount_at nat_eq world object).filesystem → place.node ≡ object.node
+      → ⊥
   none_on_it mount place m at same node =
       true≢false
       (sym (any_from_among (λ (m : Mount ℕ). is_some m.namespace) (mounts_on nat_eq world object) mount
-      (among-filter (λ (m : Mount ℕ). list_any (λ point. is_point nat_eq world point.0 point.1 m) (points_of nat_eq world object)) world.mounts
+      (among-filter (λ (m : Mount ℕ). list_any (λ point. is_point nat_eq world point.0 point.1 m)
+      (points_of nat_eq world object)) world.mounts
       mount m on_it) (attached (is_some mount.namespace) refl))
       ∙ uncovered)
     where
@@ -80,7 +82,8 @@ module _ (world : World ℕ) (is : IsWorld nat_eq world) (object : Location ℕ)
       on_it : list_any (λ point. is_point nat_eq world point.0 point.1 mount) (points_of nat_eq world object) ≡ true
       on_it =
           ap (λ b. b || list_any (λ point. is_point nat_eq world point.0 point.1 mount)
-          (of_overlay [] (λ overlay. upper_points world (filesystem_at nat_eq world object) overlay object.node) (filesystem_at nat_eq world object)))
+          (of_overlay [] (λ overlay. upper_points world (filesystem_at nat_eq world object) overlay object.node)
+          (filesystem_at nat_eq world object)))
           (ap (holds_of (λ at. nat_eq at.node object.node
           && nat_eq (mount_at nat_eq world at).filesystem (filesystem_at nat_eq world object).number)) at
           ∙ and_from _ _ (eq-eqb place.node object.node node)
@@ -90,15 +93,18 @@ module _ (world : World ℕ) (is : IsWorld nat_eq world) (object : Location ℕ)
       attached true e = e
       attached false e =
           absurd (true≢false (sym (ap is_some at)
-          ∙ (nowhere_parts mount (among_from_list_all is_nowhere_or_attached world.mounts is.mounts.nowhere mount m) e).0))
+          ∙ (nowhere_parts mount
+          (among_from_list_all is_nowhere_or_attached world.mounts is.mounts.nowhere mount m) e).0))
 
-  pub free_over : (place : Location ℕ) → (mount_at nat_eq world place).filesystem ≡ (mount_at nat_eq world object).filesystem
+  pub free_over : (place : Location ℕ)
+      → (mount_at nat_eq world place).filesystem ≡ (mount_at nat_eq world object).filesystem
       → place.node ≡ object.node → topmost nat_eq world.mounts place ≡ place
   free_over place same node =
       stops (length world.mounts) (λ here. option_map root_of (child_at nat_eq world.mounts here)) place
       (by (child_at nat_eq world.mounts place) refl)
     where
-      by : (o : Option (Mount ℕ)) → child_at nat_eq world.mounts place ≡ o → option_map root_of (child_at nat_eq world.mounts place) ≡ None
+      by : (o : Option (Mount ℕ)) → child_at nat_eq world.mounts place ≡ o
+          → option_map root_of (child_at nat_eq world.mounts place) ≡ None
       by None e = ap (option_map root_of) e
       by (Some mount) e =
           let found = found_in (stands_at nat_eq place) world.mounts mount e in
@@ -108,7 +114,8 @@ module _ (world : World ℕ) (fresh : Fresh ℕ) (name : TaskName) (call : Call)
     (is : IsWorld nat_eq world) (plain : IsPlain world) (serves : Serves nat_eq world fresh)
     (other : mounts_overlay call ≡ false) (few : names_few_groups call ≡ true)
     (did : IsPermitted world fresh name call answer) (from : Location ℕ) (old : List ℕ) (to : Location ℕ) (new : List ℕ)
-    (object : Location ℕ) (replaced : Option (Location ℕ)) (permit_is : did.permit ≡ ToRename from old to new object replaced)
+    (object : Location ℕ) (replaced : Option (Location ℕ))
+    (permit_is : did.permit ≡ ToRename from old to new object replaced)
     (uncovered : is_point_anywhere (looks_of nat_eq world) object ≡ false) where
   abbrev pub left : World ℕ
   left = (policy nat_eq fresh world name call).world
@@ -134,7 +141,8 @@ module _ (world : World ℕ) (fresh : Fresh ℕ) (name : TaskName) (call : Call)
   pub may : MayBeRenamed world from old to new object replaced
   may =
       subst (SeesTo world did.task) permit_is
-      (given_permits_are_seen_to world fresh did.task did.permit is plain (given_of world fresh name call answer serves other few did))
+      (given_permits_are_seen_to world fresh did.task did.permit is plain
+      (given_of world fresh name call answer serves other few did))
 
   from_directory : is_directory_node ((files_at nat_eq world from).tree.node from.node) ≡ true
   from_directory = node_with_entries old object.node ((files_at nat_eq world from).tree.node from.node) may.moves.named
@@ -152,10 +160,13 @@ module _ (world : World ℕ) (fresh : Fresh ℕ) (name : TaskName) (call : Call)
   middle_plain : IsPlain middle
   middle_plain = replaced_plain world replaced plain
 
-  middle_mount : (place : Location ℕ) → (mount_at nat_eq middle place).filesystem ≡ (mount_at nat_eq world place).filesystem
+  middle_mount : (place : Location ℕ)
+      → (mount_at nat_eq middle place).filesystem ≡ (mount_at nat_eq world place).filesystem
   middle_mount place = by replaced
     where
-      by : (o : Option (Location ℕ)) → (mount_at nat_eq (without_replaced nat_eq world o) place).filesystem ≡ (mount_at nat_eq world place).filesystem
+      by : (o : Option (Location ℕ))
+          → (mount_at nat_eq (without_replaced nat_eq world o) place).filesystem
+          ≡ (mount_at nat_eq world place).filesystem
       by None = refl
       by (Some gone) = same_mounted_without world gone place
 
@@ -171,7 +182,8 @@ module _ (world : World ℕ) (fresh : Fresh ℕ) (name : TaskName) (call : Call)
   spent_shown : (filesystem_numbered nat_eq spent shown).files ≡ changed nat_eq (files_at nat_eq world from) change
   spent_shown =
       ap (λ w. (filesystem_numbered nat_eq w shown).files) does
-      ∙ ap (λ n. (filesystem_numbered nat_eq (with_change nat_eq fresh middle from change) n).files) (sym (middle_mount from))
+      ∙ ap (λ n. (filesystem_numbered nat_eq (with_change nat_eq fresh middle from change) n).files)
+      (sym (middle_mount from))
       ∙ files_changed fresh middle middle_plain from change
       (ap (λ (f : FileTree ℕ). is_some (f.tree.node from.node)) middle_files
       ∙ directory_used (files_at nat_eq world from).tree from.node from_directory)
@@ -192,24 +204,30 @@ module _ (world : World ℕ) (fresh : Fresh ℕ) (name : TaskName) (call : Call)
       ∙ move_told (files_at nat_eq world from) from.node old to.node new object.node may.moves.in_directory directory word
 
   entry_itself : (directory : ℕ) (word : List ℕ) → is_entry directory word directory word ≡ true
-  entry_itself directory word = ap (λ b. b && bytes_eq word word) (eq-eqb directory directory refl) ∙ (bytes_decides word word).1 refl
+  entry_itself directory word = ap (λ b. b && bytes_eq word word) (eq-eqb directory directory refl)
+      ∙ (bytes_decides word word).1 refl
 
   -- the object has its new name, and no longer the old one
-  pub new_left : is_some (node_in left shown to.node) ≡ true → entry_at (tree_in left shown) to.node new ≡ Some object.node
+  pub new_left : is_some (node_in left shown to.node) ≡ true
+      → entry_at (tree_in left shown) to.node new ≡ Some object.node
   new_left there =
       entry_left to.node new there
-      ∙ ap (λ b. cond b (Some object.node) (cond (is_entry from.node old to.node new) None (entry_at (files_at nat_eq world from).tree to.node new)))
+      ∙ ap (λ b. cond b (Some object.node)
+      (cond (is_entry from.node old to.node new) None (entry_at (files_at nat_eq world from).tree to.node new)))
       (entry_itself to.node new)
 
-  pub old_left : entry_at (files_at nat_eq world from).tree to.node new ≢ Some object.node → is_some (node_in left shown from.node) ≡ true
+  pub old_left : entry_at (files_at nat_eq world from).tree to.node new ≢ Some object.node
+      → is_some (node_in left shown from.node) ≡ true
       → entry_at (tree_in left shown) from.node old ≡ None
   old_left two there = entry_left from.node old there ∙ by (is_entry to.node new from.node old) refl
     where
       by : (b : Bool) → is_entry to.node new from.node old ≡ b
-          → cond b (Some object.node) (cond (is_entry from.node old from.node old) None (entry_at (files_at nat_eq world from).tree from.node old)) ≡ None
+          → cond b (Some object.node) (cond (is_entry from.node old from.node old) None
+          (entry_at (files_at nat_eq world from).tree from.node old)) ≡ None
       by true e =
           let same = is_that_entry to.node new from.node old e in
-          absurd (two ((λ i. entry_at (files_at nat_eq world from).tree (sym same.0 i) (sym same.1 i)) ∙ may.moves.named))
+          absurd (two ((λ i. entry_at (files_at nat_eq world from).tree (sym same.0 i) (sym same.1 i))
+          ∙ may.moves.named))
       by false e =
           ap (λ b. cond b None (entry_at (files_at nat_eq world from).tree from.node old)) (entry_itself from.node old)
 
@@ -224,7 +242,8 @@ module _ (world : World ℕ) (fresh : Fresh ℕ) (name : TaskName) (call : Call)
       (kept_same _ _ (node_left object.node there))
     where
       not_from : object.node ≢ from.node
-      not_from same = no_way_up (files_at nat_eq world from) tree.tree from.node old object.node may.moves.named [] (ap Some same)
+      not_from same = no_way_up (files_at nat_eq world from) tree.tree from.node old object.node may.moves.named []
+          (ap Some same)
 
       not_to : object.node ≢ to.node
       not_to same = may.moves.not_under [] (ap Some same)
@@ -233,10 +252,12 @@ module _ (world : World ℕ) (fresh : Fresh ℕ) (name : TaskName) (call : Call)
   living : left.mounts ≡ filter (mount_lives nat_eq spent) middle.mounts
   living =
       ap (λ (w : World ℕ). w.mounts) did.left
-      ∙ ap (filter (mount_lives nat_eq spent)) (ap (λ (w : World ℕ). w.mounts) does ∙ change_mounts fresh middle middle_plain from change)
+      ∙ ap (filter (mount_lives nat_eq spent))
+      (ap (λ (w : World ℕ). w.mounts) does ∙ change_mounts fresh middle middle_plain from change)
 
   in_middle : (mount : Mount ℕ) → Among mount left.mounts → Among mount middle.mounts
-  in_middle mount m = (among-from_filter (mount_lives nat_eq spent) middle.mounts mount (subst (Among mount) living m)).0
+  in_middle mount m = (among-from_filter (mount_lives nat_eq spent) middle.mounts mount
+      (subst (Among mount) living m)).0
 
   placed_in_world : (mount : Mount ℕ) (place : Location ℕ) → Among mount left.mounts → mount.mount_point ≡ Some place
       → (was : Mount ℕ) × Among was world.mounts × (was.mount_point ≡ Some place)
@@ -247,7 +268,8 @@ module _ (world : World ℕ) (fresh : Fresh ℕ) (name : TaskName) (call : Call)
       by None among = (mount, among, e)
       by (Some gone) among =
           placed_before world is (numbers_of_trees world (mounts_on nat_eq world gone))
-          (trees_closed world is.mounts.one_number ((standing_is_computed world is.mounts.one_number).0 is.mounts.standing) (mounts_on nat_eq world gone))
+          (trees_closed world is.mounts.one_number
+          ((standing_is_computed world is.mounts.one_number).0 is.mounts.standing) (mounts_on nat_eq world gone))
           mount place among e
 
   pub left_mount : (number : ℕ) → is_among nat_eq number (numbers_of left.mounts) ≡ true
@@ -255,18 +277,21 @@ module _ (world : World ℕ) (fresh : Fresh ℕ) (name : TaskName) (call : Call)
   left_mount number listed =
       ap (λ (m : Mount ℕ). m.filesystem)
       (sym (ap (mount_numbered nat_eq middle) (sym (number_found left.mounts number))
-      ∙ found_itself middle.mounts (replaced_keeps_mounts world replaced is.mounts).one_number (mount_numbered nat_eq left number)
+      ∙ found_itself middle.mounts (replaced_keeps_mounts world replaced is.mounts).one_number
+      (mount_numbered nat_eq left number)
       (in_middle (mount_numbered nat_eq left number) (found_there left.mounts number listed))))
       ∙ middle_mount (record { mount = number; node = 0 })
 
   -- none stands on the object
   pub free_left : (place : Location ℕ) → is_among nat_eq place.mount (numbers_of left.mounts) ≡ true
-      → (mount_at nat_eq left place).filesystem ≡ shown → place.node ≡ object.node → topmost nat_eq left.mounts place ≡ place
+      → (mount_at nat_eq left place).filesystem ≡ shown → place.node ≡ object.node
+      → topmost nat_eq left.mounts place ≡ place
   free_left place listed same node =
       stops (length left.mounts) (λ here. option_map root_of (child_at nat_eq left.mounts here)) place
       (by (child_at nat_eq left.mounts place) refl)
     where
-      by : (o : Option (Mount ℕ)) → child_at nat_eq left.mounts place ≡ o → option_map root_of (child_at nat_eq left.mounts place) ≡ None
+      by : (o : Option (Mount ℕ)) → child_at nat_eq left.mounts place ≡ o
+          → option_map root_of (child_at nat_eq left.mounts place) ≡ None
       by None e = ap (option_map root_of) e
       by (Some mount) e =
           let found = found_in (stands_at nat_eq place) left.mounts mount e in

@@ -67,7 +67,8 @@ tree_there world is plain location something =
     world.filesystems (file_trees world (unsettled_of world is plain)))
 
 -- what a walk to an object finds is there
-pub object_there_is : (world : World ℕ) → IsWorld nat_eq world → (task : Task ℕ) → task_called world task.name ≡ Some task
+pub object_there_is : (world : World ℕ) → IsWorld nat_eq world → (task : Task ℕ)
+    → task_called world task.name ≡ Some task
     → (path : List ℕ) (here : Here ℕ) → object_walk nat_eq (looks_of nat_eq world) task path ≡ Ok here
     → is_some (node_at nat_eq world here.location) ≡ true
 object_there_is world is task called path here walk =
@@ -86,9 +87,11 @@ Hidden deny = deny ≡ denial W4
 -- A call that sets the attributes of what an object's walk finds
 module _ (call : Call) (path : List ℕ) (set : Attr → Attr) (world : World ℕ) (fresh : Fresh ℕ) (name : TaskName)
     (is : IsWorld nat_eq world) (plain : IsPlain world) (serves : Serves nat_eq world fresh)
-    (other : mounts_overlay call ≡ false) (few : names_few_groups call ≡ true) (did : IsPermitted world fresh name call Done)
+    (other : mounts_overlay call ≡ false) (few : names_few_groups call ≡ true)
+    (did : IsPermitted world fresh name call Done)
     (here : Here ℕ) (walked : object_walk nat_eq (looks_of nat_eq world) did.task path ≡ Ok here)
-    (permit : did.permit ≡ ToChange here.location (SetAttr here.location.node (set (attr_in (node_at nat_eq world here.location))))) where
+    (permit : did.permit ≡ ToChange here.location
+    (SetAttr here.location.node (set (attr_in (node_at nat_eq world here.location))))) where
   abbrev later : World ℕ
   later = (policy nat_eq fresh world name call).world
 
@@ -99,7 +102,8 @@ module _ (call : Call) (path : List ℕ) (set : Attr → Attr) (world : World �
   change = SetAttr here.location.node attr
 
   something : is_some (node_at nat_eq world here.location) ≡ true
-  something = object_there_is world is did.task (called_own world fresh name call Done is plain serves other few did) path here walked
+  something = object_there_is world is did.task
+      (called_own world fresh name call Done is plain serves other few did) path here walked
 
   tree : IsFileTree (files_at nat_eq world here.location)
   tree = tree_there world is plain here.location something
@@ -107,15 +111,18 @@ module _ (call : Call) (path : List ℕ) (set : Attr → Attr) (world : World �
   asks : change_of fresh world did.permit ≡ Some (here.location, change)
   asks = ap (change_of fresh world) permit
 
-  does : spent world fresh name call Done is plain serves other few did ≡ with_change nat_eq fresh world here.location change
+  does : spent world fresh name call Done is plain serves other few did
+      ≡ with_change nat_eq fresh world here.location change
   does = ap (λ p. (apply nat_eq fresh world did.task p).world) permit
 
   stay : (Refused : Deny → Type 0)
-      → TreeStays (files_at nat_eq world here.location).tree (changed nat_eq (files_at nat_eq world here.location) change).tree Refused
+      → TreeStays (files_at nat_eq world here.location).tree
+      (changed nat_eq (files_at nat_eq world here.location) change).tree Refused
   stay Refused = ways_with_attr (files_at nat_eq world here.location) Refused here.location.node attr
 
   -- what stat tells where its walk leads there
-  told : (Refused : Deny → Type 0) (reader : TaskName) (reading : Task ℕ) (called : task_called later reader ≡ Some reading)
+  told : (Refused : Deny → Type 0) (reader : TaskName) (reading : Task ℕ)
+      (called : task_called later reader ≡ Some reading)
       (stands : StandsAs did.task reading)
       (leads : LeadsToo (looks_of nat_eq world) (looks_of nat_eq later) did.task reading Refused
       (KnownToo world fresh name call Done is plain serves other few did here.location change fresh asks does something tt tree Refused
@@ -160,10 +167,12 @@ module _ (call : Call) (path : List ℕ) (set : Attr → Attr) (world : World �
       (told Hidden name (raised_task name did.task) caller_there (raised_stands name did.task)
       (leads_or_hides world fresh name call Done is plain serves other few did here.location change fresh asks does something tt tree
       Hidden (stay Hidden)
-      (raised_task name did.task) (own_name later name (raised_task name did.task) caller_there) (raised_stands name did.task) refl)
+      (raised_task name did.task) (own_name later name (raised_task name did.task) caller_there)
+      (raised_stands name did.task) refl)
       later_fresh)
 
-  all_told : (reader : TaskName) (reading : Task ℕ) → task_called later reader ≡ Some reading → StandsAs did.task reading
+  all_told : (reader : TaskName) (reading : Task ℕ) → task_called later reader ≡ Some reading
+      → StandsAs did.task reading
       → reads_all reading.credentials ≡ true → (later_fresh : Fresh ℕ)
       → (policy nat_eq later_fresh later reader (Stat path)).answer
       ≡ Ok (Told (record (stat_line (node_at nat_eq world here.location)) { attr = attr }))
@@ -179,39 +188,47 @@ module _ (call : Call) (path : List ℕ) (set : Attr → Attr) (world : World �
 chmod_parts : (looks : Looks ℕ) (task : Task ℕ) (path : List ℕ) (mode : ℕ) (permit : Permit ℕ)
     → chmod_permit nat_eq looks task path mode ≡ Ok permit
     → (here : Here ℕ) × (object_walk nat_eq looks task path ≡ Ok here)
-    × (permit ≡ ToChange here.location (SetAttr here.location.node (attr_with_mode (attr_in (looks.node here.location)) mode)))
+    × (permit ≡ ToChange here.location
+    (SetAttr here.location.node (attr_with_mode (attr_in (looks.node here.location)) mode)))
 unfolding chmod_permit
 chmod_parts looks task path mode permit e =
     let steps = both_gave (walk_end (object_walk nat_eq looks task path)) _ permit e in (
       steps.0,
       walk_ended (object_walk nat_eq looks task path) steps.0 steps.1,
-      sym (same_ok _ permit (passing (attr_rules looks steps.0.location (owns task.credentials (attr_at looks steps.0.location))
+      sym (same_ok _ permit (passing
+          (attr_rules looks steps.0.location (owns task.credentials (attr_at looks steps.0.location))
           (attr_with_mode (attr_at looks steps.0.location) mode)) _ permit steps.2).1),
     )
 
 chown_parts : (looks : Looks ℕ) (task : Task ℕ) (path : List ℕ) (uid gid : Option ℕ) (permit : Permit ℕ)
     → chown_permit nat_eq looks task path uid gid ≡ Ok permit
     → (here : Here ℕ) × (object_walk nat_eq looks task path ≡ Ok here)
-    × (permit ≡ ToChange here.location (SetAttr here.location.node (attr_with_owner (attr_in (looks.node here.location)) uid gid)))
+    × (permit ≡ ToChange here.location
+    (SetAttr here.location.node (attr_with_owner (attr_in (looks.node here.location)) uid gid)))
 unfolding chown_permit
 chown_parts looks task path uid gid permit e =
     let steps = both_gave (walk_end (object_walk nat_eq looks task path)) _ permit e in (
       steps.0,
       walk_ended (object_walk nat_eq looks task path) steps.0 steps.1,
       sym (same_ok _ permit (passing (attr_rules looks steps.0.location
-          (may_chown task.credentials (attr_at looks steps.0.location) (attr_with_owner (attr_at looks steps.0.location) uid gid))
+          (may_chown task.credentials (attr_at looks steps.0.location)
+          (attr_with_owner (attr_at looks steps.0.location) uid gid))
           (attr_with_owner (attr_at looks steps.0.location) uid gid)) _ permit steps.2).1),
     )
 
-tells : (call : Call) (path : List ℕ) (set : Attr → Attr) (world : World ℕ) (fresh : Fresh ℕ) (name : TaskName) (task : Task ℕ)
+tells : (call : Call) (path : List ℕ) (set : Attr → Attr) (world : World ℕ) (fresh : Fresh ℕ) (name : TaskName)
+    (task : Task ℕ)
     (is : IsWorld nat_eq world) (plain : IsPlain world) (serves : Serves nat_eq world fresh)
     (other : mounts_overlay call ≡ false) (few : names_few_groups call ≡ true) → task_called world name ≡ Some task
     → (did : IsPermitted world fresh name call Done) (here : Here ℕ)
     → object_walk nat_eq (looks_of nat_eq world) did.task path ≡ Ok here
-    → did.permit ≡ ToChange here.location (SetAttr here.location.node (set (attr_in (node_at nat_eq world here.location))))
+    → did.permit ≡ ToChange here.location
+    (SetAttr here.location.node (set (attr_in (node_at nat_eq world here.location))))
     → (line : StatLine) × IsAnswered world name (Stat path) (Told line)
-    × IsAnsweredUnless W4 (policy nat_eq fresh world name call).world name (Stat path) (Told (record line { attr = set line.attr }))
-    × IsSeenByAll (policy nat_eq fresh world name call).world task (Stat path) (Told (record line { attr = set line.attr }))
+    × IsAnsweredUnless W4 (policy nat_eq fresh world name call).world name (Stat path)
+    (Told (record line { attr = set line.attr }))
+    × IsSeenByAll (policy nat_eq fresh world name call).world task (Stat path)
+    (Told (record line { attr = set line.attr }))
 tells call path set world fresh name task is plain serves other few called did here walked permit = (
   stat_line (node_at nat_eq world here.location),
   λ other_fresh. stat_of world other_fresh name did.task did.called path here walked,

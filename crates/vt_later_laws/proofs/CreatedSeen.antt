@@ -74,15 +74,18 @@ module _ (world later : World ℕ) (shown : ℕ) (files : FileTree ℕ) (mounts 
     (here : (filesystem_numbered nat_eq later shown).files ≡ files)
     (elsewhere : (number : ℕ) → nat_eq shown number ≡ false
     → (filesystem_numbered nat_eq later number).files ≡ (filesystem_numbered nat_eq world number).files) where
-  in_each : (P : ℕ → FileTree ℕ → Type 0) → P shown files → ((number : ℕ) → P number (filesystem_numbered nat_eq world number).files)
+  in_each : (P : ℕ → FileTree ℕ → Type 0) → P shown files
+      → ((number : ℕ) → P number (filesystem_numbered nat_eq world number).files)
       → (number : ℕ) → P number (filesystem_numbered nat_eq later number).files
   in_each P is others number = by (nat_eq shown number) refl
     where
       by : (b : Bool) → nat_eq shown number ≡ b → P number (filesystem_numbered nat_eq later number).files
-      by true e = subst (λ n. P n (filesystem_numbered nat_eq later n).files) (eqb-true shown number e) (subst (P shown) (sym here) is)
+      by true e = subst (λ n. P n (filesystem_numbered nat_eq later n).files) (eqb-true shown number e)
+          (subst (P shown) (sym here) is)
       by false e = subst (P number) (sym (elsewhere number e)) (others number)
 
-  stays_by : (Refused : Deny → Type 0) → TreeStays (tree_in world shown) files.tree Refused → WorldStays world later Refused
+  stays_by : (Refused : Deny → Type 0) → TreeStays (tree_in world shown) files.tree Refused
+      → WorldStays world later Refused
   stays_by Refused stay = record {
     mounts = mounts;
     root = λ number. (each number).root;
@@ -107,7 +110,8 @@ module _ (world later : World ℕ) (shown : ℕ) (files : FileTree ℕ) (mounts 
 
   rights_by : RightsStay (tree_in world shown) files.tree → (filesystem number wanted : ℕ) (who : Credentials)
       → is_some (node_in world filesystem number) ≡ true
-      → node_allows who wanted (node_in later filesystem number) ≡ node_allows who wanted (node_in world filesystem number)
+      → node_allows who wanted (node_in later filesystem number)
+      ≡ node_allows who wanted (node_in world filesystem number)
   rights_by rights filesystem number wanted who was =
       in_each (λ f t. is_some (node_in world f number) ≡ true
       → node_allows who wanted (t.tree.node number) ≡ node_allows who wanted (node_in world f number))
@@ -137,30 +141,38 @@ module _ (looks later : Looks ℕ) (task reader : Task ℕ) (Refused : Deny → 
       (λ here. placed nat_eq later reader here (Named (name_of place.last)) (ends_in_slash path))
   place_is =
       ap (λ r. then_walk r (λ text.
-      then_walk (front_walked nat_eq later reader (followed nat_eq later reader) (walk_start reader text) (reverse (words text)))
+      then_walk (front_walked nat_eq later reader (followed nat_eq later reader) (walk_start reader text)
+      (reverse (words text)))
       (λ here. placed nat_eq later reader here (final_word (reverse (words text))) (ends_in_slash text)))) parts.parsed
-      ∙ ap (λ list. then_walk (front_walked nat_eq later reader (followed nat_eq later reader) (walk_start reader path) list)
+      ∙ ap (λ list. then_walk (front_walked nat_eq later reader (followed nat_eq later reader)
+      (walk_start reader path) list)
       (λ here. placed nat_eq later reader here (final_word list) (ends_in_slash path))) parts.words_are
-      ∙ ap (λ last. then_walk (words_walked nat_eq later reader (followed nat_eq later reader) (walk_start reader path) parts.front)
+      ∙ ap (λ last. then_walk (words_walked nat_eq later reader (followed nat_eq later reader)
+      (walk_start reader path) parts.front)
       (λ here. placed nat_eq later reader here last (ends_in_slash path))) word_is
 
   pub place_too : IsPlacedThere (place_walk nat_eq later reader path)
   place_too =
       subst IsPlacedThere (sym place_is)
       (through looks later task reader Refused Known leads IsPlacedThere
-      (words_walked nat_eq later reader (followed nat_eq later reader) (walk_start reader path) parts.front) _ parts.here
+      (words_walked nat_eq later reader (followed nat_eq later reader)
+      (walk_start reader path) parts.front) _ parts.here
       (front_too looks later task reader Refused Known leads path place named parts)
-      (λ steps known. by steps known (search_too looks later task reader Refused Known leads parts.here.location known parts.searched))
+      (λ steps known. by steps known
+      (search_too looks later task reader Refused Known leads parts.here.location known parts.searched))
       (λ stop refused. inr (stop, refused, refl)))
     where
-      by : (steps : List (List ℕ)) → Known parts.here.location → AllPass (search_rules nat_eq later reader parts.here.location)
+      by : (steps : List (List ℕ)) → Known parts.here.location
+          → AllPass (search_rules nat_eq later reader parts.here.location)
           ⊎ (Refused (denial W4) × ((answer : Result (Location ℕ) Deny)
           → unless (search_rules nat_eq later reader parts.here.location) answer ≡ Err (denial W4)))
-          → IsPlacedThere (placed nat_eq later reader (at parts.here steps) (Named (name_of place.last)) (ends_in_slash path))
+          → IsPlacedThere (placed nat_eq later reader (at parts.here steps) (Named (name_of place.last))
+          (ends_in_slash path))
       by steps known (inl pass) =
           inl (
             steps_at nat_eq later reader (at parts.here steps) (Named (name_of place.last)),
-            ap (λ r. stopped_by {A = Place ℕ} (steps_at nat_eq later reader (at parts.here steps) (Named (name_of place.last)))
+            ap (λ r. stopped_by {A = Place ℕ}
+                (steps_at nat_eq later reader (at parts.here steps) (Named (name_of place.last)))
                 (and_then r (λ o.
                 Ok (record {
                   parent = parts.here.location;
@@ -182,14 +194,19 @@ module _ (looks later : Looks ℕ) (task reader : Task ℕ) (Refused : Deny → 
           )
       by steps known (inr hidden) =
           inr (
-            record { deny = denial W4; steps = steps_at nat_eq later reader (at parts.here steps) (Named (name_of place.last)) },
+            record {
+              deny = denial W4;
+              steps = steps_at nat_eq later reader (at parts.here steps)
+                  (Named (name_of place.last));
+            },
             hidden.0,
             hidden_so (search_rules nat_eq later reader parts.here.location) hidden.1,
           )
         where
           hidden_so : (rules : Rules)
               → ((answer : Result (Location ℕ) Deny) → unless rules answer ≡ Err (denial W4))
-              → stopped_by {A = Place ℕ} (steps_at nat_eq later reader (at parts.here steps) (Named (name_of place.last)))
+              → stopped_by {A = Place ℕ} (steps_at nat_eq later reader (at parts.here steps)
+              (Named (name_of place.last)))
               (and_then (unless rules (Ok (entry_location nat_eq later parts.here.location (name_of place.last)))) (λ o.
               Ok (record {
                 parent = parts.here.location;
@@ -198,21 +215,31 @@ module _ (looks later : Looks ℕ) (task reader : Task ℕ) (Refused : Deny → 
                 slash = ends_in_slash path;
                 steps = steps_at nat_eq later reader (at parts.here steps) (Named (name_of place.last));
               })))
-              ≡ Err (record { deny = denial W4; steps = steps_at nat_eq later reader (at parts.here steps) (Named (name_of place.last)) })
+              ≡ Err (record {
+                deny = denial W4;
+                steps = steps_at nat_eq later reader (at parts.here steps)
+                    (Named (name_of place.last));
+              })
           hidden_so [] h = absurd (never (h (Ok place.parent)))
             where
               never : Path (Result (Location ℕ) Deny) (Ok place.parent) (Err (denial W4)) → ⊥
               never e = cc
           hidden_so ((true, rule) ∷ rows) h =
-              ap (λ d. Err (record { deny = d; steps = steps_at nat_eq later reader (at parts.here steps) (Named (name_of place.last)) }))
+              ap (λ d. Err (record {
+                deny = d;
+                steps = steps_at nat_eq later reader (at parts.here steps)
+                    (Named (name_of place.last));
+              }))
               (same_deny (h (Ok place.parent)))
             where
-              same_deny : Path (Result (Location ℕ) Deny) (Err (denial rule)) (Err (denial W4)) → denial rule ≡ denial W4
+              same_deny : Path (Result (Location ℕ) Deny) (Err (denial rule)) (Err (denial W4))
+                  → denial rule ≡ denial W4
               same_deny e = cc
           hidden_so ((false, rule) ∷ rows) h = hidden_so rows h
 
 -- What a second open answers
-exclusive_refused : (world : World ℕ) (fresh : Fresh ℕ) (name : TaskName) (task : Task ℕ) (path : List ℕ) (access : Access) (mode : ℕ)
+exclusive_refused : (world : World ℕ) (fresh : Fresh ℕ) (name : TaskName) (task : Task ℕ) (path : List ℕ)
+    (access : Access) (mode : ℕ)
     (place : Place ℕ) → task_called world name ≡ Some task → nat_le most_descriptors (length task.descriptors) ≡ false
     → new_walk nat_eq (looks_of nat_eq world) task path ≡ Ok place → is_special place.last ≡ false → place.slash ≡ false
     → is_some place.object ≡ true
@@ -224,14 +251,17 @@ exclusive_refused world fresh name task path access mode place called room walk 
     (filesystems_changed_by nat_eq world (judge_in nat_eq fresh world t (OpenFile path access (Exclusive mode))))
     (call_outcome nat_eq fresh world t (OpenFile path access (Exclusive mode))))).answer) called
     ∙ answer_stays _ world name _ (call_outcome nat_eq fresh world task (OpenFile path access (Exclusive mode)))
-    ∙ ap (λ b. (judged world ((b, S3) ∷ []) (Opening.open_by nat_eq fresh world task path access (Exclusive mode))).answer) room
+    ∙ ap (λ b. (judged world ((b, S3) ∷ [])
+    (Opening.open_by nat_eq fresh world task path access (Exclusive mode))).answer) room
     ∙ ap (λ r. (after world (walk_end r) (λ place. judged world (exclusive_word_rules place)
     (Opening.create_file nat_eq fresh world task place access mode))).answer) walk
     ∙ (λ i. (judged world ((named i, E1) ∷ (no_slash i, E2) ∷ (there i, E1) ∷ [])
     (Opening.create_file nat_eq fresh world task place access mode)).answer)
 
-module _ (path : List ℕ) (world : World ℕ) (fresh : Fresh ℕ) (name : TaskName) (task : Task ℕ) (access : Access) (mode number : ℕ)
-    (is : IsWorld nat_eq world) (plain : IsPlain world) (serves : Serves nat_eq world fresh) (called : task_called world name ≡ Some task)
+module _ (path : List ℕ) (world : World ℕ) (fresh : Fresh ℕ) (name : TaskName) (task : Task ℕ) (access : Access)
+    (mode number : ℕ)
+    (is : IsWorld nat_eq world) (plain : IsPlain world) (serves : Serves nat_eq world fresh)
+    (called : task_called world name ≡ Some task)
     (did : IsPermitted world fresh name (OpenFile path access (Exclusive mode)) (Opened number)) (place : Place ℕ)
     (walk : new_walk nat_eq (looks_of nat_eq world) did.task path ≡ Ok place) (named : is_special place.last ≡ false)
     (no_slash : place.slash ≡ false) (permit : did.permit ≡ open_new_permit did.task place access mode) where
@@ -288,10 +318,12 @@ module _ (path : List ℕ) (world : World ℕ) (fresh : Fresh ℕ) (name : TaskN
   spent_is : spent world fresh name call (Opened number) is plain serves refl refl did ≡ with_task base new_task
   spent_is = ap (λ p. (apply nat_eq fresh world did.task p).world) permit
 
-  settles : settled nat_eq (spent world fresh name call (Opened number) is plain serves refl refl did) ≡ with_task base new_task
+  settles : settled nat_eq (spent world fresh name call (Opened number) is plain serves refl refl did)
+      ≡ with_task base new_task
   settles =
       ap (λ p. settled nat_eq (apply nat_eq fresh world did.task p).world) permit
-      ∙ opened_new_keeps_all fresh world did.task parent entry node access (worlds_are_settled world is) is.files.one_filesystem
+      ∙ opened_new_keeps_all fresh world did.task parent entry node access
+      (worlds_are_settled world is) is.files.one_filesystem
       is.tasks.one_task (contains_from_among world.tasks did.task (found_among (λ
       (t : Task ℕ). same_name name t.name) world.tasks did.task did.called))
       (listed (mount_at nat_eq world parent).filesystem world.filesystems parent.node something)
@@ -311,7 +343,8 @@ module _ (path : List ℕ) (world : World ℕ) (fresh : Fresh ℕ) (name : TaskN
   here_files : (filesystem_numbered nat_eq later (mount_at nat_eq world parent).filesystem).files ≡ changed nat_eq
       (files_at nat_eq world parent) change
   here_files =
-      files_stay (mount_at nat_eq world parent).filesystem ∙ files_changed (odds fresh) world plain parent change something
+      files_stay (mount_at nat_eq world parent).filesystem
+      ∙ files_changed (odds fresh) world plain parent change something
 
   other_files : (n : ℕ) → nat_eq (mount_at nat_eq world parent).filesystem n ≡ false
       → (filesystem_numbered nat_eq later n).files ≡ (filesystem_numbered nat_eq world n).files
@@ -319,7 +352,8 @@ module _ (path : List ℕ) (world : World ℕ) (fresh : Fresh ℕ) (name : TaskN
 
   stays : WorldStays world later Never
   stays =
-      stays_by world later (mount_at nat_eq world parent).filesystem (changed nat_eq (files_at nat_eq world parent) change) mounts_stay
+      stays_by world later (mount_at nat_eq world parent).filesystem
+      (changed nat_eq (files_at nat_eq world parent) change) mounts_stay
       here_files other_files Never
       (ways_made (files_at nat_eq world parent) Never parent.node entry
       (fresh 0) may.name_is_free.in_directory may.name_is_free.free node new)
@@ -332,39 +366,47 @@ module _ (path : List ℕ) (world : World ℕ) (fresh : Fresh ℕ) (name : TaskN
       still_called world fresh name call (Opened number) is plain serves refl refl did name new_task
       (ap (λ w. task_called w name) spent_is
       ∙ called_replaced base name did.task new_task
-      (ap (find (λ (t : Task ℕ). same_name name t.name)) (change_tasks (odds fresh) world plain parent change) ∙ did.called)
+      (ap (find (λ (t : Task ℕ). same_name name t.name)) (change_tasks (odds fresh) world plain parent change)
+      ∙ did.called)
       (sym (name_found world name did.task did.called)))
 
-  again_refused : (reader : TaskName) (reading : Task ℕ) → task_called later reader ≡ Some reading → StandsAs did.task reading
-      → MayLook did.task reading → nat_le most_descriptors (length reading.descriptors) ≡ false → (again : Access) (other : ℕ)
+  again_refused : (reader : TaskName) (reading : Task ℕ) → task_called later reader ≡ Some reading
+      → StandsAs did.task reading
+      → MayLook did.task reading → nat_le most_descriptors (length reading.descriptors) ≡ false
+      → (again : Access) (other : ℕ)
       → (later_fresh : Fresh ℕ)
       → (policy nat_eq later_fresh later reader (OpenFile path again (Exclusive other))).answer ≡ Err (denial E1)
   again_refused reader reading found stands looks room again other later_fresh = by
       (place_too (looks_of nat_eq world) (looks_of nat_eq later) did.task reading Never _ leads path place named
-      (named_place (looks_of nat_eq world) did.task path place (new_parts (looks_of nat_eq world) did.task path place walk) named)
+      (named_place (looks_of nat_eq world) did.task path place
+      (new_parts (looks_of nat_eq world) did.task path place walk) named)
       (Some (record { mount = parent.mount; node = fresh 0 })) there)
     where
       self : task_called later reading.name ≡ Some reading
       self = own_name later reader reading found
 
-      at_node : (here : Location ℕ) → node_at nat_eq later here ≡ node_in later (mount_at nat_eq world here).filesystem here.node
+      at_node : (here : Location ℕ) → node_at nat_eq later here
+          ≡ node_in later (mount_at nat_eq world here).filesystem here.node
       at_node here = node_here world later is plain is_later.0 is_later.1 did.task reading own self stands Never stays here
 
       leads : LeadsToo (looks_of nat_eq world) (looks_of nat_eq later) did.task reading Never
-          (Known world later is plain is_later.0 is_later.1 did.task reading own (own_name later reader reading found) stands Never stays)
+          (Known world later is plain is_later.0 is_later.1 did.task reading own
+          (own_name later reader reading found) stands Never stays)
       leads =
           world_leads world later is plain is_later.0 is_later.1 did.task reading own self stands Never stays
           (λ here known directory e. inl (searched here known directory e looks))
         where
           searched : (here : Location ℕ) → Known world later is plain is_later.0 is_later.1 did.task reading own
               (own_name later reader reading found) stands Never stays here
-              → is_directory_at nat_eq world here ≡ true → Look.may (looks_of nat_eq world) did.task here execute_right ≡ true
+              → is_directory_at nat_eq world here ≡ true
+              → Look.may (looks_of nat_eq world) did.task here execute_right ≡ true
               → MayLook did.task reading
               → Look.may (looks_of nat_eq later) reading here execute_right ≡ true
           searched here known directory e (inr all) =
               search_all reading.credentials all (node_at nat_eq later here)
               (ap is_directory_node (at_node here)
-              ∙ stays.directory (mount_at nat_eq world here).filesystem here.node known.0.1 (ap is_some (sym (at_node here))
+              ∙ stays.directory (mount_at nat_eq world here).filesystem here.node known.0.1
+              (ap is_some (sym (at_node here))
               ∙ known.1.1) ∙ directory)
           searched here known directory e (inl same) =
               ap (λ who. node_allows who execute_right (node_at nat_eq later here)) same
@@ -378,9 +420,11 @@ module _ (path : List ℕ) (world : World ℕ) (fresh : Fresh ℕ) (name : TaskN
 
       there : Known world later is plain is_later.0 is_later.1 did.task reading own
           (own_name later reader reading found) stands Never stays parent
-          → entry_location nat_eq (looks_of nat_eq later) parent entry ≡ Some (record { mount = parent.mount; node = fresh 0 })
+          → entry_location nat_eq (looks_of nat_eq later) parent entry
+          ≡ Some (record { mount = parent.mount; node = fresh 0 })
       there known =
-          ap (λ o. option_map {U = Location ℕ} (λ object. record { mount = parent.mount; node = object }) (entry_named entry
+          ap (λ o. option_map {U = Location ℕ} (λ object. record { mount = parent.mount; node = object })
+          (entry_named entry
           (entries_in o)))
           (at_node parent ∙ ap (λ (f : FileTree ℕ). f.tree.node parent.node) here_files)
           ∙ ap (option_map {U = Location ℕ} (λ object. record { mount = parent.mount; node = object }))
@@ -397,23 +441,27 @@ module _ (path : List ℕ) (world : World ℕ) (fresh : Fresh ℕ) (name : TaskN
           → (policy nat_eq later_fresh later reader (OpenFile path again (Exclusive other))).answer ≡ Err (denial E1)
       by (inl e) =
           exclusive_refused later later_fresh reader reading path again other _ found room
-          (ap (λ r. then_walk r (λ p. walk_unless p.steps (new_name_rules nat_eq (looks_of nat_eq later) p) p)) e.1) named no_slash refl
+          (ap (λ r. then_walk r (λ p. walk_unless p.steps
+          (new_name_rules nat_eq (looks_of nat_eq later) p) p)) e.1) named no_slash refl
       by (inr stop) = absurd stop.1
 
 -- a granted exclusive open
 exclusive_facts : (looks : Looks ℕ) (task : Task ℕ) (path : List ℕ) (access : Access) (mode : ℕ) (permit : Permit ℕ)
     → open_permit nat_eq looks task path access (Exclusive mode) ≡ Ok permit
-    → (place : Place ℕ) × (new_walk nat_eq looks task path ≡ Ok place) × (is_special place.last ≡ false) × (place.slash ≡ false)
+    → (place : Place ℕ) × (new_walk nat_eq looks task path ≡ Ok place) × (is_special place.last ≡ false)
+    × (place.slash ≡ false)
     × (permit ≡ open_new_permit task place access mode)
 unfolding open_permit
 exclusive_facts looks task path access mode permit e =
-    let steps = both_gave (walk_end (new_walk nat_eq looks task path)) _ permit (passing (descriptor_rules task) _ permit e).1 in
+    let steps = both_gave (walk_end (new_walk nat_eq looks task path)) _ permit
+    (passing (descriptor_rules task) _ permit e).1 in
     let words_pass = passing (exclusive_word_rules steps.0) _ permit steps.2 in (
       steps.0,
       walk_ended (new_walk nat_eq looks task path) steps.0 steps.1,
       words_pass.0.0,
       words_pass.0.1.0,
-      sym (same_ok _ permit (passing (make_rules looks task steps.0 (unnumbered steps.0 (new_file task mode []))) _ permit words_pass.1).1),
+      sym (same_ok _ permit (passing
+          (make_rules looks task steps.0 (unnumbered steps.0 (new_file task mode []))) _ permit words_pass.1).1),
     )
 
 pub exclusive_twice : ExclusiveTwice
@@ -421,11 +469,14 @@ exclusive_twice path world fresh name task access again mode other number is pla
   λ now there room later_fresh.
       again_refused path world fresh name task access mode number is plain serves called did facts.0 facts.1 facts.2 facts.3 facts.4
       name now there (subst (StandsAs did.task) (same_Some _ now (sym caller_here ∙ there)) raised_stands_so)
-      (inl (ap (λ (t : Task ℕ). t.credentials) (sym (same_Some _ now (sym caller_here ∙ there))) ∙ raised_credentials name
-      (with_descriptor did.task (record { mount = facts.0.parent.mount; node = fresh 0 }) access))) room again other later_fresh,
+      (inl (ap (λ (t : Task ℕ). t.credentials) (sym (same_Some _ now (sym caller_here ∙ there)))
+      ∙ raised_credentials name
+      (with_descriptor did.task
+      (record { mount = facts.0.parent.mount; node = fresh 0 }) access))) room again other later_fresh,
   λ reader reading looks room later_fresh.
       again_refused path world fresh name task access mode number is plain serves called did facts.0 facts.1 facts.2 facts.3 facts.4
-      reader reading looks.called (subst (λ t. StandsAs t reading) (sym task_is) (all_stands _ task reader reading looks))
+      reader reading looks.called (subst (λ t. StandsAs t reading) (sym task_is)
+      (all_stands _ task reader reading looks))
       (inr looks.all) room again other later_fresh,
 )
   where
@@ -435,17 +486,20 @@ exclusive_twice path world fresh name task access again mode other number is pla
     task_is : did.task ≡ task
     task_is = same_Some did.task task (sym did.called ∙ called)
 
-    facts : (place : Place ℕ) × (new_walk nat_eq (looks_of nat_eq world) did.task path ≡ Ok place) × (is_special place.last ≡ false)
+    facts : (place : Place ℕ) × (new_walk nat_eq (looks_of nat_eq world) did.task path ≡ Ok place)
+        × (is_special place.last ≡ false)
         × (place.slash ≡ false) × (did.permit ≡ open_new_permit did.task place access mode)
     facts = exclusive_facts (looks_of nat_eq world) did.task path access mode did.permit did.judged
 
     caller_here : task_called (policy nat_eq fresh world name (OpenFile path access (Exclusive mode))).world name
-        ≡ Some (raised_task name (with_descriptor did.task (record { mount = facts.0.parent.mount; node = fresh 0 }) access))
+        ≡ Some (raised_task name (with_descriptor did.task
+        (record { mount = facts.0.parent.mount; node = fresh 0 }) access))
     caller_here =
         caller_there path world fresh name task access mode number is plain serves called did facts.0 facts.1 facts.2 facts.3 facts.4
 
     raised_stands_so : StandsAs did.task (raised_task name (with_descriptor did.task
         (record { mount = facts.0.parent.mount; node = fresh 0 }) access))
     raised_stands_so =
-        let raised = raised_stands name (with_descriptor did.task (record { mount = facts.0.parent.mount; node = fresh 0 }) access) in
+        let raised = raised_stands name
+        (with_descriptor did.task (record { mount = facts.0.parent.mount; node = fresh 0 }) access) in
         record { root = raised.root; directory = raised.directory }

@@ -18,7 +18,8 @@ use Rattle.vt_spec.specs.Machine.World.{Task, World, task_called}
 use Rattle.vt_laws.proofs.CallsJudged.{policy_judges_then_applies}
 
 -- what a call that was granted, and does not only look, was permitted, and what it left
-pub record IsPermitted (world : World ℕ) (fresh : Fresh ℕ) (name : TaskName) (call : Call) (answer : Answer) : Type 0 where
+pub record IsPermitted (world : World ℕ) (fresh : Fresh ℕ) (name : TaskName) (call : Call)
+    (answer : Answer) : Type 0 where
   pub task : Task ℕ
   pub called : task_called world name ≡ Some task
   pub permit : Permit ℕ
@@ -94,7 +95,8 @@ called_raised name reader task tasks e = found_raised tasks ∙ ap (option_map (
     same : (t : Task ℕ) → same_name reader (raised_task name t).name ≡ same_name reader t.name
     same t = by (same_name name t.name)
       where
-        by : (b : Bool) → same_name reader (cond b (record t { change = raised t.change }) t).name ≡ same_name reader t.name
+        by : (b : Bool) → same_name reader (cond b (record t { change = raised t.change }) t).name
+            ≡ same_name reader t.name
         by true = refl
         by false = refl
 

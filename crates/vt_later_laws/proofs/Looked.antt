@@ -67,7 +67,8 @@ read_all who all attr Whiteout =
     (has_all who.capabilities cap_dac_read_search) true true all refl refl
 
 -- a call of a task, which is there
-module _ (world : World ℕ) (fresh : Fresh ℕ) (name : TaskName) (task : Task ℕ) (called : task_called world name ≡ Some task)
+module _ (world : World ℕ) (fresh : Fresh ℕ) (name : TaskName) (task : Task ℕ)
+    (called : task_called world name ≡ Some task)
     (path : List ℕ) where
   abbrev by_task : Call → Option (Task ℕ) → Outcome ℕ
   by_task call o =
@@ -76,36 +77,42 @@ module _ (world : World ℕ) (fresh : Fresh ℕ) (name : TaskName) (task : Task 
       (call_outcome nat_eq fresh world t call))
 
   pub lstat_of : (here : Here ℕ) → symlink_walk nat_eq world task path ≡ Ok here
-      → (policy nat_eq fresh world name (Lstat path)).answer ≡ Ok (Told (stat_line (node_at nat_eq world here.location)))
+      → (policy nat_eq fresh world name (Lstat path)).answer
+      ≡ Ok (Told (stat_line (node_at nat_eq world here.location)))
   unfolding lstat_outcome
   lstat_of here walk =
       ap (λ o. (by_task (Lstat path) o).answer) called
-      ∙ ap (λ r. (after world (walk_end r) (λ here. granted (Told (stat_line (node_at nat_eq world here.location))) world)).answer) walk
+      ∙ ap (λ r. (after world (walk_end r)
+      (λ here. granted (Told (stat_line (node_at nat_eq world here.location))) world)).answer) walk
 
   pub lstat_refused : (stop : Stop ℕ) → symlink_walk nat_eq world task path ≡ Err stop
       → (policy nat_eq fresh world name (Lstat path)).answer ≡ Err stop.deny
   unfolding lstat_outcome
   lstat_refused stop walk =
       ap (λ o. (by_task (Lstat path) o).answer) called
-      ∙ ap (λ r. (after world (walk_end r) (λ here. granted (Told (stat_line (node_at nat_eq world here.location))) world)).answer) walk
+      ∙ ap (λ r. (after world (walk_end r)
+      (λ here. granted (Told (stat_line (node_at nat_eq world here.location))) world)).answer) walk
 
   pub stat_of : (here : Here ℕ) → object_walk nat_eq world task path ≡ Ok here
       → (policy nat_eq fresh world name (Stat path)).answer ≡ Ok (Told (stat_line (node_at nat_eq world here.location)))
   unfolding stat_outcome
   stat_of here walk =
       ap (λ o. (by_task (Stat path) o).answer) called
-      ∙ ap (λ r. (after world (walk_end r) (λ here. granted (Told (stat_line (node_at nat_eq world here.location))) world)).answer) walk
+      ∙ ap (λ r. (after world (walk_end r)
+      (λ here. granted (Told (stat_line (node_at nat_eq world here.location))) world)).answer) walk
 
   pub stat_refused : (stop : Stop ℕ) → object_walk nat_eq world task path ≡ Err stop
       → (policy nat_eq fresh world name (Stat path)).answer ≡ Err stop.deny
   unfolding stat_outcome
   stat_refused stop walk =
       ap (λ o. (by_task (Stat path) o).answer) called
-      ∙ ap (λ r. (after world (walk_end r) (λ here. granted (Told (stat_line (node_at nat_eq world here.location))) world)).answer) walk
+      ∙ ap (λ r. (after world (walk_end r)
+      (λ here. granted (Told (stat_line (node_at nat_eq world here.location))) world)).answer) walk
 
   pub readlink_of : (here : Here ℕ) → symlink_walk nat_eq world task path ≡ Ok here
       → is_kind_in SymlinkKind (node_at nat_eq world here.location) ≡ true
-      → (policy nat_eq fresh world name (Readlink path)).answer ≡ Ok (Bytes (bytes_in (node_at nat_eq world here.location)))
+      → (policy nat_eq fresh world name (Readlink path)).answer
+      ≡ Ok (Bytes (bytes_in (node_at nat_eq world here.location)))
   unfolding readlink_outcome
   readlink_of here walk is =
       ap (λ o. (by_task (Readlink path) o).answer) called
@@ -131,7 +138,8 @@ module _ (world : World ℕ) (fresh : Fresh ℕ) (name : TaskName) (task : Task 
       ∙ by (node_allows task.credentials read_right (node_at nat_eq world here.location))
     where
       by : (b : Bool)
-          → (judged world ((not b, C1) ∷ (false, B1) ∷ []) (granted (Names (names_in (node_at nat_eq world here.location))) world)).answer
+          → (judged world ((not b, C1) ∷ (false, B1) ∷ [])
+          (granted (Names (names_in (node_at nat_eq world here.location))) world)).answer
           ≡ cond b (Ok (Names (names_in (node_at nat_eq world here.location)))) (Err (denial C1))
       by true = refl
       by false = refl
@@ -146,7 +154,8 @@ module _ (world : World ℕ) (fresh : Fresh ℕ) (name : TaskName) (task : Task 
 
   -- a regular file is read, if it may be
   pub read_of : IsPlain world → (here : Here ℕ) → object_walk nat_eq world task path ≡ Ok here
-      → (attr : Attr) (bytes : List ℕ) → node_at nat_eq world here.location ≡ Some (record { attr = attr; content = Regular bytes })
+      → (attr : Attr) (bytes : List ℕ)
+      → node_at nat_eq world here.location ≡ Some (record { attr = attr; content = Regular bytes })
       → (policy nat_eq fresh world name (Read path)).answer
       ≡ cond (allows task.credentials attr File read_right) (Ok (Bytes bytes)) (Err (denial C1))
   unfolding read_outcome
@@ -156,12 +165,17 @@ module _ (world : World ℕ) (fresh : Fresh ℕ) (name : TaskName) (task : Task 
       (granted (Bytes (bytes_in (node_at nat_eq world here.location))) world))).answer) walk
       ∙ (λ i. (judged world ((is_directory_node (is i), E2) ∷ (is_kind_in White (is i), E9)
       ∷ (not (node_allows task.credentials read_right (is i)), C1)
-      ∷ (not (mounter_allows (plain_numbered world plain (mount_at nat_eq world here.location).filesystem i) read_right (is i)), B1) ∷ [])
+      ∷ (
+        not (mounter_allows (plain_numbered world plain (mount_at nat_eq world here.location).filesystem i) read_right
+            (is i)),
+        B1,
+      ) ∷ [])
       (granted (Bytes (bytes_in (is i))) world)).answer)
       ∙ by (allows task.credentials attr File read_right)
     where
       by : (b : Bool)
-          → (judged world ((false, E2) ∷ (false, E9) ∷ (not b, C1) ∷ (false, B1) ∷ []) (granted (Bytes bytes) world)).answer
+          → (judged world ((false, E2) ∷ (false, E9) ∷ (not b, C1) ∷ (false, B1) ∷ [])
+          (granted (Bytes bytes) world)).answer
           ≡ cond b (Ok (Bytes bytes)) (Err (denial C1))
       by true = refl
       by false = refl

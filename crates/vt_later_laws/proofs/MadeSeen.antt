@@ -62,23 +62,27 @@ use Rattle.vt_later_laws.proofs.WaysStay.{StandsAs}
 abbrev pub Never : Deny → Type 0
 Never deny = ⊥
 
-pub surely : (walk : Result (Here ℕ) (Stop ℕ)) (next : Location ℕ) (left : ℕ) → EndsThere Never walk next left → EndsAt walk next left
+pub surely : (walk : Result (Here ℕ) (Stop ℕ)) (next : Location ℕ) (left : ℕ) → EndsThere Never walk next left
+    → EndsAt walk next left
 surely walk next left (inl ends) = ends
 surely walk next left (inr stop) = absurd stop.1
 
 -- what a walk to a new name found
-pub new_parts : (looks : Looks ℕ) (task : Task ℕ) (path : List ℕ) (place : Place ℕ) → new_walk nat_eq looks task path ≡ Ok place
+pub new_parts : (looks : Looks ℕ) (task : Task ℕ) (path : List ℕ) (place : Place ℕ)
+    → new_walk nat_eq looks task path ≡ Ok place
     → place_walk nat_eq looks task path ≡ Ok place
 new_parts looks task path place e =
     let walks = both_walked (place_walk nat_eq looks task path) _ place e in
     walks.1 ∙ ap Ok (walk_passing walks.0.steps (new_name_rules nat_eq looks walks.0) walks.0 place walks.2).1
 
 -- and to a new leaf
-pub new_leaf_parts : (looks : Looks ℕ) (task : Task ℕ) (path : List ℕ) (place : Place ℕ) → new_leaf_walk nat_eq looks task path ≡ Ok place
+pub new_leaf_parts : (looks : Looks ℕ) (task : Task ℕ) (path : List ℕ) (place : Place ℕ)
+    → new_leaf_walk nat_eq looks task path ≡ Ok place
     → (place_walk nat_eq looks task path ≡ Ok place) × ((place.slash && not (is_some place.object)) ≡ false)
 new_leaf_parts looks task path place e =
     let walks = both_walked (new_walk nat_eq looks task path) _ place e in
-    let leaf = walk_passing walks.0.steps ((walks.0.slash && not (is_some walks.0.object), W6) ∷ []) walks.0 place walks.2 in (
+    let leaf = walk_passing walks.0.steps
+    ((walks.0.slash && not (is_some walks.0.object), W6) ∷ []) walks.0 place walks.2 in (
       new_parts looks task path place (walks.1 ∙ ap Ok leaf.1),
       ap (λ (p : Place ℕ). p.slash && not (is_some p.object)) (sym leaf.1) ∙ leaf.0.0,
     )
@@ -102,7 +106,8 @@ module _ (world : World ℕ) (fresh : Fresh ℕ) (name : TaskName) (call : Call)
   pub may : MayBeMade world parent entry node
   may =
       subst (SeesTo world did.task) permit
-      (given_permits_are_seen_to world fresh did.task did.permit is plain (given_of world fresh name call answer serves other few did))
+      (given_permits_are_seen_to world fresh did.task did.permit is plain
+      (given_of world fresh name call answer serves other few did))
 
   pub something : is_some (node_at nat_eq world parent) ≡ true
   something = directory_used (files_at nat_eq world parent).tree parent.node may.name_is_free.in_directory
@@ -116,17 +121,20 @@ module _ (world : World ℕ) (fresh : Fresh ℕ) (name : TaskName) (call : Call)
   pub asks : change_of fresh world did.permit ≡ Some (parent, change)
   asks = ap (change_of fresh world) permit
 
-  pub does : spent world fresh name call answer is plain serves other few did ≡ with_change nat_eq (odds fresh) world parent change
+  pub does : spent world fresh name call answer is plain serves other few did
+      ≡ with_change nat_eq (odds fresh) world parent change
   does = ap (λ p. (apply nat_eq fresh world did.task p).world) permit
 
   pub made : IsMade (files_at nat_eq world parent) parent.node (fresh 0)
   made = record { in_directory = may.name_is_free.in_directory; is_new = new }
 
-  pub stay : TreeStays (files_at nat_eq world parent).tree (changed nat_eq (files_at nat_eq world parent) change).tree Never
+  pub stay : TreeStays (files_at nat_eq world parent).tree
+      (changed nat_eq (files_at nat_eq world parent) change).tree Never
   stay = ways_made (files_at nat_eq world parent) Never parent.node entry
       (fresh 0) may.name_is_free.in_directory may.name_is_free.free node new
 
-  pub rights : RightsStay (files_at nat_eq world parent).tree (changed nat_eq (files_at nat_eq world parent) change).tree
+  pub rights : RightsStay (files_at nat_eq world parent).tree
+      (changed nat_eq (files_at nat_eq world parent) change).tree
   rights = rights_made (files_at nat_eq world parent) Never parent.node entry
       (fresh 0) may.name_is_free.in_directory may.name_is_free.free node new
 
@@ -147,7 +155,8 @@ module _ (world : World ℕ) (fresh : Fresh ℕ) (name : TaskName) (call : Call)
 
     pub made_leads : LeadsToo (looks_of nat_eq world) (looks_of nat_eq later) did.task reader Never KnownHere
     made_leads =
-        leads world fresh name call answer is plain serves other few did parent change (odds fresh) asks does something made tree Never stay
+        leads world fresh name call answer is plain serves other few did parent change
+        (odds fresh) asks does something made tree Never stay
         reader called stands rights looks
 
     pub node_seen : node_at nat_eq later new_location ≡ Some node
@@ -155,7 +164,8 @@ module _ (world : World ℕ) (fresh : Fresh ℕ) (name : TaskName) (call : Call)
         seen_at world fresh name call answer is plain serves other few did parent change
         (odds fresh) asks does something made tree Never stay
         reader called stands (fresh 0)
-        ∙ all_stays world fresh name call answer is plain serves other few did parent change (odds fresh) asks does something made tree
+        ∙ all_stays world fresh name call answer is plain serves other few did parent change
+        (odds fresh) asks does something made tree
         (ap option_to_list may.name_is_free.free) (fresh 0)
         ∙ made_node (files_at nat_eq world parent) parent.node entry (fresh 0) node may.name_is_free.in_directory new
 
@@ -172,7 +182,8 @@ module _ (world : World ℕ) (fresh : Fresh ℕ) (name : TaskName) (call : Call)
     over : topmost nat_eq later.mounts new_location ≡ new_location
     over =
         ap (λ mounts. topmost nat_eq mounts new_location)
-        (later_mounts world fresh name call answer is plain serves other few did parent change (odds fresh) asks does something made tree)
+        (later_mounts world fresh name call answer is plain serves other few did parent change
+        (odds fresh) asks does something made tree)
         ∙ uncovered world is new_location (ap is_directory_node new)
 
     pub new_stepped : (last : LastWord) → is_special last ≡ false → name_of last ≡ entry → KnownHere parent
@@ -194,7 +205,11 @@ mkdir_parts : (looks : Looks ℕ) (task : Task ℕ) (path : List ℕ) (mode : Op
 unfolding mkdir_permit
 mkdir_parts looks task path mode permit e =
     let steps = both_gave (walk_end (new_walk nat_eq looks task path)) _ permit e in
-    let node : Node ℕ = record { attr = new_attr task (unwrap_or mode directory_mode); content = new_directory steps.0.parent.node } in
+    let node : Node ℕ = record {
+      attr = new_attr task
+          (unwrap_or mode directory_mode);
+      content = new_directory steps.0.parent.node;
+    } in
     let parts = passing (new_word_rules steps.0 ++ make_rules looks task steps.0 (unnumbered steps.0 node)) (Ok
     (make_permit steps.0 node)) permit steps.2 in (
       steps.0,
@@ -204,7 +219,8 @@ mkdir_parts looks task path mode permit e =
           (same_ok _ permit parts.1),
     )
 
-either_way : (b : Bool) (answer : Answer) → (cond b (Ok answer) (Err (denial C1)) ≡ Ok answer) ⊎ (cond b (Ok answer) (Err
+either_way : (b : Bool) (answer : Answer)
+    → (cond b (Ok answer) (Err (denial C1)) ≡ Ok answer) ⊎ (cond b (Ok answer) (Err
     (denial C1)) ≡ Err (denial C1))
 either_way true answer = inl refl
 either_way false answer = inr refl
@@ -216,9 +232,11 @@ mkdir_then_list path mode world fresh name task is plain serves called granted =
       (raised_credentials name did.task)) later_fresh))
       (either_way _ (Names [])),
   λ reader reading looks later_fresh.
-      listed reader reading looks.called (subst (λ t. StandsAs t reading) (sym task_is) (all_stands _ task reader reading looks))
+      listed reader reading looks.called
+      (subst (λ t. StandsAs t reading) (sym task_is) (all_stands _ task reader reading looks))
       (inr looks.all) later_fresh
-      ∙ ap (λ b. cond b (Ok (Names [])) (Err (denial C1))) (read_all reading.credentials looks.all _ (new_directory parts.0.parent.node)),
+      ∙ ap (λ b. cond b (Ok (Names [])) (Err (denial C1)))
+      (read_all reading.credentials looks.all _ (new_directory parts.0.parent.node)),
 )
   where
     did : IsPermitted world fresh name (Mkdir path mode) Done
@@ -227,7 +245,8 @@ mkdir_then_list path mode world fresh name task is plain serves called granted =
     task_is : did.task ≡ task
     task_is = same_Some did.task task (sym did.called ∙ called)
 
-    parts : (place : Place ℕ) × (place_walk nat_eq (looks_of nat_eq world) did.task path ≡ Ok place) × (is_special place.last ≡ false)
+    parts : (place : Place ℕ) × (place_walk nat_eq (looks_of nat_eq world) did.task path ≡ Ok place)
+        × (is_special place.last ≡ false)
         × (did.permit ≡ make_permit place (record {
           attr = new_attr did.task
               (unwrap_or mode directory_mode);
@@ -236,12 +255,17 @@ mkdir_then_list path mode world fresh name task is plain serves called granted =
     parts = mkdir_parts (looks_of nat_eq world) did.task path mode did.permit did.judged
 
     node : Node ℕ
-    node = record { attr = new_attr did.task (unwrap_or mode directory_mode); content = new_directory parts.0.parent.node }
+    node = record {
+      attr = new_attr did.task
+          (unwrap_or mode directory_mode);
+      content = new_directory parts.0.parent.node;
+    }
 
     left : World ℕ
     left = (policy nat_eq fresh world name (Mkdir path mode)).world
 
-    caller_there : task_called (policy nat_eq fresh world name (Mkdir path mode)).world name ≡ Some (raised_task name did.task)
+    caller_there : task_called (policy nat_eq fresh world name (Mkdir path mode)).world name
+        ≡ Some (raised_task name did.task)
     caller_there = maker world fresh name (Mkdir path mode) Done is plain serves refl refl did parts.0.parent
         (name_of parts.0.last) _ parts.3
 
@@ -259,38 +283,52 @@ mkdir_then_list path mode world fresh name task is plain serves called granted =
         let own = own_name (policy nat_eq fresh world name (Mkdir path mode)).world reader reading found in
         let seen = node_seen world fresh name (Mkdir path mode) Done is plain serves refl refl did parts.0.parent
         (name_of parts.0.last) _ parts.3 reading own stands looks in
-        let walk = surely _ _ _ (directory_named_too (looks_of nat_eq world) (looks_of nat_eq (policy nat_eq fresh world name
+        let walk = surely _ _ _ (directory_named_too (looks_of nat_eq world)
+        (looks_of nat_eq (policy nat_eq fresh world name
         (Mkdir path mode)).world) did.task reading Never _
         (made_leads world fresh name (Mkdir path mode) Done is plain serves refl refl did parts.0.parent
         (name_of parts.0.last) _ parts.3 reading own stands looks)
         path parts.0 parts.2 (named_place (looks_of nat_eq world) did.task path parts.0 parts.1 parts.2)
-        (new_location world fresh name (Mkdir path mode) Done is plain serves refl refl did parts.0.parent (name_of parts.0.last) _ parts.3)
+        (new_location world fresh name (Mkdir path mode) Done is plain serves refl refl did parts.0.parent
+        (name_of parts.0.last) _ parts.3)
         (new_stepped world fresh name (Mkdir path mode) Done is plain serves refl refl did parts.0.parent
         (name_of parts.0.last) _ parts.3 reading own stands looks parts.0.last parts.2 refl)
         (ap symlink_text seen) (ap is_directory_node seen)) in
         list_of (policy nat_eq fresh world name (Mkdir path mode)).world later_fresh reader reading found path
         (later_is world fresh name (Mkdir path mode) Done is plain serves refl refl did).1 _ walk.1
-        ∙ (λ i. cond (node_allows reading.credentials read_right (seen i)) (Ok (Names (names_in (seen i)))) (Err (denial C1)))
+        ∙ (λ i. cond (node_allows reading.credentials read_right (seen i)) (Ok (Names (names_in (seen i))))
+        (Err (denial C1)))
 
 -- symlink(2)
 symlink_parts : (looks : Looks ℕ) (task : Task ℕ) (text path : List ℕ) (permit : Permit ℕ)
     → symlink_permit nat_eq looks task text path ≡ Ok permit
-    → (place : Place ℕ) × (place_walk nat_eq looks task path ≡ Ok place) × (is_special place.last ≡ false) × (place.slash ≡ false)
+    → (place : Place ℕ) × (place_walk nat_eq looks task path ≡ Ok place) × (is_special place.last ≡ false)
+    × (place.slash ≡ false)
     × (permit ≡ make_permit place (record { attr = exact_attr task symlink_mode; content = Symlink text }))
 unfolding symlink_permit
 symlink_parts looks task text path permit e =
-    let steps = both_gave (walk_end (new_leaf_walk nat_eq looks task path)) _ permit (passing (symlink_text_rules text) _ permit e).1 in
+    let steps = both_gave (walk_end (new_leaf_walk nat_eq looks task path)) _ permit
+    (passing (symlink_text_rules text) _ permit e).1 in
     let node : Node ℕ = record { attr = exact_attr task symlink_mode; content = Symlink text } in
     let parts = passing (new_word_rules steps.0 ++ make_rules looks task steps.0 (unnumbered steps.0 node)) (Ok
     (make_permit steps.0 node)) permit steps.2 in
-    let leaf = new_leaf_parts looks task path steps.0 (walk_ended (new_leaf_walk nat_eq looks task path) steps.0 steps.1) in
-    (steps.0, leaf.0, parts.0.0, no_slash_there steps.0.slash (is_some steps.0.object) parts.0.1.0 leaf.1, sym (same_ok _ permit parts.1))
+    let leaf = new_leaf_parts looks task path steps.0
+    (walk_ended (new_leaf_walk nat_eq looks task path) steps.0 steps.1) in (
+      steps.0,
+      leaf.0,
+      parts.0.0,
+      no_slash_there steps.0.slash (is_some steps.0.object) parts.0.1.0 leaf.1,
+      sym
+          (same_ok _ permit parts.1),
+    )
 
 pub symlink_then_readlink : SymlinkThenReadlink
 symlink_then_readlink text path world fresh name task is plain serves called granted = (
-  told name (raised_task name did.task) caller_there (raised_stands name did.task) (inl (raised_credentials name did.task)),
+  told name (raised_task name did.task) caller_there (raised_stands name did.task)
+      (inl (raised_credentials name did.task)),
   λ reader reading looks.
-      told reader reading looks.called (subst (λ t. StandsAs t reading) (sym task_is) (all_stands _ task reader reading looks))
+      told reader reading looks.called
+      (subst (λ t. StandsAs t reading) (sym task_is) (all_stands _ task reader reading looks))
       (inr looks.all),
 )
   where
@@ -300,12 +338,14 @@ symlink_then_readlink text path world fresh name task is plain serves called gra
     task_is : did.task ≡ task
     task_is = same_Some did.task task (sym did.called ∙ called)
 
-    parts : (place : Place ℕ) × (place_walk nat_eq (looks_of nat_eq world) did.task path ≡ Ok place) × (is_special place.last ≡ false) ×
+    parts : (place : Place ℕ) × (place_walk nat_eq (looks_of nat_eq world) did.task path ≡ Ok place)
+        × (is_special place.last ≡ false) ×
         (place.slash ≡ false)
         × (did.permit ≡ make_permit place (record { attr = exact_attr did.task symlink_mode; content = Symlink text }))
     parts = symlink_parts (looks_of nat_eq world) did.task text path did.permit did.judged
 
-    caller_there : task_called (policy nat_eq fresh world name (SymlinkAt text path)).world name ≡ Some (raised_task name did.task)
+    caller_there : task_called (policy nat_eq fresh world name (SymlinkAt text path)).world name
+        ≡ Some (raised_task name did.task)
     caller_there = maker world fresh name (SymlinkAt text path) Done is plain serves refl refl did parts.0.parent
         (name_of parts.0.last) _ parts.4
 
@@ -318,7 +358,8 @@ symlink_then_readlink text path world fresh name task is plain serves called gra
         let seen = node_seen world fresh name (SymlinkAt text path) Done is plain serves refl refl did parts.0.parent
         (name_of parts.0.last) _ parts.4 reading own stands looks in
         let at_name = named_place (looks_of nat_eq world) did.task path parts.0 parts.1 parts.2 in
-        let walk = surely _ _ _ (symlink_named_too (looks_of nat_eq world) (looks_of nat_eq (policy nat_eq fresh world name
+        let walk = surely _ _ _ (symlink_named_too (looks_of nat_eq world)
+        (looks_of nat_eq (policy nat_eq fresh world name
         (SymlinkAt text path)).world) did.task reading Never _
         (made_leads world fresh name (SymlinkAt text path) Done is plain serves refl refl did parts.0.parent
         (name_of parts.0.last) _ parts.4 reading own stands looks)
@@ -328,6 +369,7 @@ symlink_then_readlink text path world fresh name task is plain serves called gra
         (new_stepped world fresh name (SymlinkAt text path) Done is plain serves refl refl did parts.0.parent
         (name_of parts.0.last) _ parts.4 reading own stands looks parts.0.last parts.2 refl)
         (λ slash. absurd (true≢false (sym slash ∙ at_name.slash_is ∙ parts.3)))) in
-        readlink_of (policy nat_eq fresh world name (SymlinkAt text path)).world later_fresh reader reading found path _ walk.1
+        readlink_of (policy nat_eq fresh world name
+        (SymlinkAt text path)).world later_fresh reader reading found path _ walk.1
         (ap (is_kind_in SymlinkKind) seen)
         ∙ ap (λ o. Ok (Bytes (bytes_in o))) seen

@@ -69,7 +69,8 @@ inserted_found number (descriptor ∷ rest) new order free =
         ap (λ b. find (λ (d : Descriptor ℕ). nat_eq new.number d.number)
         (cond b (new ∷ descriptor ∷ rest) (descriptor ∷ inserted new rest)))
         (below_false new.number descriptor.number (omega arith))
-        ∙ ap (λ b. cond b (Some descriptor) (find (λ (d : Descriptor ℕ). nat_eq new.number d.number) (inserted new rest)))
+        ∙ ap (λ b. cond b (Some descriptor)
+        (find (λ (d : Descriptor ℕ). nat_eq new.number d.number) (inserted new rest)))
         (other new.number descriptor.number under)
         ∙ later (subst (λ n. are_ascending_from n rest ≡ true) next parts.1) is
     by false e later =

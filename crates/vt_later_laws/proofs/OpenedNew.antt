@@ -115,7 +115,8 @@ module _ (world : World ℕ) (fresh : Fresh ℕ) (name : TaskName) (task : Task 
 
   pub reads_by : ReadsBy world fresh name call access number (bytes_in (node_at nat_eq base file))
   reads_by reads offset size later_fresh =
-      pread_of later later_fresh name (raised_task name new_task) new_descriptor number offset size still still_found reads
+      pread_of later later_fresh name
+      (raised_task name new_task) new_descriptor number offset size still still_found reads
       ∙ ap (λ o. Ok (Bytes (take size (drop offset (bytes_in o))))) file_seen
 
 -- What a granted open with creat was permitted
@@ -144,12 +145,14 @@ missing_parts looks task path access mode place permit walk object e =
     let rest = (passing (file_word_rules steps.0) _ permit steps.2).1 in
     let opens = sym (ap (opened_or_created_permit nat_eq looks task steps.0 access mode)
     (ap (λ (p : Place ℕ). p.object) same ∙ object)) ∙ rest in
-    sym (same_ok _ permit (passing (make_rules looks task steps.0 (unnumbered steps.0 (new_file task mode []))) _ permit opens).1)
+    sym (same_ok _ permit (passing
+    (make_rules looks task steps.0 (unnumbered steps.0 (new_file task mode []))) _ permit opens).1)
     ∙ ap (λ p. open_new_permit task p access mode) same
 
 pub exclusive_parts : (looks : Looks ℕ) (task : Task ℕ) (path : List ℕ) (access : Access) (mode : ℕ) (permit : Permit ℕ)
     → open_permit nat_eq looks task path access (Exclusive mode) ≡ Ok permit
-    → (place : Place ℕ) × (new_walk nat_eq looks task path ≡ Ok place) × (permit ≡ open_new_permit task place access mode)
+    → (place : Place ℕ) × (new_walk nat_eq looks task path ≡ Ok place)
+    × (permit ≡ open_new_permit task place access mode)
 unfolding open_permit
 exclusive_parts looks task path access mode permit e =
     let steps = both_gave (walk_end (new_walk nat_eq looks task path)) _ permit
@@ -157,7 +160,8 @@ exclusive_parts looks task path access mode permit e =
     let rest = (passing (exclusive_word_rules steps.0) _ permit steps.2).1 in (
       steps.0,
       walk_ended (new_walk nat_eq looks task path) steps.0 steps.1,
-      sym (same_ok _ permit (passing (make_rules looks task steps.0 (unnumbered steps.0 (new_file task mode []))) _ permit rest).1),
+      sym (same_ok _ permit (passing
+          (make_rules looks task steps.0 (unnumbered steps.0 (new_file task mode []))) _ permit rest).1),
     )
 
 -- A new inode is as it was asked for
@@ -166,7 +170,8 @@ pub made_node : (files : FileTree ℕ) (directory : ℕ) (name : List ℕ) (numb
     → (changed nat_eq files (Make directory name number node)).tree.node number ≡ Some node
 made_node files directory name number node is new =
     elsewhere (with_inode nat_eq files number node) directory (node_with_entry name number) number
-    (λ same. true≢false (sym is ∙ ap (λ n. is_directory_node (files.tree.node n)) (sym same) ∙ ap is_directory_node new))
+    (λ same. true≢false (sym is ∙ ap (λ n. is_directory_node (files.tree.node n)) (sym same)
+    ∙ ap is_directory_node new))
     ∙ ap (λ b. cond b (Some node) (files.tree.node number)) (eq-eqb number number refl)
 
 -- a call that was granted, in a world with its invariants, was given what it was permitted
@@ -197,7 +202,8 @@ module _ (world : World ℕ) (fresh : Fresh ℕ) (is : IsWorld nat_eq world) (pl
 
   pub made_seen : node_at nat_eq made_world made_at ≡ Some node
   made_seen =
-      ap (λ mounts. (filesystem_numbered nat_eq made_world (mount_in nat_eq mounts directory.mount).filesystem).files.tree.node (fresh 0))
+      ap (λ mounts. (filesystem_numbered nat_eq made_world
+      (mount_in nat_eq mounts directory.mount).filesystem).files.tree.node (fresh 0))
       (change_mounts (odds fresh) world plain directory (Make directory.node name (evens fresh 0) node))
       ∙ ap (λ (f : FileTree ℕ). f.tree.node (fresh 0))
       (files_changed (odds fresh) world plain directory (Make directory.node name (evens fresh 0) node)
@@ -274,7 +280,8 @@ open_then_pread world fresh name task path access number is plain serves called 
 
 pub open_or_create_then_pread : OpenOrCreateThenPread
 open_or_create_then_pread world fresh name task path access mode number place file is plain serves called walk object granted = (
-  opens_file world fresh name task path access (OrCreate mode) number is plain serves called did world file outcome refl,
+  opens_file world fresh name task path access
+      (OrCreate mode) number is plain serves called did world file outcome refl,
   reads_by world fresh name task path access (OrCreate mode) number is plain serves called did world file outcome refl,
 )
   where

@@ -1,5 +1,5 @@
--- Who looks after a call that changed a tree, and where walks lead for him: for the caller himself, and for each task that
--- stands where he does and may search everything.
+-- Who looks after a call that changed a tree, and where walks lead for him: for the caller himself, and for each task
+-- that stands where he does and may search everything.
 use Rattle.std.proofs.Common.{◌≡◌, refl, sym, ap, ◌∙◌, inl, inr, ◌⊎◌, true≢false, ℕ, zero, suc, nat_eq, Bool, true, false, cond, [], ◌∷◌, length, Option, Some, None, is_some, option_map, ok_or, find}
 use Rattle.vt_spec.specs.declared.errors.Deny.{Deny}
 use Rattle.vt_spec.specs.declared.errors.Rule.TheVariants.{W4, W6}
@@ -65,7 +65,8 @@ raised_credentials name task = by (same_name name task.name)
     by true = refl
     by false = refl
 
-pub all_stands : (world : World ℕ) (task : Task ℕ) (name : TaskName) (reading : Task ℕ) → LooksFrom world task name reading
+pub all_stands : (world : World ℕ) (task : Task ℕ) (name : TaskName) (reading : Task ℕ)
+    → LooksFrom world task name reading
     → StandsAs task reading
 all_stands world task name reading looks = record { root = looks.root; directory = looks.directory }
 
@@ -79,19 +80,23 @@ named_last (Named name) e = refl
 pub stepped_by : (world : World ℕ) (reader : Task ℕ) (here : Location ℕ) (last : LastWord) → is_special last ≡ false
     → (o : Option ℕ) → entry_named (name_of last) (entries_in (node_at nat_eq world here)) ≡ o
     → stepped nat_eq world reader here last
-    ≡ ok_or (option_map (topmost nat_eq world.mounts) (option_map (λ object. record { mount = here.mount; node = object }) o)) (denial W6)
+    ≡ ok_or (option_map (topmost nat_eq world.mounts)
+    (option_map (λ object. record { mount = here.mount; node = object }) o)) (denial W6)
 stepped_by world reader here last special o e =
     ap (stepped nat_eq world reader here) (named_last last special)
-    ∙ ap (λ o. ok_or (option_map (topmost nat_eq world.mounts) (option_map (λ object. record { mount = here.mount; node = object }) o))
+    ∙ ap (λ o. ok_or (option_map (topmost nat_eq world.mounts)
+    (option_map (λ object. record { mount = here.mount; node = object }) o))
     (denial W6)) e
 
 -- over what is no directory no mount stands
-pub uncovered : (world : World ℕ) → IsWorld nat_eq world → (location : Location ℕ) → is_directory_at nat_eq world location ≡ false
+pub uncovered : (world : World ℕ) → IsWorld nat_eq world → (location : Location ℕ)
+    → is_directory_at nat_eq world location ≡ false
     → topmost nat_eq world.mounts location ≡ location
 uncovered world is location no_directory = by (child_at nat_eq world.mounts location) refl
   where
     over : (most : ℕ) → child_at nat_eq world.mounts location ≡ None
-        → last_or location (chain most (λ here. option_map root_of (child_at nat_eq world.mounts here)) location) ≡ location
+        → last_or location (chain most (λ here. option_map root_of (child_at nat_eq world.mounts here)) location)
+        ≡ location
     over zero none = refl
     over (suc most) none =
         ap (λ o. last_or location (elim (option_map root_of o) [
@@ -99,7 +104,8 @@ uncovered world is location no_directory = by (child_at nat_eq world.mounts loca
           | Some b ↦ location ∷ chain most (λ here. option_map root_of (child_at nat_eq world.mounts here)) b
         ])) none
 
-    by : (o : Option (Mount ℕ)) → child_at nat_eq world.mounts location ≡ o → topmost nat_eq world.mounts location ≡ location
+    by : (o : Option (Mount ℕ)) → child_at nat_eq world.mounts location ≡ o
+        → topmost nat_eq world.mounts location ≡ location
     by None e = over (length world.mounts) e
     by (Some mount) e =
         let found = found_in (stands_at nat_eq location) world.mounts mount e in
@@ -114,11 +120,13 @@ module _ (world : World ℕ) (fresh : Fresh ℕ) (name : TaskName) (call : Call)
     (other : mounts_overlay call ≡ false) (few : names_few_groups call ≡ true)
     (did : IsPermitted world fresh name call answer) (location : Location ℕ) (change : Change ℕ) (from : Fresh ℕ)
     (asks : change_of fresh world did.permit ≡ Some (location, change))
-    (does : spent world fresh name call answer is plain serves other few did ≡ with_change nat_eq from world location change)
+    (does : spent world fresh name call answer is plain serves other few did
+    ≡ with_change nat_eq from world location change)
     (something : is_some (node_at nat_eq world location) ≡ true)
     (allowed : MayChange (files_at nat_eq world location) change) (tree : IsFileTree (files_at nat_eq world location))
     (Refused : Deny → Type 0)
-    (stay : TreeStays (files_at nat_eq world location).tree (changed nat_eq (files_at nat_eq world location) change).tree Refused) where
+    (stay : TreeStays (files_at nat_eq world location).tree
+    (changed nat_eq (files_at nat_eq world location) change).tree Refused) where
   abbrev pub left : World ℕ
   left = (policy nat_eq fresh world name call).world
 
@@ -136,13 +144,15 @@ module _ (world : World ℕ) (fresh : Fresh ℕ) (name : TaskName) (call : Call)
       (ap (λ w. task_called w name) does
       ∙ ap (find (λ (t : Task ℕ). same_name name t.name)) (change_tasks from world plain location change) ∙ did.called)
 
-  module _ (reader : Task ℕ) (called : task_called left reader.name ≡ Some reader) (stands : StandsAs did.task reader) where
+  module _ (reader : Task ℕ) (called : task_called left reader.name ≡ Some reader)
+      (stands : StandsAs did.task reader) where
     abbrev pub KnownToo : Location ℕ → Type 0
     KnownToo here =
         Known world left is plain is_left.0 is_left.1 did.task reader
         (called_own world fresh name call answer is plain serves other few did) called stands Refused stays here
 
-    pub known_there : (here : Location ℕ) → KnownToo here → is_some (node_in left (mount_at nat_eq world here).filesystem here.node) ≡ true
+    pub known_there : (here : Location ℕ) → KnownToo here
+        → is_some (node_in left (mount_at nat_eq world here).filesystem here.node) ≡ true
     known_there here known =
         ap is_some (sym (node_here world left is plain is_left.0 is_left.1 did.task reader
         (called_own world fresh name call answer is plain serves other few did) called stands Refused stays here))
@@ -150,7 +160,8 @@ module _ (world : World ℕ) (fresh : Fresh ℕ) (name : TaskName) (call : Call)
 
     -- what is at the location of the change
     pub seen_there : KnownToo location
-        → node_at nat_eq left location ≡ (changed nat_eq (files_at nat_eq world location) change).tree.node location.node
+        → node_at nat_eq left location
+        ≡ (changed nat_eq (files_at nat_eq world location) change).tree.node location.node
     seen_there known =
         node_here world left is plain is_left.0 is_left.1 did.task reader
         (called_own world fresh name call answer is plain serves other few did) called stands Refused stays location
@@ -174,29 +185,37 @@ module _ (world : World ℕ) (fresh : Fresh ℕ) (name : TaskName) (call : Call)
         world_leads world left is plain is_left.0 is_left.1 did.task reader
         (called_own world fresh name call answer is plain serves other few did) called stands Refused stays rights
 
-    searched_by_all : reads_all reader.credentials ≡ true → (here : Location ℕ) → KnownToo here → is_directory_at nat_eq world here ≡ true
+    searched_by_all : reads_all reader.credentials ≡ true → (here : Location ℕ) → KnownToo here
+        → is_directory_at nat_eq world here ≡ true
         → may (looks_of nat_eq left) reader here execute_right ≡ true
     searched_by_all all here known directory =
         search_all reader.credentials all (node_at nat_eq left here)
         (ap is_directory_node (node_here world left is plain is_left.0 is_left.1 did.task reader
         (called_own world fresh name call answer is plain serves other few did) called stands Refused stays here)
-        ∙ stays.directory (mount_at nat_eq world here).filesystem here.node known.0.1 (known_there here known) ∙ directory)
+        ∙ stays.directory (mount_at nat_eq world here).filesystem here.node known.0.1 (known_there here known)
+        ∙ directory)
 
     -- where rights stay
-    pub leads : RightsStay (files_at nat_eq world location).tree (changed nat_eq (files_at nat_eq world location) change).tree
-        → MayLook did.task reader → LeadsToo (looks_of nat_eq world) (looks_of nat_eq left) did.task reader Refused KnownToo
+    pub leads : RightsStay (files_at nat_eq world location).tree
+        (changed nat_eq (files_at nat_eq world location) change).tree
+        → MayLook did.task reader → LeadsToo (looks_of nat_eq world)
+        (looks_of nat_eq left) did.task reader Refused KnownToo
     leads rights (inr all) = leads_by (λ here known directory e. inl (searched_by_all all here known directory))
     leads rights (inl same) = leads_by (λ here known directory e. inl
         (ap (λ who. node_allows who execute_right (node_at nat_eq left here)) same
-        ∙ ap (node_allows did.task.credentials execute_right) (node_here world left is plain is_left.0 is_left.1 did.task reader
+        ∙ ap (node_allows did.task.credentials execute_right)
+        (node_here world left is plain is_left.0 is_left.1 did.task reader
         (called_own world fresh name call answer is plain serves other few did) called stands Refused stays here)
         ∙ world_rights world fresh name call answer is plain serves other few did location change from asks does something allowed tree
-        rights (mount_at nat_eq world here).filesystem here.node execute_right did.task.credentials known.0.1 (known_there here known)
+        rights (mount_at nat_eq world here).filesystem here.node execute_right did.task.credentials known.0.1
+        (known_there here known)
         ∙ e))
 
     -- where they may be lost, and that is a refusal
-    pub leads_or_hides : Refused (denial W4) → LeadsToo (looks_of nat_eq world) (looks_of nat_eq left) did.task reader Refused KnownToo
-    leads_or_hides hides = leads_by (λ here known directory e. by (may (looks_of nat_eq left) reader here execute_right))
+    pub leads_or_hides : Refused (denial W4)
+        → LeadsToo (looks_of nat_eq world) (looks_of nat_eq left) did.task reader Refused KnownToo
+    leads_or_hides hides = leads_by
+        (λ here known directory e. by (may (looks_of nat_eq left) reader here execute_right))
       where
         by : (b : Bool) → (b ≡ true) ⊎ ((b ≡ false) × Refused (denial W4))
         by true = inl refl

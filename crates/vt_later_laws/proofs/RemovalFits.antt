@@ -49,7 +49,8 @@ module _ (world : World ℕ) (fresh : Fresh ℕ) (name : TaskName) (call : Call)
     (is : IsWorld nat_eq world) (plain : IsPlain world) (serves : Serves nat_eq world fresh)
     (other : mounts_overlay call ≡ false) (few : names_few_groups call ≡ true)
     (did : IsPermitted world fresh name call answer) (parent : Location ℕ) (word : List ℕ) (object : Location ℕ)
-    (permit_is : did.permit ≡ ToRemoveDirectory parent word object) (reader : Task ℕ) (roots : reader.root ≡ did.task.root) where
+    (permit_is : did.permit ≡ ToRemoveDirectory parent word object) (reader : Task ℕ)
+    (roots : reader.root ≡ did.task.root) where
   abbrev later : World ℕ
   later = left world fresh name call answer is plain serves other few did parent word object permit_is
 
@@ -82,10 +83,12 @@ module _ (world : World ℕ) (fresh : Fresh ℕ) (name : TaskName) (call : Call)
 
   -- it is not that, or `..` stays there
   abbrev pub IsOutside : Location ℕ → Type 0
-  IsOutside here = IsRemoved here → (same_location nat_eq here did.task.root || nat_eq here.node (mount_at nat_eq world here).root) ≡ true
+  IsOutside here = IsRemoved here
+      → (same_location nat_eq here did.task.root || nat_eq here.node (mount_at nat_eq world here).root) ≡ true
 
   -- what has entries is not that
-  not_above : (number : ℕ) (any : List ℕ) (next : ℕ) → number ≡ fs → entry_at (tree_in world number) object.node any ≡ Some next → ⊥
+  not_above : (number : ℕ) (any : List ℕ) (next : ℕ) → number ≡ fs
+      → entry_at (tree_in world number) object.node any ≡ Some next → ⊥
   not_above number any next same e =
       nothing_in_it (files_at nat_eq world parent) parent.node word object.node
       (may world fresh name call answer is plain serves other few did parent word object permit_is) any next
@@ -94,7 +97,8 @@ module _ (world : World ℕ) (fresh : Fresh ℕ) (name : TaskName) (call : Call)
   not_root : object.node ≢ tree.root
   not_root same =
       file_tree.tree.root_unnamed parent.node word
-      ((may world fresh name call answer is plain serves other few did parent word object permit_is).named ∙ ap Some same)
+      ((may world fresh name call answer is plain serves other few did parent word object permit_is).named
+      ∙ ap Some same)
 
   module _ (here : Location ℕ) (known : BothAre world later is plain is_later.0 is_later.1 did.task reader here) where
     abbrev number : ℕ
@@ -128,12 +132,14 @@ module _ (world : World ℕ) (fresh : Fresh ℕ) (name : TaskName) (call : Call)
     -- from it `..` leads nowhere
     lost_there : IsRemoved here → is_lost nat_eq later here ≡ true
     lost_there removed =
-        ap (λ b. b || not (is_directory_under nat_eq (filesystem_numbered nat_eq later (mount_at nat_eq later here).filesystem).files
+        ap (λ b. b || not (is_directory_under nat_eq
+        (filesystem_numbered nat_eq later (mount_at nat_eq later here).filesystem).files
         (mount_at nat_eq later here).root here.node))
         (ap (λ (f : FileTree ℕ). is_removed nat_eq f.tree here.node) files_here
         ∙ ap (is_removed nat_eq (tree_in later number)) removed.1
         ∙ removed_alone (files_at nat_eq world parent) parent.node word object.node
-        (may world fresh name call answer is plain serves other few did parent word object permit_is) (tree_in later number)
+        (may world fresh name call answer is plain serves other few did parent word object permit_is)
+        (tree_in later number)
         (ap (λ n. node_in later number n) (sym removed.1) ∙ as_spent
         ∙ (λ i. node_in spent_world (removed.0 i) (removed.1 i))
         ∙ ap (λ (f : FileTree ℕ). f.tree.node object.node)
@@ -162,7 +168,8 @@ module _ (world : World ℕ) (fresh : Fresh ℕ) (name : TaskName) (call : Call)
         by (inl same) = ap (λ o. entry_named any (entries_in o)) node ∙ same
         by (inr lost) = absurd (keeps lost.1 lost.2)
 
-    goes_up : Keeps here.node → is_lost nat_eq world here ≡ false → GoesUp world later is plain is_later.0 is_later.1 did.task reader here
+    goes_up : Keeps here.node → is_lost nat_eq world here ≡ false
+        → GoesUp world later is plain is_later.0 is_later.1 did.task reader here
     goes_up keeps found = record {
       parent = ap (λ (f : FileTree ℕ). parent_in here.node (f.tree.node here.node)) files_here
           ∙ ap (parent_in here.node) as_spent
@@ -182,7 +189,8 @@ module _ (world : World ℕ) (fresh : Fresh ℕ) (name : TaskName) (call : Call)
         not_false false f = absurd (true≢false f)
 
         parts : (is_removed nat_eq (tree_in world number) here.node ≡ false)
-            × (not (is_directory_under nat_eq (filesystem_numbered nat_eq world number).files (mount_at nat_eq world here).root here.node) ≡ false)
+            × (not (is_directory_under nat_eq (filesystem_numbered nat_eq world number).files
+            (mount_at nat_eq world here).root here.node) ≡ false)
         parts = first _ _ found
 
         now_directory : is_directory_node (node_in later number here.node) ≡ true
@@ -191,18 +199,24 @@ module _ (world : World ℕ) (fresh : Fresh ℕ) (name : TaskName) (call : Call)
         root_there : is_some (node_in later number (mount_at nat_eq world here).root) ≡ true
         root_there =
             (λ i. is_some (node_in later (sym alike.filesystem i) (sym alike.root i)))
-            ∙ directory_used (files_at nat_eq later here).tree (mount_at nat_eq later here).root (mount_root later is_later.0 here.mount known.1.0.0)
+            ∙ directory_used (files_at nat_eq later here).tree (mount_at nat_eq later here).root
+            (mount_root later is_later.0 here.mount known.1.0.0)
 
         present : is_removed nat_eq (tree_in later number) here.node ≡ false
         present =
-            present_later Keeps (filesystem_numbered nat_eq world number).files (filesystem_numbered nat_eq later number).files tree_before.tree
-            tree_later root_same above names (mount_at nat_eq world here).root here.node known.0.1 now_directory keeps root_there parts.0
+            present_later Keeps (filesystem_numbered nat_eq world number).files
+            (filesystem_numbered nat_eq later number).files tree_before.tree
+            tree_later root_same above names
+            (mount_at nat_eq world here).root here.node known.0.1 now_directory keeps root_there parts.0
             (not_false _ parts.1)
 
-        under : is_directory_under nat_eq (filesystem_numbered nat_eq later number).files (mount_at nat_eq world here).root here.node ≡ true
+        under : is_directory_under nat_eq (filesystem_numbered nat_eq later number).files
+            (mount_at nat_eq world here).root here.node ≡ true
         under =
-            under_later Keeps (filesystem_numbered nat_eq world number).files (filesystem_numbered nat_eq later number).files tree_before.tree
-            tree_later root_same above names (mount_at nat_eq world here).root here.node known.0.1 now_directory keeps root_there parts.0
+            under_later Keeps (filesystem_numbered nat_eq world number).files
+            (filesystem_numbered nat_eq later number).files tree_before.tree
+            tree_later root_same above names
+            (mount_at nat_eq world here).root here.node known.0.1 now_directory keeps root_there parts.0
             (not_false _ parts.1)
 
     -- and never to it
@@ -243,7 +257,8 @@ module _ (world : World ℕ) (fresh : Fresh ℕ) (name : TaskName) (call : Call)
         is_directory : is_directory_node (tree.node object.node) ≡ true
         is_directory =
             let seen = seen_to world fresh name call answer is plain serves other few did parent word object permit_is in
-            ap (λ m. is_directory_node (node_in world (mount_numbered nat_eq world m).filesystem object.node)) (sym seen.0) ∙ seen.2
+            ap (λ m. is_directory_node (node_in world (mount_numbered nat_eq world m).filesystem object.node))
+            (sym seen.0) ∙ seen.2
 
         at : here.node ≡ parent.node
         at =
@@ -264,26 +279,32 @@ module _ (world : World ℕ) (fresh : Fresh ℕ) (name : TaskName) (call : Call)
       either true q f = refl
       either false q f = f
 
-      by : (o : Option (Mount ℕ)) → child_at nat_eq world.mounts a ≡ o → option_map root_of o ≡ Some b → ends_at b ≡ true
+      by : (o : Option (Mount ℕ)) → child_at nat_eq world.mounts a ≡ o → option_map root_of o ≡ Some b
+          → ends_at b ≡ true
       by None f h = none_is_not None b refl h
       by (Some mount) f h =
           let found = found_in (stands_at nat_eq a) world.mounts mount f in
           let itself = found_itself world.mounts is.mounts.one_number mount found.0 in
           subst (λ (l : Location ℕ). ends_at l ≡ true) (same_Some (root_of mount) b h)
           (either (same_location nat_eq (root_of mount) did.task.root) _
-          (eq-eqb mount.root (mount_numbered nat_eq world mount.number).root (ap (λ (m : Mount ℕ). m.root) (sym itself))))
+          (eq-eqb mount.root (mount_numbered nat_eq world mount.number).root
+          (ap (λ (m : Mount ℕ). m.root) (sym itself))))
 
   over_outside : (place : Location ℕ) → IsOutside place → IsOutside (topmost nat_eq world.mounts place)
   over_outside place outside =
-      chain_ends IsOutside (λ here. option_map root_of (child_at nat_eq world.mounts here)) (λ a b out e. root_outside a b e)
+      chain_ends IsOutside (λ here. option_map root_of (child_at nat_eq world.mounts here))
+      (λ a b out e. root_outside a b e)
       (length world.mounts) place place outside
 
   -- no mount of the task's namespace stands on it
-  place_outside : (a b : Location ℕ) → IsFoundDirectory world is did.task a → hop nat_eq world did.task a ≡ Some b → IsRemoved b → ⊥
+  place_outside : (a b : Location ℕ) → IsFoundDirectory world is did.task a → hop nat_eq world did.task a ≡ Some b
+      → IsRemoved b → ⊥
   place_outside a b found e removed =
       true≢false
-      (sym (any_from_among (λ (m : Mount ℕ). holds_of (nat_eq did.task.namespace) m.namespace) (mounts_on nat_eq world object) mount
-      (among-filter (λ (m : Mount ℕ). list_any (λ point. is_point nat_eq world point.0 point.1 m) (points_of nat_eq world object)) world.mounts mount
+      (sym (any_from_among (λ (m : Mount ℕ). holds_of (nat_eq did.task.namespace) m.namespace)
+      (mounts_on nat_eq world object) mount
+      (among-filter (λ (m : Mount ℕ). list_any (λ point. is_point nat_eq world point.0 point.1 m)
+      (points_of nat_eq world object)) world.mounts mount
       there on_it) own)
       ∙ (reaches world fresh name call answer is plain serves other few did parent word object permit_is).1)
     where
@@ -305,7 +326,8 @@ module _ (world : World ℕ) (fresh : Fresh ℕ) (name : TaskName) (call : Call)
           ∙ ap (λ m. (mount_numbered nat_eq world m).filesystem) (sym same_mount)
           ∙ sym (number_numbered (mount_at nat_eq world object).filesystem world.filesystems)
 
-      on_it : list_any (λ point. is_point nat_eq world point.0 point.1 (mount_at nat_eq world a)) (points_of nat_eq world object) ≡ true
+      on_it : list_any (λ point. is_point nat_eq world point.0 point.1 (mount_at nat_eq world a))
+          (points_of nat_eq world object) ≡ true
       on_it =
           ap (λ b. b || list_any (λ point. is_point nat_eq world point.0 point.1 (mount_at nat_eq world a))
           (of_overlay [] (λ overlay. upper_points world (filesystem_at nat_eq world object) overlay object.node)
@@ -318,7 +340,8 @@ module _ (world : World ℕ) (fresh : Fresh ℕ) (name : TaskName) (call : Call)
       own : holds_of (nat_eq did.task.namespace) (mount_at nat_eq world a).namespace ≡ true
       own = by (mount_at nat_eq world a).namespace refl found.0.1
         where
-          by : (o : Option ℕ) → (mount_at nat_eq world a).namespace ≡ o → list_all (nat_eq did.task.namespace) (option_to_list o) ≡ true
+          by : (o : Option ℕ) → (mount_at nat_eq world a).namespace ≡ o
+              → list_all (nat_eq did.task.namespace) (option_to_list o) ≡ true
               → holds_of (nat_eq did.task.namespace) (mount_at nat_eq world a).namespace ≡ true
           by None f g = absurd (nowhere_unplaced_here f)
             where
@@ -342,30 +365,41 @@ module _ (world : World ℕ) (fresh : Fresh ℕ) (name : TaskName) (call : Call)
     abbrev pub Fits : Location ℕ → Type 0
     Fits here = Refused (denial W8) ⊎ IsOutside here
 
-    up_fits : (here : Location ℕ) → BothAre world later is plain is_later.0 is_later.1 did.task reader here → Fits here → ends_at here ≡ false
+    up_fits : (here : Location ℕ) → BothAre world later is plain is_later.0 is_later.1 did.task reader here → Fits here
+        → ends_at here ≡ false
         → is_lost nat_eq world here ≡ false
-        → (GoesUp world later is plain is_later.0 is_later.1 did.task reader here × Fits (parent_location nat_eq world here))
+        → (GoesUp world later is plain is_later.0 is_later.1 did.task reader here
+        × Fits (parent_location nat_eq world here))
         ⊎ (Refused (denial W8) × (is_lost nat_eq later here ≡ true))
     up_fits here known fits not_top found =
         by (nat_eq (mount_at nat_eq world here).filesystem fs) (nat_eq here.node object.node) refl refl
       where
         at_it : IsRemoved here → Fits here
-            → (GoesUp world later is plain is_later.0 is_later.1 did.task reader here × Fits (parent_location nat_eq world here))
+            → (GoesUp world later is plain is_later.0 is_later.1 did.task reader here
+            × Fits (parent_location nat_eq world here))
             ⊎ (Refused (denial W8) × (is_lost nat_eq later here ≡ true))
         at_it removed (inl refused) = inr (refused, lost_there here known removed)
         at_it removed (inr outside) = absurd (true≢false (sym (outside removed) ∙ not_top))
 
         elsewhere : ((mount_at nat_eq world here).filesystem ≡ fs → here.node ≢ object.node)
-            → (GoesUp world later is plain is_later.0 is_later.1 did.task reader here × Fits (parent_location nat_eq world here))
+            → (GoesUp world later is plain is_later.0 is_later.1 did.task reader here
+            × Fits (parent_location nat_eq world here))
             ⊎ (Refused (denial W8) × (is_lost nat_eq later here ≡ true))
-        elsewhere keeps = inl (goes_up here known keeps found, inr (λ removed. absurd (up_outside here known found removed)))
+        elsewhere keeps = inl (
+          goes_up here known keeps found,
+          inr
+              (λ removed. absurd (up_outside here known found removed)),
+        )
 
         by : (p q : Bool) → nat_eq (mount_at nat_eq world here).filesystem fs ≡ p → nat_eq here.node object.node ≡ q
-            → (GoesUp world later is plain is_later.0 is_later.1 did.task reader here × Fits (parent_location nat_eq world here))
+            → (GoesUp world later is plain is_later.0 is_later.1 did.task reader here
+            × Fits (parent_location nat_eq world here))
             ⊎ (Refused (denial W8) × (is_lost nat_eq later here ≡ true))
         by true true e f = at_it (eqb-true _ _ e, eqb-true _ _ f) fits
-        by true false e f = elsewhere (λ same same_node. absurd (true≢false (sym (eq-eqb here.node object.node same_node) ∙ f)))
-        by false q e f = elsewhere (λ same same_node. absurd (true≢false (sym (eq-eqb (mount_at nat_eq world here).filesystem fs same) ∙ e)))
+        by true false e f = elsewhere (λ same same_node.
+            absurd (true≢false (sym (eq-eqb here.node object.node same_node) ∙ f)))
+        by false q e f = elsewhere (λ same same_node.
+            absurd (true≢false (sym (eq-eqb (mount_at nat_eq world here).filesystem fs same) ∙ e)))
 
     pub fits_ways : FitsWays world later is plain is_later.0 is_later.1 did.task reader Refused Fits
     fits_ways = record {
@@ -375,19 +409,22 @@ module _ (world : World ℕ) (fresh : Fresh ℕ) (name : TaskName) (call : Call)
       up = up_fits;
     }
       where
-        named : (here : Location ℕ) (any : List ℕ) (next : ℕ) → BothAre world later is plain is_later.0 is_later.1 did.task reader here
+        named : (here : Location ℕ) (any : List ℕ) (next : ℕ)
+            → BothAre world later is plain is_later.0 is_later.1 did.task reader here
             → entry_named any (entries_in (node_at nat_eq world here)) ≡ Some next
             → entry_named any (entries_in (node_at nat_eq later here)) ≡ Some next
             → Fits here → Fits (record { mount = here.mount; node = next })
         named here any next known e f (inl refused) = inl refused
         named here any next known e f (inr outside) =
-            inr (λ removed. absurd (name_outside here known any (e ∙ ap Some removed.1) (f ∙ ap Some removed.1) removed.0))
+            inr (λ removed. absurd (name_outside here known any (e ∙ ap Some removed.1)
+            (f ∙ ap Some removed.1) removed.0))
 
         over : (place : Location ℕ) → Fits place → Fits (topmost nat_eq world.mounts place)
         over place (inl refused) = inl refused
         over place (inr outside) = inr (over_outside place outside)
 
-        hopped : (here : Location ℕ) → BothAre world later is plain is_later.0 is_later.1 did.task reader here → Fits here
+        hopped : (here : Location ℕ) → BothAre world later is plain is_later.0 is_later.1 did.task reader here
+            → Fits here
             → Fits (top world later is plain is_later.0 is_later.1 did.task reader here)
         hopped here known (inl refused) = inl refused
         hopped here known (inr outside) = inr (top_outside here known.0 outside)

@@ -64,14 +64,16 @@ use Rattle.vt_later_laws.proofs.WaysMounts.{hop_place}
 use Rattle.vt_later_laws.proofs.WaysStay.{node_in, tree_in}
 
 -- what is of one kind, owner, mode and text
-link_same : (was now : Option (Node ℕ)) → is_some now ≡ is_some was → kind_in now ≡ kind_in was → bytes_in now ≡ bytes_in was
+link_same : (was now : Option (Node ℕ)) → is_some now ≡ is_some was → kind_in now ≡ kind_in was
+    → bytes_in now ≡ bytes_in was
     → symlink_text now ≡ symlink_text was
 link_same None None there kind bytes = refl
 link_same None (Some now) there kind bytes = absurd (true≢false there)
 link_same (Some was) None there kind bytes = absurd (true≢false (sym there))
 link_same (Some was) (Some now) there kind bytes = λ i. when (is_kind SymlinkKind (kind i)) (bytes i)
 
-allows_same : (was now : Option (Node ℕ)) → is_some now ≡ is_some was → kind_in now ≡ kind_in was → attr_in now ≡ attr_in was
+allows_same : (was now : Option (Node ℕ)) → is_some now ≡ is_some was → kind_in now ≡ kind_in was
+    → attr_in now ≡ attr_in was
     → (who : Credentials) (wanted : ℕ) → node_allows who wanted now ≡ node_allows who wanted was
 allows_same None None there kind attr who wanted = refl
 allows_same None (Some now) there kind attr who wanted = absurd (true≢false there)
@@ -96,7 +98,8 @@ module _ (files : FileTree ℕ) (from : ℕ) (old : List ℕ) (to : ℕ) (new : 
 
   with_free : Option ℕ → FileTree ℕ
   with_free o =
-      changed_node nat_eq (with_name nat_eq (without_name nat_eq (without_parent nat_eq files o) from old) to new object) object (node_with_parent to)
+      changed_node nat_eq (with_name nat_eq
+      (without_name nat_eq (without_parent nat_eq files o) from old) to new object) object (node_with_parent to)
 
   moved_in : IsMovedIn object own files.tree moved.tree
   unfolding with_free
@@ -104,14 +107,18 @@ module _ (files : FileTree ℕ) (from : ℕ) (old : List ℕ) (to : ℕ) (new : 
     root = ap (λ o. (with_free o).tree.root) free;
     directory = λ n. moved_part is_directory_node (λ change keeps. keeps.directory) files from old to new object n;
     link = λ n. moved_part symlink_text
-        (λ change keeps o. link_same o (change o) (keeps.there o) (keeps.kind o) (keeps.bytes o)) files from old to new object n;
+        (λ change keeps o. link_same o (change o) (keeps.there o) (keeps.kind o)
+        (keeps.bytes o)) files from old to new object n;
     rights = λ who wanted n is. moved_part (node_allows who wanted)
-        (λ change keeps o. allows_same o (change o) (keeps.there o) (keeps.kind o) (keeps.attr o) who wanted) files from old to new object n;
+        (λ change keeps o. allows_same o (change o) (keeps.there o) (keeps.kind o)
+        (keeps.attr o) who wanted) files from old to new object n;
     parents = λ n differs.
         ap (λ o. parent_in n ((with_free o).tree.node n)) free
-        ∙ ap (parent_in n) (elsewhere (with_name nat_eq (without_name nat_eq files from old) to new object) object (node_with_parent to) n
+        ∙ ap (parent_in n) (elsewhere (with_name nat_eq (without_name nat_eq files from old) to new object) object
+        (node_with_parent to) n
         (differs itself))
-        ∙ part_stays (without_name nat_eq files from old) to (node_with_entry new object) (parent_in n) (parent-node_with_entry new object n) n
+        ∙ part_stays (without_name nat_eq files from old) to (node_with_entry new object) (parent_in n)
+        (parent-node_with_entry new object n) n
         ∙ part_stays files from (node_without_entry old) (parent_in n) (parent-node_without_entry old n) n;
     entry = λ here any next e. by here any next e (is_entry to new here any) refl (is_entry from old here any) refl;
   }
@@ -170,10 +177,12 @@ module _ (world : World ℕ) (fresh : Fresh ℕ) (name : TaskName) (call : Call)
 
   free : entry_at (files_at nat_eq world from).tree to.node new ≡ None
   free =
-      ap (λ m. entry_at (files_at nat_eq world (record { mount = m; node = from.node })).tree to.node new) (sym seen.to_mount)
+      ap (λ m. entry_at (files_at nat_eq world (record { mount = m; node = from.node })).tree to.node new)
+      (sym seen.to_mount)
       ∙ none_of (entry_at (files_at nat_eq world to).tree to.node new) (sym seen.replaces)
     where
-      none_of : (o : Option ℕ) → option_map {U = Location ℕ} (λ number. record { mount = to.mount; node = number }) o ≡ None → o ≡ None
+      none_of : (o : Option ℕ) → option_map {U = Location ℕ} (λ number. record { mount = to.mount; node = number }) o
+          ≡ None → o ≡ None
       none_of None e = refl
       none_of (Some x) e = cc
 
@@ -211,7 +220,8 @@ module _ (world : World ℕ) (fresh : Fresh ℕ) (name : TaskName) (call : Call)
 
   pub node_left : (filesystem number : ℕ) → is_some (node_in later filesystem number) ≡ true
       → node_in later filesystem number ≡ node_in spent filesystem number
-  node_left filesystem number there = as_spent world fresh name call answer is plain serves other few did filesystem number there
+  node_left filesystem number there =
+      as_spent world fresh name call answer is plain serves other few did filesystem number there
 
   -- the object and the caller are there still
   pub object_later : is_some (node_in later fs object.node) ≡ true
@@ -220,7 +230,8 @@ module _ (world : World ℕ) (fresh : Fresh ℕ) (name : TaskName) (call : Call)
       ap is_some (all_stays world fresh name call answer is plain serves other few did from change fresh asks does something allowed file_tree
       (ap option_to_list free) object.node)
       ∙ directory_used (changed nat_eq files change).tree object.node
-      ((moved_in files from.node old to.node new object.node seen.moves.named seen.moves.in_directory free (fs ≡ fs) refl).directory object.node
+      ((moved_in files from.node old to.node new object.node seen.moves.named seen.moves.in_directory free
+      (fs ≡ fs) refl).directory object.node
       ∙ is_directory)
 
   pub caller : task_called later name ≡ Some (raised_task name did.task)
@@ -234,20 +245,25 @@ module _ (world : World ℕ) (fresh : Fresh ℕ) (name : TaskName) (call : Call)
   root_left filesystem number there =
       let files = later_files world fresh name call answer is plain serves other few did filesystem in
       ap (λ (f : FileTree ℕ). f.tree.root) files
-      ∙ root_settled spent (spent_unsettled world fresh name call answer is plain serves other few did).files.one_filesystem filesystem number
+      ∙ root_settled spent
+      (spent_unsettled world fresh name call answer is plain serves other few did).files.one_filesystem filesystem number
       (ap (λ (f : FileTree ℕ). is_some (f.tree.node number)) (sym files) ∙ there)
       ∙ (each filesystem).root
 
-  pub rights_left : (filesystem number : ℕ) → is_some (node_in later filesystem number) ≡ true → is_some (node_in world filesystem number) ≡ true
+  pub rights_left : (filesystem number : ℕ) → is_some (node_in later filesystem number) ≡ true
+      → is_some (node_in world filesystem number) ≡ true
       → (who : Credentials) (wanted : ℕ)
-      → node_allows who wanted (node_in later filesystem number) ≡ node_allows who wanted (node_in world filesystem number)
+      → node_allows who wanted (node_in later filesystem number)
+      ≡ node_allows who wanted (node_in world filesystem number)
   rights_left filesystem number now was who wanted =
       ap (node_allows who wanted) (node_left filesystem number now) ∙ (each filesystem).rights who wanted number was
 
   pub objects_stay : (Refused : Deny → Type 0) → Refused (denial W6) → ObjectsStay world later Refused
   objects_stay Refused missing = record {
-    directory = λ filesystem number was now. ap is_directory_node (node_left filesystem number now) ∙ (each filesystem).directory number;
-    link = λ filesystem number was now. ap symlink_text (node_left filesystem number now) ∙ (each filesystem).link number;
+    directory = λ filesystem number was now. ap is_directory_node (node_left filesystem number now)
+        ∙ (each filesystem).directory number;
+    link = λ filesystem number was now. ap symlink_text (node_left filesystem number now)
+        ∙ (each filesystem).link number;
     entry = λ filesystem here any next e now. by filesystem here any next now ((each filesystem).entry here any next e);
   }
     where
@@ -276,26 +292,31 @@ module _ (world : World ℕ) (fresh : Fresh ℕ) (name : TaskName) (call : Call)
   in_reached n way =
       (object_reached.0 ++ way.0, led_parts tree object_reached.0 way.0 tree.root object.node object_reached.1 ∙ way.1)
 
-  lies_so : (here : Location ℕ) → (mount_at nat_eq world here).filesystem ≡ fs → is_directory_node (tree.node here.node) ≡ true → InIt here.node
+  lies_so : (here : Location ℕ) → (mount_at nat_eq world here).filesystem ≡ fs
+      → is_directory_node (tree.node here.node) ≡ true → InIt here.node
       → lies_in world object here ≡ true
   lies_so here same directory way =
       let shown_is = object_shown world fresh name call answer is plain serves other few did from old to new object None permit_is uncovered in
       and_from _ _ (eq-eqb _ _ (same ∙ sym shown_is))
       (ap (λ n. is_directory_under nat_eq (filesystem_numbered nat_eq world n).files object.node here.node) shown_is
-      ∙ under_seen (files_at nat_eq world from) file_tree here.node directory (in_reached here.node way) object.node way.0 way.1)
+      ∙ under_seen (files_at nat_eq world from) file_tree here.node directory
+      (in_reached here.node way) object.node way.0 way.1)
 
   -- no way leads back up to where its name was
   pub from_outside : InIt from.node → ⊥
-  from_outside way = no_way_up (files_at nat_eq world from) file_tree.tree from.node old object.node seen.moves.named way.0 way.1
+  from_outside way = no_way_up
+      (files_at nat_eq world from) file_tree.tree from.node old object.node seen.moves.named way.0 way.1
 
   -- where an entry leads to it, its name was there
-  pub its_entry : (here : ℕ) (any : List ℕ) → entry_at tree here any ≡ Some object.node → (here ≡ from.node) × (any ≡ old)
+  pub its_entry : (here : ℕ) (any : List ℕ) → entry_at tree here any ≡ Some object.node
+      → (here ≡ from.node) × (any ≡ old)
   its_entry here any e =
       let at : here ≡ from.node =
       sym (file_tree.tree.one_parent here any object.node e is_directory)
       ∙ file_tree.tree.one_parent from.node old object.node seen.moves.named is_directory in (
         at,
-        file_tree.tree.one_name from.node any old object.node (ap (λ n. entry_at tree n any) (sym at) ∙ e) seen.moves.named is_directory,
+        file_tree.tree.one_name from.node any old object.node
+            (ap (λ n. entry_at tree n any) (sym at) ∙ e) seen.moves.named is_directory,
       )
 
   -- outside, or on a mount whose root is inside
@@ -316,7 +337,8 @@ module _ (world : World ℕ) (fresh : Fresh ℕ) (name : TaskName) (call : Call)
   root_of_child : (a b : Location ℕ) → option_map root_of (child_at nat_eq world.mounts a) ≡ Some b → Fits b
   root_of_child a b e same directory way = by (child_at nat_eq world.mounts a) refl e
     where
-      by : (o : Option (Mount ℕ)) → child_at nat_eq world.mounts a ≡ o → option_map root_of o ≡ Some b → InIt (mount_at nat_eq world b).root
+      by : (o : Option (Mount ℕ)) → child_at nat_eq world.mounts a ≡ o → option_map root_of o ≡ Some b
+          → InIt (mount_at nat_eq world b).root
       by None f h = none_is_not None b refl h
       by (Some mount) f h =
           let found = found_in (stands_at nat_eq a) world.mounts mount f in
@@ -328,11 +350,13 @@ module _ (world : World ℕ) (fresh : Fresh ℕ) (name : TaskName) (call : Call)
 
   pub over_fits : (place : Location ℕ) → Fits place → Fits (topmost nat_eq world.mounts place)
   over_fits place fits =
-      chain_ends Fits (λ here. option_map root_of (child_at nat_eq world.mounts here)) (λ a b fit e. root_of_child a b e)
+      chain_ends Fits (λ here. option_map root_of (child_at nat_eq world.mounts here))
+      (λ a b fit e. root_of_child a b e)
       (length world.mounts) place place fits
 
   -- no mount of the task's namespace stands inside
-  pub point_fits : (a b : Location ℕ) → IsFoundDirectory world is did.task a → hop nat_eq world did.task a ≡ Some b → Fits b
+  pub point_fits : (a b : Location ℕ) → IsFoundDirectory world is did.task a → hop nat_eq world did.task a ≡ Some b
+      → Fits b
   point_fits a b found e =
       outside_fits b
       (outside.points (mount_at nat_eq world a) b (contains_from_among world.mounts (mount_at nat_eq world a) there)
@@ -344,10 +368,12 @@ module _ (world : World ℕ) (fresh : Fresh ℕ) (name : TaskName) (call : Call)
       there : Among (mount_at nat_eq world a) world.mounts
       there = placed_among world.mounts a.mount b at
 
-      own : (o : Option ℕ) → (mount_at nat_eq world a).namespace ≡ o → list_all (nat_eq did.task.namespace) (option_to_list o) ≡ true
+      own : (o : Option ℕ) → (mount_at nat_eq world a).namespace ≡ o
+          → list_all (nat_eq did.task.namespace) (option_to_list o) ≡ true
           → (mount_at nat_eq world a).namespace ≡ Some did.task.namespace
       own None f g =
           absurd (true≢false (sym (ap is_some at)
           ∙ (nowhere_parts (mount_at nat_eq world a)
-          (among_from_list_all is_nowhere_or_attached world.mounts is.mounts.nowhere (mount_at nat_eq world a) there) (ap is_some f)).0))
+          (among_from_list_all is_nowhere_or_attached world.mounts is.mounts.nowhere (mount_at nat_eq world a) there)
+          (ap is_some f)).0))
       own (Some n) f g = f ∙ ap Some (sym (eqb-true did.task.namespace n (and_parts _ _ g).0))

@@ -1,4 +1,5 @@
--- After a granted rename of a directory to a free name ways up stay, from wherever a walk that begins outside of it comes.
+-- After a granted rename of a directory to a free name ways up stay, from wherever a walk that begins outside of it
+-- comes.
 use Rattle.std.proofs.Common.{◌≡◌, ◌≢◌, refl, sym, ap, subst, ◌∙◌, inl, inr, ◌⊎◌, ⊎_elim, true≢false, ℕ, nat_eq, eqb-true, eq-eqb, Bool, true, false, cond, not, ◌||◌, List, [], ◌∷◌, ◌++◌, length, Option, Some, None, is_some, option_and_then}
 use Rattle.std.proofs.lemmas.Bool.{or_parts}
 use Rattle.vt_spec.specs.declared.errors.Deny.{Deny}
@@ -43,7 +44,8 @@ use Rattle.vt_later_laws.proofs.WaysTrees.{DirectoryNamesStay, KeepsAbove, prese
 abbrev hop_by : List (Mount ℕ) → Location ℕ → Location ℕ → Option (Location ℕ)
 hop_by mounts root here =
     cond (same_location nat_eq here root) None
-    (cond (nat_eq here.node (mount_in nat_eq mounts here.mount).root) (mount_in nat_eq mounts here.mount).mount_point None)
+    (cond (nat_eq here.node (mount_in nat_eq mounts here.mount).root)
+    (mount_in nat_eq mounts here.mount).mount_point None)
 
 abbrev top_by : List (Mount ℕ) → Location ℕ → Location ℕ → Location ℕ
 top_by mounts root here = last_or here (chain (length mounts) (hop_by mounts root) here)
@@ -102,7 +104,8 @@ module _ (world : World ℕ) (fresh : Fresh ℕ) (name : TaskName) (call : Call)
   reached_in : (n : ℕ) → Inside n → IsReached whole n
   reached_in = in_reached world fresh name call answer is plain serves other few did from old to new object permit_is uncovered is_directory outside
 
-  points_fit : (a b : Location ℕ) → IsFoundDirectory world is did.task a → hop nat_eq world did.task a ≡ Some b → FitsIn b
+  points_fit : (a b : Location ℕ) → IsFoundDirectory world is did.task a → hop nat_eq world did.task a ≡ Some b
+      → FitsIn b
   points_fit = point_fits world fresh name call answer is plain serves other few did from old to new object permit_is uncovered is_directory outside
 
   places_fit : (place : Location ℕ) → FitsIn place → FitsIn (topmost nat_eq world.mounts place)
@@ -190,9 +193,11 @@ module _ (world : World ℕ) (fresh : Fresh ℕ) (name : TaskName) (call : Call)
         by (inl same) = ap (λ o. entry_named any (entries_in o)) node ∙ same
         by (inr lost) = absurd (differs lost.1 lost.2)
 
-    goes : parent_in here.node (node_in left_world number here.node) ≡ parent_in here.node (node_in world number here.node)
+    goes : parent_in here.node (node_in left_world number here.node)
+        ≡ parent_in here.node (node_in world number here.node)
         → is_removed nat_eq (tree_in left_world number) here.node ≡ false
-        → is_directory_under nat_eq (filesystem_numbered nat_eq left_world number).files (mount_at nat_eq world here).root here.node ≡ true
+        → is_directory_under nat_eq (filesystem_numbered nat_eq left_world number).files
+        (mount_at nat_eq world here).root here.node ≡ true
         → Up here
     goes parent present under = record {
       parent = ap (λ (f : FileTree ℕ). parent_in here.node (f.tree.node here.node)) files_here ∙ parent;
@@ -206,9 +211,11 @@ module _ (world : World ℕ) (fresh : Fresh ℕ) (name : TaskName) (call : Call)
       present_before : is_removed nat_eq (tree_in world number) here.node ≡ false
       present_before = (or_parts (is_removed nat_eq (tree_in world number) here.node) _ found_so).0
 
-      under_before : is_directory_under nat_eq (filesystem_numbered nat_eq world number).files (mount_at nat_eq world here).root here.node ≡ true
+      under_before : is_directory_under nat_eq (filesystem_numbered nat_eq world number).files
+          (mount_at nat_eq world here).root here.node ≡ true
       under_before =
-          not_false (is_directory_under nat_eq (filesystem_numbered nat_eq world number).files (mount_at nat_eq world here).root here.node)
+          not_false (is_directory_under nat_eq (filesystem_numbered nat_eq world number).files
+          (mount_at nat_eq world here).root here.node)
           (or_parts (is_removed nat_eq (tree_in world number) here.node) _ found_so).1
         where
           not_false : (b : Bool) → not b ≡ false → b ≡ true
@@ -237,12 +244,17 @@ module _ (world : World ℕ) (fresh : Fresh ℕ) (name : TaskName) (call : Call)
       outside_goes : Keeps here.node → Up here
       outside_goes keeps =
           goes
-          (ap (parent_in here.node) as_spent ∙ (each_in number).parents here.node (λ same it. keeps same ([], ap Some (sym it))))
-          (present_later Keeps (filesystem_numbered nat_eq world number).files (filesystem_numbered nat_eq left_world number).files tree_before.tree
-          tree_later root_same above names (mount_at nat_eq world here).root here.node known.0.1 now_directory keeps root_there present_before
+          (ap (parent_in here.node) as_spent
+          ∙ (each_in number).parents here.node (λ same it. keeps same ([], ap Some (sym it))))
+          (present_later Keeps (filesystem_numbered nat_eq world number).files
+          (filesystem_numbered nat_eq left_world number).files tree_before.tree
+          tree_later root_same above names
+          (mount_at nat_eq world here).root here.node known.0.1 now_directory keeps root_there present_before
           under_before)
-          (under_later Keeps (filesystem_numbered nat_eq world number).files (filesystem_numbered nat_eq left_world number).files tree_before.tree
-          tree_later root_same above names (mount_at nat_eq world here).root here.node known.0.1 now_directory keeps root_there present_before
+          (under_later Keeps (filesystem_numbered nat_eq world number).files
+          (filesystem_numbered nat_eq left_world number).files tree_before.tree
+          tree_later root_same above names
+          (mount_at nat_eq world here).root here.node known.0.1 now_directory keeps root_there present_before
           under_before)
 
       outside_fits : Keeps here.node → FitsIn (parent_location nat_eq world here)
@@ -263,7 +275,8 @@ module _ (world : World ℕ) (fresh : Fresh ℕ) (name : TaskName) (call : Call)
         abbrev top_of : ℕ
         top_of = (mount_at nat_eq world here).root
 
-        led_on : (start : ℕ) (path : List (List ℕ)) (end : ℕ) → Inside start → led (tree_in world number) start path ≡ Some end → Inside end
+        led_on : (start : ℕ) (path : List (List ℕ)) (end : ℕ) → Inside start
+            → led (tree_in world number) start path ≡ Some end → Inside end
         led_on start path end in_it e = (
           in_it.0 ++ path,
           led_parts whole in_it.0 path object.node start in_it.1
@@ -271,16 +284,19 @@ module _ (world : World ℕ) (fresh : Fresh ℕ) (name : TaskName) (call : Call)
         )
 
         -- an entry inside never leads to it
-        not_moved : (at : ℕ) (any : List ℕ) (next : ℕ) → Inside at → entry_at (tree_in world number) at any ≡ Some next → next ≢ object.node
+        not_moved : (at : ℕ) (any : List ℕ) (next : ℕ) → Inside at → entry_at (tree_in world number) at any ≡ Some next
+            → next ≢ object.node
         not_moved at any next in_it e it =
             not_around
             (subst Inside (only_entry at any (at_fs same at any next e ∙ ap Some it)).0 in_it)
 
-        led_later : (start : ℕ) (path : List (List ℕ)) (end : ℕ) → Inside start → led (tree_in world number) start path ≡ Some end
+        led_later : (start : ℕ) (path : List (List ℕ)) (end : ℕ) → Inside start
+            → led (tree_in world number) start path ≡ Some end
             → is_some (node_in left_world number start) ≡ true → led (tree_in left_world number) start path ≡ Some end
         led_later start [] end in_it e now = e
         led_later start (any ∷ path) end in_it e now =
-            let step = found (λ next. led (tree_in world number) next path) (entry_at (tree_in world number) start any) end e in
+            let step = found (λ next. led (tree_in world number) next path)
+            (entry_at (tree_in world number) start any) end e in
             let entry = entry_later start any step.0 step.1 (λ own. not_moved start any step.0 in_it step.1) now in
             ap (option_and_then (λ next. led (tree_in left_world number) next path)) entry
             ∙ led_later step.0 path end (further start any step.0 in_it (at_fs same start any step.0 step.1)) step.2
@@ -288,7 +304,8 @@ module _ (world : World ℕ) (fresh : Fresh ℕ) (name : TaskName) (call : Call)
 
         from_top : (path : List (List ℕ)) × (led (tree_in world number) top_of path ≡ Some here.node)
         from_top =
-            under_led (tree_in world number) tree_before.tree (length (filesystem_numbered nat_eq world number).files.numbers) top_of here.node
+            under_led (tree_in world number) tree_before.tree
+            (length (filesystem_numbered nat_eq world number).files.numbers) top_of here.node
             known.0.1 reached_before under_before
 
         here_not_moved : here.node ≢ object.node
@@ -298,7 +315,8 @@ module _ (world : World ℕ) (fresh : Fresh ℕ) (name : TaskName) (call : Call)
             (λ step. not_moved step.0 step.1 here.node (led_on top_of step.3 step.0 root_in step.4) step.2 it)
             (last_step (tree_in world number) top_of from_top.0 here.node from_top.1)
 
-        parent_same : parent_in here.node (node_in left_world number here.node) ≡ parent_in here.node (node_in world number here.node)
+        parent_same : parent_in here.node (node_in left_world number here.node)
+            ≡ parent_in here.node (node_in world number here.node)
         parent_same =
             ap (parent_in here.node) as_spent ∙ (each_in number).parents here.node (λ own. here_not_moved)
 
@@ -316,14 +334,16 @@ module _ (world : World ℕ) (fresh : Fresh ℕ) (name : TaskName) (call : Call)
               entry_later named.0 named.1 here.node named.2 (λ own. here_not_moved)
                   (ap (λ n. is_some (node_in left_world number n))
                   (sym (parent_same ∙ tree_before.tree.one_parent named.0 named.1 here.node named.2 known.0.1))
-                  ∙ directory_used (tree_in left_world number) (parent_in here.node (node_in left_world number here.node))
+                  ∙ directory_used (tree_in left_world number)
+                  (parent_in here.node (node_in left_world number here.node))
                   (tree_later.tree.parent_directory here.node now_directory)),
             ))
             (reached_named (tree_in world number) here.node reached_before)
 
         inside_goes : Up here
         inside_goes =
-            goes parent_same (reached_not_removed (tree_in left_world number) tree_later.tree here.node now_directory reached_later)
+            goes parent_same (reached_not_removed
+            (tree_in left_world number) tree_later.tree here.node now_directory reached_later)
             (under_seen (filesystem_numbered nat_eq left_world number).files tree_later here.node now_directory reached_later top_of from_top.0
             (led_later top_of from_top.0 here.node root_in from_top.1 root_there))
 
@@ -340,7 +360,8 @@ module _ (world : World ℕ) (fresh : Fresh ℕ) (name : TaskName) (call : Call)
           → Up here × FitsIn (parent_location nat_eq world here)
       elsewhere keeps = (outside_goes here known found_so keeps, outside_fits here known found_so keeps)
 
-      directory_here : (mount_at nat_eq world here).filesystem ≡ own_fs → is_directory_node (whole.node here.node) ≡ true
+      directory_here : (mount_at nat_eq world here).filesystem ≡ own_fs
+          → is_directory_node (whole.node here.node) ≡ true
       directory_here same = ap (λ n. is_directory_node (node_in world n here.node)) (sym same) ∙ known.0.1
 
       inside : (same : (mount_at nat_eq world here).filesystem ≡ own_fs) → Inside here.node
@@ -348,7 +369,8 @@ module _ (world : World ℕ) (fresh : Fresh ℕ) (name : TaskName) (call : Call)
       inside same way =
           let root_in = fits same (directory_here same) way in (
             inside_goes here known found_so same way root_in
-                (or_parts (same_location nat_eq here did.task.root) (nat_eq here.node (mount_at nat_eq world here).root) not_top).1,
+                (or_parts (same_location nat_eq here did.task.root)
+                (nat_eq here.node (mount_at nat_eq world here).root) not_top).1,
             λ again directory above. root_in,
           )
 
@@ -358,19 +380,22 @@ module _ (world : World ℕ) (fresh : Fresh ℕ) (name : TaskName) (call : Call)
       by true true e f =
           let same = eqb-true (mount_at nat_eq world here).filesystem own_fs e in
           inside same
-          (under_led whole whole_is.tree (length (files_at nat_eq world from).numbers) object.node here.node (directory_here same)
+          (under_led whole whole_is.tree (length (files_at nat_eq world from).numbers) object.node here.node
+          (directory_here same)
           (subst (λ n. IsReached (tree_in world n) here.node) same (reached_before here known found_so)) f)
       by true false e f =
           elsewhere (λ same way.
           true≢false
-          (sym (under_seen (files_at nat_eq world from) whole_is here.node (directory_here same) (reached_in here.node way)
+          (sym (under_seen (files_at nat_eq world from) whole_is here.node (directory_here same)
+          (reached_in here.node way)
           object.node way.0 way.1) ∙ f))
       by false q e f =
           elsewhere (λ same way. true≢false (sym (eq-eqb (mount_at nat_eq world here).filesystem own_fs same) ∙ e))
 
   named_fits : (here : Location ℕ) (any : List ℕ) (next : ℕ) → BothDirectories here
       → FitsIn here → entry_named any (entries_in (node_at nat_eq world here)) ≡ Some next
-      → entry_named any (entries_in (node_at nat_eq left_world here)) ≡ Some next → FitsIn (record { mount = here.mount; node = next })
+      → entry_named any (entries_in (node_at nat_eq left_world here)) ≡ Some next
+      → FitsIn (record { mount = here.mount; node = next })
   named_fits here any next known fits e f same directory way =
       ⊎_elim moved_here (λ step. fits same (directory_here) (
         step.3,

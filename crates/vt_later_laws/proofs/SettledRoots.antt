@@ -13,7 +13,8 @@ abbrev looked_up : ℕ → List (Filesystem ℕ) → Option (Filesystem ℕ)
 looked_up number list = find (λ (f : Filesystem ℕ). nat_eq number f.number) list
 
 -- what is looked up in a list that was changed one by one
-looked_up-map : (change : Filesystem ℕ → Filesystem ℕ) → ((f : Filesystem ℕ) → (change f).number ≡ f.number) → (number : ℕ)
+looked_up-map : (change : Filesystem ℕ → Filesystem ℕ) → ((f : Filesystem ℕ) → (change f).number ≡ f.number)
+    → (number : ℕ)
     (list : List (Filesystem ℕ)) → looked_up number (map change list) ≡ option_map change (looked_up number list)
 looked_up-map change same number [] = refl
 looked_up-map change same number (first ∷ rest) =
@@ -21,7 +22,8 @@ looked_up-map change same number (first ∷ rest) =
     ∙ by (nat_eq number first.number) (looked_up-map change same number rest)
   where
     by : (b : Bool) → looked_up number (map change rest) ≡ option_map change (looked_up number rest)
-        → cond b (Some (change first)) (looked_up number (map change rest)) ≡ option_map change (cond b (Some first) (looked_up number rest))
+        → cond b (Some (change first)) (looked_up number (map change rest))
+        ≡ option_map change (cond b (Some first) (looked_up number rest))
     by true later = refl
     by false later = later
 
@@ -32,13 +34,15 @@ looked_up_is number [] f e = absurd (true≢false (sym (ap is_some e)))
 looked_up_is number (first ∷ rest) f e = by (nat_eq number first.number) refl e (looked_up_is number rest f)
   where
     by : (b : Bool) → nat_eq number first.number ≡ b → cond b (Some first) (looked_up number rest) ≡ Some f
-        → (looked_up number rest ≡ Some f → Among f rest × (number ≡ f.number)) → Among f (first ∷ rest) × (number ≡ f.number)
+        → (looked_up number rest ≡ Some f → Among f rest × (number ≡ f.number))
+        → Among f (first ∷ rest) × (number ≡ f.number)
     by true g h later =
         let same : first ≡ f = same_Some first f h in
         (inl (sym same), eqb-true number first.number g ∙ ap (λ (x : Filesystem ℕ). x.number) same)
     by false g h later = let found = later h in (inr found.0, found.1)
 
-module _ (world : World ℕ) (one : any_pair (λ (a b : Filesystem ℕ). nat_eq a.number b.number) world.filesystems ≡ false) where
+module _ (world : World ℕ) (one : any_pair (λ (a b : Filesystem ℕ). nat_eq a.number b.number) world.filesystems
+    ≡ false) where
   abbrev living : World ℕ
   living = without_dead_filesystems nat_eq (without_dead_mounts nat_eq world)
 
@@ -46,7 +50,8 @@ module _ (world : World ℕ) (one : any_pair (λ (a b : Filesystem ℕ). nat_eq 
   first = without_dead_in nat_eq is_overlay living
 
   swept : (w : World ℕ) (chosen : Bool) (f : Filesystem ℕ)
-      → ((only_used nat_eq w chosen f).number ≡ f.number) × ((only_used nat_eq w chosen f).files.tree.root ≡ f.files.tree.root)
+      → ((only_used nat_eq w chosen f).number ≡ f.number)
+      × ((only_used nat_eq w chosen f).files.tree.root ≡ f.files.tree.root)
   swept w false f = (refl, refl)
   swept w true f = by (list_all (λ number. is_among nat_eq number (used_in nat_eq w f)) f.files.numbers)
     where
@@ -69,21 +74,26 @@ module _ (world : World ℕ) (one : any_pair (λ (a b : Filesystem ℕ). nat_eq 
 
   pub root_settled : (number inode : ℕ)
       → is_some ((filesystem_numbered nat_eq (settled nat_eq world) number).files.tree.node inode) ≡ true
-      → (filesystem_numbered nat_eq (settled nat_eq world) number).files.tree.root ≡ (filesystem_numbered nat_eq world number).files.tree.root
+      → (filesystem_numbered nat_eq (settled nat_eq world) number).files.tree.root
+      ≡ (filesystem_numbered nat_eq world number).files.tree.root
   root_settled number inode there = by (looked_up number living.filesystems) refl
     where
       left : (o : Option (Filesystem ℕ)) → looked_up number living.filesystems ≡ o
-          → filesystem_numbered nat_eq (settled nat_eq world) number ≡ unwrap_or (option_map twice (option_map once o)) (no_filesystem number)
+          → filesystem_numbered nat_eq (settled nat_eq world) number
+          ≡ unwrap_or (option_map twice (option_map once o)) (no_filesystem number)
       left o e =
           ap (λ x. unwrap_or x (no_filesystem number)) (looked_up_settled number)
           ∙ ap (λ x. unwrap_or (option_map twice (option_map once x)) (no_filesystem number)) e
 
       by : (o : Option (Filesystem ℕ)) → looked_up number living.filesystems ≡ o
-          → (filesystem_numbered nat_eq (settled nat_eq world) number).files.tree.root ≡ (filesystem_numbered nat_eq world number).files.tree.root
-      by None e = absurd (true≢false (sym there ∙ ap (λ (f : Filesystem ℕ). is_some (f.files.tree.node inode)) (left None e)))
+          → (filesystem_numbered nat_eq (settled nat_eq world) number).files.tree.root
+          ≡ (filesystem_numbered nat_eq world number).files.tree.root
+      by None e = absurd (true≢false
+          (sym there ∙ ap (λ (f : Filesystem ℕ). is_some (f.files.tree.node inode)) (left None e)))
       by (Some f) e =
           let found = looked_up_is number living.filesystems f e in
-          let among = (among-from_filter (filesystem_lives nat_eq (without_dead_mounts nat_eq world)) world.filesystems f found.0).0 in
+          let among = (among-from_filter
+          (filesystem_lives nat_eq (without_dead_mounts nat_eq world)) world.filesystems f found.0).0 in
           ap (λ (x : Filesystem ℕ). x.files.tree.root) (left (Some f) e)
           ∙ (swept first (not (is_overlay (once f))) (once f)).1 ∙ (swept living (is_overlay f) f).1
           ∙ ap (λ (x : Filesystem ℕ). x.files.tree.root)

@@ -51,14 +51,18 @@ EndsAt walk location left =
 abbrev pub Stops : (Deny → Type 0) → {A : Type 0} → Result A (Stop ℕ) → Type 0
 Stops Refused walk = (stop : Stop ℕ) × Refused stop.deny × (walk ≡ Err stop)
 
--- What walks of a reader need of what a call left to lead where those of a task led: at places that are known to be there.
-pub record LeadsToo (looks later : Looks ℕ) (task reader : Task ℕ) (Refused : Deny → Type 0) (Known : Location ℕ → Type 0) : Type 0 where
+-- What walks of a reader need of what a call left to lead where those of a task led: at places that are known to be
+-- there.
+pub record LeadsToo (looks later : Looks ℕ) (task reader : Task ℕ) (Refused : Deny → Type 0)
+    (Known : Location ℕ → Type 0) : Type 0 where
   pub root : reader.root ≡ task.root
   pub working : reader.directory ≡ task.directory
   pub root_known : Known task.root
   pub working_known : Known task.directory
-  pub directory : (here : Location ℕ) → Known here → is_directory_at looks here ≡ true → is_directory_at later here ≡ true
-  pub search : (here : Location ℕ) → Known here → is_directory_at looks here ≡ true → may looks task here execute_right ≡ true
+  pub directory : (here : Location ℕ) → Known here → is_directory_at looks here ≡ true
+      → is_directory_at later here ≡ true
+  pub search : (here : Location ℕ) → Known here → is_directory_at looks here ≡ true
+      → may looks task here execute_right ≡ true
       → (may later reader here execute_right ≡ true)
       ⊎ ((may later reader here execute_right ≡ false) × Refused (denial W4))
   pub mounter : (here : Location ℕ) → mounter_may later here execute_right ≡ true
@@ -80,9 +84,11 @@ pub word_gave : (looks : Looks ℕ) (task : Task ℕ) (here next : Here ℕ) (wo
     → AllPass (search_rules nat_eq looks task here.location)
     × (stepped nat_eq looks task here.location word ≡ Ok next.location) × (next.left ≡ here.left)
 word_gave looks task here next word e =
-    let both = both_gave (unless (search_rules nat_eq looks task here.location) (stepped nat_eq looks task here.location word)) _ next
+    let both = both_gave (unless (search_rules nat_eq looks task here.location)
+    (stepped nat_eq looks task here.location word)) _ next
     (not_stopped (steps_with nat_eq looks task here word) _ next e) in
-    let parts = passing (search_rules nat_eq looks task here.location) (stepped nat_eq looks task here.location word) both.0 both.1 in
+    let parts = passing (search_rules nat_eq looks task here.location)
+    (stepped nat_eq looks task here.location word) both.0 both.1 in
     let same = same_ok _ next both.2 in
     (parts.0, parts.1 ∙ ap (λ (h : Here ℕ). Ok h.location) same, ap (λ (h : Here ℕ). h.left) (sym same))
 
@@ -144,8 +150,10 @@ module _ (looks later : Looks ℕ) (task reader : Task ℕ) (Refused : Deny → 
           inl (
             (
               steps_with nat_eq later reader (at here steps) word,
-              ap (λ r. stopped_by (steps_with nat_eq later reader (at here steps) word) (and_then r (on here steps word)))
-                  (passed (search_rules nat_eq later reader here.location) (stepped nat_eq later reader here.location word) may_search
+              ap (λ r. stopped_by (steps_with nat_eq later reader (at here steps) word)
+                  (and_then r (on here steps word)))
+                  (passed (search_rules nat_eq later reader here.location)
+                  (stepped nat_eq later reader here.location word) may_search
                   ∙ found.0)
                   ∙ (λ i. Ok (record {
                     location = next.location;
@@ -160,7 +168,8 @@ module _ (looks later : Looks ℕ) (task reader : Task ℕ) (Refused : Deny → 
             record { deny = lost.0; steps = steps_with nat_eq later reader (at here steps) word },
             lost.1,
             ap (λ r. stopped_by (steps_with nat_eq later reader (at here steps) word) (and_then r (on here steps word)))
-                (passed (search_rules nat_eq later reader here.location) (stepped nat_eq later reader here.location word) may_search
+                (passed (search_rules nat_eq later reader here.location)
+                (stepped nat_eq later reader here.location word) may_search
                 ∙ lost.2),
           )
       by (inr hidden) stepping =
@@ -177,12 +186,15 @@ module _ (looks later : Looks ℕ) (task reader : Task ℕ) (Refused : Deny → 
       (directory : Location ℕ) (link : Here ℕ) (text : List ℕ) (end : Here ℕ)
       → link.left ≤ most → follow directory link text ≡ Ok end
       → (end.left ≤ link.left)
-      × (Known directory → Known link.location → (steps : List (List ℕ)) → Ends (other directory (at link steps) text) end)
+      × (Known directory → Known link.location → (steps : List (List ℕ))
+      → Ends (other directory (at link steps) text) end)
 
-  words_too : (most : ℕ) (follow other : Follow ℕ) → FollowsToo most follow other → (start : Here ℕ) (words : List (List ℕ))
+  words_too : (most : ℕ) (follow other : Follow ℕ) → FollowsToo most follow other
+      → (start : Here ℕ) (words : List (List ℕ))
       (end : Here ℕ) → start.left ≤ most → words_walked nat_eq looks task follow start words ≡ Ok end
       → (end.left ≤ start.left)
-      × (Known start.location → (steps : List (List ℕ)) → Ends (words_walked nat_eq later reader other (at start steps) words) end)
+      × (Known start.location → (steps : List (List ℕ))
+      → Ends (words_walked nat_eq later reader other (at start steps) words) end)
   words_too most follow other follows start [] end less e =
       let same = same_end start end e in (
         subst (λ (h : Here ℕ). h.left ≤ start.left) same (omega arith),
@@ -201,7 +213,8 @@ module _ (looks later : Looks ℕ) (task reader : Task ℕ) (Refused : Deny → 
       let after = linked reached next end (symlink_text (looks.node next.location)) (omega arith) nexts.2 in (
         (let least : end.left ≤ next.left = after.0 in omega arith),
         λ known steps.
-            then_too (words_walked nat_eq later reader other (at start steps) front) _ reached end (before.1 known steps)
+            then_too (words_walked nat_eq later reader other (at start steps) front) _ reached end
+            (before.1 known steps)
             (λ steps_there known_there.
             then_too (word_walked nat_eq later reader (at reached steps_there) (last_word word)) _ next end
             (word_too reached next (last_word word) steps_there known_there gave.0 same
@@ -268,30 +281,37 @@ module _ (looks later : Looks ℕ) (task reader : Task ℕ) (Refused : Deny → 
       let some : 1 ≤ link.left = positive link.left begins.0.1.0 in
       let begun = symlink_start nat_eq looks task directory link text in
       let inside = both_walked (words_walked nat_eq looks task
-      (λ inside next inner. symlink_walked nat_eq depth looks task inside next inner) starts.0 (reverse (words text))) _ end starts.2 in
+      (λ inside next inner. symlink_walked nat_eq depth looks task inside next inner) starts.0
+      (reverse (words text))) _ end starts.2 in
       let reached = inside.0 in
       let ends = walk_passing reached.steps (slash_rules nat_eq looks text reached.location) reached end inside.2 in
       let same : reached ≡ end = ends.1 in
-      let walked = words_too (link.left - 1) (λ inside next inner. symlink_walked nat_eq depth looks task inside next inner)
+      let walked = words_too (link.left - 1)
+      (λ inside next inner. symlink_walked nat_eq depth looks task inside next inner)
       (λ inside next inner. symlink_walked nat_eq other later reader inside next inner)
-      (λ at_directory next inner stop less gives. link_too depth other at_directory next inner stop (omega arith) (omega arith) gives)
+      (λ at_directory next inner stop less gives.
+      link_too depth other at_directory next inner stop (omega arith) (omega arith) gives)
       begun (reverse (words text)) reached (omega arith)
       (ap (λ start. words_walked nat_eq looks task
-      (λ inside next inner. symlink_walked nat_eq depth looks task inside next inner) start (reverse (words text))) begins.1
+      (λ inside next inner. symlink_walked nat_eq depth looks task inside next inner) start
+      (reverse (words text))) begins.1
       ∙ inside.1) in (
-        (let least : reached.left ≤ link.left - 1 = walked.0 in subst (λ (h : Here ℕ). h.left ≤ link.left) same (omega arith)),
+        (let least : reached.left ≤ link.left - 1 = walked.0 in subst (λ (h : Here ℕ). h.left ≤ link.left) same
+            (omega arith)),
         λ known known_link steps.
             let now : Here ℕ = symlink_start nat_eq later reader directory (at link steps) text in
             let pass : AllPass (follow_rules nat_eq later (at link steps) text) =
             (leads.nosymfollow link.location known_link ∙ begins.0.0, begins.0.1) in
             subst (λ r. Ends (then_walk r (λ start.
             then_walk (words_walked nat_eq later reader
-            (λ inside next inner. symlink_walked nat_eq other later reader inside next inner) start (reverse (words text)))
+            (λ inside next inner. symlink_walked nat_eq other later reader inside next inner) start
+            (reverse (words text)))
             (λ reached. walk_unless reached.steps (slash_rules nat_eq later text reached.location) reached))) end)
             (sym (walk_passed steps (follow_rules nat_eq later (at link steps) text) now pass
             ∙ (λ i. Ok (record { location = start_same directory directory text refl i; left = link.left - 1; steps = now.steps }))))
             (then_too (words_walked nat_eq later reader
-            (λ inside next inner. symlink_walked nat_eq other later reader inside next inner) (at begun now.steps) (reverse
+            (λ inside next inner. symlink_walked nat_eq other later reader inside next inner) (at begun now.steps)
+            (reverse
             (words text))) _ reached end
             (walked.1 (start_known directory text known) now.steps)
             (λ steps_there known_there.
@@ -308,13 +328,16 @@ module _ (looks later : Looks ℕ) (task reader : Task ℕ) (Refused : Deny → 
   -- Words lead where they led, from where there are fewer links left than may be followed.
   pub words_lead : (depth other : ℕ) (start : Here ℕ) (words : List (List ℕ)) (end : Here ℕ)
       → suc start.left ≤ depth → suc start.left ≤ other
-      → words_walked nat_eq looks task (λ inside next inner. symlink_walked nat_eq depth looks task inside next inner) start words ≡ Ok end
+      → words_walked nat_eq looks task
+      (λ inside next inner. symlink_walked nat_eq depth looks task inside next inner) start words ≡ Ok end
       → (end.left ≤ start.left)
       × (Known start.location → (steps : List (List ℕ))
-      → Ends (words_walked nat_eq later reader (λ inside next inner. symlink_walked nat_eq other later reader inside next inner)
+      → Ends (words_walked nat_eq later reader
+      (λ inside next inner. symlink_walked nat_eq other later reader inside next inner)
       (at start steps) words) end)
   words_lead depth other start words end deep deep_too e =
       words_too start.left (λ inside next inner. symlink_walked nat_eq depth looks task inside next inner)
       (λ inside next inner. symlink_walked nat_eq other later reader inside next inner)
-      (λ at_directory next inner stop less gives. link_too depth other at_directory next inner stop (omega arith) (omega arith) gives)
+      (λ at_directory next inner stop less gives.
+      link_too depth other at_directory next inner stop (omega arith) (omega arith) gives)
       start words end (omega arith) e

@@ -26,7 +26,8 @@ use Rattle.vt_tree_laws.proofs.TreesRearranged.{node_with_entries}
 -- missing, and then it was no directory's.
 pub record TreeStays (tree later : Tree ℕ) (Refused : Deny → Type 0) : Type 0 where
   pub root : later.root ≡ tree.root
-  pub directory : (n : ℕ) → is_some (tree.node n) ≡ true → is_directory_node (later.node n) ≡ is_directory_node (tree.node n)
+  pub directory : (n : ℕ) → is_some (tree.node n) ≡ true
+      → is_directory_node (later.node n) ≡ is_directory_node (tree.node n)
   pub parent : (n : ℕ) → is_some (tree.node n) ≡ true → parent_in n (later.node n) ≡ parent_in n (tree.node n)
   pub link : (n : ℕ) → is_some (tree.node n) ≡ true → symlink_text (later.node n) ≡ symlink_text (tree.node n)
   pub entry : (directory : ℕ) (name : List ℕ) (number : ℕ) → entry_at tree directory name ≡ Some number
@@ -63,9 +64,11 @@ link_with_entries (Regular bytes) attr entries = refl
 link_with_entries (Symlink text) attr entries = refl
 link_with_entries Whiteout attr entries = refl
 
-link_with_entry : (name : List ℕ) (number : ℕ) (o : Option (Node ℕ)) → symlink_text (node_with_entry name number o) ≡ symlink_text o
+link_with_entry : (name : List ℕ) (number : ℕ) (o : Option (Node ℕ))
+    → symlink_text (node_with_entry name number o) ≡ symlink_text o
 link_with_entry name number None = refl
-link_with_entry name number (Some node) = link_with_entries node.content node.attr (with_entry name number (entries_of node.content))
+link_with_entry name number (Some node) =
+    link_with_entries node.content node.attr (with_entry name number (entries_of node.content))
 
 pub link_without : (name : List ℕ) (o : Option (Node ℕ)) → symlink_text (node_without_entry name o) ≡ symlink_text o
 link_without name None = refl
@@ -126,7 +129,8 @@ module _ (files : FileTree ℕ) (Refused : Deny → Type 0) where
       ways_changed file (node_with_bytes bytes) (is_directory-node_with_bytes bytes) (entries-node_with_bytes bytes)
       (parent-node_with_bytes bytes) (link_with_bytes bytes)
 
-  pub rights_with_bytes : (file : ℕ) (bytes : List ℕ) → RightsStay files.tree (changed_node nat_eq files file (node_with_bytes bytes)).tree
+  pub rights_with_bytes : (file : ℕ) (bytes : List ℕ)
+      → RightsStay files.tree (changed_node nat_eq files file (node_with_bytes bytes)).tree
   rights_with_bytes file bytes who wanted n is =
       part_stays files file (node_with_bytes bytes) (node_allows who wanted) (allows_with_bytes bytes who wanted) n
 
@@ -153,7 +157,8 @@ module _ (files : FileTree ℕ) (Refused : Deny → Type 0) where
     pub name_leads : entry_at named.tree directory name ≡ Some object
     name_leads =
         entry_now name
-        ∙ ap (λ b. cond b (Some object) (entry_at files.tree directory name)) (ap is_eq (tied_itself nat_list_cmp_total name))
+        ∙ ap (λ b. cond b (Some object) (entry_at files.tree directory name))
+        (ap is_eq (tied_itself nat_list_cmp_total name))
 
     -- and each other where it led
     entry_stays : (here : ℕ) (other : List ℕ) (next : ℕ) → entry_at files.tree here other ≡ Some next
@@ -162,7 +167,8 @@ module _ (files : FileTree ℕ) (Refused : Deny → Type 0) where
         ⊎_elim
         (λ t. ap (λ m. entry_at named.tree m other) t.1 ∙ entry_now other
         ∙ by (eq_by_cmp name_cmp other name) refl (ap (λ m. entry_at files.tree m other) (sym t.1) ∙ e))
-        (λ t. ap (λ o. entry_named other (entries_in o)) (elsewhere files directory (node_with_entry name object) here t.1) ∙ e)
+        (λ t. ap (λ o. entry_named other (entries_in o))
+        (elsewhere files directory (node_with_entry name object) here t.1) ∙ e)
         (eqb_tells here directory)
       where
         by : (b : Bool) → eq_by_cmp name_cmp other name ≡ b → entry_at files.tree directory other ≡ Some next
@@ -177,14 +183,17 @@ module _ (files : FileTree ℕ) (Refused : Deny → Type 0) where
       root = refl;
       directory = λ n is. part_stays files directory (node_with_entry name object) is_directory_node
           (is_directory-node_with_entry name object) n;
-      parent = λ n is. part_stays files directory (node_with_entry name object) (parent_in n) (parent-node_with_entry name object n) n;
-      link = λ n is. part_stays files directory (node_with_entry name object) symlink_text (link_with_entry name object) n;
+      parent = λ n is. part_stays files directory (node_with_entry name object) (parent_in n)
+          (parent-node_with_entry name object n) n;
+      link = λ n is. part_stays files directory (node_with_entry name object) symlink_text
+          (link_with_entry name object) n;
       entry = λ here other next e. inl (entry_stays here other next e);
     }
 
     pub rights_named : RightsStay files.tree named.tree
     rights_named who wanted n is =
-        part_stays files directory (node_with_entry name object) (node_allows who wanted) (allows_with_entry name object who wanted) n
+        part_stays files directory (node_with_entry name object) (node_allows who wanted)
+        (allows_with_entry name object who wanted) n
 
     -- what is not the directory is as it was
     pub named_other : (n : ℕ) → n ≢ directory → named.tree.node n ≡ files.tree.node n
@@ -206,7 +215,8 @@ module _ (files : FileTree ℕ) (Refused : Deny → Type 0) where
       made_other n is =
           ap (λ o. cond (nat_eq n directory) (node_with_entry name object o)
           (cond (nat_eq n object) (Some node) (files.tree.node n)))
-          (ap (λ b. cond b (Some node) (files.tree.node directory)) (ne_eqb directory object (not_new directory directory_is)))
+          (ap (λ b. cond b (Some node) (files.tree.node directory))
+          (ne_eqb directory object (not_new directory directory_is)))
           ∙ ap (λ b. cond (nat_eq n directory) (node_with_entry name object (files.tree.node directory))
           (cond b (Some node) (files.tree.node n))) (ne_eqb n object (not_new n is))
 
@@ -227,7 +237,8 @@ module _ (files : FileTree ℕ) (Refused : Deny → Type 0) where
           some_there : (here : ℕ) (other : List ℕ) (next : ℕ) → entry_at files.tree here other ≡ Some next
               → is_some (files.tree.node here) ≡ true
           some_there here other next e =
-              Rattle.vt_spec.proofs.Nodes.directory_used files.tree here (node_with_entries other next (files.tree.node here) e)
+              Rattle.vt_spec.proofs.Nodes.directory_used files.tree here
+              (node_with_entries other next (files.tree.node here) e)
 
       pub rights_made : RightsStay files.tree made.tree
       rights_made who wanted n is = ap (node_allows who wanted) (made_other n is) ∙ rights_named who wanted n is
@@ -241,8 +252,10 @@ module _ (files : FileTree ℕ) (Refused : Deny → Type 0) where
           → is_directory_node (Some (record { attr = node.attr; content = content })) ≡ false
           → Some (record { attr = node.attr; content = content_with_parent parent node.content }) ≡ Some node
       by (Directory old entries opaque) e f = absurd (true≢false f)
-      by (Regular bytes) e f = λ i. Some (record { attr = node.attr; content = (ap (content_with_parent parent) e ∙ sym e) i })
-      by (Symlink text) e f = λ i. Some (record { attr = node.attr; content = (ap (content_with_parent parent) e ∙ sym e) i })
+      by (Regular bytes) e f = λ i. Some
+          (record { attr = node.attr; content = (ap (content_with_parent parent) e ∙ sym e) i })
+      by (Symlink text) e f = λ i. Some
+          (record { attr = node.attr; content = (ap (content_with_parent parent) e ∙ sym e) i })
       by Whiteout e f = λ i. Some (record { attr = node.attr; content = (ap (content_with_parent parent) e ∙ sym e) i })
 
   module _ (directory : ℕ) (name : List ℕ) (object : ℕ) (named_so : entry_at files.tree directory name ≡ Some object)
@@ -258,7 +271,8 @@ module _ (files : FileTree ℕ) (Refused : Deny → Type 0) where
     removed_node n = by (nat_eq n object) refl
       where
         kept : is_directory_node (unnamed.tree.node object) ≡ false
-        kept = part_stays files directory (node_without_entry name) is_directory_node (kind-node_without_entry name) object ∙ no_directory
+        kept = part_stays files directory (node_without_entry name) is_directory_node
+            (kind-node_without_entry name) object ∙ no_directory
 
         by : (b : Bool) → nat_eq n object ≡ b
             → cond b (node_with_parent object (unnamed.tree.node object)) (unnamed.tree.node n) ≡ unnamed.tree.node n
@@ -268,17 +282,21 @@ module _ (files : FileTree ℕ) (Refused : Deny → Type 0) where
     entry_less : (other : List ℕ) → entry_at removed.tree directory other
         ≡ cond (not (bytes_eq other name)) (entry_at files.tree directory other) None
     entry_less other =
-        ap (λ o. entry_named other (entries_in o)) (removed_node directory ∙ there files directory (node_without_entry name))
+        ap (λ o. entry_named other (entries_in o))
+        (removed_node directory ∙ there files directory (node_without_entry name))
         ∙ ap (entry_named other) (entries-node_without_entry name (files.tree.node directory))
         ∙ entry_named-without_entry other name (entries_in (files.tree.node directory))
 
     pub name_missing : entry_at removed.tree directory name ≡ None
     name_missing =
-        entry_less name ∙ ap (λ b. cond (not b) (entry_at files.tree directory name) None) ((bytes_decides name name).1 refl)
+        entry_less name ∙ ap (λ b. cond (not b) (entry_at files.tree directory name) None)
+        ((bytes_decides name name).1 refl)
 
-    removed_part : {A : Type 0} (part : Option (Node ℕ) → A) → ((o : Option (Node ℕ)) → part (node_without_entry name o) ≡ part o)
+    removed_part : {A : Type 0} (part : Option (Node ℕ) → A)
+        → ((o : Option (Node ℕ)) → part (node_without_entry name o) ≡ part o)
         → (n : ℕ) → part (removed.tree.node n) ≡ part (files.tree.node n)
-    removed_part part same n = ap part (removed_node n) ∙ part_stays files directory (node_without_entry name) part same n
+    removed_part part same n = ap part (removed_node n)
+        ∙ part_stays files directory (node_without_entry name) part same n
 
     pub ways_removed : Refused (denial W6) → TreeStays files.tree removed.tree Refused
     ways_removed missing = record {
@@ -291,7 +309,8 @@ module _ (files : FileTree ℕ) (Refused : Deny → Type 0) where
       where
         entry_or : (here : ℕ) (other : List ℕ) (next : ℕ) → entry_at files.tree here other ≡ Some next
             → (entry_at removed.tree here other ≡ Some next)
-            ⊎ ((entry_at removed.tree here other ≡ None) × (is_directory_node (files.tree.node next) ≡ false) × Refused (denial W6))
+            ⊎ ((entry_at removed.tree here other ≡ None) × (is_directory_node (files.tree.node next) ≡ false)
+            × Refused (denial W6))
         entry_or here other next e =
             ⊎_elim
             (λ t. by (bytes_eq other name) refl (ap (λ m. entry_at removed.tree m other) t.1 ∙ entry_less other)
@@ -304,7 +323,8 @@ module _ (files : FileTree ℕ) (Refused : Deny → Type 0) where
                 → entry_at removed.tree here other ≡ cond (not b) (entry_at files.tree directory other) None
                 → entry_at files.tree directory other ≡ Some next
                 → (entry_at removed.tree here other ≡ Some next)
-                ⊎ ((entry_at removed.tree here other ≡ None) × (is_directory_node (files.tree.node next) ≡ false) × Refused (denial W6))
+                ⊎ ((entry_at removed.tree here other ≡ None) × (is_directory_node (files.tree.node next) ≡ false)
+                × Refused (denial W6))
             by true same now was =
                 let name_is : other ≡ name = (bytes_decides other name).0 same in
                 let object_is : object ≡ next =
@@ -317,7 +337,8 @@ module _ (files : FileTree ℕ) (Refused : Deny → Type 0) where
 
 -- An object that is no directory leaves one name for another, which was free
 module _ (files : FileTree ℕ) (Refused : Deny → Type 0) (from : ℕ) (old : List ℕ) (to : ℕ) (new : List ℕ) (object : ℕ)
-    (named_so : entry_at files.tree from old ≡ Some object) (no_directory : is_directory_node (files.tree.node object) ≡ false)
+    (named_so : entry_at files.tree from old ≡ Some object)
+    (no_directory : is_directory_node (files.tree.node object) ≡ false)
     (in_directory : IsDirectory files.tree to) (free : entry_at files.tree to new ≡ None) where
   abbrev less : FileTree ℕ
   less = without_name nat_eq files from old
@@ -356,28 +377,33 @@ module _ (files : FileTree ℕ) (Refused : Deny → Type 0) (from : ℕ) (old : 
 
   moved_node : (n : ℕ) → moved.tree.node n ≡ renamed.tree.node n
   moved_node n =
-      ap (λ o. (changed_node nat_eq (with_name nat_eq (without_name nat_eq (without_parent nat_eq files o) from old) to new object)
+      ap (λ o. (changed_node nat_eq (with_name nat_eq
+      (without_name nat_eq (without_parent nat_eq files o) from old) to new object)
       object (node_with_parent to)).tree.node n) free
       ∙ by (nat_eq n object) refl
     where
       kept : is_directory_node (renamed.tree.node object) ≡ false
       kept =
-          part_stays less to (node_with_entry new object) is_directory_node (is_directory-node_with_entry new object) object
+          part_stays less to (node_with_entry new object) is_directory_node
+          (is_directory-node_with_entry new object) object
           ∙ less_kind object ∙ no_directory
 
       by : (b : Bool) → nat_eq n object ≡ b
           → cond b (node_with_parent to (renamed.tree.node object)) (renamed.tree.node n) ≡ renamed.tree.node n
-      by true e = no_parent files Refused to (renamed.tree.node object) kept ∙ ap renamed.tree.node (sym (eqb-true n object e))
+      by true e = no_parent files Refused to (renamed.tree.node object) kept
+          ∙ ap renamed.tree.node (sym (eqb-true n object e))
       by false e = refl
 
   pub moved_entry : entry_at moved.tree to new ≡ Some object
-  moved_entry = ap (λ o. entry_named new (entries_in o)) (moved_node to) ∙ name_leads less Refused to new object less_directory less_free
+  moved_entry = ap (λ o. entry_named new (entries_in o)) (moved_node to)
+      ∙ name_leads less Refused to new object less_directory less_free
 
   -- a name that is missing is missing still
   missing_stays : (here : ℕ) (other : List ℕ) → entry_at less.tree here other ≡ None → (here ≡ to → other ≡ new → ⊥)
       → entry_at renamed.tree here other ≡ None
   missing_stays here other e apart = ⊎_elim
-      (λ t. ap (λ m. entry_at renamed.tree m other) t.1 ∙ entry_now less Refused to new object less_directory less_free other
+      (λ t. ap (λ m. entry_at renamed.tree m other) t.1
+      ∙ entry_now less Refused to new object less_directory less_free other
       ∙ by t.1 (eq_by_cmp name_cmp other new) refl (ap (λ m. entry_at less.tree m other) (sym t.1) ∙ e))
       (λ t. ap (λ o. entry_named other (entries_in o)) (elsewhere less to (node_with_entry new object) here t.1) ∙ e)
       (eqb_tells here to)
@@ -395,8 +421,10 @@ module _ (files : FileTree ℕ) (Refused : Deny → Type 0) (from : ℕ) (old : 
       none_is_not (entry_at files.tree to new) object free
       ((λ i. entry_at files.tree (sym same_directory i) (sym same_word i)) ∙ named_so))
 
-  moved_part : {A : Type 0} (part : Option (Node ℕ) → A) → ((o : Option (Node ℕ)) → part (node_without_entry old o) ≡ part o)
-      → ((o : Option (Node ℕ)) → part (node_with_entry new object o) ≡ part o) → (n : ℕ) → part (moved.tree.node n) ≡ part
+  moved_part : {A : Type 0} (part : Option (Node ℕ) → A)
+      → ((o : Option (Node ℕ)) → part (node_without_entry old o) ≡ part o)
+      → ((o : Option (Node ℕ)) → part (node_with_entry new object o) ≡ part o) → (n : ℕ)
+      → part (moved.tree.node n) ≡ part
       (files.tree.node n)
   moved_part part without with n =
       ap part (moved_node n) ∙ part_stays less to (node_with_entry new object) part with n
@@ -404,13 +432,16 @@ module _ (files : FileTree ℕ) (Refused : Deny → Type 0) (from : ℕ) (old : 
 
   pub ways_moved : Refused (denial W6) → TreeStays files.tree moved.tree Refused
   ways_moved missing = record {
-    root = ap (λ o. (changed_node nat_eq (with_name nat_eq (without_name nat_eq (without_parent nat_eq files o) from old) to new object)
+    root = ap (λ o. (changed_node nat_eq
+        (with_name nat_eq (without_name nat_eq (without_parent nat_eq files o) from old) to new object)
         object (node_with_parent to)).tree.root) free;
-    directory = λ n is. moved_part is_directory_node (kind-node_without_entry old) (is_directory-node_with_entry new object) n;
+    directory = λ n is. moved_part is_directory_node (kind-node_without_entry old)
+        (is_directory-node_with_entry new object) n;
     parent = λ n is. moved_part (parent_in n) (parent-node_without_entry old n) (parent-node_with_entry new object n) n;
     link = λ n is. moved_part symlink_text (link_without old) (link_with_entry new object) n;
     entry = λ here other next e.
-        by here other next e ((ways_removed files Refused from old object named_so no_directory missing).entry here other next e);
+        by here other next e
+        ((ways_removed files Refused from old object named_so no_directory missing).entry here other next e);
   }
     where
       by : (here : ℕ) (other : List ℕ) (next : ℕ) → entry_at files.tree here other ≡ Some next
@@ -418,10 +449,12 @@ module _ (files : FileTree ℕ) (Refused : Deny → Type 0) (from : ℕ) (old : 
           ⊎ ((entry_at (changed nat_eq files (Remove from old object)).tree here other ≡ None)
           × (is_directory_node (files.tree.node next) ≡ false) × Refused (denial W6))
           → (entry_at moved.tree here other ≡ Some next)
-          ⊎ ((entry_at moved.tree here other ≡ None) × (is_directory_node (files.tree.node next) ≡ false) × Refused (denial W6))
+          ⊎ ((entry_at moved.tree here other ≡ None) × (is_directory_node (files.tree.node next) ≡ false)
+          × Refused (denial W6))
       by here other next e (inl same) =
           inl (ap (λ o. entry_named other (entries_in o)) (moved_node here)
-          ∙ entry_stays less Refused to new object less_directory less_free here other next (less_entry here other ∙ same))
+          ∙ entry_stays less Refused to new object less_directory less_free here other next
+          (less_entry here other ∙ same))
       by here other next e (inr lost) =
           inr (
             ap (λ o. entry_named other (entries_in o)) (moved_node here)

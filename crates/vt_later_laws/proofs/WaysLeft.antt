@@ -1,5 +1,5 @@
--- In a world that a call left, in which a task's own mounts are seen as they were, one object may have lost its name, and the ways up
--- that it takes stay or are lost, walks lead where they led.
+-- In a world that a call left, in which a task's own mounts are seen as they were, one object may have lost its name,
+-- and the ways up that it takes stay or are lost, walks lead where they led.
 use Rattle.std.proofs.Common.{◌≡◌, refl, sym, ap, subst, ◌∙◌, inl, inr, ◌⊎◌, ℕ, nat_eq, Bool, true, false, cond, ◌||◌, List, [], ◌∷◌, length, Option, Some, None, is_some, option_map, ok_or, Result, Ok, Err}
 use Rattle.vt_spec.specs.declared.errors.Deny.{Deny}
 use Rattle.vt_spec.specs.declared.errors.Rule.TheVariants.{W4, W6, W8}
@@ -65,21 +65,26 @@ module _ (world later : World ℕ) (is : IsWorld nat_eq world) (plain : IsPlain 
     pub parent : parent_in here.node (node_at nat_eq later here) ≡ parent_in here.node (node_at nat_eq world here)
     pub not_lost : is_lost nat_eq later here ≡ false
 
-  -- locations from which ways stay: with such a one, those that its names lead to, what stands over them, and the ways up
+  -- locations from which ways stay: with such a one, those that its names lead to, what stands over them, and the ways
+  -- up
   pub record FitsWays (Refused : Deny → Type 0) (Fits : Location ℕ → Type 0) : Type 0 where
     pub named : (here : Location ℕ) (name : List ℕ) (object : ℕ) → BothAre here → Fits here
         → entry_named name (entries_in (node_at nat_eq world here)) ≡ Some object
         → entry_named name (entries_in (node_at nat_eq later here)) ≡ Some object
         → Fits (record { mount = here.mount; node = object })
-    pub over : (place : Location ℕ) → IsOn world is task place.mount → Fits place → Fits (topmost nat_eq world.mounts place)
+    pub over : (place : Location ℕ) → IsOn world is task place.mount → Fits place
+        → Fits (topmost nat_eq world.mounts place)
     pub hopped : (here : Location ℕ) → BothAre here → Fits here → Fits (top here)
     pub up : (here : Location ℕ) → BothAre here → Fits here
         → (same_location nat_eq here task.root || nat_eq here.node (mount_at nat_eq world here).root) ≡ false
         → is_lost nat_eq world here ≡ false
-        → (GoesUp here × Fits (parent_location nat_eq world here)) ⊎ (Refused (denial W8) × (is_lost nat_eq later here ≡ true))
+        → (GoesUp here × Fits (parent_location nat_eq world here))
+        ⊎ (Refused (denial W8) × (is_lost nat_eq later here ≡ true))
 
-  module _ (called : task_called world task.name ≡ Some task) (called_later : task_called later reader.name ≡ Some reader)
-      (stands : StandsAs task reader) (Refused : Deny → Type 0) (seen : MountsSeen) (stay : ObjectsStay world later Refused)
+  module _ (called : task_called world task.name ≡ Some task)
+      (called_later : task_called later reader.name ≡ Some reader)
+      (stands : StandsAs task reader) (Refused : Deny → Type 0) (seen : MountsSeen)
+      (stay : ObjectsStay world later Refused)
       (Fits : Location ℕ → Type 0) (fits : FitsWays Refused Fits) where
     -- a location that is there in both worlds, and fits
     abbrev pub Known : Location ℕ → Type 0
@@ -92,10 +97,12 @@ module _ (world later : World ℕ) (is : IsWorld nat_eq world) (plain : IsPlain 
         → node_at nat_eq later here ≡ node_in later (mount_at nat_eq world here).filesystem here.node
     node_here here known = ap (λ n. node_in later n here.node) (alike here known).filesystem
 
-    pub there_later : (here : Location ℕ) → BothFound here → is_some (node_in later (mount_at nat_eq world here).filesystem here.node) ≡ true
+    pub there_later : (here : Location ℕ) → BothFound here
+        → is_some (node_in later (mount_at nat_eq world here).filesystem here.node) ≡ true
     there_later here known = ap is_some (sym (node_here here known)) ∙ known.1.1
 
-    directory_too : (here : Location ℕ) → BothFound here → is_directory_at nat_eq later here ≡ is_directory_at nat_eq world here
+    directory_too : (here : Location ℕ) → BothFound here
+        → is_directory_at nat_eq later here ≡ is_directory_at nat_eq world here
     directory_too here known =
         ap is_directory_node (node_here here known)
         ∙ stay.directory (mount_at nat_eq world here).filesystem here.node known.0.1 (there_later here known)
@@ -104,10 +111,12 @@ module _ (world later : World ℕ) (is : IsWorld nat_eq world) (plain : IsPlain 
     both_are here known directory = ((known.0.0, directory), (known.1.0, directory_too here known ∙ directory))
 
     both_found : (here : Location ℕ) → BothAre here → BothFound here
-    both_found here known = (directory_found world is task here known.0, directory_found later is_later reader here known.1)
+    both_found here known =
+        (directory_found world is task here known.0, directory_found later is_later reader here known.1)
 
     next_found : (here : Location ℕ) (word : LastWord) (next : Location ℕ) → BothAre here
-        → stepped nat_eq world task here word ≡ Ok next → stepped nat_eq later reader here word ≡ Ok next → BothFound next
+        → stepped nat_eq world task here word ≡ Ok next → stepped nat_eq later reader here word ≡ Ok next
+        → BothFound next
     next_found here word next known e f =
         (step_found world is task here word next known.0 e, step_found later is_later reader here word next known.1 f)
 
@@ -119,7 +128,8 @@ module _ (world later : World ℕ) (is : IsWorld nat_eq world) (plain : IsPlain 
     -- Names
     abbrev named_by : List (Mount ℕ) → Location ℕ → Option ℕ → Result (Location ℕ) Deny
     named_by mounts here o =
-        ok_or (option_map (topmost nat_eq mounts) (option_map (λ object. record { mount = here.mount; node = object }) o)) (denial W6)
+        ok_or (option_map (topmost nat_eq mounts)
+        (option_map (λ object. record { mount = here.mount; node = object }) o)) (denial W6)
 
     no_answer : (deny : Deny) (a : Location ℕ) → Path (Result (Location ℕ) Deny) (Err deny) (Ok a) → ⊥
     no_answer deny a f = cc
@@ -135,28 +145,33 @@ module _ (world later : World ℕ) (is : IsWorld nat_eq world) (plain : IsPlain 
         inside : (object : ℕ) → entry_named name (entries_in (node_at nat_eq world here)) ≡ Some object
             → named_by world.mounts here (Some object) ≡ Ok next
             → (entry_at (tree_in later (mount_at nat_eq world here).filesystem) here.node name ≡ Some object)
-            ⊎ ((entry_at (tree_in later (mount_at nat_eq world here).filesystem) here.node name ≡ None) × Refused (denial W6))
+            ⊎ ((entry_at (tree_in later (mount_at nat_eq world here).filesystem) here.node name ≡ None)
+            × Refused (denial W6))
             → Steps here (Named name) next
         inside object f g (inl stays) =
             let place : Location ℕ = record { mount = here.mount; node = object } in
             let now : stepped nat_eq later reader here (Named name) ≡ Ok next =
-            ap (named_by later.mounts here) (at_later (Some object) stays) ∙ ap Ok (seen.topmost_is place known.0.0) ∙ g in
+            ap (named_by later.mounts here) (at_later (Some object) stays) ∙ ap Ok (seen.topmost_is place known.0.0)
+            ∙ g in
             inl (
               now,
               (
                 next_found here (Named name) next known e now,
                 subst Fits (same_ok (topmost nat_eq world.mounts place) next g)
-                    (fits.over place known.0.0 (fits.named here name object known fit f (at_later (Some object) stays))),
+                    (fits.over place known.0.0 (fits.named here name object known fit f
+                    (at_later (Some object) stays))),
               ),
             )
         inside object f g (inr lost) = inr (denial W6, lost.1, ap (named_by later.mounts here) (at_later None lost.0))
 
         by : (o : Option ℕ) → entry_named name (entries_in (node_at nat_eq world here)) ≡ o
-            → named_by world.mounts here (entry_named name (entries_in (node_at nat_eq world here))) ≡ Ok next → Steps here (Named name) next
+            → named_by world.mounts here (entry_named name (entries_in (node_at nat_eq world here))) ≡ Ok next
+            → Steps here (Named name) next
         by None f g = absurd (no_answer (denial W6) next (ap (named_by world.mounts here) (sym f) ∙ g))
         by (Some object) f g =
             inside object f (ap (named_by world.mounts here) (sym f) ∙ g)
-            (stay.entry (mount_at nat_eq world here).filesystem here.node name object f (there_later here (both_found here known)))
+            (stay.entry (mount_at nat_eq world here).filesystem here.node name object f
+            (there_later here (both_found here known)))
 
     -- Up
     abbrev is_top_by : Location ℕ → ℕ → Location ℕ → Bool
@@ -164,7 +179,8 @@ module _ (world later : World ℕ) (is : IsWorld nat_eq world) (plain : IsPlain 
 
     abbrev up_by : List (Mount ℕ) → Bool → Bool → ℕ → Location ℕ → Result (Location ℕ) Deny
     up_by mounts ends lost parent here =
-        cond ends (Ok here) (unless ((lost, W8) ∷ []) (Ok (topmost nat_eq mounts (record { mount = here.mount; node = parent }))))
+        cond ends (Ok here) (unless ((lost, W8) ∷ [])
+        (Ok (topmost nat_eq mounts (record { mount = here.mount; node = parent }))))
 
     module _ (here next : Location ℕ) (known : BothAre here) (fit : Fits here) where
       abbrev above : Location ℕ
@@ -182,12 +198,15 @@ module _ (world later : World ℕ) (is : IsWorld nat_eq world) (plain : IsPlain 
       ends_same = λ i. is_top_by (stands.root i) ((alike above (both_found above above_known)).root i) above
 
       later_up : stepped nat_eq later reader here DotDot
-          ≡ up_by later.mounts (is_top_by task.root (mount_at nat_eq world above).root above) (is_lost nat_eq later above)
+          ≡ up_by later.mounts (is_top_by task.root (mount_at nat_eq world above).root above)
+          (is_lost nat_eq later above)
           (parent_in above.node (node_at nat_eq later above)) above
       later_up =
-          ap (λ (at : Location ℕ). up_by later.mounts (is_top_by reader.root (mount_at nat_eq later at).root at) (is_lost nat_eq later at)
+          ap (λ (at : Location ℕ). up_by later.mounts (is_top_by reader.root (mount_at nat_eq later at).root at)
+          (is_lost nat_eq later at)
           (parent_in at.node (node_at nat_eq later at)) at) (seen.top_is here known)
-          ∙ ap (λ b. up_by later.mounts b (is_lost nat_eq later above) (parent_in above.node (node_at nat_eq later above)) above) ends_same
+          ∙ ap (λ b. up_by later.mounts b (is_lost nat_eq later above)
+          (parent_in above.node (node_at nat_eq later above)) above) ends_same
 
       up_too : stepped nat_eq world task here DotDot ≡ Ok next → Steps here DotDot next
       up_too e =
@@ -197,8 +216,10 @@ module _ (world later : World ℕ) (is : IsWorld nat_eq world) (plain : IsPlain 
           found_too f fit_next = inl (f, (next_found here DotDot next known e f, fit_next))
 
           on : is_top_by task.root (mount_at nat_eq world above).root above ≡ false
-              → Path (Result (Location ℕ) Deny) (Ok (topmost nat_eq world.mounts (parent_location nat_eq world above))) (Ok next)
-              → (GoesUp above × Fits (parent_location nat_eq world above)) ⊎ (Refused (denial W8) × (is_lost nat_eq later above ≡ true))
+              → Path (Result (Location ℕ) Deny) (Ok (topmost nat_eq world.mounts (parent_location nat_eq world above)))
+              (Ok next)
+              → (GoesUp above × Fits (parent_location nat_eq world above))
+              ⊎ (Refused (denial W8) × (is_lost nat_eq later above ≡ true))
               → Steps here DotDot next
           on p g (inl goes) =
               found_too
@@ -211,16 +232,19 @@ module _ (world later : World ℕ) (is : IsWorld nat_eq world) (plain : IsPlain 
               inr (
                 denial W8,
                 lost.0,
-                later_up ∙ (λ i. up_by later.mounts (p i) (lost.1 i) (parent_in above.node (node_at nat_eq later above)) above),
+                later_up ∙ (λ i. up_by later.mounts (p i) (lost.1 i)
+                    (parent_in above.node (node_at nat_eq later above)) above),
               )
 
           by : (p : Bool) → is_top_by task.root (mount_at nat_eq world above).root above ≡ p
               → (q : Bool) → is_lost nat_eq world above ≡ q
-              → up_by world.mounts p q (parent_in above.node (node_at nat_eq world above)) above ≡ Ok next → Steps here DotDot next
+              → up_by world.mounts p q (parent_in above.node (node_at nat_eq world above)) above ≡ Ok next
+              → Steps here DotDot next
           by true f q lost g =
               found_too
               (later_up
-              ∙ ap (λ b. up_by later.mounts b (is_lost nat_eq later above) (parent_in above.node (node_at nat_eq later above)) above) f ∙ g)
+              ∙ ap (λ b. up_by later.mounts b (is_lost nat_eq later above)
+              (parent_in above.node (node_at nat_eq later above)) above) f ∙ g)
               (subst Fits (same_ok above next g) (fits.hopped here known fit))
           by false f true lost g = absurd (no_answer (denial W8) next g)
           by false f false lost g = on f g (fits.up above above_known (fits.hopped here known fit) f lost)
@@ -229,7 +253,8 @@ module _ (world later : World ℕ) (is : IsWorld nat_eq world) (plain : IsPlain 
         → stepped nat_eq world task here word ≡ Ok next → Steps here word next
     step_too here NoWord next known fit e =
         inl (e, (next_found here NoWord next known e e, subst Fits (same_ok here next e) fit))
-    step_too here Dot next known fit e = inl (e, (next_found here Dot next known e e, subst Fits (same_ok here next e) fit))
+    step_too here Dot next known fit e =
+        inl (e, (next_found here Dot next known e e, subst Fits (same_ok here next e) fit))
     step_too here DotDot next known fit e = up_too here next known fit e
     step_too here (Named name) next known fit e = name_too here name next known fit e
 
@@ -253,7 +278,8 @@ module _ (world later : World ℕ) (is : IsWorld nat_eq world) (plain : IsPlain 
       working_known = (
         both_found task.directory (
           own_directory_found world is task called,
-          subst (IsFoundDirectory later is_later reader) stands.directory (own_directory_found later is_later reader called_later),
+          subst (IsFoundDirectory later is_later reader) stands.directory
+              (own_directory_found later is_later reader called_later),
         ),
         directory_fits,
       );

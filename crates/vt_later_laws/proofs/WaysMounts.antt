@@ -1,4 +1,5 @@
--- Where mounts of other namespaces go, with all that stands on them, steps through a task's own find the mounts that they found.
+-- Where mounts of other namespaces go, with all that stands on them, steps through a task's own find the mounts that
+-- they found.
 use Rattle.std.proofs.Common.{◌≡◌, refl, sym, ap, subst, ◌∙◌, true≢false, ℕ, zero, suc, ◌≤◌, nat_eq, Bool, true, false, cond, List, filter, length, Option, Some, None, is_some, arith}
 use Rattle.std.specs.List.{list_all}
 use Rattle.std.specs.Prelude.{option_map, option_to_list}
@@ -33,10 +34,12 @@ module _ {A : Type 0} where
   stops zero next a e = refl
   stops (suc n) next a e = ap (last_or a) (chain_ends next n a e)
 
-  goes : (n : ℕ) (next : A → Option A) (a b : A) → next a ≡ Some b → last_or a (chain (suc n) next a) ≡ last_or b (chain n next b)
+  goes : (n : ℕ) (next : A → Option A) (a b : A) → next a ≡ Some b
+      → last_or a (chain (suc n) next a) ≡ last_or b (chain n next b)
   goes n next a b e = ap (last_or a) (chain_goes_on next n a b e) ∙ last_of_chain next n b a
 
-  pub chains_agree : (f g : A → Option A) (Q : A → Type 0) → ((a : A) → Q a → g a ≡ f a) → ((a b : A) → Q a → f a ≡ Some b → Q b)
+  pub chains_agree : (f g : A → Option A) (Q : A → Type 0) → ((a : A) → Q a → g a ≡ f a)
+      → ((a b : A) → Q a → f a ≡ Some b → Q b)
       → (m n : ℕ) (a : A) → Q a → f (last_or a (chain m f a)) ≡ None → g (last_or a (chain n g a)) ≡ None
       → last_or a (chain n g a) ≡ last_or a (chain m f a)
   chains_agree f g Q same on zero n a q ends ends_too = stops n g a (same a q ∙ ends)
@@ -65,13 +68,15 @@ module _ (world : World ℕ) (is : IsWorld nat_eq world) (task : Task ℕ) where
       by false true h = h
       by false false h = none_is_not None b refl h
 
-  pub hop_known : (a b : Location ℕ) → IsFoundDirectory world is task a → hop nat_eq world task a ≡ Some b → IsFoundDirectory world is task b
+  pub hop_known : (a b : Location ℕ) → IsFoundDirectory world is task a → hop nat_eq world task a ≡ Some b
+      → IsFoundDirectory world is task b
   hop_known a b found e = place_found world is task a.mount b found.0 (hop_place a b e)
 
   pub top_known : (here : Location ℕ) → IsFoundDirectory world is task here
       → IsFoundDirectory world is task (last_or here (chain (length world.mounts) (hop nat_eq world task) here))
   top_known here found =
-      chain_ends_at (IsFoundDirectory world is task) (hop nat_eq world task) hop_known (length world.mounts) here here found
+      chain_ends_at (IsFoundDirectory world is task) (hop nat_eq world task) hop_known
+      (length world.mounts) here here found
 
   -- hops come to an end
   abbrev deep : ℕ → ℕ
@@ -89,13 +94,15 @@ module _ (world : World ℕ) (is : IsWorld nat_eq world) (task : Task ℕ) where
   hops_end_by (suc n) here less = by (hop nat_eq world task here) refl (λ b h. hops_end_by n b h)
     where
       by : (o : Option (Location ℕ)) → hop nat_eq world task here ≡ o
-          → ((b : Location ℕ) → deep b.mount ≤ n → hop nat_eq world task (last_or b (chain n (hop nat_eq world task) b)) ≡ None)
+          → ((b : Location ℕ) → deep b.mount ≤ n
+          → hop nat_eq world task (last_or b (chain n (hop nat_eq world task) b)) ≡ None)
           → hop nat_eq world task (last_or here (chain (suc n) (hop nat_eq world task) here)) ≡ None
       by None e rest = ap (hop nat_eq world task) (stops (suc n) (hop nat_eq world task) here e) ∙ e
       by (Some b) e rest =
           ap (hop nat_eq world task) (goes n (hop nat_eq world task) here b e)
           ∙ rest b
-          (let child = rank_child world is.mounts.one_number is.mounts.standing here.mount b (hop_place here b e) in omega arith)
+          (let child = rank_child world is.mounts.one_number is.mounts.standing here.mount b
+          (hop_place here b e) in omega arith)
 
   pub hops_end : (here : Location ℕ)
       → hop nat_eq world task (last_or here (chain (length world.mounts) (hop nat_eq world task) here)) ≡ None
@@ -111,18 +118,21 @@ pub record SeenAlike (before after : Mount ℕ) : Type 0 where
 
 -- What stands somewhere when mounts are taken away with all that stands on them, stood there.
 module _ (world : World ℕ) (is : IsWorld nat_eq world) (gone : List ℕ) (closed : AreClosed world gone) where
-  pub placed_before : (new : Mount ℕ) (place : Location ℕ) → Among new (taken_away nat_eq world gone).mounts → new.mount_point ≡ Some place
+  pub placed_before : (new : Mount ℕ) (place : Location ℕ) → Among new (taken_away nat_eq world gone).mounts
+      → new.mount_point ≡ Some place
       → (was : Mount ℕ) × Among was world.mounts × (was.mount_point ≡ Some place)
   placed_before new place m e = by (is_going nat_eq gone new.number) refl
     where
       itself : mount_numbered nat_eq (taken_away nat_eq world gone) new.number ≡ new
       itself =
-          found_itself (taken_away nat_eq world gone).mounts (taking_away_keeps_numbers world gone is.mounts.one_number) new m
+          found_itself (taken_away nat_eq world gone).mounts
+          (taking_away_keeps_numbers world gone is.mounts.one_number) new m
 
       at : (mount_numbered nat_eq (taken_away nat_eq world gone) new.number).mount_point ≡ Some place
       at = ap (λ (m : Mount ℕ). m.mount_point) itself ∙ e
 
-      on : is_going nat_eq gone new.number ≡ false → (before : Location ℕ) → (mount_numbered nat_eq world new.number).mount_point ≡ Some before
+      on : is_going nat_eq gone new.number ≡ false → (before : Location ℕ)
+          → (mount_numbered nat_eq world new.number).mount_point ≡ Some before
           → (b : Bool) → is_going nat_eq gone before.mount ≡ b
           → (was : Mount ℕ) × Among was world.mounts × (was.mount_point ≡ Some place)
       on keeps before f true g =
@@ -136,20 +146,25 @@ module _ (world : World ℕ) (is : IsWorld nat_eq world) (gone : List ℕ) (clos
         f ∙ ap Some (same_Some before place (sym (place_kept world gone new.number before keeps f g) ∙ at)),
       )
 
-      by_place : is_going nat_eq gone new.number ≡ false → (o : Option (Location ℕ)) → (mount_numbered nat_eq world new.number).mount_point ≡ o
+      by_place : is_going nat_eq gone new.number ≡ false → (o : Option (Location ℕ))
+          → (mount_numbered nat_eq world new.number).mount_point ≡ o
           → (was : Mount ℕ) × Among was world.mounts × (was.mount_point ≡ Some place)
       by_place keeps None f =
-          none_is_not (mount_numbered nat_eq (taken_away nat_eq world gone) new.number).mount_point place (root_stays world gone new.number f) at
+          none_is_not (mount_numbered nat_eq (taken_away nat_eq world gone) new.number).mount_point place
+          (root_stays world gone new.number f) at
       by_place keeps (Some before) f = on keeps before f (is_going nat_eq gone before.mount) refl
 
-      by : (b : Bool) → is_going nat_eq gone new.number ≡ b → (was : Mount ℕ) × Among was world.mounts × (was.mount_point ≡ Some place)
+      by : (b : Bool) → is_going nat_eq gone new.number ≡ b
+          → (was : Mount ℕ) × Among was world.mounts × (was.mount_point ≡ Some place)
       by true f =
           none_is_not (mount_numbered nat_eq (taken_away nat_eq world gone) new.number).mount_point place
           (ap (λ (m : Mount ℕ). m.mount_point) (detached_by_number world gone new.number f)) at
       by false f = by_place f (mount_numbered nat_eq world new.number).mount_point refl
 
-module _ (world later : World ℕ) (is : IsWorld nat_eq world) (is_later : IsWorld nat_eq later) (task : Task ℕ) (gone : List ℕ)
-    (closed : AreClosed world gone) (lives : Mount ℕ → Bool) (living : later.mounts ≡ filter lives (taken_away nat_eq world gone).mounts)
+module _ (world later : World ℕ) (is : IsWorld nat_eq world) (is_later : IsWorld nat_eq later) (task : Task ℕ)
+    (gone : List ℕ)
+    (closed : AreClosed world gone) (lives : Mount ℕ → Bool)
+    (living : later.mounts ≡ filter lives (taken_away nat_eq world gone).mounts)
     (attached_live : (mount : Mount ℕ) → is_some mount.namespace ≡ true → lives mount ≡ true)
     (stays : (number : ℕ) → IsOn world is task number → is_going nat_eq gone number ≡ false) where
   abbrev taken : World ℕ
@@ -196,7 +211,8 @@ module _ (world later : World ℕ) (is : IsWorld nat_eq world) (is_later : IsWor
           ∙ sym e
 
   -- what stands at an own place stands there, and nothing else
-  child_own : (place : Location ℕ) → IsOn world is task place.mount → (child : Mount ℕ) → child_at nat_eq world.mounts place ≡ Some child
+  child_own : (place : Location ℕ) → IsOn world is task place.mount → (child : Mount ℕ)
+      → child_at nat_eq world.mounts place ≡ Some child
       → IsOn world is task child.number
   child_own place own child e =
       let found = found_in (stands_at nat_eq place) world.mounts child e in
@@ -211,7 +227,8 @@ module _ (world later : World ℕ) (is : IsWorld nat_eq world) (is_later : IsWor
   abbrev child_root : World ℕ → Location ℕ → Option (Location ℕ)
   child_root w place = option_map root_of (child_at nat_eq w.mounts place)
 
-  child_there : (place : Location ℕ) → IsOn world is task place.mount → (child : Mount ℕ) → child_at nat_eq world.mounts place ≡ Some child
+  child_there : (place : Location ℕ) → IsOn world is task place.mount → (child : Mount ℕ)
+      → child_at nat_eq world.mounts place ≡ Some child
       → child_root later place ≡ Some (root_of child)
   child_there place own child e =
       let found = found_in (stands_at nat_eq place) world.mounts child e in
@@ -240,13 +257,15 @@ module _ (world later : World ℕ) (is : IsWorld nat_eq world) (is_later : IsWor
           by true f = f
           by false f =
               absurd (true≢false (sym (ap is_some e)
-              ∙ (nowhere_parts mount (among_from_list_all is_nowhere_or_attached world.mounts is.mounts.nowhere mount m) f).0))
+              ∙ (nowhere_parts mount
+              (among_from_list_all is_nowhere_or_attached world.mounts is.mounts.nowhere mount m) f).0))
 
   none_there : (place : Location ℕ) → child_at nat_eq world.mounts place ≡ None → (new : Mount ℕ)
       → child_at nat_eq later.mounts place ≡ Some new → ⊥
   none_there place none new e =
       let found = found_in (stands_at nat_eq place) later.mounts new e in
-      let was = placed_before world is gone closed new place (from_taken new found.0) (stands_there place new found.1) in
+      let was = placed_before world is gone closed new place (from_taken new found.0)
+      (stands_there place new found.1) in
       true≢false
       (sym (stands_at_its_place place was.0 was.2) ∙ unfound (stands_at nat_eq place) world.mounts none was.0 was.1)
 
@@ -258,26 +277,32 @@ module _ (world later : World ℕ) (is : IsWorld nat_eq world) (is_later : IsWor
       none e None f = ap (option_map root_of) f
       none e (Some new) f = absurd (none_there place e new f)
 
-      by : (o : Option (Mount ℕ)) → child_at nat_eq world.mounts place ≡ o → child_root later place ≡ child_root world place
+      by : (o : Option (Mount ℕ)) → child_at nat_eq world.mounts place ≡ o
+          → child_root later place ≡ child_root world place
       by None e = none e (child_at nat_eq later.mounts place) refl ∙ sym (ap (option_map root_of) e)
       by (Some child) e = child_there place own child e ∙ sym (ap (option_map root_of) e)
 
-  free_top : (w : World ℕ) → IsWorld nat_eq w → (place : Location ℕ) → child_root w (topmost nat_eq w.mounts place) ≡ None
+  free_top : (w : World ℕ) → IsWorld nat_eq w → (place : Location ℕ)
+      → child_root w (topmost nat_eq w.mounts place) ≡ None
   free_top w is_w place = ap (option_map root_of) (topmost_is_free w place is_w.mounts)
 
   pub topmost_same : (place : Location ℕ) → IsOn world is task place.mount
       → topmost nat_eq later.mounts place ≡ topmost nat_eq world.mounts place
   topmost_same place own =
-      chains_agree (child_root world) (child_root later) (λ (here : Location ℕ). IsOn world is task here.mount) child_same own_on
+      chains_agree (child_root world) (child_root later)
+      (λ (here : Location ℕ). IsOn world is task here.mount) child_same own_on
       (length world.mounts) (length later.mounts) place own (free_top world is place) (free_top later is_later place)
     where
-      own_on : (a b : Location ℕ) → IsOn world is task a.mount → child_root world a ≡ Some b → IsOn world is task b.mount
+      own_on : (a b : Location ℕ) → IsOn world is task a.mount → child_root world a ≡ Some b
+          → IsOn world is task b.mount
       own_on a b on e = by (child_at nat_eq world.mounts a) refl e
         where
-          by : (o : Option (Mount ℕ)) → child_at nat_eq world.mounts a ≡ o → option_map root_of o ≡ Some b → IsOn world is task b.mount
+          by : (o : Option (Mount ℕ)) → child_at nat_eq world.mounts a ≡ o → option_map root_of o ≡ Some b
+              → IsOn world is task b.mount
           by None f h = none_is_not None b refl h
           by (Some child) f h =
-              subst (λ (l : Location ℕ). IsOn world is task l.mount) (same_Some (root_of child) b h) (child_own a on child f)
+              subst (λ (l : Location ℕ). IsOn world is task l.mount) (same_Some (root_of child) b h)
+              (child_own a on child f)
 
   -- and `..` goes on from where it went on
   module _ (reader : Task ℕ) (roots : reader.root ≡ task.root) where
@@ -287,7 +312,8 @@ module _ (world later : World ℕ) (is : IsWorld nat_eq world) (is_later : IsWor
     hop_same : (here : Location ℕ) → BothDirectories here → hop nat_eq later reader here ≡ hop nat_eq world task here
     hop_same here known =
         let alike = own_mount here.mount known.0.0 known.1.0.0 in
-        λ i. cond (same_location nat_eq here (roots i)) None (cond (nat_eq here.node (alike.root i)) (alike.mount_point i) None)
+        λ i. cond (same_location nat_eq here (roots i)) None
+        (cond (nat_eq here.node (alike.root i)) (alike.mount_point i) None)
 
     hop_both : (a b : Location ℕ) → BothDirectories a → hop nat_eq world task a ≡ Some b → BothDirectories b
     hop_both a b known e =
@@ -298,4 +324,5 @@ module _ (world later : World ℕ) (is : IsWorld nat_eq world) (is_later : IsWor
         ≡ last_or here (chain (length world.mounts) (hop nat_eq world task) here)
     top_same here known =
         chains_agree (hop nat_eq world task) (hop nat_eq later reader) BothDirectories hop_same hop_both
-        (length world.mounts) (length later.mounts) here known (hops_end world is task here) (hops_end later is_later reader here)
+        (length world.mounts) (length later.mounts) here known (hops_end world is task here)
+        (hops_end later is_later reader here)

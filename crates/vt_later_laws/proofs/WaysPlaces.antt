@@ -16,7 +16,8 @@ use Rattle.vt_later_laws.proofs.Ways.{EndsAt, Ends, LeadsToo, Stops, at, both_wa
 
 -- a text that may be walked is the path
 pub path_parsed : (path text : List ℕ) → path_text {N = ℕ} path ≡ Ok text → path ≡ text
-path_parsed path text e = same_ok path text (passing (path_rules path) (Ok path) text (not_stopped [] (parsed_path path) text e)).1
+path_parsed path text e = same_ok path text
+    (passing (path_rules path) (Ok path) text (not_stopped [] (parsed_path path) text e)).1
 
 -- A path that leads to a name in a directory
 pub record NamedPlace (looks : Looks ℕ) (task : Task ℕ) (path : List ℕ) (place : Place ℕ) : Type 0 where
@@ -33,14 +34,16 @@ pub record NamedPlace (looks : Looks ℕ) (task : Task ℕ) (path : List ℕ) (p
   pub slash_is : ends_in_slash path ≡ place.slash
 
 -- what a word that names an entry was placed at
-pub record IsPlacedAt (looks : Looks ℕ) (task : Task ℕ) (here : Here ℕ) (last : LastWord) (slash : Bool) (place : Place ℕ) : Type 0 where
+pub record IsPlacedAt (looks : Looks ℕ) (task : Task ℕ) (here : Here ℕ) (last : LastWord) (slash : Bool)
+    (place : Place ℕ) : Type 0 where
   pub searched : AllPass (search_rules nat_eq looks task here.location)
   pub parent_is : here.location ≡ place.parent
   pub last_is : last ≡ place.last
   pub object_is : object_named nat_eq looks task here.location last ≡ Ok place.object
   pub slash_is : slash ≡ place.slash
 
-no_name : (last : LastWord) (place : Place ℕ) → last ≡ place.last → is_special last ≡ true → is_special place.last ≡ false → ⊥
+no_name : (last : LastWord) (place : Place ℕ) → last ≡ place.last → is_special last ≡ true
+    → is_special place.last ≡ false → ⊥
 no_name last place e special named = true≢false (sym special ∙ ap is_special e ∙ named)
 
 pub placed_at : (looks : Looks ℕ) (task : Task ℕ) (here : Here ℕ) (last : LastWord) (slash : Bool) (place : Place ℕ)
@@ -49,7 +52,8 @@ pub placed_at : (looks : Looks ℕ) (task : Task ℕ) (here : Here ℕ) (last : 
 placed_at looks task here NoWord slash place e special =
     absurd (no_name NoWord place (ap (λ (p : Place ℕ). p.last) (same_end _ place e)) refl special)
 placed_at looks task here Dot slash place e special =
-    let both = both_gave (unless (search_rules nat_eq looks task here.location) (object_named nat_eq looks task here.location Dot)) _ place
+    let both = both_gave (unless (search_rules nat_eq looks task here.location)
+    (object_named nat_eq looks task here.location Dot)) _ place
     (not_stopped (steps_at nat_eq looks task here Dot) _ place e) in
     absurd (no_name Dot place (ap (λ (p : Place ℕ). p.last) (same_ok _ place both.2)) refl special)
 placed_at looks task here DotDot slash place e special =
@@ -58,7 +62,8 @@ placed_at looks task here DotDot slash place e special =
     (not_stopped (steps_at nat_eq looks task here DotDot) _ place e) in
     absurd (no_name DotDot place (ap (λ (p : Place ℕ). p.last) (same_ok _ place both.2)) refl special)
 placed_at looks task here (Named name) slash place e special =
-    let both = both_gave (unless (search_rules nat_eq looks task here.location) (object_named nat_eq looks task here.location
+    let both = both_gave (unless (search_rules nat_eq looks task here.location)
+    (object_named nat_eq looks task here.location
     (Named name))) _ place
     (not_stopped (steps_at nat_eq looks task here (Named name)) _ place e) in
     let parts = passing (search_rules nat_eq looks task here.location) (object_named nat_eq looks task here.location
@@ -77,9 +82,11 @@ pub named_place : (looks : Looks ℕ) (task : Task ℕ) (path : List ℕ) (place
 named_place looks task path place e special =
     let texts = both_walked (path_text {N = ℕ} path) _ place e in
     let same : path ≡ texts.0 = path_parsed path texts.0 texts.1 in
-    let rest = subst (λ text. then_walk (front_walked nat_eq looks task (followed nat_eq looks task) (walk_start task text) (reverse
+    let rest = subst (λ text. then_walk
+    (front_walked nat_eq looks task (followed nat_eq looks task) (walk_start task text) (reverse
     (words text)))
-    (λ here. placed nat_eq looks task here (final_word (reverse (words text))) (ends_in_slash text)) ≡ Ok place) (sym same) texts.2 in
+    (λ here. placed nat_eq looks task here (final_word (reverse (words text))) (ends_in_slash text)) ≡ Ok place)
+    (sym same) texts.2 in
     by (reverse (words path)) refl (texts.1 ∙ ap Ok (sym same)) rest
   where
     by : (list : List (List ℕ)) → reverse (words path) ≡ list → path_text {N = ℕ} path ≡ Ok path
@@ -88,7 +95,8 @@ named_place looks task path place e special =
         → NamedPlace looks task path place
     by [] is parsed f = absurd (no_name NoWord place (ap (λ (p : Place ℕ). p.last) (same_end _ place f)) refl special)
     by (word ∷ front) is parsed f =
-        let fronts = both_walked (words_walked nat_eq looks task (followed nat_eq looks task) (walk_start task path) front) _ place f in
+        let fronts = both_walked (words_walked nat_eq looks task (followed nat_eq looks task)
+        (walk_start task path) front) _ place f in
         let ends = placed_at looks task fronts.0 (last_word word) (ends_in_slash path) place fronts.2 special in
         record {
           parsed = parsed;
@@ -137,8 +145,10 @@ module _ (looks later : Looks ℕ) (task reader : Task ℕ) (Refused : Deny → 
       → words_walked nat_eq looks task (followed nat_eq looks task) (walk_start task path) list ≡ Ok end
       → EndsSo (words_walked nat_eq later reader (followed nat_eq later reader) (walk_start reader path) list) end
   words_from path list end e =
-      subst (λ start. EndsSo (words_walked nat_eq later reader (followed nat_eq later reader) start list) end) (sym (begun path))
-      ((words_lead looks later task reader Refused Known leads 41 41 (walk_start task path) list end (omega arith) (omega arith) e).1
+      subst (λ start. EndsSo (words_walked nat_eq later reader (followed nat_eq later reader) start list) end)
+      (sym (begun path))
+      ((words_lead looks later task reader Refused Known leads 41 41 (walk_start task path) list end (omega arith)
+      (omega arith) e).1
       (begin_known path) [])
 
   -- a path that led to an object leads there
@@ -148,7 +158,8 @@ module _ (looks later : Looks ℕ) (task reader : Task ℕ) (Refused : Deny → 
       let texts = both_walked (path_text {N = ℕ} path) _ end e in
       let same : path ≡ texts.0 = path_parsed path texts.0 texts.1 in
       subst (λ r. EndsSo (then_walk r (λ text.
-      words_walked nat_eq later reader (followed nat_eq later reader) (walk_start reader text) (reverse (words text)))) end)
+      words_walked nat_eq later reader (followed nat_eq later reader) (walk_start reader text)
+      (reverse (words text)))) end)
       (sym texts.1) (words_from texts.0 (reverse (words texts.0)) end texts.2)
 
   pub object_too : (path : List ℕ) (end : Here ℕ) → object_walk nat_eq looks task path ≡ Ok end
@@ -169,7 +180,8 @@ module _ (looks later : Looks ℕ) (task reader : Task ℕ) (Refused : Deny → 
       ))
 
   -- what is led through a walk that ends so
-  pub through : {B : Type 0} (P : Result B (Stop ℕ) → Type 0) (first : Result (Here ℕ) (Stop ℕ)) (next : Here ℕ → Result B (Stop ℕ))
+  pub through : {B : Type 0} (P : Result B (Stop ℕ) → Type 0) (first : Result (Here ℕ) (Stop ℕ))
+      (next : Here ℕ → Result B (Stop ℕ))
       (a : Here ℕ) → EndsSo first a → ((steps : List (List ℕ)) → Known a.location → P (next (at a steps)))
       → ((stop : Stop ℕ) → Refused stop.deny → P (Err stop)) → P (then_walk first next)
   through P first next a (inl e) ends stops = subst (λ r. P (then_walk r next)) (sym e.0.1) (ends e.0.0 e.1)
@@ -177,7 +189,8 @@ module _ (looks later : Looks ℕ) (task reader : Task ℕ) (Refused : Deny → 
 
   -- the last word, which leads to what is there now
   pub last_too : (here : Here ℕ) (word : LastWord) (next : Location ℕ) (steps : List (List ℕ)) → Known here.location
-      → AllPass (search_rules nat_eq looks task here.location) → stepped nat_eq later reader here.location word ≡ Ok next
+      → AllPass (search_rules nat_eq looks task here.location)
+      → stepped nat_eq later reader here.location word ≡ Ok next
       → EndsThere Refused (word_walked nat_eq later reader (at here steps) word) next here.left
   last_too here word next steps known pass found =
       by (search_too looks later task reader Refused Known leads here.location known pass)
@@ -192,8 +205,14 @@ module _ (looks later : Looks ℕ) (task reader : Task ℕ) (Refused : Deny → 
           inl (
             steps_with nat_eq later reader (at here steps) word,
             ap (λ r. stopped_by (steps_with nat_eq later reader (at here steps) word) (and_then r (λ reached.
-                Ok (record { location = reached; left = here.left; steps = steps_with nat_eq later reader (at here steps) word }))))
-                (passed (search_rules nat_eq later reader here.location) (stepped nat_eq later reader here.location word) may_search
+                Ok (record {
+                  location = reached;
+                  left = here.left;
+                  steps = steps_with nat_eq later reader
+                      (at here steps) word;
+                }))))
+                (passed (search_rules nat_eq later reader here.location)
+                (stepped nat_eq later reader here.location word) may_search
                 ∙ found),
           )
       by (inr hidden) =
@@ -201,18 +220,26 @@ module _ (looks later : Looks ℕ) (task reader : Task ℕ) (Refused : Deny → 
             record { deny = denial W4; steps = steps_with nat_eq later reader (at here steps) word },
             hidden.0,
             ap (λ r. stopped_by (steps_with nat_eq later reader (at here steps) word) (and_then r (λ reached.
-                Ok (record { location = reached; left = here.left; steps = steps_with nat_eq later reader (at here steps) word }))))
+                Ok (record {
+                  location = reached;
+                  left = here.left;
+                  steps = steps_with nat_eq later reader
+                      (at here steps) word;
+                }))))
                 (hidden.1 (stepped nat_eq later reader here.location word)),
           )
 
   last_stops : (here : Here ℕ) (word : LastWord) (deny : Deny) (steps : List (List ℕ)) → Known here.location
-      → AllPass (search_rules nat_eq looks task here.location) → stepped nat_eq later reader here.location word ≡ Err deny
+      → AllPass (search_rules nat_eq looks task here.location)
+      → stepped nat_eq later reader here.location word ≡ Err deny
       → Refused deny → Stops Refused (word_walked nat_eq later reader (at here steps) word)
   last_stops here word deny steps known pass lost refused =
-      by (word_too looks later task reader Refused Known leads here here word steps known pass refl (inr (deny, refused, lost)))
+      by (word_too looks later task reader Refused Known leads here here word steps known pass refl
+      (inr (deny, refused, lost)))
     where
       -- a walk that ends is no refusal
-      no_end : (r : Result (Here ℕ) Deny) (some : List (List ℕ)) (end : Here ℕ) → stopped_by some r ≡ Ok end → r ≡ Ok end
+      no_end : (r : Result (Here ℕ) Deny) (some : List (List ℕ)) (end : Here ℕ) → stopped_by some r ≡ Ok end
+          → r ≡ Ok end
       no_end r some end e = not_stopped some r end e
 
       by : EndsSo (word_walked nat_eq later reader (at here steps) word) here
@@ -226,7 +253,8 @@ module _ (looks later : Looks ℕ) (task reader : Task ℕ) (Refused : Deny → 
           never e = cc
 
   -- A path whose last word names an entry
-  module _ (path : List ℕ) (place : Place ℕ) (named : is_special place.last ≡ false) (parts : NamedPlace looks task path place) where
+  module _ (path : List ℕ) (place : Place ℕ) (named : is_special place.last ≡ false)
+      (parts : NamedPlace looks task path place) where
     named_word : is_special (last_word parts.word) ≡ false
     named_word = ap is_special parts.last_is ∙ named
 
@@ -237,56 +265,69 @@ module _ (looks later : Looks ℕ) (task reader : Task ℕ) (Refused : Deny → 
     pub parent_known : Known parts.here.location → Known place.parent
     parent_known known = subst Known parts.parent_is known
 
-    pub front_too : EndsSo (words_walked nat_eq later reader (followed nat_eq later reader) (walk_start reader path) parts.front) parts.here
+    pub front_too : EndsSo (words_walked nat_eq later reader (followed nat_eq later reader)
+        (walk_start reader path) parts.front) parts.here
     front_too = words_from path parts.front parts.here parts.walked
 
     -- the walk of all words, and of all but the last and then that one
     path_is : path_walked nat_eq later reader path
-        ≡ words_walked nat_eq later reader (followed nat_eq later reader) (walk_start reader path) (parts.word ∷ parts.front)
+        ≡ words_walked nat_eq later reader (followed nat_eq later reader) (walk_start reader path)
+        (parts.word ∷ parts.front)
     path_is =
         ap (λ r. then_walk r (λ text.
-        words_walked nat_eq later reader (followed nat_eq later reader) (walk_start reader text) (reverse (words text)))) parts.parsed
+        words_walked nat_eq later reader (followed nat_eq later reader) (walk_start reader text)
+        (reverse (words text)))) parts.parsed
         ∙ ap (words_walked nat_eq later reader (followed nat_eq later reader) (walk_start reader path)) parts.words_are
 
     unfollowed_is : symlink_walk_by nat_eq false later reader path
-        ≡ then_walk (words_walked nat_eq later reader (followed nat_eq later reader) (walk_start reader path) parts.front)
+        ≡ then_walk (words_walked nat_eq later reader (followed nat_eq later reader)
+        (walk_start reader path) parts.front)
         (λ here. word_walked nat_eq later reader here (last_word parts.word))
     unfollowed_is =
         ap (λ r. then_walk r (λ text.
-        then_walk (front_walked nat_eq later reader (followed nat_eq later reader) (walk_start reader text) (reverse (words text)))
+        then_walk (front_walked nat_eq later reader (followed nat_eq later reader) (walk_start reader text)
+        (reverse (words text)))
         (λ here. last_walked nat_eq later reader here (final_word (reverse (words text)))))) parts.parsed
-        ∙ ap (λ list. then_walk (front_walked nat_eq later reader (followed nat_eq later reader) (walk_start reader path) list)
+        ∙ ap (λ list. then_walk (front_walked nat_eq later reader (followed nat_eq later reader)
+        (walk_start reader path) list)
         (λ here. last_walked nat_eq later reader here (final_word list))) parts.words_are
-        ∙ (λ i. then_walk (words_walked nat_eq later reader (followed nat_eq later reader) (walk_start reader path) parts.front)
+        ∙ (λ i. then_walk (words_walked nat_eq later reader (followed nat_eq later reader)
+        (walk_start reader path) parts.front)
         (λ here. last_walked_is later reader here (last_word parts.word) named_word i))
 
     -- a name that leads to what is no link
-    module _ (next : Location ℕ) (found : Known place.parent → stepped nat_eq later reader place.parent place.last ≡ Ok next) where
+    module _ (next : Location ℕ) (found : Known place.parent
+        → stepped nat_eq later reader place.parent place.last ≡ Ok next) where
       pub named_path_too : symlink_text (later.node next) ≡ None
           → EndsThere Refused (path_walked nat_eq later reader path) next parts.here.left
       named_path_too no_link =
           subst (λ r. EndsThere Refused r next parts.here.left) (sym path_is)
           (through (λ r. EndsThere Refused r next parts.here.left)
-          (words_walked nat_eq later reader (followed nat_eq later reader) (walk_start reader path) parts.front) _ parts.here front_too
+          (words_walked nat_eq later reader (followed nat_eq later reader)
+          (walk_start reader path) parts.front) _ parts.here front_too
           (λ steps known.
-          by steps (last_too parts.here (last_word parts.word) next steps known parts.searched (stepped_there (Ok next) (found
+          by steps (last_too parts.here (last_word parts.word) next steps known parts.searched
+          (stepped_there (Ok next) (found
           (parent_known known)))))
           (λ stop refused. inr (stop, refused, refl)))
         where
           goes_on : List (List ℕ) → Here ℕ → Result (Here ℕ) (Stop ℕ)
           goes_on steps there =
-              if_symlink there (symlink_text (later.node there.location)) (followed nat_eq later reader parts.here.location there)
+              if_symlink there (symlink_text (later.node there.location))
+              (followed nat_eq later reader parts.here.location there)
 
           by : (steps : List (List ℕ)) → EndsThere Refused (word_walked nat_eq later reader (at parts.here steps)
               (last_word parts.word)) next parts.here.left
-              → EndsThere Refused (then_walk (word_walked nat_eq later reader (at parts.here steps) (last_word parts.word)) (λ there.
+              → EndsThere Refused (then_walk
+              (word_walked nat_eq later reader (at parts.here steps) (last_word parts.word)) (λ there.
               if_symlink there (symlink_text (later.node there.location))
               (followed nat_eq later reader parts.here.location there))) next parts.here.left
           by steps (inl e) =
               inl (
                 e.0,
                 ap (λ r. then_walk r (λ there.
-                    if_symlink there (symlink_text (later.node there.location)) (followed nat_eq later reader parts.here.location there))) e.1
+                    if_symlink there (symlink_text (later.node there.location))
+                    (followed nat_eq later reader parts.here.location there))) e.1
                     ∙ ap (λ o. if_symlink (record { location = next; left = parts.here.left; steps = e.0 }) o
                     (followed nat_eq later reader parts.here.location
                     (record { location = next; left = parts.here.left; steps = e.0 }))) no_link,
@@ -295,15 +336,18 @@ module _ (looks later : Looks ℕ) (task reader : Task ℕ) (Refused : Deny → 
             stop.0,
             stop.1,
             ap (λ r. then_walk r (λ there.
-                if_symlink there (symlink_text (later.node there.location)) (followed nat_eq later reader parts.here.location there))) stop.2,
+                if_symlink there (symlink_text (later.node there.location))
+                (followed nat_eq later reader parts.here.location there))) stop.2,
           )
 
       unfollowed_too : EndsThere Refused (symlink_walk_by nat_eq false later reader path) next parts.here.left
       unfollowed_too =
           subst (λ r. EndsThere Refused r next parts.here.left) (sym unfollowed_is)
           (through (λ r. EndsThere Refused r next parts.here.left)
-          (words_walked nat_eq later reader (followed nat_eq later reader) (walk_start reader path) parts.front) _ parts.here front_too
-          (λ steps known. last_too parts.here (last_word parts.word) next steps known parts.searched (stepped_there (Ok next) (found
+          (words_walked nat_eq later reader (followed nat_eq later reader)
+          (walk_start reader path) parts.front) _ parts.here front_too
+          (λ steps known. last_too parts.here (last_word parts.word) next steps known parts.searched
+          (stepped_there (Ok next) (found
           (parent_known known))))
           (λ stop refused. inr (stop, refused, refl)))
 
@@ -332,17 +376,20 @@ module _ (looks later : Looks ℕ) (task reader : Task ℕ) (Refused : Deny → 
       slash_passes true is = ap not (is refl)
       slash_passes false is = refl
 
-      pub object_named_too : symlink_text (later.node next) ≡ None → (ends_in_slash path ≡ true → is_directory_at later next ≡ true)
+      pub object_named_too : symlink_text (later.node next) ≡ None
+          → (ends_in_slash path ≡ true → is_directory_at later next ≡ true)
           → EndsThere Refused (object_walk nat_eq later reader path) next parts.here.left
       object_named_too no_link is =
           after_path (named_path_too no_link) (slash_rules nat_eq later path) (slash_passes (ends_in_slash path) is, tt)
 
       -- as lstat takes it
-      pub symlink_named_too : (ends_in_slash path ≡ true → (symlink_text (later.node next) ≡ None) × (is_directory_at later next ≡ true))
+      pub symlink_named_too : (ends_in_slash path ≡ true
+          → (symlink_text (later.node next) ≡ None) × (is_directory_at later next ≡ true))
           → EndsThere Refused (symlink_walk nat_eq later reader path) next parts.here.left
       symlink_named_too slashed = by (ends_in_slash path) refl
         where
-          by : (b : Bool) → ends_in_slash path ≡ b → EndsThere Refused (symlink_walk_by nat_eq b later reader path) next parts.here.left
+          by : (b : Bool) → ends_in_slash path ≡ b
+              → EndsThere Refused (symlink_walk_by nat_eq b later reader path) next parts.here.left
           by true e = object_named_too (slashed e).0 (λ f. (slashed f).1)
           by false e = unfollowed_too
 
@@ -353,14 +400,17 @@ module _ (looks later : Looks ℕ) (task reader : Task ℕ) (Refused : Deny → 
       missing_path_too =
           subst (Stops Refused) (sym path_is)
           (through (Stops Refused)
-          (words_walked nat_eq later reader (followed nat_eq later reader) (walk_start reader path) parts.front) _ parts.here front_too
+          (words_walked nat_eq later reader (followed nat_eq later reader)
+          (walk_start reader path) parts.front) _ parts.here front_too
           (λ steps known.
-          let stop = last_stops parts.here (last_word parts.word) deny steps known parts.searched (stepped_there (Err deny) (lost
+          let stop = last_stops parts.here (last_word parts.word) deny steps known parts.searched
+          (stepped_there (Err deny) (lost
           (parent_known known))) refused in (
             stop.0,
             stop.1,
             ap (λ r. then_walk r (λ there.
-                if_symlink there (symlink_text (later.node there.location)) (followed nat_eq later reader parts.here.location there))) stop.2,
+                if_symlink there (symlink_text (later.node there.location))
+                (followed nat_eq later reader parts.here.location there))) stop.2,
           ))
           (λ stop refused. (stop, refused, refl)))
 
@@ -368,8 +418,10 @@ module _ (looks later : Looks ℕ) (task reader : Task ℕ) (Refused : Deny → 
       unfollowed_missing =
           subst (Stops Refused) (sym unfollowed_is)
           (through (Stops Refused)
-          (words_walked nat_eq later reader (followed nat_eq later reader) (walk_start reader path) parts.front) _ parts.here front_too
-          (λ steps known. last_stops parts.here (last_word parts.word) deny steps known parts.searched (stepped_there (Err deny) (lost
+          (words_walked nat_eq later reader (followed nat_eq later reader)
+          (walk_start reader path) parts.front) _ parts.here front_too
+          (λ steps known. last_stops parts.here (last_word parts.word) deny steps known parts.searched
+          (stepped_there (Err deny) (lost
           (parent_known known))) refused)
           (λ stop refused. (stop, refused, refl)))
 

@@ -19,11 +19,13 @@ use Rattle.vt_tree_laws.proofs.ChangesNodes.{elsewhere, entries-node_without_ent
 use Rattle.vt_later_laws.proofs.WaysChanges.{RightsStay, allows_without, link_without}
 
 -- What another parent leaves of an inode
-kind_with_parent : (parent : ℕ) (o : Option (Node ℕ)) → is_directory_node (node_with_parent parent o) ≡ is_directory_node o
+kind_with_parent : (parent : ℕ) (o : Option (Node ℕ))
+    → is_directory_node (node_with_parent parent o) ≡ is_directory_node o
 kind_with_parent parent None = refl
 kind_with_parent parent (Some node) = by node.content
   where
-    by : (content : Content ℕ) → is_directory_node (Some (record { attr = node.attr; content = content_with_parent parent content }))
+    by : (content : Content ℕ) → is_directory_node
+        (Some (record { attr = node.attr; content = content_with_parent parent content }))
         ≡ is_directory_node (Some (record { attr = node.attr; content = content }))
     by (Directory old entries opaque) = refl
     by (Regular bytes) = refl
@@ -44,7 +46,8 @@ link_with_parent : (parent : ℕ) (o : Option (Node ℕ)) → symlink_text (node
 link_with_parent parent None = refl
 link_with_parent parent (Some node) = by node.content
   where
-    by : (content : Content ℕ) → symlink_text (Some (record { attr = node.attr; content = content_with_parent parent content }))
+    by : (content : Content ℕ) → symlink_text
+        (Some (record { attr = node.attr; content = content_with_parent parent content }))
         ≡ symlink_text (Some (record { attr = node.attr; content = content }))
     by (Directory old entries opaque) = refl
     by (Regular bytes) = refl
@@ -63,15 +66,18 @@ allows_with_parent parent who wanted (Some node) = by node.content
     by (Symlink text) = refl
     by Whiteout = refl
 
-module _ (files : FileTree ℕ) (directory : ℕ) (name : List ℕ) (object : ℕ) (may : MayRemove files.tree directory name object) where
+module _ (files : FileTree ℕ) (directory : ℕ) (name : List ℕ) (object : ℕ)
+    (may : MayRemove files.tree directory name object) where
   abbrev unnamed : FileTree ℕ
   unnamed = without_name nat_eq files directory name
 
   abbrev pub removed : FileTree ℕ
   removed = changed nat_eq files (Remove directory name object)
 
-  removed_part : {A : Type 0} (part : Option (Node ℕ) → A) → ((o : Option (Node ℕ)) → part (node_with_parent object o) ≡ part o)
-      → ((o : Option (Node ℕ)) → part (node_without_entry name o) ≡ part o) → (n : ℕ) → part (removed.tree.node n) ≡ part (files.tree.node n)
+  removed_part : {A : Type 0} (part : Option (Node ℕ) → A)
+      → ((o : Option (Node ℕ)) → part (node_with_parent object o) ≡ part o)
+      → ((o : Option (Node ℕ)) → part (node_without_entry name o) ≡ part o) → (n : ℕ)
+      → part (removed.tree.node n) ≡ part (files.tree.node n)
   removed_part part parent entry n =
       part_stays unnamed object (node_with_parent object) part parent n
       ∙ part_stays files directory (node_without_entry name) part entry n
@@ -98,13 +104,15 @@ module _ (files : FileTree ℕ) (directory : ℕ) (name : List ℕ) (object : �
   entry_less : (other : List ℕ) → entry_at removed.tree directory other
       ≡ cond (not (bytes_eq other name)) (entry_at files.tree directory other) None
   entry_less other =
-      ap (entry_named other) (removed_entries directory ∙ ap entries_in (there files directory (node_without_entry name))
+      ap (entry_named other) (removed_entries directory
+      ∙ ap entries_in (there files directory (node_without_entry name))
       ∙ entries-node_without_entry name (files.tree.node directory))
       ∙ entry_named-without_entry other name (entries_in (files.tree.node directory))
 
   pub removed_name : entry_at removed.tree directory name ≡ None
   removed_name =
-      entry_less name ∙ ap (λ b. cond (not b) (entry_at files.tree directory name) None) ((bytes_decides name name).1 refl)
+      entry_less name ∙ ap (λ b. cond (not b) (entry_at files.tree directory name) None)
+      ((bytes_decides name name).1 refl)
 
   pub removed_entry : (here : ℕ) (other : List ℕ) (next : ℕ) → entry_at files.tree here other ≡ Some next
       → (entry_at removed.tree here other ≡ Some next) ⊎ ((entry_at removed.tree here other ≡ None) × (next ≡ object))
@@ -119,7 +127,8 @@ module _ (files : FileTree ℕ) (directory : ℕ) (name : List ℕ) (object : �
       by : (b : Bool) → bytes_eq other name ≡ b
           → entry_at removed.tree here other ≡ cond (not b) (entry_at files.tree directory other) None
           → entry_at files.tree directory other ≡ Some next
-          → (entry_at removed.tree here other ≡ Some next) ⊎ ((entry_at removed.tree here other ≡ None) × (next ≡ object))
+          → (entry_at removed.tree here other ≡ Some next)
+          ⊎ ((entry_at removed.tree here other ≡ None) × (next ≡ object))
       by true same now was =
           let name_is : other ≡ name = (bytes_decides other name).0 same in
           inr (now, same_Some next object (sym was ∙ ap (entry_at files.tree directory) name_is ∙ may.named))
@@ -130,7 +139,8 @@ module _ (files : FileTree ℕ) (directory : ℕ) (name : List ℕ) (object : �
   no_name_in other next e = none_at (entries_in (files.tree.node object)) may.empty e
     where
       none_at : (entries : List (List ℕ × ℕ)) → entries ≡ [] → entry_named other entries ≡ Some next → ⊥
-      none_at entries empty f = true≢false (sym (sym (ap (λ list. is_some (entry_named {N = ℕ} other list)) empty) ∙ ap is_some f))
+      none_at entries empty f = true≢false
+          (sym (sym (ap (λ list. is_some (entry_named {N = ℕ} other list)) empty) ∙ ap is_some f))
 
   pub nothing_in_it : (other : List ℕ) (next : ℕ) → entry_at files.tree object other ≡ Some next → ⊥
   nothing_in_it other next e = no_name_in other next e
@@ -143,12 +153,15 @@ module _ (files : FileTree ℕ) (directory : ℕ) (name : List ℕ) (object : �
       (λ t. ap entries_in (elsewhere files directory (node_without_entry name) object t.1) ∙ may.empty)
       (eqb_tells object directory)
 
-  pub removed_alone : (tree : Tree ℕ) → tree.node object ≡ removed.tree.node object → object ≢ tree.root → is_removed nat_eq tree object ≡ true
+  pub removed_alone : (tree : Tree ℕ) → tree.node object ≡ removed.tree.node object → object ≢ tree.root
+      → is_removed nat_eq tree object ≡ true
   removed_alone tree same other =
-      ap (λ b. not (b || is_some (cond b None (when (is_among nat_eq object (targets_in (tree.node (parent_in object (tree.node object)))))
+      ap (λ b. not (b || is_some (cond b None
+      (when (is_among nat_eq object (targets_in (tree.node (parent_in object (tree.node object)))))
       (parent_in object (tree.node object)))))) (ne_eqb object tree.root other)
       ∙ ap (λ p. not (is_some (when (is_among nat_eq object (targets_in (tree.node p))) p))) own
-      ∙ ap (λ entries. not (is_some (when (is_among nat_eq object (map (λ (entry : List ℕ × ℕ). entry.1) entries)) object)))
+      ∙ ap (λ entries. not (is_some (when
+      (is_among nat_eq object (map (λ (entry : List ℕ × ℕ). entry.1) entries)) object)))
       (ap entries_in same ∙ removed_empty)
     where
       own : parent_in object (tree.node object) ≡ object

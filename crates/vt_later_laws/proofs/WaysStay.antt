@@ -32,11 +32,14 @@ use Rattle.vt_later_laws.proofs.Ways.{LeadsToo}
 use Rattle.vt_later_laws.proofs.WaysTrees.{DirectoryNamesStay, present_later, under_later}
 
 -- the root of a mount is a directory
-pub mount_root : (world : World ℕ) → IsWorld nat_eq world → (number : ℕ) → is_among nat_eq number (numbers_of world.mounts) ≡ true
-    → is_directory_node ((filesystem_numbered nat_eq world (mount_numbered nat_eq world number).filesystem).files.tree.node
+pub mount_root : (world : World ℕ) → IsWorld nat_eq world → (number : ℕ)
+    → is_among nat_eq number (numbers_of world.mounts) ≡ true
+    → is_directory_node ((filesystem_numbered nat_eq world
+    (mount_numbered nat_eq world number).filesystem).files.tree.node
     (mount_numbered nat_eq world number).root) ≡ true
 mount_root world is number listed =
-    (and_parts _ _ (among_from_list_all (has_its_root nat_eq world) world.mounts is.roots (mount_numbered nat_eq world number)
+    (and_parts _ _ (among_from_list_all (has_its_root nat_eq world) world.mounts is.roots
+    (mount_numbered nat_eq world number)
     (found_there world.mounts number listed))).0
 
 -- an inode of a filesystem, and its tree
@@ -46,8 +49,8 @@ tree_in world filesystem = (filesystem_numbered nat_eq world filesystem).files.t
 abbrev pub node_in : World ℕ → ℕ → ℕ → Option (Node ℕ)
 node_in world filesystem number = (tree_in world filesystem).node number
 
--- What was there and still is, is of its kind, and a directory has its parent, a symlink its text. A name leads where it
--- led, or is missing, and then it was no directory's.
+-- What was there and still is, is of its kind, and a directory has its parent, a symlink its text. A name leads where
+-- it led, or is missing, and then it was no directory's.
 pub record WorldStays (world later : World ℕ) (Refused : Deny → Type 0) : Type 0 where
   pub mounts : later.mounts ≡ world.mounts
   pub root : (filesystem : ℕ) → (tree_in later filesystem).root ≡ (tree_in world filesystem).root
@@ -86,16 +89,20 @@ module _ (world later : World ℕ) (is : IsWorld nat_eq world) (plain : IsPlain 
   same_mount : (number : ℕ) → mount_numbered nat_eq later number ≡ mount_numbered nat_eq world number
   same_mount number = ap (λ mounts. mount_in nat_eq mounts number) stay.mounts
 
-  pub node_here : (here : Location ℕ) → node_at nat_eq later here ≡ node_in later (mount_at nat_eq world here).filesystem here.node
+  pub node_here : (here : Location ℕ)
+      → node_at nat_eq later here ≡ node_in later (mount_at nat_eq world here).filesystem here.node
   node_here here = ap (λ (m : Mount ℕ). node_in later m.filesystem here.node) (same_mount here.mount)
 
-  there : (here : Location ℕ) → Known here → is_some (node_in world (mount_at nat_eq world here).filesystem here.node) ≡ true
+  there : (here : Location ℕ) → Known here
+      → is_some (node_in world (mount_at nat_eq world here).filesystem here.node) ≡ true
   there here known = known.0.1
 
-  there_later : (here : Location ℕ) → Known here → is_some (node_in later (mount_at nat_eq world here).filesystem here.node) ≡ true
+  there_later : (here : Location ℕ) → Known here
+      → is_some (node_in later (mount_at nat_eq world here).filesystem here.node) ≡ true
   there_later here known = ap is_some (sym (node_here here)) ∙ known.1.1
 
-  directory_too : (here : Location ℕ) → Known here → is_directory_at nat_eq later here ≡ is_directory_at nat_eq world here
+  directory_too : (here : Location ℕ) → Known here
+      → is_directory_at nat_eq later here ≡ is_directory_at nat_eq world here
   directory_too here known =
       ap is_directory_node (node_here here)
       ∙ stay.directory (mount_at nat_eq world here).filesystem here.node (there here known) (there_later here known)
@@ -105,7 +112,8 @@ module _ (world later : World ℕ) (is : IsWorld nat_eq world) (plain : IsPlain 
       ((known.0.0, directory), (known.1.0, directory_too here known ∙ directory))
 
   directory_known : (here : Location ℕ) → KnownDirectory here → Known here
-  directory_known here known = (directory_found world is task here known.0, directory_found later is_later reader here known.1)
+  directory_known here known =
+      (directory_found world is task here known.0, directory_found later is_later reader here known.1)
 
   -- a step leads to what is known
   next_known : (here : Location ℕ) (word : LastWord) (next : Location ℕ) → KnownDirectory here
@@ -116,7 +124,8 @@ module _ (world later : World ℕ) (is : IsWorld nat_eq world) (plain : IsPlain 
   -- Names
   abbrev named_by : List (Mount ℕ) → Location ℕ → Option ℕ → Result (Location ℕ) Deny
   named_by mounts here o =
-      ok_or (option_map (topmost nat_eq mounts) (option_map (λ object. record { mount = here.mount; node = object }) o)) (denial W6)
+      ok_or (option_map (topmost nat_eq mounts)
+      (option_map (λ object. record { mount = here.mount; node = object }) o)) (denial W6)
 
   name_too : (here : Location ℕ) (name : List ℕ) (next : Location ℕ) → KnownDirectory here
       → stepped nat_eq world task here (Named name) ≡ Ok next
@@ -138,7 +147,8 @@ module _ (world later : World ℕ) (is : IsWorld nat_eq world) (plain : IsPlain 
           → stepped nat_eq world task here (Named name) ≡ Ok next
           → (entry_at (tree_in later (mount_at nat_eq world here).filesystem) here.node name ≡ Some object)
           ⊎ ((entry_at (tree_in later (mount_at nat_eq world here).filesystem) here.node name ≡ None)
-          × (is_directory_node (node_in world (mount_at nat_eq world here).filesystem object) ≡ false) × Refused (denial W6))
+          × (is_directory_node (node_in world (mount_at nat_eq world here).filesystem object) ≡ false)
+          × Refused (denial W6))
           → ((stepped nat_eq later reader here (Named name) ≡ Ok next) × Known next)
           ⊎ ((deny : Deny) × Refused deny × (stepped nat_eq later reader here (Named name) ≡ Err deny))
       inside object f whole (inl stays) =
@@ -159,15 +169,18 @@ module _ (world later : World ℕ) (is : IsWorld nat_eq world) (plain : IsPlain 
   abbrev hop_by : List (Mount ℕ) → Location ℕ → Location ℕ → Option (Location ℕ)
   hop_by mounts root here =
       cond (same_location nat_eq here root) None
-      (cond (nat_eq here.node (mount_in nat_eq mounts here.mount).root) (mount_in nat_eq mounts here.mount).mount_point None)
+      (cond (nat_eq here.node (mount_in nat_eq mounts here.mount).root)
+      (mount_in nat_eq mounts here.mount).mount_point None)
 
   abbrev top_by : List (Mount ℕ) → Location ℕ → Location ℕ → Location ℕ
   top_by mounts root here = last_or here (chain (length mounts) (hop_by mounts root) here)
 
-  hop_known : (a b : Location ℕ) → IsFoundDirectory world is task a → hop nat_eq world task a ≡ Some b → IsFoundDirectory world is task b
+  hop_known : (a b : Location ℕ) → IsFoundDirectory world is task a → hop nat_eq world task a ≡ Some b
+      → IsFoundDirectory world is task b
   hop_known a b found e = by (same_location nat_eq a task.root) (nat_eq a.node (mount_at nat_eq world a).root) e
     where
-      by : (p q : Bool) → cond p None (cond q (mount_at nat_eq world a).mount_point None) ≡ Some b → IsFoundDirectory world is task b
+      by : (p q : Bool) → cond p None (cond q (mount_at nat_eq world a).mount_point None) ≡ Some b
+          → IsFoundDirectory world is task b
       by true q h = none_is_not None b refl h
       by false true h = place_found world is task a.mount b found.0 h
       by false false h = none_is_not None b refl h
@@ -191,7 +204,8 @@ module _ (world later : World ℕ) (is : IsWorld nat_eq world) (plain : IsPlain 
 
   top_known : (here : Location ℕ) → KnownDirectory here → KnownDirectory (top here)
   top_known here known = (
-    chain_ends (IsFoundDirectory world is task) (hop nat_eq world task) hop_known (length world.mounts) here here known.0,
+    chain_ends (IsFoundDirectory world is task) (hop nat_eq world task) hop_known
+        (length world.mounts) here here known.0,
     subst (IsFoundDirectory later is_later reader) (top_same here)
         (chain_ends (IsFoundDirectory later is_later reader) (hop nat_eq later reader) hop_known_later
         (length later.mounts) here here known.1),
@@ -203,10 +217,12 @@ module _ (world later : World ℕ) (is : IsWorld nat_eq world) (plain : IsPlain 
       (unless ((lost, W8) ∷ []) (Ok (topmost nat_eq mounts (record { mount = here.mount; node = parent }))))
 
   -- a directory that is not lost
-  not_lost : (here : Location ℕ) → KnownDirectory here → is_lost nat_eq world here ≡ false → is_lost nat_eq later here ≡ false
+  not_lost : (here : Location ℕ) → KnownDirectory here → is_lost nat_eq world here ≡ false
+      → is_lost nat_eq later here ≡ false
   not_lost here known e =
       ap (λ (m : Mount ℕ). is_removed nat_eq (tree_in later m.filesystem) here.node
-      || not (is_directory_under nat_eq (filesystem_numbered nat_eq later m.filesystem).files m.root here.node)) (same_mount here.mount)
+      || not (is_directory_under nat_eq (filesystem_numbered nat_eq later m.filesystem).files m.root here.node))
+      (same_mount here.mount)
       ∙ ap (λ b. b || not (is_directory_under nat_eq files_later point.root here.node)) present
       ∙ ap not under
     where
@@ -228,13 +244,15 @@ module _ (world later : World ℕ) (is : IsWorld nat_eq world) (plain : IsPlain 
       not_false false f = cc
 
       parts : (is_removed nat_eq (tree_in world (mount_at nat_eq world here).filesystem) here.node ≡ false)
-          × (not (is_directory_under nat_eq (filesystem_numbered nat_eq world (mount_at nat_eq world here).filesystem).files
+          × (not (is_directory_under nat_eq
+          (filesystem_numbered nat_eq world (mount_at nat_eq world here).filesystem).files
           (mount_at nat_eq world here).root here.node) ≡ false)
       parts = first _ _ e
 
       tree_later : IsFileTree (filesystem_numbered nat_eq later (mount_at nat_eq world here).filesystem).files
       tree_later =
-          subst (λ (m : Mount ℕ). IsFileTree (filesystem_numbered nat_eq later m.filesystem).files) (same_mount here.mount)
+          subst (λ (m : Mount ℕ). IsFileTree (filesystem_numbered nat_eq later m.filesystem).files)
+          (same_mount here.mount)
           (tree_here later is_later plain_later reader here known.1.1)
 
       names : DirectoryNamesStay (λ n. ⊤) (tree_in world (mount_at nat_eq world here).filesystem)
@@ -244,7 +262,8 @@ module _ (world later : World ℕ) (is : IsWorld nat_eq world) (plain : IsPlain 
         where
           by : (entry_at (tree_in later (mount_at nat_eq world here).filesystem) directory name ≡ Some number)
               ⊎ ((entry_at (tree_in later (mount_at nat_eq world here).filesystem) directory name ≡ None)
-              × (is_directory_node (node_in world (mount_at nat_eq world here).filesystem number) ≡ false) × Refused (denial W6))
+              × (is_directory_node (node_in world (mount_at nat_eq world here).filesystem number) ≡ false)
+              × Refused (denial W6))
               → entry_at (tree_in later (mount_at nat_eq world here).filesystem) directory name ≡ Some number
           by (inl stays) = stays
           by (inr lost) = absurd (true≢false (sym is_directory ∙ lost.1))
@@ -253,7 +272,8 @@ module _ (world later : World ℕ) (is : IsWorld nat_eq world) (plain : IsPlain 
       is_directory_later = ap is_directory_node (sym (node_here here)) ∙ known.1.1
 
       -- the root of its mount is there
-      root_there : is_some (node_in later (mount_at nat_eq world here).filesystem (mount_at nat_eq world here).root) ≡ true
+      root_there : is_some (node_in later (mount_at nat_eq world here).filesystem (mount_at nat_eq world here).root)
+          ≡ true
       root_there =
           subst (λ (m : Mount ℕ). is_some (node_in later m.filesystem m.root) ≡ true) (same_mount here.mount)
           (directory_used (tree_in later (mount_at nat_eq later here).filesystem) (mount_at nat_eq later here).root
@@ -263,18 +283,21 @@ module _ (world later : World ℕ) (is : IsWorld nat_eq world) (plain : IsPlain 
       present =
           present_later (λ n. ⊤) files_here files_later (tree_here world is plain task here known.0.1).tree tree_later
           (stay.root (mount_at nat_eq world here).filesystem) (λ directory name number entry keeps. tt) names
-          (mount_at nat_eq world here).root here.node known.0.1 is_directory_later tt root_there parts.0 (not_false _ parts.1)
+          (mount_at nat_eq world here).root here.node known.0.1 is_directory_later tt root_there parts.0
+          (not_false _ parts.1)
 
       under : is_directory_under nat_eq files_later point.root here.node ≡ true
       under =
           under_later (λ n. ⊤) files_here files_later (tree_here world is plain task here known.0.1).tree tree_later
           (stay.root (mount_at nat_eq world here).filesystem) (λ directory name number entry keeps. tt) names
-          (mount_at nat_eq world here).root here.node known.0.1 is_directory_later tt root_there parts.0 (not_false _ parts.1)
+          (mount_at nat_eq world here).root here.node known.0.1 is_directory_later tt root_there parts.0
+          (not_false _ parts.1)
 
   up_too : (here next : Location ℕ) → KnownDirectory here → stepped nat_eq world task here DotDot ≡ Ok next
       → stepped nat_eq later reader here DotDot ≡ Ok next
   up_too here next known e =
-      (λ i. up_by (stay.mounts i) (stands.root i) (parent_in (top_same here i).node (node_at nat_eq later (top_same here i)))
+      (λ i. up_by (stay.mounts i) (stands.root i)
+      (parent_in (top_same here i).node (node_at nat_eq later (top_same here i)))
       (is_lost nat_eq later (top_same here i)) (top_same here i))
       ∙ by (same_location nat_eq (top here) task.root || nat_eq (top here).node (mount_at nat_eq world (top here)).root)
       (is_lost nat_eq world (top here)) refl e
@@ -282,21 +305,25 @@ module _ (world later : World ℕ) (is : IsWorld nat_eq world) (plain : IsPlain 
       at_top : KnownDirectory (top here)
       at_top = top_known here known
 
-      same_parent : parent_in (top here).node (node_at nat_eq later (top here)) ≡ parent_in (top here).node (node_at nat_eq world
+      same_parent : parent_in (top here).node (node_at nat_eq later (top here))
+          ≡ parent_in (top here).node (node_at nat_eq world
           (top here))
       same_parent =
           ap (parent_in (top here).node) (node_here (top here))
           ∙ stay.parent (mount_at nat_eq world (top here)).filesystem (top here).node
-          (there (top here) (directory_known (top here) at_top)) (there_later (top here) (directory_known (top here) at_top))
+          (there (top here) (directory_known (top here) at_top))
+          (there_later (top here) (directory_known (top here) at_top))
 
       no_answer : (deny : Deny) (a : Location ℕ) → Path (Result (Location ℕ) Deny) (Err deny) (Ok a) → ⊥
       no_answer deny a f = cc
 
       by : (p q : Bool) → is_lost nat_eq world (top here) ≡ q
           → cond p (Ok (top here)) (unless ((q, W8) ∷ []) (Ok (topmost nat_eq world.mounts
-          (record { mount = (top here).mount; node = parent_in (top here).node (node_at nat_eq world (top here)) })))) ≡ Ok next
+          (record { mount = (top here).mount; node = parent_in (top here).node (node_at nat_eq world (top here)) }))))
+          ≡ Ok next
           → cond p (Ok (top here)) (unless ((is_lost nat_eq later (top here), W8) ∷ []) (Ok (topmost nat_eq world.mounts
-          (record { mount = (top here).mount; node = parent_in (top here).node (node_at nat_eq later (top here)) })))) ≡ Ok next
+          (record { mount = (top here).mount; node = parent_in (top here).node (node_at nat_eq later (top here)) }))))
+          ≡ Ok next
       by true q f g = g
       by false true f g = absurd (no_answer (denial W8) next g)
       by false false f g =
@@ -328,7 +355,8 @@ module _ (world later : World ℕ) (is : IsWorld nat_eq world) (plain : IsPlain 
     );
     working_known = directory_known task.directory (
       own_directory_found world is task called,
-      subst (IsFoundDirectory later is_later reader) stands.directory (own_directory_found later is_later reader called_later),
+      subst (IsFoundDirectory later is_later reader) stands.directory
+          (own_directory_found later is_later reader called_later),
     );
     directory = λ here known directory. directory_too here known ∙ directory;
     search = rights;

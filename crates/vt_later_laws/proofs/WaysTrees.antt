@@ -17,15 +17,18 @@ module _ (tree : Tree ℕ) (conditions : IsTree tree) where
   by_parent : (d : ℕ) → IsDirectory tree d → IsReached tree d → (p : ℕ) → named_parent nat_eq tree d ≡ Some p
       → (name : List ℕ) × (entry_at tree p name ≡ Some d) × IsDirectory tree p × IsReached tree p
   by_parent d is reached p e = ⊎_elim
-      (λ root. none_is_not None p refl (sym (ap (λ b. cond b None (when (has_entry_to nat_eq tree (parent_in d (tree.node d)) d)
+      (λ root. none_is_not None p refl
+      (sym (ap (λ b. cond b None (when (has_entry_to nat_eq tree (parent_in d (tree.node d)) d)
       (parent_in d (tree.node d))))
       (eq-eqb d tree.root (sym root))) ∙ e))
       (λ named.
-      let same : named.0 ≡ p = same_Some named.0 p (sym (parent_named tree conditions named.0 named.1 d named.2 is) ∙ e) in (
+      let same : named.0 ≡ p = same_Some named.0 p
+      (sym (parent_named tree conditions named.0 named.1 d named.2 is) ∙ e) in (
         named.1,
         ap (λ n. entry_at tree n named.1) (sym same) ∙ named.2,
         subst (IsDirectory tree) same (node_with_entries named.1 d (tree.node named.0) named.2),
-        subst (IsReached tree) (conditions.one_parent named.0 named.1 d named.2 is ∙ same) (parent_reached tree conditions d is reached),
+        subst (IsReached tree) (conditions.one_parent named.0 named.1 d named.2 is ∙ same)
+            (parent_reached tree conditions d is reached),
       ))
       (reached_named tree d reached)
 
@@ -46,7 +49,8 @@ module _ (tree : Tree ℕ) (conditions : IsTree tree) where
 
       more : (p : ℕ) → named_parent nat_eq tree d ≡ Some p → (b : Bool) → nat_eq top d ≡ b
           → (b || is_among nat_eq top (chain most (named_parent nat_eq tree) p)) ≡ true
-          → ((p : ℕ) → IsDirectory tree p → IsReached tree p → is_among nat_eq top (chain most (named_parent nat_eq tree) p) ≡ true
+          → ((p : ℕ) → IsDirectory tree p → IsReached tree p
+          → is_among nat_eq top (chain most (named_parent nat_eq tree) p) ≡ true
           → (names : List (List ℕ)) × (led tree top names ≡ Some p))
           → (names : List (List ℕ)) × (led tree top names ≡ Some d)
       more p e true f g rest = ([], ap Some (eqb-true top d f))
@@ -57,7 +61,8 @@ module _ (tree : Tree ℕ) (conditions : IsTree tree) where
 
       by : (o : Option ℕ) → named_parent nat_eq tree d ≡ o
           → is_among nat_eq top (elim o [ None ↦ d ∷ [] | Some b ↦ d ∷ chain most (named_parent nat_eq tree) b ]) ≡ true
-          → ((p : ℕ) → IsDirectory tree p → IsReached tree p → is_among nat_eq top (chain most (named_parent nat_eq tree) p) ≡ true
+          → ((p : ℕ) → IsDirectory tree p → IsReached tree p
+          → is_among nat_eq top (chain most (named_parent nat_eq tree) p) ≡ true
           → (names : List (List ℕ)) × (led tree top names ≡ Some p))
           → (names : List (List ℕ)) × (led tree top names ≡ Some d)
       by None e g rest = ([], itself (nat_eq top d) refl g)
@@ -67,7 +72,8 @@ module _ (tree : Tree ℕ) (conditions : IsTree tree) where
   pub reached_not_removed : (d : ℕ) → IsDirectory tree d → IsReached tree d → is_removed nat_eq tree d ≡ false
   reached_not_removed d is reached = ⊎_elim
       (λ root. ap (λ b. not (b || is_some (named_parent nat_eq tree d))) (eq-eqb d tree.root (sym root)))
-      (λ named. ap (λ o. not (nat_eq d tree.root || is_some o)) (parent_named tree conditions named.0 named.1 d named.2 is)
+      (λ named. ap (λ o. not (nat_eq d tree.root || is_some o))
+      (parent_named tree conditions named.0 named.1 d named.2 is)
       ∙ either (nat_eq d tree.root))
       (reached_named tree d reached)
     where
@@ -86,15 +92,18 @@ module _ (tree : Tree ℕ) (conditions : IsTree tree) where
 -- Names of these directories stay, where the directory that has them does
 abbrev pub DirectoryNamesStay : (ℕ → Type 0) → Tree ℕ → Tree ℕ → Type 0
 DirectoryNamesStay Keeps tree later =
-    (directory : ℕ) (name : List ℕ) (number : ℕ) → entry_at tree directory name ≡ Some number → IsDirectory tree number → Keeps number
+    (directory : ℕ) (name : List ℕ) (number : ℕ) → entry_at tree directory name ≡ Some number → IsDirectory tree number
+    → Keeps number
     → is_some (later.node directory) ≡ true → entry_at later directory name ≡ Some number
 
 -- with such a directory those above it are such
 abbrev pub KeepsAbove : (ℕ → Type 0) → Tree ℕ → Type 0
 KeepsAbove Keeps tree =
-    (directory : ℕ) (name : List ℕ) (number : ℕ) → entry_at tree directory name ≡ Some number → Keeps number → Keeps directory
+    (directory : ℕ) (name : List ℕ) (number : ℕ) → entry_at tree directory name ≡ Some number → Keeps number
+    → Keeps directory
 
-module _ (Keeps : ℕ → Type 0) (tree later : Tree ℕ) (before : IsTree tree) (after : IsTree later) (above : KeepsAbove Keeps tree)
+module _ (Keeps : ℕ → Type 0) (tree later : Tree ℕ) (before : IsTree tree) (after : IsTree later)
+    (above : KeepsAbove Keeps tree)
     (stay : DirectoryNamesStay Keeps tree later) where
   keeps_through : (from : ℕ) (names : List (List ℕ)) (to : ℕ) → led tree from names ≡ Some to → Keeps to → Keeps from
   keeps_through from [] to e keeps = subst Keeps (sym (same_Some from to e)) keeps
@@ -102,7 +111,8 @@ module _ (Keeps : ℕ → Type 0) (tree later : Tree ℕ) (before : IsTree tree)
       let step = found (λ next. led tree next names) (entry_at tree from name) to e in
       above from name step.0 step.1 (keeps_through step.0 names to step.2 keeps)
 
-  pub led_stays : (from : ℕ) (names : List (List ℕ)) (to : ℕ) → led tree from names ≡ Some to → IsDirectory tree to → Keeps to
+  pub led_stays : (from : ℕ) (names : List (List ℕ)) (to : ℕ) → led tree from names ≡ Some to → IsDirectory tree to
+      → Keeps to
       → is_some (later.node from) ≡ true → led later from names ≡ Some to
   led_stays from [] to e is keeps there = e
   led_stays from (name ∷ names) to e is keeps there =
@@ -126,7 +136,8 @@ module _ (Keeps : ℕ → Type 0) (files later : FileTree ℕ) (before : IsTree 
     reached.0,
     ap (λ n. led later.tree n reached.0) root
         ∙ led_stays Keeps files.tree later.tree before after.tree above stay files.tree.root reached.0 d reached.1 is keeps
-        (subst (λ n. is_some (later.tree.node n) ≡ true) root (directory_used later.tree later.tree.root after.tree.root_directory)),
+        (subst (λ n. is_some (later.tree.node n) ≡ true) root
+        (directory_used later.tree later.tree.root after.tree.root_directory)),
   )
 
   pub present_later : is_removed nat_eq later.tree d ≡ false

@@ -54,8 +54,10 @@ pub record StaysWhole (node : ℕ → Option (Node ℕ)) (inodes : Inodes ℕ) :
 pub whole_counted : (uses : ℕ → ℕ) (node : ℕ → Option (Node ℕ)) (inodes : Inodes ℕ) → IsCounted uses node inodes
     → StaysWhole node inodes → IsWhole (tree_of inodes)
 whole_counted uses node inodes counted stays = record {
-  root_directory = subst (λ o. is_directory_node o ≡ true) (counted.kept inodes.root stays.root_stays) stays.root_directory;
-  root_parent = subst (λ o. parent_in inodes.root o ≡ inodes.root) (counted.kept inodes.root stays.root_stays) stays.root_parent;
+  root_directory = subst (λ o. is_directory_node o ≡ true)
+      (counted.kept inodes.root stays.root_stays) stays.root_directory;
+  root_parent = subst (λ o. parent_in inodes.root o ≡ inodes.root)
+      (counted.kept inodes.root stays.root_stays) stays.root_parent;
   in_order = λ directory. order directory (is_some (inodes.inode directory)) refl;
   in_parent = λ directory is other. lies directory (there directory is) (is_there directory is) other;
   under_root = λ directory is.
@@ -75,17 +77,20 @@ whole_counted uses node inodes counted stays = record {
 
     order : (directory : ℕ) (b : Bool) → is_some (inodes.inode directory) ≡ b
         → is_sorted name_cmp (entries_in (node_in (inodes.inode directory))) ≡ true
-    order directory true e = subst (λ o. is_sorted name_cmp (entries_in o) ≡ true) (counted.kept directory e) (stays.in_order directory)
+    order directory true e = subst (λ o. is_sorted name_cmp (entries_in o) ≡ true) (counted.kept directory e)
+        (stays.in_order directory)
     order directory false e = by (inodes.inode directory) e
       where
         by : (o : Option (Inode ℕ)) → is_some o ≡ false → is_sorted name_cmp (entries_in (node_in o)) ≡ true
         by None e = refl
         by (Some inode) e = cc
 
-    lies : (directory : ℕ) → is_some (inodes.inode directory) ≡ true → is_directory_node (node directory) ≡ true → directory ≢ inodes.root
+    lies : (directory : ℕ) → is_some (inodes.inode directory) ≡ true → is_directory_node (node directory) ≡ true
+        → directory ≢ inodes.root
         → has_entry_to nat_eq (tree_of inodes) (parent_in directory (node_in (inodes.inode directory))) directory ≡ true
     lies directory some is other =
-        subst (λ o. has_entry_to nat_eq (tree_of inodes) (parent_in directory o) directory ≡ true) (counted.kept directory some)
+        subst (λ o. has_entry_to nat_eq (tree_of inodes) (parent_in directory o) directory ≡ true)
+        (counted.kept directory some)
         (subst (λ o. list_any (nat_eq directory) (targets_in o) ≡ true)
         (counted.kept (parent_in directory (node directory)) (stays.in_parent directory some is other).1)
         (stays.in_parent directory some is other).0)
@@ -115,7 +120,8 @@ pub settled_fit : (beside : Beside) (world : World ℕ) (uses : ℕ → ℕ) (no
     → IsWhole (tree_of world.inodes)
     → ((directory : ℕ) → IsDirectory (tree_of world.inodes) directory → uses directory ≡ 1)
     → AreApart world.tasks
-    → ((name rest : TaskName) (number : ℕ) (task forker : Task ℕ) → task_called world (name ++ (number ∷ rest)) ≡ Some task
+    → ((name rest : TaskName) (number : ℕ) (task forker : Task ℕ)
+    → task_called world (name ++ (number ∷ rest)) ≡ Some task
     → task_called world name ≡ Some forker → number ≤ forker.forks)
     → ((name : TaskName) (task : Task ℕ) → task_called world name ≡ Some task → AreInOrder 0 task.descriptors)
     → (now : Beside) × IsFit now.numbers world
@@ -169,7 +175,8 @@ module _ (numbers : List ℕ) (world : World ℕ) (fit : IsFit numbers world) wh
   pub uses_parts : (number : ℕ)
       → times_in number (used_in numbers world) ≡ one_if number world.inodes.root +
       (times_in number (named_by tree.node numbers) + times_in number (opened_in world))
-  uses_parts number = ap (λ n. one_if number world.inodes.root + n) (times_append number (named_by tree.node numbers) (opened_in world))
+  uses_parts number = ap (λ n. one_if number world.inodes.root + n)
+      (times_append number (named_by tree.node numbers) (opened_in world))
 
   -- what has a use is there
   pub used_is_there : (number : ℕ) → 1 ≤ times_in number (used_in numbers world) → is_some (world.inodes.inode number) ≡ true
@@ -193,7 +200,8 @@ module _ (numbers : List ℕ) (world : World ℕ) (fit : IsFit numbers world) wh
       fit.each_once (parent_in directory (tree.node directory))
       ∙ ap (λ b. cond b 1 0) (directory_there (parent_in directory (tree.node directory)) parent) in
       let all : times_in directory (targets_in (tree.node (parent_in directory (tree.node directory)))) ≤ times_in directory
-      (named_by tree.node numbers) = named_of directory tree.node (parent_in directory (tree.node directory)) numbers (omega arith) in
+      (named_by tree.node numbers) =
+      named_of directory tree.node (parent_in directory (tree.node directory)) numbers (omega arith) in
       omega arith
 
   -- the uses of a directory: the root has no name, and each other one, and no descriptor is on one
@@ -209,12 +217,14 @@ module _ (numbers : List ℕ) (world : World ℕ) (fit : IsFit numbers world) wh
       (λ t. let root : one_if directory world.inodes.root ≡ 1 = ap (λ b. cond b 1 0) t.0 in (
         let none : times_in directory (opened_in world) ≡ 0 = omega arith in
             none,
-        let sum : times_in directory (named_by tree.node numbers) + one_if directory world.inodes.root ≡ 1 = omega arith in sum,
+        let sum : times_in directory (named_by tree.node numbers) + one_if directory world.inodes.root ≡ 1 =
+            omega arith in sum,
       ))
       (λ t. let named = directory_named directory is t.1 in (
         let none : times_in directory (opened_in world) ≡ 0 = omega arith in
             none,
-        let sum : times_in directory (named_by tree.node numbers) + one_if directory world.inodes.root ≡ 1 = omega arith in sum,
+        let sum : times_in directory (named_by tree.node numbers) + one_if directory world.inodes.root ≡ 1 =
+            omega arith in sum,
       ))
       (eqb_tells directory world.inodes.root)
 
@@ -239,7 +249,8 @@ module _ (numbers : List ℕ) (world : World ℕ) (fit : IsFit numbers world) wh
     in_parent = λ directory some is other. (
       fit.whole.in_parent directory is other,
       directory_there (parent_in directory (tree.node directory))
-          (has_entry_directory tree (parent_in directory (tree.node directory)) directory (fit.whole.in_parent directory is other)),
+          (has_entry_directory tree (parent_in directory (tree.node directory)) directory
+          (fit.whole.in_parent directory is other)),
     );
     under_root = λ directory some is. fit.whole.under_root directory is;
   }
@@ -258,13 +269,16 @@ module _ (numbers : List ℕ) (world : World ℕ) (fit : IsFit numbers world) (p
   abbrev node_now : ℕ → Option (Node ℕ)
   node_now = changed_at (tree_of world.inodes).node place (change ((tree_of world.inodes).node place))
 
-  part_kept : {A : Type 0} (part : Option (Node ℕ) → A) → ((o : Option (Node ℕ)) → part (change o) ≡ part o) → (number : ℕ)
+  part_kept : {A : Type 0} (part : Option (Node ℕ) → A) → ((o : Option (Node ℕ)) → part (change o) ≡ part o)
+      → (number : ℕ)
       → part (node_now number) ≡ part ((tree_of world.inodes).node number)
   part_kept part same number =
       ⊎_elim
-      (λ t. ap (λ b. part (cond b (change ((tree_of world.inodes).node place)) ((tree_of world.inodes).node number))) t.0
+      (λ t. ap (λ b. part (cond b (change ((tree_of world.inodes).node place))
+      ((tree_of world.inodes).node number))) t.0
       ∙ same ((tree_of world.inodes).node place) ∙ ap (λ n. part ((tree_of world.inodes).node n)) (sym t.1))
-      (λ t. ap (λ b. part (cond b (change ((tree_of world.inodes).node place)) ((tree_of world.inodes).node number))) t.0)
+      (λ t. ap (λ b. part (cond b (change ((tree_of world.inodes).node place))
+      ((tree_of world.inodes).node number))) t.0)
       (eqb_tells number place)
 
   some_kept : (o : Option (Node ℕ)) → is_some (change o) ≡ is_some o
@@ -272,11 +286,13 @@ module _ (numbers : List ℕ) (world : World ℕ) (fit : IsFit numbers world) (p
   some_kept (Some node) = ap is_some (kept.some node).1
 
   -- inodes with the change count the same
-  kept_counted : IsCounted (λ number. times_in number (used_in numbers world)) node_now (with_changed nat_eq world.inodes place change)
+  kept_counted : IsCounted (λ number. times_in number (used_in numbers world)) node_now
+      (with_changed nat_eq world.inodes place change)
   kept_counted = by (world.inodes.inode place) refl
     where
       by : (o : Option (Inode ℕ)) → world.inodes.inode place ≡ o
-          → IsCounted (λ number. times_in number (used_in numbers world)) node_now (with_changed nat_eq world.inodes place change)
+          → IsCounted (λ number. times_in number (used_in numbers world)) node_now
+          (with_changed nat_eq world.inodes place change)
       by (Some inode) e =
           counted_changed (λ number. times_in number (used_in numbers world)) (tree_of world.inodes).node world.inodes
           (counted_start numbers world fit) place inode e change (kept.some inode.node).0 (kept.some inode.node).1
@@ -284,7 +300,8 @@ module _ (numbers : List ℕ) (world : World ℕ) (fit : IsFit numbers world) (p
           subst (λ n. IsCounted (λ number. times_in number (used_in numbers world)) n
           (with_changed nat_eq world.inodes place change)) (λ i. λ number. sym (node_same number) i)
           (subst (λ f. IsCounted (λ number. times_in number (used_in numbers world)) (tree_of world.inodes).node
-          (record world.inodes { inode = f })) (λ i. λ number. sym (inode_same number) i) (counted_start numbers world fit))
+          (record world.inodes { inode = f })) (λ i. λ number. sym (inode_same number) i)
+          (counted_start numbers world fit))
         where
           node_none : change (node_in (world.inodes.inode place)) ≡ None
           node_none = ap (λ o. change (node_in o)) e ∙ kept.none
@@ -292,18 +309,23 @@ module _ (numbers : List ℕ) (world : World ℕ) (fit : IsFit numbers world) (p
           node_same : (number : ℕ) → node_now number ≡ (tree_of world.inodes).node number
           node_same number =
               ⊎_elim
-              (λ t. ap (λ b. cond b (change ((tree_of world.inodes).node place)) ((tree_of world.inodes).node number)) t.0
+              (λ t. ap (λ b. cond b (change ((tree_of world.inodes).node place))
+              ((tree_of world.inodes).node number)) t.0
               ∙ node_none ∙ sym (ap (λ n. node_in (world.inodes.inode n)) t.1 ∙ ap node_in e))
-              (λ t. ap (λ b. cond b (change ((tree_of world.inodes).node place)) ((tree_of world.inodes).node number)) t.0)
+              (λ t. ap (λ b. cond b (change ((tree_of world.inodes).node place))
+              ((tree_of world.inodes).node number)) t.0)
               (eqb_tells number place)
 
-          inode_same : (number : ℕ) → (with_changed nat_eq world.inodes place change).inode number ≡ world.inodes.inode number
+          inode_same : (number : ℕ) → (with_changed nat_eq world.inodes place change).inode number
+              ≡ world.inodes.inode number
           inode_same number =
               ⊎_elim
-              (λ t. ap (λ b. cond b (inode_with_node (change (node_in (world.inodes.inode place))) (world.inodes.inode place))
+              (λ t. ap (λ b. cond b (inode_with_node (change (node_in (world.inodes.inode place)))
+              (world.inodes.inode place))
               (world.inodes.inode number)) t.0
               ∙ ap (λ o. inode_with_node o (world.inodes.inode place)) node_none ∙ ap world.inodes.inode (sym t.1))
-              (λ t. ap (λ b. cond b (inode_with_node (change (node_in (world.inodes.inode place))) (world.inodes.inode place))
+              (λ t. ap (λ b. cond b (inode_with_node (change (node_in (world.inodes.inode place)))
+              (world.inodes.inode place))
               (world.inodes.inode number)) t.0)
               (eqb_tells number place)
 
@@ -312,7 +334,8 @@ module _ (numbers : List ℕ) (world : World ℕ) (fit : IsFit numbers world) (p
       → is_some ((with_changed nat_eq world.inodes place change).inode number) ≡ true
   kept_there number is =
       by ((with_changed nat_eq world.inodes place change).inode number) (kept_counted.uses_are number)
-      (let some : 1 ≤ uses_in (world.inodes.inode number) = fit.in_use number (directory_there numbers world fit number is) in
+      (let some : 1 ≤ uses_in (world.inodes.inode number) = fit.in_use number
+      (directory_there numbers world fit number is) in
       let e = fit.uses number in omega arith)
     where
       by : (o : Option (Inode ℕ)) → uses_in o ≡ times_in number (used_in numbers world)
@@ -324,7 +347,8 @@ module _ (numbers : List ℕ) (world : World ℕ) (fit : IsFit numbers world) (p
       → upwards (bare world.inodes.root node_now) steps directory ≡ upwards (tree_of world.inodes) steps directory
   kept_upwards zero directory = refl
   kept_upwards (suc steps) directory =
-      ap (upwards (bare world.inodes.root node_now) steps) (part_kept (parent_in directory) (kept.parent directory) directory)
+      ap (upwards (bare world.inodes.root node_now) steps)
+      (part_kept (parent_in directory) (kept.parent directory) directory)
       ∙ kept_upwards steps (parent_in directory ((tree_of world.inodes).node directory))
 
   targets_kept : (o : Option (Node ℕ)) → targets_in (change o) ≡ targets_in o
@@ -334,27 +358,36 @@ module _ (numbers : List ℕ) (world : World ℕ) (fit : IsFit numbers world) (p
   kept_whole = record {
     root_stays = kept_there world.inodes.root fit.whole.root_directory;
     root_directory = part_kept is_directory_node kept.directory world.inodes.root ∙ fit.whole.root_directory;
-    root_parent = part_kept (parent_in world.inodes.root) (kept.parent world.inodes.root) world.inodes.root ∙ fit.whole.root_parent;
-    in_order = λ directory. ap (is_sorted name_cmp) (part_kept entries_in kept.entries directory) ∙ fit.whole.in_order directory;
-    in_parent = λ directory some is other. lies directory (sym (part_kept is_directory_node kept.directory directory) ∙ is) other;
+    root_parent = part_kept (parent_in world.inodes.root) (kept.parent world.inodes.root) world.inodes.root
+        ∙ fit.whole.root_parent;
+    in_order = λ directory. ap (is_sorted name_cmp) (part_kept entries_in kept.entries directory)
+        ∙ fit.whole.in_order directory;
+    in_parent = λ directory some is other.
+        lies directory (sym (part_kept is_directory_node kept.directory directory) ∙ is) other;
     under_root = λ directory some is.
         let under = fit.whole.under_root directory (sym (part_kept is_directory_node kept.directory directory) ∙ is) in
         (under.0, kept_upwards under.0 directory ∙ under.1);
   }
     where
-      lies : (directory : ℕ) → is_directory_node ((tree_of world.inodes).node directory) ≡ true → directory ≢ world.inodes.root
-          → (has_entry_to nat_eq (bare world.inodes.root node_now) (parent_in directory (node_now directory)) directory ≡ true)
-          × (is_some ((with_changed nat_eq world.inodes place change).inode (parent_in directory (node_now directory))) ≡ true)
+      lies : (directory : ℕ) → is_directory_node ((tree_of world.inodes).node directory) ≡ true
+          → directory ≢ world.inodes.root
+          → (has_entry_to nat_eq (bare world.inodes.root node_now) (parent_in directory (node_now directory)) directory
+          ≡ true)
+          × (is_some ((with_changed nat_eq world.inodes place change).inode (parent_in directory (node_now directory)))
+          ≡ true)
       lies directory is other =
           let entry : has_entry_to nat_eq (tree_of world.inodes)
-          (parent_in directory ((tree_of world.inodes).node directory)) directory ≡ true = fit.whole.in_parent directory is other in
+          (parent_in directory ((tree_of world.inodes).node directory)) directory ≡ true =
+          fit.whole.in_parent directory is other in
           subst (λ p. (has_entry_to nat_eq (bare world.inodes.root node_now) p directory ≡ true)
           × (is_some ((with_changed nat_eq world.inodes place change).inode p) ≡ true))
           (sym (part_kept (parent_in directory) (kept.parent directory) directory)) (
             ap (list_any (nat_eq directory))
-                (part_kept targets_in targets_kept (parent_in directory ((tree_of world.inodes).node directory))) ∙ entry,
+                (part_kept targets_in targets_kept (parent_in directory ((tree_of world.inodes).node directory)))
+                ∙ entry,
             kept_there (parent_in directory ((tree_of world.inodes).node directory))
-                (has_entry_directory (tree_of world.inodes) (parent_in directory ((tree_of world.inodes).node directory)) directory entry),
+                (has_entry_directory (tree_of world.inodes)
+                (parent_in directory ((tree_of world.inodes).node directory)) directory entry),
           )
 
   named_kept : (list : List ℕ) → named_by node_now list ≡ named_by (tree_of world.inodes).node list
@@ -364,7 +397,9 @@ module _ (numbers : List ℕ) (world : World ℕ) (fit : IsFit numbers world) (p
   -- so the change is done alike
   pub kept_settled : (beside : Beside) → beside.numbers ≡ numbers → (filesystem_change : ℕ)
       → (now : Beside) × IsFit now.numbers (record world { inodes = with_changed nat_eq world.inodes place change })
-      × (settled nat_eq (raw world.inodes.root node_now numbers filesystem_change (map (task_there beside world.inodes.root) world.tasks) beside.change) ≡ embedded now (record world { inodes = with_changed nat_eq world.inodes place change }))
+      × (settled nat_eq (raw world.inodes.root node_now numbers filesystem_change
+      (map (task_there beside world.inodes.root) world.tasks) beside.change)
+      ≡ embedded now (record world { inodes = with_changed nat_eq world.inodes place change }))
   kept_settled beside same filesystem_change =
       settled_fit (record beside { filesystem_change = filesystem_change })
       (record world { inodes = with_changed nat_eq world.inodes place change })

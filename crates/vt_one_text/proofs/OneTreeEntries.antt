@@ -37,39 +37,46 @@ is_equal Equal e = refl
 is_equal Greater e = cc
 
 -- a name below all is not there
-find_below : (name : List ℕ) (entries : Entries ℕ) → below_all name_cmp name entries ≡ true → entry_named name entries ≡ None
+find_below : (name : List ℕ) (entries : Entries ℕ) → below_all name_cmp name entries ≡ true
+    → entry_named name entries ≡ None
 find_below name [] e = refl
 find_below name (entry ∷ rest) e =
     let parts = and_parts (is_lt (name_cmp name entry.0)) (below_all name_cmp name rest) e in
     ap (λ o. cond (is_eq o) (Some entry.1) (entry_named name rest)) (is_less _ parts.0) ∙ find_below name rest parts.1
 
-below_less : (name other : List ℕ) (entries : Entries ℕ) → name_cmp name other ≡ Less → below_all name_cmp other entries ≡ true
+below_less : (name other : List ℕ) (entries : Entries ℕ) → name_cmp name other ≡ Less
+    → below_all name_cmp other entries ≡ true
     → below_all name_cmp name entries ≡ true
 below_less name other [] less e = refl
 below_less name other (entry ∷ rest) less e =
     let parts = and_parts (is_lt (name_cmp other entry.0)) (below_all name_cmp other rest) e in
-    (λ i. is_lt (nat_list_cmp_total.trans name other entry.0 less (is_less _ parts.0) i) && below_less name other rest less parts.1 i)
+    (λ i. is_lt (nat_list_cmp_total.trans name other entry.0 less (is_less _ parts.0) i)
+    && below_less name other rest less parts.1 i)
 
 -- an entry more, in the place of the one with its name
 pub times_put : (number : ℕ) (name : List ℕ) (object : ℕ) (entries : Entries ℕ) → is_sorted name_cmp entries ≡ true
     → times_in number (targets (with_entry name object entries)) + one_if_some number
     (entry_named name entries) ≡ times_in number (targets entries) + one_if number object
 times_put number name object [] sorted = omega arith
-times_put number name object (entry ∷ rest) sorted = by (name_cmp name entry.0) refl (times_put number name object rest parts.1)
+times_put number name object (entry ∷ rest) sorted =
+    by (name_cmp name entry.0) refl (times_put number name object rest parts.1)
   where
     parts : (below_all name_cmp entry.0 rest ≡ true) × (is_sorted name_cmp rest ≡ true)
     parts = and_parts (below_all name_cmp entry.0 rest) (is_sorted name_cmp rest) sorted
 
     by : (o : Ordering) → name_cmp name entry.0 ≡ o
-        → times_in number (targets (with_entry name object rest)) + one_if_some number (entry_named name rest) ≡ times_in number
+        → times_in number (targets (with_entry name object rest)) + one_if_some number (entry_named name rest)
+        ≡ times_in number
         (targets rest) + one_if number object
         → times_in number
         (targets (by_order o ((name, object) ∷ entry ∷ rest) ((entry.0, object) ∷ rest)
-        (entry ∷ with_entry name object rest))) + one_if_some number (cond (is_eq o) (Some entry.1) (entry_named name rest))
+        (entry ∷ with_entry name object rest))) + one_if_some number
+        (cond (is_eq o) (Some entry.1) (entry_named name rest))
         ≡ times_in number (targets (entry ∷ rest)) + one_if number object
     by Less e later =
         let none : entry_named name rest ≡ None = find_below name rest (below_less name entry.0 rest e parts.0) in
-        ap (λ o. (one_if number object + (one_if number entry.1 + times_in number (targets rest))) + one_if_some number o) none
+        ap (λ o. (one_if number object +
+        (one_if number entry.1 + times_in number (targets rest))) + one_if_some number o) none
         ∙ (let aside : (one_if number object + (one_if number entry.1 + times_in number (targets rest))) + 0 ≡
         (one_if number entry.1 + times_in number (targets rest)) + one_if number object = omega arith in aside)
     by Equal e later = omega arith
@@ -77,7 +84,8 @@ times_put number name object (entry ∷ rest) sorted = by (name_cmp name entry.0
 
 -- an entry less
 pub times_without : (number : ℕ) (name : List ℕ) (entries : Entries ℕ) → is_sorted name_cmp entries ≡ true
-    → times_in number (targets (without_entry name entries)) + one_if_some number (entry_named name entries) ≡ times_in number
+    → times_in number (targets (without_entry name entries)) + one_if_some number (entry_named name entries)
+    ≡ times_in number
     (targets entries)
 times_without number name [] sorted = omega arith
 times_without number name (entry ∷ rest) sorted =
@@ -87,13 +95,15 @@ times_without number name (entry ∷ rest) sorted =
     parts = and_parts (below_all name_cmp entry.0 rest) (is_sorted name_cmp rest) sorted
 
     by : (b : Bool) → bytes_eq entry.0 name ≡ b → (c : Bool) → is_eq (name_cmp name entry.0) ≡ c
-        → times_in number (targets (without_entry name rest)) + one_if_some number (entry_named name rest) ≡ times_in number (targets rest)
+        → times_in number (targets (without_entry name rest)) + one_if_some number (entry_named name rest)
+        ≡ times_in number (targets rest)
         → times_in number
         (targets (cond (not b) (entry ∷ without_entry name rest) (without_entry name rest))) + one_if_some number
         (cond c (Some entry.1) (entry_named name rest)) ≡ one_if number entry.1 + times_in number (targets rest)
     by true e true f later =
         let same : entry.0 ≡ name = (bytes_decides entry.0 name).0 e in
-        let none : entry_named name rest ≡ None = find_below name rest (subst (λ n. below_all name_cmp n rest ≡ true) same parts.0) in
+        let none : entry_named name rest ≡ None =
+        find_below name rest (subst (λ n. below_all name_cmp n rest ≡ true) same parts.0) in
         let all : times_in number (targets (without_entry name rest)) + 0 ≡ times_in number (targets rest) =
         subst (λ o. times_in number (targets (without_entry name rest)) + one_if_some number o ≡ times_in number
         (targets rest)) none later in
@@ -112,11 +122,13 @@ to_T false e = absurd (true≢false (sym e))
 
 pub sorted_put : (name : List ℕ) (object : ℕ) (entries : Entries ℕ) → is_sorted name_cmp entries ≡ true
     → is_sorted name_cmp (with_entry name object entries) ≡ true
-sorted_put name object entries sorted = passes _ (is_sorted-put name_cmp nat_list_cmp_total name object entries (to_T _ sorted))
+sorted_put name object entries sorted =
+    passes _ (is_sorted-put name_cmp nat_list_cmp_total name object entries (to_T _ sorted))
 
 pub sorted_without : (name : List ℕ) (entries : Entries ℕ) → is_sorted name_cmp entries ≡ true
     → is_sorted name_cmp (without_entry name entries) ≡ true
-sorted_without name entries sorted = passes _ (is_sorted-where_key name_cmp (λ key. not (bytes_eq key name)) entries (to_T _ sorted))
+sorted_without name entries sorted =
+    passes _ (is_sorted-where_key name_cmp (λ key. not (bytes_eq key name)) entries (to_T _ sorted))
 
 -- an entry that is found is one
 pub found_target : (number : ℕ) (name : List ℕ) (entries : Entries ℕ)
@@ -125,7 +137,8 @@ found_target number name [] = omega arith
 found_target number name (entry ∷ rest) = by (is_eq (name_cmp name entry.0)) (found_target number name rest)
   where
     by : (b : Bool) → one_if_some number (entry_named name rest) ≤ times_in number (targets rest)
-        → one_if_some number (cond b (Some entry.1) (entry_named name rest)) ≤ one_if number entry.1 + times_in number (targets rest)
+        → one_if_some number (cond b (Some entry.1) (entry_named name rest)) ≤ one_if number entry.1 + times_in number
+        (targets rest)
     by true later = omega arith
     by false later = omega arith
 
@@ -144,7 +157,8 @@ named_apart node place new [] none = refl
 named_apart node place new (first ∷ rest) none =
     ⊎_elim
     (λ t. absurd (let some : one_if place first ≡ 1 = ap (λ b. cond b 1 0) t.0 in omega arith))
-    (λ t. λ i. targets_in (cond (ne_eqb first place (λ e. t.1 (sym e)) i) new (node first)) ++ named_apart node place new rest
+    (λ t. λ i. targets_in (cond (ne_eqb first place (λ e. t.1 (sym e)) i) new (node first))
+    ++ named_apart node place new rest
     (let h : one_if place first ≡ 0 = ap (λ b. cond b 1 0) t.0 in omega arith) i)
     (eqb_tells place first)
 
@@ -173,9 +187,11 @@ named_changed number node place new (first ∷ rest) one =
         (targets_in (node place)) ≡ times_in number (named_by node (first ∷ rest)) + times_in number (targets_in new)
     here t same =
         let none : times_in place rest ≡ 0 = (let h : one_if place first ≡ 1 = ap (λ b. cond b 1 0) t in omega arith) in
-        let rest_same : times_in number (named_by (changed_at node place new) rest) ≡ times_in number (named_by node rest) =
+        let rest_same : times_in number (named_by (changed_at node place new) rest)
+        ≡ times_in number (named_by node rest) =
         ap (times_in number) (named_apart node place new rest none) in
-        let new_first : times_in number (targets_in (changed_at node place new first)) ≡ times_in number (targets_in new) =
+        let new_first : times_in number (targets_in (changed_at node place new first))
+        ≡ times_in number (targets_in new) =
         ap (λ b. times_in number (targets_in (cond b new (node first)))) (eq-eqb first place (sym same)) in
         let old_first : times_in number (targets_in (node place)) ≡ times_in number (targets_in (node first)) =
         ap (λ n. times_in number (targets_in (node n))) same in
@@ -187,7 +203,8 @@ named_changed number node place new (first ∷ rest) one =
         → times_in number (named_by (changed_at node place new) (first ∷ rest)) + times_in number
         (targets_in (node place)) ≡ times_in number (named_by node (first ∷ rest)) + times_in number (targets_in new)
     later t apart rec =
-        let first_same : times_in number (targets_in (changed_at node place new first)) ≡ times_in number (targets_in (node first)) =
+        let first_same : times_in number (targets_in (changed_at node place new first))
+        ≡ times_in number (targets_in (node first)) =
         ap (λ b. times_in number (targets_in (cond b new (node first)))) (ne_eqb first place (λ e. apart (sym e))) in
         let a = whole in let b = now in omega arith
 
@@ -196,7 +213,8 @@ pub named_of : (number : ℕ) (node : ℕ → Option (Node ℕ)) (place : ℕ) (
     → times_in number (targets_in (node place)) ≤ times_in number (named_by node numbers)
 named_of number node place [] found = absurd (omega arith)
 named_of number node place (first ∷ rest) found =
-    let whole : times_in number (named_by node (first ∷ rest)) ≡ times_in number (targets_in (node first)) + times_in number
+    let whole : times_in number (named_by node (first ∷ rest))
+    ≡ times_in number (targets_in (node first)) + times_in number
     (named_by node rest) = times_append number (targets_in (node first)) (named_by node rest) in
     ⊎_elim
     (λ t. let same : times_in number (targets_in (node place)) ≡ times_in number (targets_in (node first)) = ap

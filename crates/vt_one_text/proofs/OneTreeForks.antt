@@ -30,7 +30,8 @@ pub fit_of_tasks : (numbers : List ℕ) (world : World ℕ) (tasks : List Entry)
     → ((name rest : TaskName) (number : ℕ) (task forker : Task ℕ)
     → task_called (record world { tasks = tasks }) (name ++ (number ∷ rest)) ≡ Some task
     → task_called (record world { tasks = tasks }) name ≡ Some forker → number ≤ forker.forks)
-    → ((name : TaskName) (task : Task ℕ) → task_called (record world { tasks = tasks }) name ≡ Some task → AreInOrder 0 task.descriptors)
+    → ((name : TaskName) (task : Task ℕ) → task_called (record world { tasks = tasks }) name ≡ Some task
+    → AreInOrder 0 task.descriptors)
     → IsFit numbers (record world { tasks = tasks })
 fit_of_tasks numbers world tasks fit same apart forked descriptors = record {
   whole = fit.whole;
@@ -47,14 +48,18 @@ fit_of_tasks numbers world tasks fit same apart forked descriptors = record {
     named : List ℕ
     named = Rattle.vt_one_text.specs.OneTree.named_in numbers (tree_of world.inodes)
 
-    as_often : (number : ℕ) → times_in number (used_in numbers world) ≡ times_in number (used_in numbers (record world { tasks = tasks }))
+    as_often : (number : ℕ) → times_in number (used_in numbers world)
+        ≡ times_in number (used_in numbers (record world { tasks = tasks }))
     as_often number =
-        let one : times_in number (named ++ opened_in world) ≡ times_in number named + times_in number (opened_in world) =
+        let one : times_in number (named ++ opened_in world)
+        ≡ times_in number named + times_in number (opened_in world) =
         times_append number named (opened_in world) in
-        let two : times_in number (named ++ flat_map files_of tasks) ≡ times_in number named + times_in number (flat_map files_of tasks) =
+        let two : times_in number (named ++ flat_map files_of tasks)
+        ≡ times_in number named + times_in number (flat_map files_of tasks) =
         times_append number named (flat_map files_of tasks) in
         let e = same number in
-        let all : times_in number (named ++ opened_in world) ≡ times_in number (named ++ flat_map files_of tasks) = omega arith in
+        let all : times_in number (named ++ opened_in world) ≡ times_in number (named ++ flat_map files_of tasks) =
+        omega arith in
         ap (λ n. cond (nat_eq number world.inodes.root) 1 0 + n) all
 
 module _ (numbers : List ℕ) (world : World ℕ) (name : TaskName) (was : Task ℕ) (fit : IsFit numbers world)
@@ -90,24 +95,29 @@ module _ (numbers : List ℕ) (world : World ℕ) (name : TaskName) (was : Task 
       (task_changed name task world.tasks was is other a found)
 
   -- a task that keeps its descriptors and has forked no less
-  pub fit_kept : (task : Task ℕ) → task.descriptors ≡ was.descriptors → was.forks ≤ task.forks → IsFit numbers (with_task world name task)
+  pub fit_kept : (task : Task ℕ) → task.descriptors ≡ was.descriptors → was.forks ≤ task.forks
+      → IsFit numbers (with_task world name task)
   fit_kept task same more =
       fit_of_tasks numbers world (map (changed_if_called name task) world.tasks) fit as_often
       (apart_changed name task world.tasks fit.apart)
-      (forked_changed task more) (descriptors_changed task (subst (AreInOrder 0) (sym same) (fit.descriptors name was task_is)))
+      (forked_changed task more) (descriptors_changed task
+      (subst (AreInOrder 0) (sym same) (fit.descriptors name was task_is)))
     where
       as_often : (number : ℕ)
-          → times_in number (flat_map files_of (map (changed_if_called name task) world.tasks)) ≡ times_in number (opened_in world)
+          → times_in number (flat_map files_of (map (changed_if_called name task) world.tasks))
+          ≡ times_in number (opened_in world)
       as_often number =
           let e : times_in number (flat_map files_of (map (changed_if_called name task) world.tasks)) + times_in number
-          (files_of (name, was)) ≡ times_in number (flat_map files_of world.tasks) + times_in number (files_of (name, task))
+          (files_of (name, was)) ≡ times_in number (flat_map files_of world.tasks) + times_in number
+          (files_of (name, task))
           = uses_changed name task number was world.tasks fit.apart is in
           let f : times_in number (files_of (name, task)) ≡ times_in number (files_of (name, was)) =
           ap (λ l. times_in number (map (λ descriptor. descriptor.file) l)) same in
           omega arith
 
 -- what the whole machine has is a world of one tree already, which settles to itself
-pub changed_to : (beside : Beside) (world : World ℕ) (name : TaskName) (task : Task ℕ) (fit : IsFit beside.numbers world)
+pub changed_to : (beside : Beside) (world : World ℕ) (name : TaskName) (task : Task ℕ)
+    (fit : IsFit beside.numbers world)
     (judged : Result (Permit ℕ) Deny) (outcome : Outcomes.Outcome ℕ)
     → is_ok outcome.answer ≡ true → outcome.answer ≡ (done beside world name task fit judged).answer
     → (now : Beside) → IsFit now.numbers (done beside world name task fit judged).world
@@ -126,7 +136,8 @@ module _ (beside : Beside) (world : World ℕ) (name : TaskName) (task : Task �
   there_task = task_there beside world.inodes.root (name, task)
 
   umask_alike : (mode : ℕ)
-      → IsJudged beside world name task fit (Ok (ToSetUmask (permission_bits mode))) (Tasks.umask_outcome there there_task mode)
+      → IsJudged beside world name task fit (Ok (ToSetUmask (permission_bits mode)))
+      (Tasks.umask_outcome there there_task mode)
   unfolding Tasks.umask_outcome
   umask_alike mode =
       inr (changed_to beside world name task fit (Ok (ToSetUmask (permission_bits mode))) _ refl refl beside
@@ -143,12 +154,17 @@ module _ (beside : Beside) (world : World ℕ) (name : TaskName) (task : Task �
   unfolding Tasks.drop_outcome
   drop_alike which =
       inr (changed_to beside world name task fit
-      (Ok (ToSetCredentials (with_dropped task.credentials (capabilities_of which task.credentials)))) _ refl refl beside
+      (Ok (ToSetCredentials (with_dropped task.credentials
+      (capabilities_of which task.credentials)))) _ refl refl beside
       (fit_kept beside.numbers world name task fit is
-      (record task { credentials = with_dropped task.credentials (capabilities_of which task.credentials) }) refl (omega arith))
+      (record task { credentials = with_dropped task.credentials (capabilities_of which task.credentials) }) refl
+      (omega arith))
       (λ i. record there {
         tasks = changed_there beside world.inodes.root name
-            (record task { credentials = with_dropped task.credentials (capabilities_of which task.credentials) }) world.tasks i;
+            (record task {
+              credentials = with_dropped task.credentials
+                  (capabilities_of which task.credentials);
+            }) world.tasks i;
       }))
 
   -- A child
@@ -178,7 +194,8 @@ module _ (beside : Beside) (world : World ℕ) (name : TaskName) (task : Task �
 goes_on : (front name rest : TaskName) (number last : ℕ) → front ++ (number ∷ rest) ≡ name ++ (last ∷ [])
     → ((front ≡ name) × (number ≡ last)) ⊎ ((more : TaskName) × (name ≡ front ++ (number ∷ more)))
 goes_on [] [] rest number last e = inl (refl, cc)
-goes_on [] (first ∷ name) rest number last e = let same : number ≡ first = cc in inr (name, ap (λ n. n ∷ name) (sym same))
+goes_on [] (first ∷ name) rest number last e = let same : number ≡ first = cc in
+    inr (name, ap (λ n. n ∷ name) (sym same))
 goes_on (first ∷ front) [] rest number last e = absurd (none front cc)
   where
     none : (front : TaskName) → front ++ (number ∷ rest) ≢ []
@@ -193,12 +210,17 @@ goes_on (first ∷ front) (other ∷ name) rest number last e =
     (goes_on front name rest number last tail)
 
 -- what is found in a list with one more
-find_more : (name : TaskName) (entries : List Entry) (last : Entry) (o : Option Entry) → find (is_called name) entries ≡ o
+find_more : (name : TaskName) (entries : List Entry) (last : Entry) (o : Option Entry)
+    → find (is_called name) entries ≡ o
     → find (is_called name)
     (entries ++ (last ∷ [])) ≡ elim o [ None ↦ cond (is_called name last) (Some last) None | Some entry ↦ Some entry ]
 find_more name entries last o e =
     subst (λ o. find (is_called name)
-    (entries ++ (last ∷ [])) ≡ elim o [ None ↦ cond (is_called name last) (Some last) None | Some entry ↦ Some entry ]) e (by entries)
+    (entries ++ (last ∷ [])) ≡ elim o [
+      | None ↦ cond (is_called name last)
+          (Some last) None
+      | Some entry ↦ Some entry
+    ]) e (by entries)
   where
     by : (entries : List Entry)
         → find (is_called name) (entries ++ (last ∷ [])) ≡ elim
@@ -208,7 +230,11 @@ find_more name entries last o e =
       where
         inside : (b : Bool)
             → find (is_called name) (rest ++ (last ∷ [])) ≡ elim
-            (find (is_called name) rest) [ None ↦ cond (is_called name last) (Some last) None | Some entry ↦ Some entry ]
+            (find (is_called name) rest) [
+              | None ↦ cond (is_called name last)
+                  (Some last) None
+              | Some entry ↦ Some entry
+            ]
             → cond b (Some entry) (find (is_called name) (rest ++ (last ∷ []))) ≡ elim
             (cond b (Some entry) (find (is_called name) rest)) [
               | None ↦ cond (is_called name last)
@@ -226,7 +252,8 @@ task_more name entries last task e = by (find (is_called name) entries) refl
   where
     by : (o : Option Entry) → find (is_called name) entries ≡ o
         → (option_map (λ entry. entry.1) o ≡ Some task) ⊎ ((name ≡ last.0) × (last.1 ≡ task))
-    by None f = inside (is_called name last) refl (ap (option_map (λ entry. entry.1)) (sym (find_more name entries last None f)) ∙ e)
+    by None f = inside (is_called name last) refl
+        (ap (option_map (λ entry. entry.1)) (sym (find_more name entries last None f)) ∙ e)
       where
         inside : (b : Bool) → is_called name last ≡ b
             → option_map (λ (entry : Entry). entry.1) (cond b (Some last) None) ≡ Some task
@@ -241,10 +268,14 @@ apart_more [] last apart none = (refl, tt)
 apart_more (entry ∷ rest) last apart none = by (is_called last.0 entry) refl none (apart_more rest last apart.1)
   where
     by : (b : Bool) → is_called last.0 entry ≡ b → cond b (Some entry) (find (is_called last.0) rest) ≡ None
-        → (find (is_called last.0) rest ≡ None → AreApart (rest ++ (last ∷ []))) → AreApart (entry ∷ (rest ++ (last ∷ [])))
+        → (find (is_called last.0) rest ≡ None → AreApart (rest ++ (last ∷ [])))
+        → AreApart (entry ∷ (rest ++ (last ∷ [])))
     by true c e later = cc
-    by false c e later =
-        (find_more entry.0 rest last None apart.0 ∙ ap (λ b. cond b (Some last) None) (differ (is_called entry.0 last) refl), later e)
+    by false c e later = (
+      find_more entry.0 rest last None apart.0
+          ∙ ap (λ b. cond b (Some last) None) (differ (is_called entry.0 last) refl),
+      later e,
+    )
       where
         differ : (b : Bool) → is_called entry.0 last ≡ b → b ≡ false
         differ false d = refl
@@ -259,21 +290,32 @@ uses_more number (entry ∷ rest) last none =
     ∙ sym (times_append number (files_of entry) (flat_map files_of rest))
 
 -- change numbers of others stay
-map_more : (beside : Beside) (root : ℕ) (child : TaskName) (entries : List Entry) → find (is_called child) entries ≡ None
+map_more : (beside : Beside) (root : ℕ) (child : TaskName) (entries : List Entry)
+    → find (is_called child) entries ≡ None
     → map (task_there beside root) entries ≡ map
-    (task_there (record beside { task_change = λ other. cond (same_name child other) 0 (beside.task_change other) }) root) entries
+    (task_there (record beside {
+      task_change = λ other.
+          cond (same_name child other) 0 (beside.task_change other);
+    }) root) entries
 map_more beside root child [] none = refl
 map_more beside root child (entry ∷ rest) none = by (is_called child entry) refl none (map_more beside root child rest)
   where
     by : (b : Bool) → is_called child entry ≡ b → cond b (Some entry) (find (is_called child) rest) ≡ None
         → (find (is_called child) rest ≡ None
         → map (task_there beside root) rest ≡ map
-        (task_there (record beside { task_change = λ other. cond (same_name child other) 0 (beside.task_change other) }) root) rest)
+        (task_there (record beside {
+          task_change = λ other.
+              cond (same_name child other) 0 (beside.task_change other);
+        }) root) rest)
         → task_there beside root entry ∷ map (task_there beside root) rest ≡ map
-        (task_there (record beside { task_change = λ other. cond (same_name child other) 0 (beside.task_change other) }) root)
+        (task_there (record beside {
+          task_change = λ other.
+              cond (same_name child other) 0 (beside.task_change other);
+        }) root)
         (entry ∷ rest)
     by true c e later = cc
-    by false c e later = λ i. record (task_there beside root entry) { change = cond (sym c i) 0 (beside.task_change entry.0) } ∷ later e i
+    by false c e later = λ i. record
+        (task_there beside root entry) { change = cond (sym c i) 0 (beside.task_change entry.0) } ∷ later e i
 
 map_append : (f : Entry → MachineWorld.Task ℕ) (entries : List Entry) (last : Entry)
     → map f (entries ++ (last ∷ [])) ≡ map f entries ++ (f last ∷ [])
@@ -298,7 +340,8 @@ module _ (beside : Beside) (world : World ℕ) (name : TaskName) (task : Task �
   no_child_there =
       by (find (is_called new.0) with_parent.tasks) refl
     where
-      by : (o : Option Entry) → find (is_called new.0) with_parent.tasks ≡ o → find (is_called new.0) with_parent.tasks ≡ None
+      by : (o : Option Entry) → find (is_called new.0) with_parent.tasks ≡ o
+          → find (is_called new.0) with_parent.tasks ≡ None
       by None e = e
       by (Some entry) e =
           ⊎_elim
@@ -321,13 +364,16 @@ module _ (beside : Beside) (world : World ℕ) (name : TaskName) (task : Task �
       (λ last. subst (λ t. AreInOrder 0 t.descriptors) last.1 tt) (task_more other with_parent.tasks new a found))
     where
       forked : (other rest : TaskName) (number : ℕ) (a b : Task ℕ)
-          → task_called (record with_parent { tasks = with_parent.tasks ++ (new ∷ []) }) (other ++ (number ∷ rest)) ≡ Some a
-          → task_called (record with_parent { tasks = with_parent.tasks ++ (new ∷ []) }) other ≡ Some b → number ≤ b.forks
+          → task_called (record with_parent { tasks = with_parent.tasks ++ (new ∷ []) }) (other ++ (number ∷ rest))
+          ≡ Some a
+          → task_called (record with_parent { tasks = with_parent.tasks ++ (new ∷ []) }) other ≡ Some b
+          → number ≤ b.forks
       forked other rest number a b one two =
           ⊎_elim
           (λ one_old. ⊎_elim
           (λ two_old. parent_fit.forked other rest number a b one_old two_old)
-          (λ two_new. absurd (below a (subst (λ n. task_called with_parent (n ++ (number ∷ rest)) ≡ Some a) two_new.0 one_old)))
+          (λ two_new. absurd (below a (subst
+          (λ n. task_called with_parent (n ++ (number ∷ rest)) ≡ Some a) two_new.0 one_old)))
           (task_more other with_parent.tasks new b two))
           (λ one_new. ⊎_elim
           (λ two_old. goes b one_new.0 two_old)
@@ -346,17 +392,21 @@ module _ (beside : Beside) (world : World ℕ) (name : TaskName) (task : Task �
           below : (a : Task ℕ) → task_called with_parent (new.0 ++ (number ∷ rest)) ≢ Some a
           below a found =
               ⊎_elim
-              (λ was. no a (subst (λ n. task_called world n ≡ Some a) (again name (number ∷ rest) (task.forks + 1)) was))
-              (λ was. no task (subst (λ n. task_called world n ≡ Some task) (again name (number ∷ rest) (task.forks + 1)) was.0))
+              (λ was. no a (subst (λ n. task_called world n ≡ Some a)
+              (again name (number ∷ rest) (task.forks + 1)) was))
+              (λ was. no task (subst (λ n. task_called world n ≡ Some task)
+              (again name (number ∷ rest) (task.forks + 1)) was.0))
               (task_changed name parent world.tasks task is (new.0 ++ (number ∷ rest)) a found)
             where
               no : (c : Task ℕ) → task_called world (name ++ ((task.forks + 1) ∷ (number ∷ rest))) ≢ Some c
               no c found =
                   let low : task.forks + 1 ≤ task.forks =
-                  fit.forked name (number ∷ rest) (task.forks + 1) c task found (task_is beside.numbers world name task fit is) in
+                  fit.forked name (number ∷ rest) (task.forks + 1) c task found
+                  (task_is beside.numbers world name task fit is) in
                   omega arith
 
-          goes : (b : Task ℕ) → other ++ (number ∷ rest) ≡ new.0 → task_called with_parent other ≡ Some b → number ≤ b.forks
+          goes : (b : Task ℕ) → other ++ (number ∷ rest) ≡ new.0 → task_called with_parent other ≡ Some b
+              → number ≤ b.forks
           goes b same found =
               ⊎_elim
               (λ it. own it.0 it.1)
@@ -369,7 +419,8 @@ module _ (beside : Beside) (world : World ℕ) (name : TaskName) (task : Task �
                   ap (option_map (λ (entry : Entry). entry.1))
                   (Rattle.vt_one_text.proofs.OneTreeTasks.find_changed name parent name world.tasks
                   ∙ ap (option_map (changed_if_called name parent)) is)
-                  ∙ ap (λ t. option_map (λ (entry : Entry). entry.1) (Some (cond t (name, parent) (name, task)))) (same_self name)
+                  ∙ ap (λ t. option_map (λ (entry : Entry). entry.1) (Some (cond t (name, parent) (name, task))))
+                  (same_self name)
 
               own : other ≡ name → number ≡ task.forks + 1 → number ≤ b.forks
               own here last =
@@ -382,12 +433,16 @@ module _ (beside : Beside) (world : World ℕ) (name : TaskName) (task : Task �
 
   child_there : map (MachineWorld.replaced_if_called (task_there beside world.inodes.root (name, parent)))
       (map (task_there beside world.inodes.root) world.tasks)
-      ++ (record (task_there beside world.inodes.root (name, task)) { name = new.0; credentials = credentials; descriptors = []; forks = 0; change = 0 } ∷ [])
+      ++ (record (task_there beside world.inodes.root
+      (name, task)) { name = new.0; credentials = credentials; descriptors = []; forks = 0; change = 0 } ∷ [])
       ≡ map (task_there beside_child world.inodes.root) (with_parent.tasks ++ (new ∷ []))
   child_there =
       (λ i. (changed_there beside world.inodes.root name parent world.tasks
       ∙ map_more beside world.inodes.root new.0 with_parent.tasks no_child_there) i
-      ++ (record (task_there beside world.inodes.root new) { change = cond (sym (same_self new.0) i) 0 (beside.task_change new.0) } ∷ []))
+      ++ (record (task_there beside world.inodes.root new) {
+        change = cond (sym (same_self new.0) i) 0
+            (beside.task_change new.0);
+      } ∷ []))
       ∙ sym (map_append (task_there beside_child world.inodes.root) with_parent.tasks new)
 
   forked_alike : IsChanged beside world name task fit (Ok (ToFork credentials))
@@ -407,7 +462,11 @@ fork_alike beside world name task fit is words =
     judged_alike (embedded beside world) (IsJudged beside world name task fit) (refused beside world name task fit)
     (inl (nat_le most_forks task.forks || nat_le deepest_name (length name), S6)
     ∷ inl (not (new.uid == task.credentials.uid) && lacks task cap_setuid, K1)
-    ∷ inl (not (new.gid == task.credentials.gid && bytes_eq new.groups task.credentials.groups) && lacks task cap_setgid, K1)
+    ∷ inl (
+      not (new.gid == task.credentials.gid && bytes_eq new.groups task.credentials.groups)
+          && lacks task cap_setgid,
+      K1,
+    )
     ∷ inl (lacks task new.capabilities, K1)
     ∷ [])
     (Ok (ToFork new))

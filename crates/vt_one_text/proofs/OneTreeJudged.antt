@@ -52,7 +52,8 @@ module _ (there : MachineWorld.World ℕ) (R : Result (Permit ℕ) Deny → Outc
   after_alike image (Ok a) (Ok b) f g alike h = subst (λ b. R (f a) (g b)) (sym alike.1) (h a alike.0 refl)
   after_alike image (Ok a) (Err stop) f g alike h = absurd alike
   after_alike image (Err deny) (Ok b) f g alike h = absurd alike
-  after_alike image (Err deny) (Err stop) f g alike h = subst (λ d. R (Err deny) (Outcomes.denied there d)) (sym alike) (refused deny)
+  after_alike image (Err deny) (Err stop) f g alike h =
+      subst (λ d. R (Err deny) (Outcomes.denied there d)) (sym alike) (refused deny)
 
   -- what follows tables
   pub judged_alike : (rows : List Row) (small : Result (Permit ℕ) Deny) (outcome : Outcomes.Outcome ℕ) → R small outcome
@@ -80,7 +81,8 @@ judged_when there R refused (inl (false, rule) ∷ rows) small outcome h =
 judged_when there R refused (inr rule ∷ rows) small outcome h = judged_when there R refused rows small outcome h
 
 -- the inodes of a world that is fit are all that is there
-pub is_before : (numbers : List ℕ) (world : World ℕ) → IsFit numbers world → IsBefore numbers (tree_of world.inodes).node world
+pub is_before : (numbers : List ℕ) (world : World ℕ) → IsFit numbers world
+    → IsBefore numbers (tree_of world.inodes).node world
 is_before numbers world fit = record {
   uses = fit.uses;
   in_use = fit.in_use;
@@ -107,13 +109,15 @@ module _ (beside : Beside) (world : World ℕ) (name : TaskName) (task : Task �
 
   -- the same answer, and nothing changed
   abbrev pub IsSeen : Result (Permit ℕ) Deny → Outcomes.Outcome ℕ → Type 0
-  IsSeen judged outcome = (outcome.answer ≡ (done judged).answer) × (outcome.world ≡ there) × ((done judged).world ≡ world)
+  IsSeen judged outcome = (outcome.answer ≡ (done judged).answer) × (outcome.world ≡ there)
+      × ((done judged).world ≡ world)
 
   -- the same answer, and the same world once it settled
   abbrev pub IsChanged : Result (Permit ℕ) Deny → Outcomes.Outcome ℕ → Type 0
   IsChanged judged outcome =
       (is_ok outcome.answer ≡ true) × (outcome.answer ≡ (done judged).answer)
-      × (now : Beside) × IsFit now.numbers (done judged).world × (settled nat_eq outcome.world ≡ embedded now (done judged).world)
+      × (now : Beside) × IsFit now.numbers (done judged).world
+      × (settled nat_eq outcome.world ≡ embedded now (done judged).world)
 
   abbrev pub IsJudged : Result (Permit ℕ) Deny → Outcomes.Outcome ℕ → Type 0
   IsJudged judged outcome = IsSeen judged outcome ⊎ IsChanged judged outcome
@@ -128,7 +132,8 @@ module _ (beside : Beside) (world : World ℕ) (name : TaskName) (task : Task �
   pub still_settled : (now : Beside) × IsFit now.numbers world × (settled nat_eq there ≡ embedded now world)
   still_settled = (
     record beside { numbers = numbers_after beside world (tree_of world.inodes).node beside.numbers is },
-    fit_after beside world (tree_of world.inodes).node beside.numbers is fit.whole as_many fit.one_use fit.apart fit.forked fit.descriptors,
+    fit_after beside world
+        (tree_of world.inodes).node beside.numbers is fit.whole as_many fit.one_use fit.apart fit.forked fit.descriptors,
     settled_is beside world (tree_of world.inodes).node beside.numbers is,
   )
     where
@@ -142,10 +147,12 @@ module _ (beside : Beside) (world : World ℕ) (name : TaskName) (task : Task �
           ∙ Rattle.vt_one_text.proofs.OneTreeTrees.as_long beside.numbers
           (numbers_after beside world (tree_of world.inodes).node beside.numbers is)
           (λ number. fit.each_once number
-          ∙ sym (Rattle.vt_one_text.proofs.OneTreeSettled.once_after beside world (tree_of world.inodes).node beside.numbers is number))
+          ∙ sym (Rattle.vt_one_text.proofs.OneTreeSettled.once_after beside world
+          (tree_of world.inodes).node beside.numbers is number))
 
   -- what changed nothing is finished alike
-  pub seen_finished : (looks : Bool) (judged : Result (Permit ℕ) Deny) (outcome : Outcomes.Outcome ℕ) → IsSeen judged outcome
+  pub seen_finished : (looks : Bool) (judged : Result (Permit ℕ) Deny) (outcome : Outcomes.Outcome ℕ)
+      → IsSeen judged outcome
       → (changed : List ℕ) → IsSameOutcome (done judged) (Machine.finished_by nat_eq looks there name changed outcome)
   seen_finished true judged outcome seen changed =
       (seen.0, inl (beside, subst (IsFit beside.numbers) (sym seen.2) fit, seen.1 ∙ ap (embedded beside) (sym seen.2)))
@@ -167,9 +174,11 @@ module _ (beside : Beside) (world : World ℕ) (name : TaskName) (task : Task �
   pub judged_finished : (judged : Result (Permit ℕ) Deny) (outcome : Outcomes.Outcome ℕ) → IsJudged judged outcome
       → (changed : List ℕ)
       → IsSameOutcome (done judged) (Machine.finished_by nat_eq (not (is_ok outcome.answer)) there name changed outcome)
-  judged_finished judged outcome (inl seen) changed = seen_finished (not (is_ok outcome.answer)) judged outcome seen changed
+  judged_finished judged outcome (inl seen) changed =
+      seen_finished (not (is_ok outcome.answer)) judged outcome seen changed
   judged_finished judged outcome (inr other) changed =
-      subst (λ b. IsSameOutcome (done judged) (Machine.finished_by nat_eq (not b) there name changed outcome)) (sym other.0) (
+      subst (λ b. IsSameOutcome (done judged) (Machine.finished_by nat_eq (not b) there name changed outcome))
+      (sym other.0) (
         other.1,
         inl (
           beside_raised name changed other.2,
@@ -182,12 +191,15 @@ module _ (beside : Beside) (world : World ℕ) (name : TaskName) (task : Task �
       )
 
 -- a call is judged by the task that has the name
-pub policy_alike : (beside : Beside) (world : World ℕ) (name : TaskName) (fresh : Fresh ℕ) (call : Call) → IsFit beside.numbers world
+pub policy_alike : (beside : Beside) (world : World ℕ) (name : TaskName) (fresh : Fresh ℕ) (call : Call)
+    → IsFit beside.numbers world
     → ((task : Task ℕ) → find (is_called name) world.tasks ≡ Some (name, task) → (changed : List ℕ)
     → IsSameOutcome (after world (judge nat_eq (fresh 0) world.inodes name task call) (spent nat_eq world name task))
     (Machine.finished nat_eq (embedded beside world) name call changed
-    (Machine.call_outcome nat_eq fresh (embedded beside world) (task_there beside world.inodes.root (name, task)) call)))
-    → IsSameOutcome (policy nat_eq world name call (fresh 0)) (Machine.policy nat_eq fresh (embedded beside world) name call)
+    (Machine.call_outcome nat_eq fresh (embedded beside world)
+    (task_there beside world.inodes.root (name, task)) call)))
+    → IsSameOutcome (policy nat_eq world name call (fresh 0))
+    (Machine.policy nat_eq fresh (embedded beside world) name call)
 policy_alike beside world name fresh call fit alike =
     subst (λ o. IsSameOutcome (policy nat_eq world name call (fresh 0))
     (Outcomes.after (embedded beside world) (ok_or o (denial S2)) machine))
@@ -197,13 +209,15 @@ policy_alike beside world name fresh call fit alike =
     machine task =
         Machine.finished nat_eq (embedded beside world) name call
         (Machine.filesystems_changed_by nat_eq (embedded beside world)
-        (judge_in nat_eq fresh (embedded beside world) task call)) (Machine.call_outcome nat_eq fresh (embedded beside world) task call)
+        (judge_in nat_eq fresh (embedded beside world) task call))
+        (Machine.call_outcome nat_eq fresh (embedded beside world) task call)
 
     by : (o : Option (TaskName × Task ℕ)) → find (is_called name) world.tasks ≡ o
         → IsSameOutcome
         (after world (ok_or (option_map (λ entry. entry.1) o) (denial S2))
         (λ task. after world (judge nat_eq (fresh 0) world.inodes name task call) (spent nat_eq world name task)))
-        (Outcomes.after (embedded beside world) (ok_or (option_map (task_there beside world.inodes.root) o) (denial S2)) machine)
+        (Outcomes.after (embedded beside world)
+        (ok_or (option_map (task_there beside world.inodes.root) o) (denial S2)) machine)
     by None e = (refl, inl (beside, fit, refl))
     by (Some entry) e =
         subst (λ x. IsSameOutcome

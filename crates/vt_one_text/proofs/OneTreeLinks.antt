@@ -64,7 +64,8 @@ module _ (numbers : List ℕ) (world : World ℕ) (fit : IsFit numbers world) (w
       → IfOk (stepped tree here word) (λ next. is_some (world.inodes.inode next) ≡ true)
   named_there here NoWord is = directory_there numbers world fit here is
   named_there here Dot is = directory_there numbers world fit here is
-  named_there here DotDot is = directory_there numbers world fit (parent_in here (tree.node here)) (parent_is tree fit.whole here is)
+  named_there here DotDot is = directory_there numbers world fit (parent_in here (tree.node here))
+      (parent_is tree fit.whole here is)
   named_there here (Named name) is = by (entry_named name (entries_in (tree.node here))) refl
     where
       by : (o : Option ℕ) → entry_named name (entries_in (tree.node here)) ≡ o
@@ -75,12 +76,14 @@ module _ (numbers : List ℕ) (world : World ℕ) (fit : IsFit numbers world) (w
   word_there : (here : Here ℕ) (word : LastWord) → IfOk (word_walked tree who here word) IsThere
   word_there here word = by (is_directory_at tree here.node) refl (may tree who here.node execute_right)
     where
-      step : (r : Result ℕ Deny) → IfOk r (λ next. is_some (world.inodes.inode next) ≡ true) → IfOk (and_then r (λ next. Ok (record { node = next; left = here.left }))) IsThere
+      step : (r : Result ℕ Deny) → IfOk r (λ next. is_some (world.inodes.inode next) ≡ true)
+          → IfOk (and_then r (λ next. Ok (record { node = next; left = here.left }))) IsThere
       step (Ok next) is = is
       step (Err deny) is = tt
 
       by : (is : Bool) → is_directory_at tree here.node ≡ is → (searched : Bool)
-          → IfOk (unless ((not is, W3) ∷ (not searched, W4) ∷ []) (and_then (stepped tree here.node word) (λ next. Ok (record { node = next; left = here.left })))) IsThere
+          → IfOk (unless ((not is, W3) ∷ (not searched, W4) ∷ [])
+          (and_then (stepped tree here.node word) (λ next. Ok (record { node = next; left = here.left })))) IsThere
       by false e searched = tt
       by true e false = tt
       by true e true = step (stepped tree here.node word) (named_there here.node word e)
@@ -93,16 +96,20 @@ module _ (numbers : List ℕ) (world : World ℕ) (fit : IsFit numbers world) (w
   words_there : (follow : Follow ℕ) → EndsThere follow → (start : Here ℕ) → IsThere start → (list : List (List ℕ))
       → IfOk (words_walked tree who follow start list) IsThere
   words_there follow ends start is [] = is
-  words_there follow ends start is (word ∷ front) = by (words_walked tree who follow start front) (words_there follow ends start is front)
+  words_there follow ends start is (word ∷ front) =
+      by (words_walked tree who follow start front) (words_there follow ends start is front)
     where
-      linked : (from : ℕ) (next : Here ℕ) → is_some (world.inodes.inode from) ≡ true → IsThere next → (text : Option (List ℕ))
+      linked : (from : ℕ) (next : Here ℕ) → is_some (world.inodes.inode from) ≡ true → IsThere next
+          → (text : Option (List ℕ))
           → IfOk (if_symlink next text (follow from next)) IsThere
       linked from next from_is next_is None = next_is
       linked from next from_is next_is (Some text) = ends from next text from_is next_is
 
       stepped_there : (reached : Here ℕ) → IsThere reached → (r : Result (Here ℕ) Deny) → IfOk r IsThere
-          → IfOk (and_then r (λ next. if_symlink next (symlink_text (tree.node next.node)) (follow reached.node next))) IsThere
-      stepped_there reached reached_is (Ok next) next_is = linked reached.node next reached_is next_is (symlink_text (tree.node next.node))
+          → IfOk (and_then r (λ next. if_symlink next (symlink_text (tree.node next.node))
+          (follow reached.node next))) IsThere
+      stepped_there reached reached_is (Ok next) next_is =
+          linked reached.node next reached_is next_is (symlink_text (tree.node next.node))
       stepped_there reached reached_is (Err deny) next_is = tt
 
       by : (r : Result (Here ℕ) Deny) → IfOk r IsThere
@@ -110,7 +117,8 @@ module _ (numbers : List ℕ) (world : World ℕ) (fit : IsFit numbers world) (w
           (λ reached. and_then (word_walked tree who reached (last_word word))
           (λ next. if_symlink next (symlink_text (tree.node next.node)) (follow reached.node next)))) IsThere
       by (Ok reached) reached_is =
-          stepped_there reached reached_is (word_walked tree who reached (last_word word)) (word_there reached (last_word word))
+          stepped_there reached reached_is (word_walked tree who reached (last_word word))
+          (word_there reached (last_word word))
       by (Err deny) reached_is = tt
 
   root_there : is_some (world.inodes.inode world.inodes.root) ≡ true
@@ -161,7 +169,8 @@ module _ (numbers : List ℕ) (world : World ℕ) (fit : IsFit numbers world) (w
       last here is DotDot = word_there here DotDot
       last here is (Named name) = word_there here (Named name)
 
-      by : (b : Bool) → IfOk (cond b (object_walk tree who path) (and_then (parsed_path path) (unfollowed_walk tree who))) IsThere
+      by : (b : Bool) → IfOk (cond b (object_walk tree who path)
+          (and_then (parsed_path path) (unfollowed_walk tree who))) IsThere
       by true = object_there path
       by false =
           ifok_then IsThere (parsed_path path) _
@@ -174,7 +183,8 @@ module _ (numbers : List ℕ) (world : World ℕ) (fit : IsFit numbers world) (w
 abbrev pub IsOld : Tree ℕ → Place ℕ → Type 0
 IsOld tree place = IsPlace tree place × (is_some place.object ≡ true)
 
-module _ (beside : Beside) (world : World ℕ) (name : TaskName) (task : Task ℕ) (fit : IsFit beside.numbers world) (fresh : Fresh ℕ) where
+module _ (beside : Beside) (world : World ℕ) (name : TaskName) (task : Task ℕ) (fit : IsFit beside.numbers world)
+    (fresh : Fresh ℕ) where
   abbrev there : MachineWorld.World ℕ
   there = embedded beside world
 
@@ -197,26 +207,39 @@ module _ (beside : Beside) (world : World ℕ) (name : TaskName) (task : Task �
 
   linked_at : (from : ℕ) (parent : ℕ) (last : LastWord) (object : Option ℕ) (slash : Bool) (steps : Steps)
       → is_some (world.inodes.inode from) ≡ true → IsPlaceOf tree_here parent object last
-      → Judged (unless (hard_link_rules tree_here who_here from (record { parent = parent; last = last; object = object; slash = slash })) (Ok (ToChange (AddName parent (name_of last) from))))
+      → Judged (unless (hard_link_rules tree_here who_here from
+      (record { parent = parent; last = last; object = object; slash = slash }))
+      (Ok (ToChange (AddName parent (name_of last) from))))
       (Outcomes.judged there ((is_special last, E1) ∷ []) (Outcomes.judged there
-      (Making.hard_link_rules nat_eq there there_task (location_there from) (place_there (record { parent = parent; last = last; object = object; slash = slash }) steps) (AddName parent (name_of last) from))
-      (Outcomes.granted Done (with_change nat_eq fresh there (location_there parent) (AddName parent (name_of last) from)))))
+      (Making.hard_link_rules nat_eq there there_task (location_there from)
+      (place_there (record { parent = parent; last = last; object = object; slash = slash }) steps)
+      (AddName parent (name_of last) from))
+      (Outcomes.granted Done (with_change nat_eq fresh there (location_there parent)
+      (AddName parent (name_of last) from)))))
   linked_at from parent last object slash steps from_is place =
-      subst (Judged (unless (hard_link_rules tree_here who_here from (record { parent = parent; last = last; object = object; slash = slash })) (Ok (ToChange (AddName parent (name_of last) from)))))
+      subst (Judged (unless (hard_link_rules tree_here who_here from
+      (record { parent = parent; last = last; object = object; slash = slash }))
+      (Ok (ToChange (AddName parent (name_of last) from)))))
       (sym (judged_both there ((is_special last, E1) ∷ [])
-      ((is_some (option_map location_there object), E1) ∷ (is_directory_at tree_here from, E7) ∷ (false, F1) ∷ (false, F2) ∷
+      ((is_some (option_map location_there object), E1) ∷ (is_directory_at tree_here from, E7) ∷ (false, F1)
+      ∷ (false, F2) ∷
       (false, L1) ∷ (false, P2) ∷ (may_not tree_here who_here parent write_right, C1) ∷ (false, B1) ∷ [])
-      (Outcomes.granted Done (with_change nat_eq fresh there (location_there parent) (AddName parent (name_of last) from)))))
+      (Outcomes.granted Done (with_change nat_eq fresh there (location_there parent)
+      (AddName parent (name_of last) from)))))
       (by last object place)
     where
       by : (last : LastWord) (object : Option ℕ) → IsPlaceOf tree_here parent object last
           → Judged (unless
           ((is_special last, E1) ∷ (is_some object, E1) ∷ (is_directory_at tree_here from, E7) ∷
-          (may_not tree_here who_here parent write_right, C1) ∷ []) (Ok (ToChange (AddName parent (name_of last) from))))
+          (may_not tree_here who_here parent write_right, C1) ∷ [])
+          (Ok (ToChange (AddName parent (name_of last) from))))
           (Outcomes.judged there
-          ((is_special last, E1) ∷ (is_some (option_map location_there object), E1) ∷ (is_directory_at tree_here from, E7) ∷
-          (false, F1) ∷ (false, F2) ∷ (false, L1) ∷ (false, P2) ∷ (may_not tree_here who_here parent write_right, C1) ∷ (false, B1) ∷ [])
-          (Outcomes.granted Done (with_change nat_eq fresh there (location_there parent) (AddName parent (name_of last) from))))
+          ((is_special last, E1) ∷ (is_some (option_map location_there object), E1)
+          ∷ (is_directory_at tree_here from, E7) ∷
+          (false, F1) ∷ (false, F2) ∷ (false, L1) ∷ (false, P2) ∷ (may_not tree_here who_here parent write_right, C1)
+          ∷ (false, B1) ∷ [])
+          (Outcomes.granted Done (with_change nat_eq fresh there (location_there parent)
+          (AddName parent (name_of last) from))))
       by NoWord object place = denied (denial E1)
       by Dot object place = denied (denial E1)
       by DotDot object place = denied (denial E1)
@@ -227,9 +250,11 @@ module _ (beside : Beside) (world : World ℕ) (name : TaskName) (task : Task �
           (may_not tree_here who_here parent write_right, C1) ∷ inr B1 ∷ [])
           (Ok (ToChange (AddName parent word from)))
           (Outcomes.granted Done (with_change nat_eq fresh there (location_there parent) (AddName parent word from)))
-          (λ pass. inr (linked_alike beside world name task fit parent word from place.0 (sym place.1) from_is pass.0 fresh))
+          (λ pass. inr (linked_alike beside world name task fit parent word from place.0
+          (sym place.1) from_is pass.0 fresh))
 
-  place_leaf : (path : List ℕ) (place : Place ℕ) → new_leaf_walk tree_here who_here path ≡ Ok place → IsPlace tree_here place
+  place_leaf : (path : List ℕ) (place : Place ℕ) → new_leaf_walk tree_here who_here path ≡ Ok place
+      → IsPlace tree_here place
   place_leaf path place e =
       subst (λ r. IfOk r (IsPlace tree_here)) e
       (ifok_then (IsPlace tree_here) (new_walk tree_here who_here path)
@@ -238,7 +263,8 @@ module _ (beside : Beside) (world : World ℕ) (name : TaskName) (task : Task �
       (subst (λ r. IfOk r (IsPlace tree_here)) e (new_walk_is beside world (name, task) fit path))))
 
   link_alike : (old new : List ℕ)
-      → Judged (hard_link_permit tree_here task old new) (Making.hard_link_outcome nat_eq fresh there there_task old new)
+      → Judged (hard_link_permit tree_here task old new)
+      (Making.hard_link_outcome nat_eq fresh there there_task old new)
   unfolding hard_link_permit Making.hard_link_outcome
   link_alike old new =
       after_alike there Judged denied here_there (symlink_walk tree_here who_here old) _ _ _
@@ -253,7 +279,8 @@ module _ (beside : Beside) (world : World ℕ) (name : TaskName) (task : Task �
 
   pub old_is : (path : List ℕ) → IfOk (old_walk tree_here who_here path) (IsOld tree_here)
   old_is path =
-      ifok_then (IsOld tree_here) (new_walk tree_here who_here path) (λ place. unless ((not (is_some place.object), W6) ∷ []) (Ok place))
+      ifok_then (IsOld tree_here) (new_walk tree_here who_here path)
+      (λ place. unless ((not (is_some place.object), W6) ∷ []) (Ok place))
       (λ place e. by place (is_some place.object) refl
       (subst (λ r. IfOk r (IsPlace tree_here)) e (new_walk_is beside world (name, task) fit path)))
     where
@@ -266,7 +293,8 @@ module _ (beside : Beside) (world : World ℕ) (name : TaskName) (task : Task �
   old_leaf_is path =
       ifok_then (IsOld tree_here) (old_walk tree_here who_here path)
       (λ place. unless ((place.slash && not (is_directory_there tree_here place), W3) ∷ []) (Ok place))
-      (λ place e. ifok_unless (IsOld tree_here) ((place.slash && not (is_directory_there tree_here place), W3) ∷ []) place
+      (λ place e. ifok_unless (IsOld tree_here)
+      ((place.slash && not (is_directory_there tree_here place), W3) ∷ []) place
       (subst (λ r. IfOk r (IsOld tree_here)) e (old_is path)))
 
   not_filled : (object : ℕ) → is_filled tree_here object ≡ false → targets_in (tree_here.node object) ≡ []
@@ -278,10 +306,18 @@ module _ (beside : Beside) (world : World ℕ) (name : TaskName) (task : Task �
 
   unlinked_at : (parent : ℕ) (last : LastWord) (object : Option ℕ) (slash : Bool) (steps : Steps)
       → IsPlaceOf tree_here parent object last → is_some object ≡ true
-      → Judged (unless (unlink_rules tree_here who_here (record { parent = parent; last = last; object = object; slash = slash }) (unwrap_or object parent)) (Ok (ToChange (Remove parent (name_of last) (unwrap_or object parent)))))
+      → Judged (unless (unlink_rules tree_here who_here
+      (record { parent = parent; last = last; object = object; slash = slash }) (unwrap_or object parent))
+      (Ok (ToChange (Remove parent (name_of last) (unwrap_or object parent)))))
       (Outcomes.judged there ((is_special last, E2) ∷ []) (Outcomes.judged there
-      (Removing.unlink_rules nat_eq there there_task (place_there (record { parent = parent; last = last; object = object; slash = slash }) steps) (Removing.object_there (place_there (record { parent = parent; last = last; object = object; slash = slash }) steps)))
-      (Outcomes.granted Done (with_change nat_eq fresh there (location_there parent) (Removing.removing (place_there (record { parent = parent; last = last; object = object; slash = slash }) steps) (Removing.object_there (place_there (record { parent = parent; last = last; object = object; slash = slash }) steps)))))))
+      (Removing.unlink_rules nat_eq there there_task
+      (place_there (record { parent = parent; last = last; object = object; slash = slash }) steps)
+      (Removing.object_there (place_there
+      (record { parent = parent; last = last; object = object; slash = slash }) steps)))
+      (Outcomes.granted Done (with_change nat_eq fresh there (location_there parent)
+      (Removing.removing (place_there (record { parent = parent; last = last; object = object; slash = slash }) steps)
+      (Removing.object_there (place_there
+      (record { parent = parent; last = last; object = object; slash = slash }) steps)))))))
   unlinked_at parent last None slash steps place some = cc
   unlinked_at parent NoWord (Some object) slash steps place some = denied (denial E2)
   unlinked_at parent Dot (Some object) slash steps place some = denied (denial E2)
@@ -289,14 +325,16 @@ module _ (beside : Beside) (world : World ℕ) (name : TaskName) (task : Task �
   unlinked_at parent (Named word) (Some object) slash steps place some =
       judged_when there Judged denied
       (inl (is_directory_at tree_here object, E2) ∷ inr F1 ∷ inr F2 ∷ inr L1 ∷ inl
-      (may_not tree_here who_here parent write_right, C1) ∷ inl (is_kept tree_here who_here parent object, C3) ∷ inr B1 ∷ [])
+      (may_not tree_here who_here parent write_right, C1) ∷ inl (is_kept tree_here who_here parent object, C3) ∷ inr B1
+      ∷ [])
       (Ok (ToChange (Remove parent word object)))
       (Outcomes.granted Done (with_change nat_eq fresh there (location_there parent) (Remove parent word object)))
       (λ pass. inr
       (removed_alike beside world name task fit parent word object place.0 (sym place.1)
       (no_entries beside.numbers world fit object pass.0) fresh))
 
-  unlink_alike : (path : List ℕ) → Judged (unlink_permit tree_here task path) (Removing.unlink_outcome nat_eq fresh there there_task path)
+  unlink_alike : (path : List ℕ)
+      → Judged (unlink_permit tree_here task path) (Removing.unlink_outcome nat_eq fresh there there_task path)
   unfolding unlink_permit Removing.unlink_outcome
   unlink_alike path =
       after_alike there Judged denied place_there (old_leaf_walk tree_here who_here path) _ _ _
@@ -306,11 +344,23 @@ module _ (beside : Beside) (world : World ℕ) (name : TaskName) (task : Task �
 
   removed_at : (parent : ℕ) (last : LastWord) (object : Option ℕ) (slash : Bool) (steps : Steps)
       → IsPlaceOf tree_here parent object last → is_some object ≡ true
-      → Judged (unless (rmdir_rules tree_here who_here (record { parent = parent; last = last; object = object; slash = slash }) (unwrap_or object parent)) (Ok (ToChange (Remove parent (name_of last) (unwrap_or object parent)))))
-      (Outcomes.judged there (Removing.rmdir_word_rules (place_there (record { parent = parent; last = last; object = object; slash = slash }) steps)) (Outcomes.judged there
-      (Removing.rmdir_rules nat_eq there there_task (place_there (record { parent = parent; last = last; object = object; slash = slash }) steps) (Removing.object_there (place_there (record { parent = parent; last = last; object = object; slash = slash }) steps)))
-      (Outcomes.granted Done (with_change nat_eq fresh (Rattle.vt_spec.specs.Machine.Detach.without_mounts_on nat_eq there (Removing.object_there (place_there (record { parent = parent; last = last; object = object; slash = slash }) steps))) (location_there parent)
-      (Removing.removing (place_there (record { parent = parent; last = last; object = object; slash = slash }) steps) (Removing.object_there (place_there (record { parent = parent; last = last; object = object; slash = slash }) steps)))))))
+      → Judged (unless (rmdir_rules tree_here who_here
+      (record { parent = parent; last = last; object = object; slash = slash }) (unwrap_or object parent))
+      (Ok (ToChange (Remove parent (name_of last) (unwrap_or object parent)))))
+      (Outcomes.judged there (Removing.rmdir_word_rules
+      (place_there (record { parent = parent; last = last; object = object; slash = slash }) steps))
+      (Outcomes.judged there
+      (Removing.rmdir_rules nat_eq there there_task
+      (place_there (record { parent = parent; last = last; object = object; slash = slash }) steps)
+      (Removing.object_there (place_there
+      (record { parent = parent; last = last; object = object; slash = slash }) steps)))
+      (Outcomes.granted Done (with_change nat_eq fresh
+      (Rattle.vt_spec.specs.Machine.Detach.without_mounts_on nat_eq there
+      (Removing.object_there (place_there
+      (record { parent = parent; last = last; object = object; slash = slash }) steps))) (location_there parent)
+      (Removing.removing (place_there (record { parent = parent; last = last; object = object; slash = slash }) steps)
+      (Removing.object_there (place_there
+      (record { parent = parent; last = last; object = object; slash = slash }) steps)))))))
   removed_at parent last None slash steps place some = cc
   removed_at parent NoWord (Some object) slash steps place some = denied (denial P1)
   removed_at parent Dot (Some object) slash steps place some = denied (denial E5)
@@ -319,12 +369,15 @@ module _ (beside : Beside) (world : World ℕ) (name : TaskName) (task : Task �
       judged_when there Judged denied
       (inl (not (is_directory_at tree_here object), E3) ∷ inl
       (is_filled tree_here object, E4) ∷ inr F1 ∷ inr F2 ∷ inr L1 ∷ inr P1 ∷ inl
-      (may_not tree_here who_here parent write_right, C1) ∷ inl (is_kept tree_here who_here parent object, C3) ∷ inr B1 ∷ [])
+      (may_not tree_here who_here parent write_right, C1) ∷ inl (is_kept tree_here who_here parent object, C3) ∷ inr B1
+      ∷ [])
       (Ok (ToChange (Remove parent word object)))
       (Outcomes.granted Done (with_change nat_eq fresh there (location_there parent) (Remove parent word object)))
-      (λ pass. inr (removed_alike beside world name task fit parent word object place.0 (sym place.1) (not_filled object pass.1.0) fresh))
+      (λ pass. inr (removed_alike beside world name task fit parent word object place.0 (sym place.1)
+      (not_filled object pass.1.0) fresh))
 
-  rmdir_alike : (path : List ℕ) → Judged (rmdir_permit tree_here task path) (Removing.rmdir_outcome nat_eq fresh there there_task path)
+  rmdir_alike : (path : List ℕ) → Judged (rmdir_permit tree_here task path)
+      (Removing.rmdir_outcome nat_eq fresh there there_task path)
   unfolding rmdir_permit Removing.rmdir_outcome
   rmdir_alike path =
       after_alike there Judged denied place_there (old_walk tree_here who_here path) _ _ _
@@ -336,19 +389,22 @@ pub links_agree : LinksAgree
 links_agree old new beside world name fresh fit vacant =
     policy_alike beside world name fresh (LinkTo old new) fit (λ task is.
     judged_finished beside world name task fit (hard_link_permit (tree_of world.inodes) task old new)
-    (Making.hard_link_outcome nat_eq fresh (embedded beside world) (task_there beside world.inodes.root (name, task)) old new)
+    (Making.hard_link_outcome nat_eq fresh (embedded beside world)
+    (task_there beside world.inodes.root (name, task)) old new)
     (link_alike beside world name task fit fresh old new))
 
 pub unlinks_agree : UnlinksAgree
 unlinks_agree path beside world name fresh fit vacant =
     policy_alike beside world name fresh (Unlink path) fit (λ task is.
     judged_finished beside world name task fit (unlink_permit (tree_of world.inodes) task path)
-    (Removing.unlink_outcome nat_eq fresh (embedded beside world) (task_there beside world.inodes.root (name, task)) path)
+    (Removing.unlink_outcome nat_eq fresh (embedded beside world)
+    (task_there beside world.inodes.root (name, task)) path)
     (unlink_alike beside world name task fit fresh path))
 
 pub rmdirs_agree : RmdirsAgree
 rmdirs_agree path beside world name fresh fit vacant =
     policy_alike beside world name fresh (Rmdir path) fit (λ task is.
     judged_finished beside world name task fit (rmdir_permit (tree_of world.inodes) task path)
-    (Removing.rmdir_outcome nat_eq fresh (embedded beside world) (task_there beside world.inodes.root (name, task)) path)
+    (Removing.rmdir_outcome nat_eq fresh (embedded beside world)
+    (task_there beside world.inodes.root (name, task)) path)
     (rmdir_alike beside world name task fit fresh path))

@@ -24,7 +24,8 @@ use Rattle.vt_one_text.proofs.OneTreeWalks.{directory_walk_alike, link_walk_alik
 
 -- a descriptor is found alike
 find_descriptor : (number : ℕ) (descriptors : List (Descriptor ℕ))
-    → find (λ descriptor. nat_eq number descriptor.number) (map descriptor_there descriptors) ≡ option_map descriptor_there
+    → find (λ descriptor. nat_eq number descriptor.number) (map descriptor_there descriptors)
+    ≡ option_map descriptor_there
     (find (λ descriptor. nat_eq number descriptor.number) descriptors)
 find_descriptor number [] = refl
 find_descriptor number (descriptor ∷ rest) = by (nat_eq number descriptor.number) (find_descriptor number rest)
@@ -45,14 +46,16 @@ pub descriptor_alike : (there : MachineWorld.World ℕ) (R : Result (Permit ℕ)
     (serves : MachineWorld.Descriptor ℕ → Bool)
     → ((descriptor : Descriptor ℕ) → serves (descriptor_there descriptor) ≡ fits descriptor)
     → (f : Descriptor ℕ → Result (Permit ℕ) Deny) (g : MachineWorld.Descriptor ℕ → Outcomes.Outcome ℕ)
-    → ((descriptor : Descriptor ℕ) → find (λ descriptor. nat_eq number descriptor.number) task.descriptors ≡ Some descriptor
+    → ((descriptor : Descriptor ℕ)
+    → find (λ descriptor. nat_eq number descriptor.number) task.descriptors ≡ Some descriptor
     → R (f descriptor) (g (descriptor_there descriptor)))
     → R (and_then (descriptor_at task number fits) f)
     (Outcomes.after there (Descriptors.descriptor_at (task_there beside root (name, task)) number serves) g)
 descriptor_alike there R refused beside root name task number fits serves same f g h =
     subst (λ o. R (and_then (descriptor_at task number fits) f)
     (Outcomes.after there (ok_or (find serves (option_to_list o)) (denial S4)) g))
-    (sym (find_descriptor number task.descriptors)) (by (find (λ descriptor. nat_eq number descriptor.number) task.descriptors) refl)
+    (sym (find_descriptor number task.descriptors))
+    (by (find (λ descriptor. nat_eq number descriptor.number) task.descriptors) refl)
   where
     by : (o : Option (Descriptor ℕ)) → find (λ descriptor. nat_eq number descriptor.number) task.descriptors ≡ o
         → R (and_then (ok_or (find fits (option_to_list o)) (denial S4)) f)
@@ -93,7 +96,8 @@ module _ (beside : Beside) (world : World ℕ) (name : TaskName) (task : Task �
   list_alike path =
       after_alike there Seen denied here_there (directory_walk tree who path) _ _ _
       (directory_walk_alike beside world (name, task) fit path)
-      (λ here steps e. judged_alike there Seen denied (inl (may_not tree who here.node read_right, C1) ∷ inr B1 ∷ []) _ _
+      (λ here steps e. judged_alike there Seen denied
+      (inl (may_not tree who here.node read_right, C1) ∷ inr B1 ∷ []) _ _
       (refl, refl, refl))
 
   stat_alike : (path : List ℕ) → Seen (stat_permit tree task path) (Looking.stat_outcome nat_eq there there_task path)
@@ -102,22 +106,27 @@ module _ (beside : Beside) (world : World ℕ) (name : TaskName) (task : Task �
       after_alike there Seen denied here_there (object_walk tree who path) _ _ _
       (object_walk_alike beside world (name, task) fit path) (λ here steps e. (refl, refl, refl))
 
-  lstat_alike : (path : List ℕ) → Seen (lstat_permit tree task path) (Looking.lstat_outcome nat_eq there there_task path)
+  lstat_alike : (path : List ℕ) → Seen (lstat_permit tree task path)
+      (Looking.lstat_outcome nat_eq there there_task path)
   unfolding lstat_permit Looking.lstat_outcome
   lstat_alike path =
       after_alike there Seen denied here_there (symlink_walk tree who path) _ _ _
       (link_walk_alike beside world (name, task) fit path) (λ here steps e. (refl, refl, refl))
 
-  readlink_alike : (path : List ℕ) → Seen (readlink_permit tree task path) (Looking.readlink_outcome nat_eq there there_task path)
+  readlink_alike : (path : List ℕ)
+      → Seen (readlink_permit tree task path) (Looking.readlink_outcome nat_eq there there_task path)
   unfolding readlink_permit Looking.readlink_outcome
   readlink_alike path =
-      after_alike there Seen denied here_there (symlink_walk tree who path) _ _ _ (link_walk_alike beside world (name, task) fit path)
-      (λ here steps e. judged_alike there Seen denied (inl (not (is_kind_at tree here.node Symlink), E5) ∷ []) _ _ (refl, refl, refl))
+      after_alike there Seen denied here_there (symlink_walk tree who path) _ _ _
+      (link_walk_alike beside world (name, task) fit path)
+      (λ here steps e. judged_alike there Seen denied (inl (not (is_kind_at tree here.node Symlink), E5) ∷ []) _ _
+      (refl, refl, refl))
 
   read_alike : (path : List ℕ) → Seen (read_permit tree task path) (Looking.read_outcome nat_eq there there_task path)
   unfolding read_permit Looking.read_outcome
   read_alike path =
-      after_alike there Seen denied here_there (object_walk tree who path) _ _ _ (object_walk_alike beside world (name, task) fit path)
+      after_alike there Seen denied here_there (object_walk tree who path) _ _ _
+      (object_walk_alike beside world (name, task) fit path)
       (λ here steps e. judged_alike there Seen denied
       (inl (is_directory_at tree here.node, E2) ∷ inl (is_kind_at tree here.node White, E9) ∷ inl
       (may_not tree who here.node read_right, C1) ∷ inr B1 ∷ []) _ _ (refl, refl, refl))
@@ -125,13 +134,15 @@ module _ (beside : Beside) (world : World ℕ) (name : TaskName) (task : Task �
   exec_alike : (path : List ℕ) → Seen (exec_permit tree task path) (Looking.exec_outcome nat_eq there there_task path)
   unfolding exec_permit Looking.exec_outcome
   exec_alike path =
-      after_alike there Seen denied here_there (object_walk tree who path) _ _ _ (object_walk_alike beside world (name, task) fit path)
+      after_alike there Seen denied here_there (object_walk tree who path) _ _ _
+      (object_walk_alike beside world (name, task) fit path)
       (λ here steps e. judged_alike there Seen denied
       (inl (not (is_kind_at tree here.node File), E8) ∷ inr F3 ∷ inl
       (may_not tree who here.node execute_right, C1) ∷ inr B1 ∷ []) _ _ (refl, refl, refl))
 
   pread_alike : (number offset size : ℕ)
-      → Seen (pread_permit task number offset size) (Descriptors.pread_outcome nat_eq there there_task number offset size)
+      → Seen (pread_permit task number offset size)
+      (Descriptors.pread_outcome nat_eq there there_task number offset size)
   unfolding pread_permit Descriptors.pread_outcome
   pread_alike number offset size =
       descriptor_alike there Seen denied beside world.inodes.root name task number (λ descriptor. descriptor.reads)
@@ -163,4 +174,5 @@ looks_agree path = (
 pub partial_reads_agree : PartialReadsAgree
 partial_reads_agree number offset size beside world name fresh fit vacant =
     policy_alike beside world name fresh (Pread number offset size) fit
-    (λ task e. seen_finished beside world name task fit true _ _ (pread_alike beside world name task fit number offset size))
+    (λ task e. seen_finished beside world name task fit true _ _
+    (pread_alike beside world name task fit number offset size))

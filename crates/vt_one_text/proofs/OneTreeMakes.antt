@@ -36,7 +36,8 @@ directory_with_entry name number None = refl
 directory_with_entry name number (Some node) = by node.content
   where
     by : (content : Content ℕ)
-        → is_directory (kind_of (with_entries content (with_entry name number (entries_of content)))) ≡ is_directory (kind_of content)
+        → is_directory (kind_of (with_entries content (with_entry name number (entries_of content))))
+        ≡ is_directory (kind_of content)
     by (Directory parent entries opaque) = refl
     by (Regular bytes) = refl
     by (Symlink text) = refl
@@ -47,7 +48,8 @@ pub parent_with_entry : (name : List ℕ) (number own : ℕ) (o : Option (Node �
 parent_with_entry name number own None = refl
 parent_with_entry name number own (Some node) = by node.content
   where
-    by : (content : Content ℕ) → parent_of own (with_entries content (with_entry name number (entries_of content))) ≡ parent_of own content
+    by : (content : Content ℕ) → parent_of own (with_entries content (with_entry name number (entries_of content)))
+        ≡ parent_of own content
     by (Directory parent entries opaque) = refl
     by (Regular bytes) = refl
     by (Symlink text) = refl
@@ -59,7 +61,8 @@ entries_with_entry name number None d = cc
 entries_with_entry name number (Some node) d = by node.content d
   where
     by : (content : Content ℕ) → is_directory (kind_of content) ≡ true
-        → entries_of (with_entries content (with_entry name number (entries_of content))) ≡ with_entry name number (entries_of content)
+        → entries_of (with_entries content (with_entry name number (entries_of content)))
+        ≡ with_entry name number (entries_of content)
     by (Directory parent entries opaque) e = refl
     by (Regular bytes) e = cc
     by (Symlink text) e = cc
@@ -75,12 +78,14 @@ new_entries directory (Symlink text) e = refl
 new_entries directory Whiteout e = refl
 
 new_parent : (directory own : ℕ) (content : Content ℕ)
-    → ((content ≡ new_directory directory) ⊎ (is_directory (kind_of content) ≡ false)) → is_directory (kind_of content) ≡ true
+    → ((content ≡ new_directory directory) ⊎ (is_directory (kind_of content) ≡ false))
+    → is_directory (kind_of content) ≡ true
     → parent_of own content ≡ directory
 new_parent directory own content (inl e) d = ap (parent_of own) e
 new_parent directory own content (inr e) d = absurd (true≢false (sym d ∙ e))
 
-module _ (numbers : List ℕ) (world : World ℕ) (fit : IsFit numbers world) (directory : ℕ) (name : List ℕ) (number : ℕ) (new : Node ℕ)
+module _ (numbers : List ℕ) (world : World ℕ) (fit : IsFit numbers world) (directory : ℕ) (name : List ℕ) (number : ℕ)
+    (new : Node ℕ)
     (is : IsDirectory (tree_of world.inodes) directory)
     (free : entry_named name (entries_in ((tree_of world.inodes).node directory)) ≡ None)
     (vacant : world.inodes.inode number ≡ None) (fits : IsNewIn directory new) where
@@ -104,7 +109,8 @@ module _ (numbers : List ℕ) (world : World ℕ) (fit : IsFit numbers world) (d
 
   apart : directory ≢ number
   apart e =
-      true≢false (sym (directory_there numbers world fit directory is) ∙ ap (λ n. is_some (world.inodes.inode n)) e ∙ ap is_some vacant)
+      true≢false (sym (directory_there numbers world fit directory is) ∙ ap (λ n. is_some (world.inodes.inode n)) e
+      ∙ ap is_some vacant)
 
   counted_made : IsCounted uses_made node_made inodes_made
   counted_made =
@@ -115,7 +121,8 @@ module _ (numbers : List ℕ) (world : World ℕ) (fit : IsFit numbers world) (d
       (counted_start numbers world fit) directory inode.0 inode.1 (node_with_entry name number) _ refl)
       number new
       (ap (λ b. cond b
-      (inode_with_node (node_with_entry name number (node_in (world.inodes.inode directory))) (world.inodes.inode directory))
+      (inode_with_node (node_with_entry name number (node_in (world.inodes.inode directory)))
+      (world.inodes.inode directory))
       (world.inodes.inode number)) (ne_eqb number directory (λ e. apart (sym e))) ∙ vacant)
 
   -- the new one, and the others
@@ -138,24 +145,28 @@ module _ (numbers : List ℕ) (world : World ℕ) (fit : IsFit numbers world) (d
 
   old_apart : (n : ℕ) → IsDirectory tree n → n ≢ number
   old_apart n d e =
-      true≢false (sym (directory_there numbers world fit n d) ∙ ap (λ m. is_some (world.inodes.inode m)) e ∙ ap is_some vacant)
+      true≢false (sym (directory_there numbers world fit n d) ∙ ap (λ m. is_some (world.inodes.inode m)) e
+      ∙ ap is_some vacant)
 
   directory_before : (n : ℕ) → n ≢ number → is_directory_node (node_made n) ≡ true → IsDirectory tree n
   directory_before n other d = sym (part_made is_directory_node (directory_with_entry name number) n other) ∙ d
 
   -- the entries
-  entries_there : entries_in (node_with_entry name number (tree.node directory)) ≡ with_entry name number (entries_in (tree.node directory))
+  entries_there : entries_in (node_with_entry name number (tree.node directory))
+      ≡ with_entry name number (entries_in (tree.node directory))
   entries_there = entries_with_entry name number (tree.node directory) is
 
   targets_there : (n : ℕ) → times_in n (targets_in (node_with_entry name number (tree.node directory))) ≡ times_in n
       (targets_in (tree.node directory)) + one_if n number
   targets_there n =
       let put : times_in n (targets (with_entry name number (entries_in (tree.node directory)))) + one_if_some n
-      (entry_named name (entries_in (tree.node directory))) ≡ times_in n (targets (entries_in (tree.node directory))) + one_if n number
+      (entry_named name (entries_in (tree.node directory)))
+      ≡ times_in n (targets (entries_in (tree.node directory))) + one_if n number
       = times_put n name number (entries_in (tree.node directory)) (fit.whole.in_order directory) in
       let none : one_if_some n (entry_named name (entries_in (tree.node directory))) ≡ 0 = ap (one_if_some n) free in
       let same : times_in n (targets_in (node_with_entry name number (tree.node directory))) ≡ times_in n
-      (targets (with_entry name number (entries_in (tree.node directory)))) = ap (λ e. times_in n (targets e)) entries_there in
+      (targets (with_entry name number (entries_in (tree.node directory)))) =
+      ap (λ e. times_in n (targets e)) entries_there in
       omega arith
 
   -- entries stay
@@ -190,7 +201,8 @@ module _ (numbers : List ℕ) (world : World ℕ) (fit : IsFit numbers world) (d
       =
       ap (λ o. times_in number (targets_in o))
       (made_other directory apart
-      ∙ ap (λ b. cond b (node_with_entry name number (tree.node directory)) (tree.node directory)) (eq-eqb directory directory refl)) in
+      ∙ ap (λ b. cond b (node_with_entry name number (tree.node directory)) (tree.node directory))
+      (eq-eqb directory directory refl)) in
       omega arith)
 
   made_some : (n : ℕ) → 1 ≤ uses_made n → is_some (inodes_made.inode n) ≡ true
@@ -198,17 +210,22 @@ module _ (numbers : List ℕ) (world : World ℕ) (fit : IsFit numbers world) (d
 
   old_some : (n : ℕ) → IsDirectory tree n → is_some (inodes_made.inode n) ≡ true
   old_some n d =
-      made_some n (let some : 1 ≤ uses_in (world.inodes.inode n) = fit.in_use n (directory_there numbers world fit n d) in
+      made_some n (let some : 1 ≤ uses_in (world.inodes.inode n) = fit.in_use n
+      (directory_there numbers world fit n d) in
       let e = fit.uses n in omega arith)
 
-  up_made : (steps d : ℕ) → IsDirectory tree d → upwards (bare world.inodes.root node_made) steps d ≡ upwards tree steps d
+  up_made : (steps d : ℕ) → IsDirectory tree d
+      → upwards (bare world.inodes.root node_made) steps d ≡ upwards tree steps d
   up_made zero d is_d = refl
   up_made (suc steps) d is_d =
-      ap (upwards (bare world.inodes.root node_made) steps) (part_made (parent_in d) (parent_with_entry name number d) d (old_apart d is_d))
-      ∙ up_made steps (parent_in d (tree.node d)) (Rattle.vt_one_text.proofs.OneTreeTrees.parent_is tree fit.whole d is_d)
+      ap (upwards (bare world.inodes.root node_made) steps)
+      (part_made (parent_in d) (parent_with_entry name number d) d (old_apart d is_d))
+      ∙ up_made steps (parent_in d (tree.node d))
+      (Rattle.vt_one_text.proofs.OneTreeTrees.parent_is tree fit.whole d is_d)
 
   new_is : is_directory_node (node_made number) ≡ true → parent_in number (node_made number) ≡ directory
-  new_is d = ap (parent_in number) made_new ∙ new_parent directory number new.content fits (sym (ap is_directory_node made_new) ∙ d)
+  new_is d = ap (parent_in number) made_new
+      ∙ new_parent directory number new.content fits (sym (ap is_directory_node made_new) ∙ d)
 
   pub whole_made : IsWhole (tree_of inodes_made)
   whole_made = whole_counted uses_made node_made inodes_made counted_made (record {
@@ -232,11 +249,13 @@ module _ (numbers : List ℕ) (world : World ℕ) (fit : IsFit numbers world) (d
           (λ t. subst (λ b. is_sorted name_cmp (entries_in (cond b (Some new) (node_in_directory d))) ≡ true) (sym t.0)
           (⊎_elim
           (λ u. subst
-          (λ b. is_sorted name_cmp (entries_in (cond b (node_with_entry name number (tree.node directory)) (tree.node d))) ≡ true) (sym u.0)
+          (λ b. is_sorted name_cmp (entries_in
+          (cond b (node_with_entry name number (tree.node directory)) (tree.node d))) ≡ true) (sym u.0)
           (ap (is_sorted name_cmp) entries_there
           ∙ sorted_put name number (entries_in (tree.node directory)) (fit.whole.in_order directory)))
           (λ u. subst
-          (λ b. is_sorted name_cmp (entries_in (cond b (node_with_entry name number (tree.node directory)) (tree.node d)))
+          (λ b. is_sorted name_cmp (entries_in
+          (cond b (node_with_entry name number (tree.node directory)) (tree.node d)))
           ≡ true) (sym u.0) (fit.whole.in_order d))
           (eqb_tells d directory)))
           (eqb_tells d number)
@@ -249,14 +268,17 @@ module _ (numbers : List ℕ) (world : World ℕ) (fit : IsFit numbers world) (d
           subst (λ n. (has_entry_to nat_eq (bare world.inodes.root node_made) (parent_in n (node_made n)) n ≡ true)
           × (is_some (inodes_made.inode (parent_in n (node_made n))) ≡ true)) (sym t.1)
           (subst (λ p. (has_entry_to nat_eq (bare world.inodes.root node_made) p number ≡ true)
-          × (is_some (inodes_made.inode p) ≡ true)) (sym (new_is (subst (λ n. is_directory_node (node_made n) ≡ true) t.1 is_d)))
+          × (is_some (inodes_made.inode p) ≡ true))
+          (sym (new_is (subst (λ n. is_directory_node (node_made n) ≡ true) t.1 is_d)))
           (new_target, old_some directory is))
       lies d is_d other (inr t) =
           let was : IsDirectory tree d = directory_before d t.1 is_d in
           let entry : has_entry_to nat_eq tree (parent_in d (tree.node d)) d ≡ true = fit.whole.in_parent d was other in
-          let parent : IsDirectory tree (parent_in d (tree.node d)) = has_entry_directory tree (parent_in d (tree.node d)) d entry in
+          let parent : IsDirectory tree (parent_in d (tree.node d)) =
+          has_entry_directory tree (parent_in d (tree.node d)) d entry in
           subst (λ p. (has_entry_to nat_eq (bare world.inodes.root node_made) p d ≡ true)
-          × (is_some (inodes_made.inode p) ≡ true)) (sym (part_made (parent_in d) (parent_with_entry name number d) d t.1)) (
+          × (is_some (inodes_made.inode p) ≡ true))
+          (sym (part_made (parent_in d) (parent_with_entry name number d) d t.1)) (
             entry_kept (parent_in d (tree.node d)) d (old_apart (parent_in d (tree.node d)) parent) entry,
             old_some
                 (parent_in d (tree.node d)) parent,
@@ -280,9 +302,15 @@ module _ (numbers : List ℕ) (world : World ℕ) (fit : IsFit numbers world) (d
   -- the tree has these nodes
   inode_some : (n : ℕ) → n ≢ number → is_some (inodes_made.inode n) ≡ is_some (world.inodes.inode n)
   inode_some n other =
-      ap (λ b. is_some (cond b (Some (record { node = new; uses = 1 })) (cond (nat_eq n directory) (inode_with_node (node_with_entry name number (node_in (world.inodes.inode directory))) (world.inodes.inode directory)) (world.inodes.inode n)))) (ne_eqb n number other)
+      ap (λ b. is_some (cond b (Some (record { node = new; uses = 1 }))
+      (cond (nat_eq n directory) (inode_with_node
+      (node_with_entry name number (node_in (world.inodes.inode directory))) (world.inodes.inode directory))
+      (world.inodes.inode n)))) (ne_eqb n number other)
       ∙ ⊎_elim
-      (λ t. ap (λ b. is_some (cond b (inode_with_node (node_with_entry name number (node_in (world.inodes.inode directory))) (world.inodes.inode directory)) (world.inodes.inode n))) t.0 ∙ same (world.inodes.inode directory) ∙ ap (λ m. is_some (world.inodes.inode m)) (sym t.1))
+      (λ t. ap (λ b. is_some (cond b
+      (inode_with_node (node_with_entry name number (node_in (world.inodes.inode directory)))
+      (world.inodes.inode directory)) (world.inodes.inode n))) t.0 ∙ same (world.inodes.inode directory)
+      ∙ ap (λ m. is_some (world.inodes.inode m)) (sym t.1))
       (λ t. ap (λ b. is_some
       (cond b (inode_with_node (node_with_entry name number (node_in (world.inodes.inode directory)))
       (world.inodes.inode directory)) (world.inodes.inode n))) t.0)
@@ -304,7 +332,8 @@ module _ (numbers : List ℕ) (world : World ℕ) (fit : IsFit numbers world) (d
       by false e =
           let other : n ≢ number =
           (λ (same : n ≡ number). true≢false
-          (sym (made_some number (let own : one_if number number ≡ 1 = ap (λ b. cond b 1 0) (eq-eqb number number refl) in
+          (sym (made_some number (let own : one_if number number
+          ≡ 1 = ap (λ b. cond b 1 0) (eq-eqb number number refl) in
           omega arith)) ∙ ap (λ m. is_some (inodes_made.inode m)) (sym same) ∙ e)) in
           let gone : is_some (world.inodes.inode n) ≡ false = sym (inode_some n other) ∙ e in
           let no_directory : n ≢ directory =
@@ -312,21 +341,26 @@ module _ (numbers : List ℕ) (world : World ℕ) (fit : IsFit numbers world) (d
           ∙ ap (λ m. is_some (world.inodes.inode m)) (sym same) ∙ gone)) in
           none (inodes_made.inode n) e
           ∙ sym (made_other n other
-          ∙ ap (λ b. cond b (node_with_entry name number (tree.node directory)) (tree.node n)) (ne_eqb n directory no_directory)
+          ∙ ap (λ b. cond b (node_with_entry name number (tree.node directory)) (tree.node n))
+          (ne_eqb n directory no_directory)
           ∙ none (world.inodes.inode n) gone)
 
-  named_now : (n : ℕ) → times_in n (named_by node_made (number ∷ numbers)) ≡ one_if n number + times_in n (named_by tree.node numbers)
+  named_now : (n : ℕ) → times_in n (named_by node_made (number ∷ numbers))
+      ≡ one_if n number + times_in n (named_by tree.node numbers)
   named_now n =
       let no_number : times_in number numbers ≡ 0 = fit.each_once number ∙ ap (λ o. cond (is_some o) 1 0) vacant in
       let one : times_in directory numbers ≡ 1 =
       fit.each_once directory ∙ ap (λ b. cond b 1 0) (directory_there numbers world fit directory is) in
-      let all : times_in n (named_by node_made (number ∷ numbers)) ≡ times_in n (targets_in (node_made number)) + times_in n
+      let all : times_in n (named_by node_made (number ∷ numbers))
+      ≡ times_in n (targets_in (node_made number)) + times_in n
       (named_by node_made numbers) = times_append n (targets_in (node_made number)) (named_by node_made numbers) in
       let none : times_in n (targets_in (node_made number)) ≡ 0 =
-      ap (λ o. times_in n (targets_in o)) made_new ∙ ap (λ e. times_in n (targets e)) (new_entries directory new.content fits) in
+      ap (λ o. times_in n (targets_in o)) made_new
+      ∙ ap (λ e. times_in n (targets e)) (new_entries directory new.content fits) in
       let rest : times_in n (named_by node_made numbers) ≡ times_in n (named_by node_in_directory numbers) =
       ap (times_in n) (named_apart node_in_directory number (Some new) numbers no_number) in
-      let changed = named_changed n tree.node directory (node_with_entry name number (tree.node directory)) numbers one in
+      let changed = named_changed n tree.node directory
+      (node_with_entry name number (tree.node directory)) numbers one in
       let there = targets_there n in
       omega arith
 
@@ -334,10 +368,12 @@ module _ (numbers : List ℕ) (world : World ℕ) (fit : IsFit numbers world) (d
   fit_made = record {
     whole = whole_made;
     each_once = once;
-    counted = counted_made.as_many ∙ as_long counted_made.list (number ∷ numbers) (λ n. counted_made.listed n ∙ sym (once n));
+    counted = counted_made.as_many
+        ∙ as_long counted_made.list (number ∷ numbers) (λ n. counted_made.listed n ∙ sym (once n));
     uses = λ n. counted_made.uses_are n ∙ uses_are n;
     in_use = counted_made.in_use;
-    one_use = λ d is_d. counted_made.uses_are d ∙ one d (sym (ap is_directory_node (node_is d)) ∙ is_d) (eqb_tells d number);
+    one_use = λ d is_d. counted_made.uses_are d
+        ∙ one d (sym (ap is_directory_node (node_is d)) ∙ is_d) (eqb_tells d number);
     apart = fit.apart;
     forked = fit.forked;
     descriptors = fit.descriptors;
@@ -363,9 +399,11 @@ module _ (numbers : List ℕ) (world : World ℕ) (fit : IsFit numbers world) (d
           let all : times_in n (named_by node_made (number ∷ numbers) ++ opened_in world) ≡ times_in n
           (named_by node_made (number ∷ numbers)) + times_in n (opened_in world) = times_append n
           (named_by node_made (number ∷ numbers)) (opened_in world) in
-          let sum : uses_made n ≡ one_if n world.inodes.root + times_in n (named_by node_made (number ∷ numbers) ++ opened_in world) =
+          let sum : uses_made n ≡ one_if n world.inodes.root + times_in n (named_by node_made (number ∷ numbers)
+          ++ opened_in world) =
           omega arith in sum)
-          ∙ (λ i. times_in n (world.inodes.root ∷ (named_by (λ m. sym (node_is m) i) (number ∷ numbers) ++ opened_in world)))
+          ∙ (λ i. times_in n (world.inodes.root
+          ∷ (named_by (λ m. sym (node_is m) i) (number ∷ numbers) ++ opened_in world)))
 
       one : (d : ℕ) → is_directory_node (node_made d) ≡ true
           → ((nat_eq d number ≡ true) × (d ≡ number)) ⊎ ((nat_eq d number ≡ false) × (d ≢ number)) → uses_made d ≡ 1
@@ -376,7 +414,8 @@ module _ (numbers : List ℕ) (world : World ℕ) (fit : IsFit numbers world) (d
           omega arith
       one d is_d (inr t) =
           let none : one_if d number ≡ 0 = ap (λ b. cond b 1 0) t.0 in
-          let one : uses_in (world.inodes.inode d) ≡ 1 = fit.one_use d (directory_before d t.1 is_d) in let e = fit.uses d in omega arith
+          let one : uses_in (world.inodes.inode d) ≡ 1 = fit.one_use d (directory_before d t.1 is_d) in let e =
+          fit.uses d in omega arith
 
   -- made with its number first or last
   either_way : (n : ℕ)
@@ -387,10 +426,13 @@ module _ (numbers : List ℕ) (world : World ℕ) (fit : IsFit numbers world) (d
       ap (λ b. cond (nat_eq n directory) (node_with_entry name number (cond b (Some new) (tree.node directory)))
       (cond (nat_eq n number) (Some new) (tree.node n))) (ne_eqb directory number apart)
       ∙ ⊎_elim
-      (λ t. ap (λ b. cond (nat_eq n directory) (node_with_entry name number (tree.node directory)) (cond b (Some new) (tree.node n))) t.0
-      ∙ ap (λ b. cond b (node_with_entry name number (tree.node directory)) (Some new)) (ne_eqb n directory (λ e. apart (sym e ∙ t.1)))
+      (λ t. ap (λ b. cond (nat_eq n directory) (node_with_entry name number (tree.node directory))
+      (cond b (Some new) (tree.node n))) t.0
+      ∙ ap (λ b. cond b (node_with_entry name number (tree.node directory)) (Some new))
+      (ne_eqb n directory (λ e. apart (sym e ∙ t.1)))
       ∙ sym (ap (λ b. cond b (Some new) (node_in_directory n)) t.0))
-      (λ t. ap (λ b. cond (nat_eq n directory) (node_with_entry name number (tree.node directory)) (cond b (Some new) (tree.node n))) t.0
+      (λ t. ap (λ b. cond (nat_eq n directory) (node_with_entry name number (tree.node directory))
+      (cond b (Some new) (tree.node n))) t.0
       ∙ sym (ap (λ b. cond b (Some new) (node_in_directory n)) t.0))
       (eqb_tells n number)
 
@@ -406,7 +448,8 @@ module _ (beside : Beside) (world : World ℕ) (task_name : TaskName) (task : Ta
   abbrev made : World ℕ
   made = world_made beside.numbers world fit directory name number new is free vacant fits
 
-  made_there : with_change nat_eq fresh (embedded beside world) (location_there directory) (Make directory name number new)
+  made_there : with_change nat_eq fresh (embedded beside world) (location_there directory)
+      (Make directory name number new)
       ≡ embedded beside_made made
   made_there =
       λ i. record (embedded beside_made made) {
@@ -427,11 +470,13 @@ module _ (beside : Beside) (world : World ℕ) (task_name : TaskName) (task : Ta
       }
 
   pub made_alike : IsChanged beside world task_name task fit (Ok (ToChange (Make directory name number new)))
-      (Outcomes.granted Done (with_change nat_eq fresh (embedded beside world) (location_there directory) (Make directory name number new)))
+      (Outcomes.granted Done (with_change nat_eq fresh (embedded beside world) (location_there directory)
+      (Make directory name number new)))
   made_alike =
       changed_to beside world task_name task fit (Ok (ToChange (Make directory name number new)))
       (Outcomes.granted Done
-      (with_change nat_eq fresh (embedded beside world) (location_there directory) (Make directory name number new))) refl refl
+      (with_change nat_eq fresh (embedded beside world) (location_there directory)
+      (Make directory name number new))) refl refl
       beside_made (fit_made beside.numbers world fit directory name number new is free vacant fits) made_there
 
   -- and opened then

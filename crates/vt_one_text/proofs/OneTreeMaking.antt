@@ -64,7 +64,8 @@ module _ (beside : Beside) (world : World ℕ) (name : TaskName) (task : Task �
 
   -- the place with a new object, in the whole machine
   abbrev with_made : ℕ → List ℕ → Node ℕ → MachineWorld.World ℕ
-  with_made parent word new = with_change nat_eq (odds fresh) there (location_there parent) (Make parent word (fresh 0) new)
+  with_made parent word new = with_change nat_eq (odds fresh) there (location_there parent)
+      (Make parent word (fresh 0) new)
 
   -- a new name at a place, behind rules that ask for a name
   at_name : {P : Type 0} (parent : ℕ) (last : LastWord) → IsPlaceOf tree parent None last → is_special last ≡ false
@@ -92,22 +93,29 @@ module _ (beside : Beside) (world : World ℕ) (name : TaskName) (task : Task �
       at_name parent last place named (λ word same directory free.
       subst (λ l. IsChanged beside world name task fit (Ok (ToOpenNew parent (name_of l) (fresh 0) new access))
       (Descriptors.opened (with_made parent (name_of l) new) there_task (location_there (fresh 0)) access)) (sym same)
-      (made_opened beside world name task fit is (odds fresh) parent word (fresh 0) new directory free vacant fits access no_directory))
+      (made_opened beside world name task fit is (odds fresh) parent word
+      (fresh 0) new directory free vacant fits access no_directory))
 
   -- an object is made at a place
   made_at_alike : (parent : ℕ) (last : LastWord) (object : Option ℕ) (slash : Bool) (steps : Steps) (new : Node ℕ)
       → IsPlaceOf tree parent object last → IsNewIn parent new
-      → Judged (unless (new_rules tree who (record { parent = parent; last = last; object = object; slash = slash })) (Ok (ToChange (Make parent (name_of last) (fresh 0) new))))
-      (Making.made_at nat_eq fresh there there_task (place_there (record { parent = parent; last = last; object = object; slash = slash }) steps) new)
+      → Judged (unless (new_rules tree who (record { parent = parent; last = last; object = object; slash = slash }))
+      (Ok (ToChange (Make parent (name_of last) (fresh 0) new))))
+      (Making.made_at nat_eq fresh there there_task
+      (place_there (record { parent = parent; last = last; object = object; slash = slash }) steps) new)
   made_at_alike parent last None slash steps new place fits =
       judged_when there Judged denied
-      (inl (is_special last, E1) ∷ inl (false, E1) ∷ inr F1 ∷ inr F2 ∷ inr L1 ∷ inl (may_not tree who parent write_right, C1) ∷ inr B1 ∷ [])
-      (Ok (ToChange (Make parent (name_of last) (fresh 0) new))) (Outcomes.granted Done (with_made parent (name_of last) new))
+      (inl (is_special last, E1) ∷ inl (false, E1) ∷ inr F1 ∷ inr F2 ∷ inr L1
+      ∷ inl (may_not tree who parent write_right, C1) ∷ inr B1 ∷ [])
+      (Ok (ToChange (Make parent (name_of last) (fresh 0) new)))
+      (Outcomes.granted Done (with_made parent (name_of last) new))
       (λ pass. inr (made_named parent last new place pass.0 fits))
   made_at_alike parent last (Some object) slash steps new place fits =
       judged_when there Judged denied
-      (inl (is_special last, E1) ∷ inl (true, E1) ∷ inr F1 ∷ inr F2 ∷ inr L1 ∷ inl (may_not tree who parent write_right, C1) ∷ inr B1 ∷ [])
-      (Ok (ToChange (Make parent (name_of last) (fresh 0) new))) (Outcomes.granted Done (with_made parent (name_of last) new))
+      (inl (is_special last, E1) ∷ inl (true, E1) ∷ inr F1 ∷ inr F2 ∷ inr L1
+      ∷ inl (may_not tree who parent write_right, C1) ∷ inr B1 ∷ [])
+      (Ok (ToChange (Make parent (name_of last) (fresh 0) new)))
+      (Outcomes.granted Done (with_made parent (name_of last) new))
       (λ pass. absurd (true≢false pass.1.0))
 
   place_new : (path : List ℕ) (place : Place ℕ) → new_walk tree who path ≡ Ok place → IsPlace tree place
@@ -117,7 +125,11 @@ module _ (beside : Beside) (world : World ℕ) (name : TaskName) (task : Task �
   place_leaf path place e =
       subst (λ r. IfOk r (IsPlace tree)) e
       (ifok_then (IsPlace tree) (new_walk tree who path)
-      (λ place. unless ((place.slash && not (is_some place.object), Rattle.vt_spec.specs.declared.errors.Rule.TheVariants.W6) ∷ [])
+      (λ place. unless ((
+        place.slash
+            && not (is_some place.object),
+        Rattle.vt_spec.specs.declared.errors.Rule.TheVariants.W6,
+      ) ∷ [])
       (Ok place))
       (λ place e. ifok_unless (IsPlace tree)
       ((place.slash && not (is_some place.object), Rattle.vt_spec.specs.declared.errors.Rule.TheVariants.W6) ∷ []) place
@@ -127,35 +139,46 @@ module _ (beside : Beside) (world : World ℕ) (name : TaskName) (task : Task �
   place_file path place e = subst (λ r. IfOk r (IsPlace tree)) e (file_walk_is beside world (name, task) fit path)
 
   mkdir_alike : (path : List ℕ) (mode : Option ℕ)
-      → Judged (mkdir_permit (fresh 0) tree task path mode) (Making.mkdir_outcome nat_eq fresh there there_task path mode)
+      → Judged (mkdir_permit (fresh 0) tree task path mode)
+      (Making.mkdir_outcome nat_eq fresh there there_task path mode)
   unfolding mkdir_permit Making.mkdir_outcome
   mkdir_alike path mode =
-      after_alike there Judged denied place_there (new_walk tree who path) _ _ _ (new_walk_alike beside world (name, task) fit path)
-      (λ place steps e. made_at_alike place.parent place.last place.object place.slash steps (record { attr = new_attr task (unwrap_or mode directory_mode); content = new_directory place.parent }) (place_new path place e) (inl refl))
+      after_alike there Judged denied place_there (new_walk tree who path) _ _ _
+      (new_walk_alike beside world (name, task) fit path)
+      (λ place steps e. made_at_alike place.parent place.last place.object place.slash steps
+      (record { attr = new_attr task (unwrap_or mode directory_mode); content = new_directory place.parent })
+      (place_new path place e) (inl refl))
 
   symlink_alike : (text path : List ℕ)
-      → Judged (symlink_permit (fresh 0) tree task text path) (Making.symlink_outcome nat_eq fresh there there_task text path)
+      → Judged (symlink_permit (fresh 0) tree task text path)
+      (Making.symlink_outcome nat_eq fresh there there_task text path)
   unfolding symlink_permit Making.symlink_outcome
   symlink_alike text path =
       judged_alike there Judged denied (inl (is_empty text, W1) ∷ inl (nat_lt longest_path (length text), W2) ∷ []) _ _
       (after_alike there Judged denied place_there (new_leaf_walk tree who path) _ _ _
       (new_leaf_walk_alike beside world (name, task) fit path)
-      (λ place steps e. made_at_alike place.parent place.last place.object place.slash steps (record { attr = link_attr task; content = Symlink text }) (place_leaf path place e) (inr refl)))
+      (λ place steps e. made_at_alike place.parent place.last place.object place.slash steps
+      (record { attr = link_attr task; content = Symlink text }) (place_leaf path place e) (inr refl)))
 
   -- bytes are written at a place
   written_alike : (parent : ℕ) (last : LastWord) (object : Option ℕ) (slash : Bool) (steps : Steps) (bytes : List ℕ)
       → IsPlaceOf tree parent object last → is_special last ≡ false
-      → Judged (written (fresh 0) tree task (record { parent = parent; last = last; object = object; slash = slash }) bytes object)
-      (Making.written nat_eq fresh there there_task (place_there (record { parent = parent; last = last; object = object; slash = slash }) steps) bytes (option_map location_there object))
+      → Judged (written (fresh 0) tree task
+      (record { parent = parent; last = last; object = object; slash = slash }) bytes object)
+      (Making.written nat_eq fresh there there_task
+      (place_there (record { parent = parent; last = last; object = object; slash = slash }) steps) bytes
+      (option_map location_there object))
   written_alike parent last (Some file) slash steps bytes place named =
       judged_alike there Judged denied
       (inl (is_directory_at tree file, E2) ∷ inl (nat_lt largest_file (length bytes), E6) ∷ inl
-      (is_kind_at tree file White, E9) ∷ inr F1 ∷ inr F2 ∷ inr L1 ∷ inl (may_not tree who file write_right, C1) ∷ inr B1 ∷ [])
+      (is_kind_at tree file White, E9) ∷ inr F1 ∷ inr F2 ∷ inr L1 ∷ inl (may_not tree who file write_right, C1)
+      ∷ inr B1 ∷ [])
       (Ok (ToChange (SetBytes file bytes)))
       (Outcomes.granted Done (with_change nat_eq fresh there (location_there file) (SetBytes file bytes)))
       (inr (bytes_set beside world name task fit fresh file bytes))
   written_alike parent last None slash steps bytes place named =
-      subst (Judged (written (fresh 0) tree task (record { parent = parent; last = last; object = None; slash = slash }) bytes None))
+      subst (Judged (written (fresh 0) tree task
+      (record { parent = parent; last = last; object = None; slash = slash }) bytes None))
       (sym (judged_both there ((nat_lt largest_file (length bytes), E6) ∷ [])
       ((false, F1) ∷ (false, F2) ∷ (false, L1) ∷ (may_not tree who parent write_right, C1) ∷ (false, B1) ∷ [])
       (Outcomes.granted Done (with_made parent (name_of last) (new_file task file_mode bytes)))))
@@ -171,13 +194,16 @@ module _ (beside : Beside) (world : World ℕ) (name : TaskName) (task : Task �
   either_false false b e = refl
 
   write_alike : (path bytes : List ℕ)
-      → Judged (write_permit (fresh 0) tree task path bytes) (Making.write_outcome nat_eq fresh there there_task path bytes)
+      → Judged (write_permit (fresh 0) tree task path bytes)
+      (Making.write_outcome nat_eq fresh there there_task path bytes)
   unfolding write_permit Making.write_outcome
   write_alike path bytes =
-      after_alike there Judged denied place_there (file_walk tree who path) _ _ _ (file_walk_alike beside world (name, task) fit path)
+      after_alike there Judged denied place_there (file_walk tree who path) _ _ _
+      (file_walk_alike beside world (name, task) fit path)
       (λ place steps e. judged_when there Judged denied (inl (is_special place.last || place.slash, E2) ∷ [])
       (written (fresh 0) tree task place bytes place.object)
-      (Making.written nat_eq fresh there there_task (place_there place steps) bytes (option_map location_there place.object))
+      (Making.written nat_eq fresh there there_task (place_there place steps) bytes
+      (option_map location_there place.object))
       (λ pass. written_alike place.parent place.last place.object place.slash steps bytes (place_file path place e)
       (either_false (is_special place.last) place.slash pass.0)))
 
@@ -186,18 +212,25 @@ module _ (beside : Beside) (world : World ℕ) (name : TaskName) (task : Task �
       → IsPlaceOf tree parent None last → is_special last ≡ false
       → Judged (unless ((may_not tree who parent write_right, C1) ∷ [])
       (Ok (ToOpenNew parent (name_of last) (fresh 0) (new_file task mode []) access)))
-      (Descriptors.create_file nat_eq fresh there there_task (place_there (record { parent = parent; last = last; object = None; slash = slash }) steps) access mode)
+      (Descriptors.create_file nat_eq fresh there there_task
+      (place_there (record { parent = parent; last = last; object = None; slash = slash }) steps) access mode)
   created_alike parent last slash steps access mode place named =
-      judged_alike there Judged denied (inr F1 ∷ inr F2 ∷ inr L1 ∷ inl (may_not tree who parent write_right, C1) ∷ inr B1 ∷ [])
+      judged_alike there Judged denied
+      (inr F1 ∷ inr F2 ∷ inr L1 ∷ inl (may_not tree who parent write_right, C1) ∷ inr B1 ∷ [])
       (Ok (ToOpenNew parent (name_of last) (fresh 0) (new_file task mode []) access))
-      (Descriptors.opened (with_made parent (name_of last) (new_file task mode [])) there_task (location_there (fresh 0)) access)
+      (Descriptors.opened (with_made parent (name_of last) (new_file task mode [])) there_task
+      (location_there (fresh 0)) access)
       (inr (opened_named parent last (new_file task mode []) access place named (inr refl) refl))
 
   opened_or_alike : (parent : ℕ) (last : LastWord) (object : Option ℕ) (slash : Bool) (steps : Steps) (access : Access)
       (mode : ℕ) → IsPlaceOf tree parent object last → is_special last ≡ false
-      → Judged (opened_or_made (fresh 0) tree task (record { parent = parent; last = last; object = object; slash = slash }) access mode object)
-      (Descriptors.opened_or_created nat_eq fresh there there_task (place_there (record { parent = parent; last = last; object = object; slash = slash }) steps) access mode (option_map location_there object))
-  opened_or_alike parent last None slash steps access mode place named = created_alike parent last slash steps access mode place named
+      → Judged (opened_or_made (fresh 0) tree task
+      (record { parent = parent; last = last; object = object; slash = slash }) access mode object)
+      (Descriptors.opened_or_created nat_eq fresh there there_task
+      (place_there (record { parent = parent; last = last; object = object; slash = slash }) steps) access mode
+      (option_map location_there object))
+  opened_or_alike parent last None slash steps access mode place named =
+      created_alike parent last slash steps access mode place named
   opened_or_alike parent last (Some file) slash steps access mode place named =
       open_file_alike beside world name task fit is fresh file access
 
@@ -206,15 +239,20 @@ module _ (beside : Beside) (world : World ℕ) (name : TaskName) (task : Task �
       → Judged (unless
       ((is_special last, E1) ∷ (slash, E2) ∷ (is_some object, E1) ∷ (may_not tree who parent write_right, C1) ∷ [])
       (Ok (ToOpenNew parent (name_of last) (fresh 0) (new_file task mode []) access)))
-      (Outcomes.judged there ((is_special last, E1) ∷ (slash, E2) ∷ (is_some (option_map location_there object), E1) ∷ [])
-      (Descriptors.create_file nat_eq fresh there there_task (place_there (record { parent = parent; last = last; object = object; slash = slash }) steps) access mode))
+      (Outcomes.judged there ((is_special last, E1) ∷ (slash, E2) ∷ (is_some (option_map location_there object), E1)
+      ∷ [])
+      (Descriptors.create_file nat_eq fresh there there_task
+      (place_there (record { parent = parent; last = last; object = object; slash = slash }) steps) access mode))
   exclusive_alike parent last object slash steps access mode place =
       subst (Judged
-      (unless ((is_special last, E1) ∷ (slash, E2) ∷ (is_some object, E1) ∷ (may_not tree who parent write_right, C1) ∷ [])
+      (unless ((is_special last, E1) ∷ (slash, E2) ∷ (is_some object, E1) ∷ (may_not tree who parent write_right, C1)
+      ∷ [])
       (Ok (ToOpenNew parent (name_of last) (fresh 0) (new_file task mode []) access))))
-      (sym (judged_both there ((is_special last, E1) ∷ (slash, E2) ∷ (is_some (option_map location_there object), E1) ∷ [])
+      (sym (judged_both there ((is_special last, E1) ∷ (slash, E2) ∷ (is_some (option_map location_there object), E1)
+      ∷ [])
       ((false, F1) ∷ (false, F2) ∷ (false, L1) ∷ (may_not tree who parent write_right, C1) ∷ (false, B1) ∷ [])
-      (Descriptors.opened (with_made parent (name_of last) (new_file task mode [])) there_task (location_there (fresh 0)) access)))
+      (Descriptors.opened (with_made parent (name_of last) (new_file task mode [])) there_task
+      (location_there (fresh 0)) access)))
       (by object place)
     where
       by : (object : Option ℕ) → IsPlaceOf tree parent object last
@@ -222,40 +260,50 @@ module _ (beside : Beside) (world : World ℕ) (name : TaskName) (task : Task �
           ((is_special last, E1) ∷ (slash, E2) ∷ (is_some object, E1) ∷ (may_not tree who parent write_right, C1) ∷ [])
           (Ok (ToOpenNew parent (name_of last) (fresh 0) (new_file task mode []) access)))
           (Outcomes.judged there
-          ((is_special last, E1) ∷ (slash, E2) ∷ (is_some (option_map location_there object), E1) ∷ (false, F1) ∷ (false, F2) ∷
+          ((is_special last, E1) ∷ (slash, E2) ∷ (is_some (option_map location_there object), E1) ∷ (false, F1)
+          ∷ (false, F2) ∷
           (false, L1) ∷ (may_not tree who parent write_right, C1) ∷ (false, B1) ∷ [])
-          (Descriptors.opened (with_made parent (name_of last) (new_file task mode [])) there_task (location_there (fresh 0)) access))
+          (Descriptors.opened (with_made parent (name_of last) (new_file task mode [])) there_task
+          (location_there (fresh 0)) access))
       by None place =
           judged_when there Judged denied
           (inl (is_special last, E1) ∷ inl (slash, E2) ∷ inl (false, E1) ∷ inr F1 ∷ inr F2 ∷ inr L1 ∷ inl
           (may_not tree who parent write_right, C1) ∷ inr B1 ∷ [])
           (Ok (ToOpenNew parent (name_of last) (fresh 0) (new_file task mode []) access))
-          (Descriptors.opened (with_made parent (name_of last) (new_file task mode [])) there_task (location_there (fresh 0)) access)
+          (Descriptors.opened (with_made parent (name_of last) (new_file task mode [])) there_task
+          (location_there (fresh 0)) access)
           (λ pass. inr (opened_named parent last (new_file task mode []) access place pass.0 (inr refl) refl))
       by (Some found) place =
           judged_when there Judged denied
           (inl (is_special last, E1) ∷ inl (slash, E2) ∷ inl (true, E1) ∷ inr F1 ∷ inr F2 ∷ inr L1 ∷ inl
           (may_not tree who parent write_right, C1) ∷ inr B1 ∷ [])
           (Ok (ToOpenNew parent (name_of last) (fresh 0) (new_file task mode []) access))
-          (Descriptors.opened (with_made parent (name_of last) (new_file task mode [])) there_task (location_there (fresh 0)) access)
+          (Descriptors.opened (with_made parent (name_of last) (new_file task mode [])) there_task
+          (location_there (fresh 0)) access)
           (λ pass. absurd (true≢false pass.1.1.0))
 
   opened_by_alike : (path : List ℕ) (access : Access) (creation : Creation)
-      → Judged (open_by (fresh 0) tree task path access creation) (Descriptors.open_by nat_eq fresh there there_task path access creation)
+      → Judged (open_by (fresh 0) tree task path access creation)
+      (Descriptors.open_by nat_eq fresh there there_task path access creation)
   opened_by_alike path access NoCreation =
-      after_alike there Judged denied here_there (object_walk tree who path) _ _ _ (object_walk_alike beside world (name, task) fit path)
+      after_alike there Judged denied here_there (object_walk tree who path) _ _ _
+      (object_walk_alike beside world (name, task) fit path)
       (λ here steps e. open_file_alike beside world name task fit is fresh here.node access)
   opened_by_alike path access (OrCreate mode) =
-      after_alike there Judged denied place_there (file_walk tree who path) _ _ _ (file_walk_alike beside world (name, task) fit path)
+      after_alike there Judged denied place_there (file_walk tree who path) _ _ _
+      (file_walk_alike beside world (name, task) fit path)
       (λ place steps e. judged_when there Judged denied (inl (is_special place.last || place.slash, E2) ∷ [])
       (opened_or_made (fresh 0) tree task place access mode place.object)
       (Descriptors.opened_or_created nat_eq fresh there there_task (place_there place steps) access mode
       (option_map location_there place.object))
-      (λ pass. opened_or_alike place.parent place.last place.object place.slash steps access mode (place_file path place e)
+      (λ pass. opened_or_alike place.parent place.last place.object place.slash steps access mode
+      (place_file path place e)
       (either_false (is_special place.last) place.slash pass.0)))
   opened_by_alike path access (Exclusive mode) =
-      after_alike there Judged denied place_there (new_walk tree who path) _ _ _ (new_walk_alike beside world (name, task) fit path)
-      (λ place steps e. exclusive_alike place.parent place.last place.object place.slash steps access mode (place_new path place e))
+      after_alike there Judged denied place_there (new_walk tree who path) _ _ _
+      (new_walk_alike beside world (name, task) fit path)
+      (λ place steps e. exclusive_alike place.parent place.last place.object place.slash steps access mode
+      (place_new path place e))
 
   same_length : {A B : Type 0} (f : A → B) (list : List A) → length (map f list) ≡ length list
   same_length f [] = refl
@@ -279,21 +327,24 @@ pub mkdirs_agree : MkdirsAgree
 mkdirs_agree path mode beside world name fresh fit vacant =
     policy_alike beside world name fresh (Mkdir path mode) fit (λ task is.
     judged_finished beside world name task fit (mkdir_permit (fresh 0) (tree_of world.inodes) task path mode)
-    (Making.mkdir_outcome nat_eq fresh (embedded beside world) (task_there beside world.inodes.root (name, task)) path mode)
+    (Making.mkdir_outcome nat_eq fresh (embedded beside world)
+    (task_there beside world.inodes.root (name, task)) path mode)
     (mkdir_alike beside world name task fit is fresh vacant path mode))
 
 pub symlinks_agree : SymlinksAgree
 symlinks_agree text path beside world name fresh fit vacant =
     policy_alike beside world name fresh (SymlinkAt text path) fit (λ task is.
     judged_finished beside world name task fit (symlink_permit (fresh 0) (tree_of world.inodes) task text path)
-    (Making.symlink_outcome nat_eq fresh (embedded beside world) (task_there beside world.inodes.root (name, task)) text path)
+    (Making.symlink_outcome nat_eq fresh (embedded beside world)
+    (task_there beside world.inodes.root (name, task)) text path)
     (symlink_alike beside world name task fit is fresh vacant text path))
 
 pub writes_agree : WritesAgree
 writes_agree path bytes beside world name fresh fit vacant =
     policy_alike beside world name fresh (Write path bytes) fit (λ task is.
     judged_finished beside world name task fit (write_permit (fresh 0) (tree_of world.inodes) task path bytes)
-    (Making.write_outcome nat_eq fresh (embedded beside world) (task_there beside world.inodes.root (name, task)) path bytes)
+    (Making.write_outcome nat_eq fresh (embedded beside world)
+    (task_there beside world.inodes.root (name, task)) path bytes)
     (write_alike beside world name task fit is fresh vacant path bytes))
 
 pub opens_agree : OpensAgree

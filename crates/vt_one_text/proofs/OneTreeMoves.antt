@@ -47,7 +47,8 @@ module _ (beside : Beside) (world : World ℕ) (task_name : TaskName) (task : Ta
     (from : ℕ) (old : List ℕ) (to : ℕ) (new : List ℕ) (object : ℕ) (replaced : Option ℕ)
     (from_is : IsDirectory (tree_of world.inodes) from)
     (leads : entry_named old (entries_in ((tree_of world.inodes).node from)) ≡ Some object)
-    (to_is : IsDirectory (tree_of world.inodes) to) (finds : entry_named new (entries_in ((tree_of world.inodes).node to)) ≡ replaced)
+    (to_is : IsDirectory (tree_of world.inodes) to)
+    (finds : entry_named new (entries_in ((tree_of world.inodes).node to)) ≡ replaced)
     (other : one_if_some object replaced ≡ 0) (empty : (n : ℕ) → 1 ≤ one_if_some n replaced
     → targets_in ((tree_of world.inodes).node n) ≡ [])
     (outside : is_directory_node ((tree_of world.inodes).node object) ≡ true → (steps : ℕ)
@@ -86,19 +87,22 @@ module _ (beside : Beside) (world : World ℕ) (task_name : TaskName) (task : Ta
   -- parts
   directory_on : (n : ℕ) → is_directory_node (node_on n) ≡ is_directory_node (tree.node n)
   directory_on n =
-      part_at is_directory_node node_off to (node_with_entry new object) (directory_with_entry new object (node_off to)) n
+      part_at is_directory_node node_off to (node_with_entry new object)
+      (directory_with_entry new object (node_off to)) n
       ∙ part_at is_directory_node tree.node from (node_without_entry old) (directory_without old (tree.node from)) n
 
   directory_moved : (n : ℕ) → is_directory_node (node_moved replaced n) ≡ is_directory_node (tree.node n)
   directory_moved n = by replaced
     where
       under : is_directory_node (node_under n) ≡ is_directory_node (tree.node n)
-      under = part_at is_directory_node node_on object (node_with_parent to) (directory_with_parent to (node_on object)) n ∙ directory_on n
+      under = part_at is_directory_node node_on object (node_with_parent to)
+          (directory_with_parent to (node_on object)) n ∙ directory_on n
 
       by : (o : Option ℕ) → is_directory_node (node_moved o n) ≡ is_directory_node (tree.node n)
       by None = under
       by (Some gone) =
-          part_at is_directory_node node_under gone (node_with_parent gone) (directory_with_parent gone (node_under gone)) n ∙ under
+          part_at is_directory_node node_under gone (node_with_parent gone)
+          (directory_with_parent gone (node_under gone)) n ∙ under
 
   some_moved : (n : ℕ) → is_some (node_moved replaced n) ≡ is_some (tree.node n)
   some_moved n = by replaced
@@ -111,7 +115,8 @@ module _ (beside : Beside) (world : World ℕ) (task_name : TaskName) (task : Ta
 
       by : (o : Option ℕ) → is_some (node_moved o n) ≡ is_some (tree.node n)
       by None = under
-      by (Some gone) = part_at is_some node_under gone (node_with_parent gone) (some_with_parent gone (node_under gone)) n ∙ under
+      by (Some gone) = part_at is_some node_under gone (node_with_parent gone)
+          (some_with_parent gone (node_under gone)) n ∙ under
 
   entries_moved : (n : ℕ) → entries_in (node_moved replaced n) ≡ entries_in (node_on n)
   entries_moved n = by replaced
@@ -121,7 +126,8 @@ module _ (beside : Beside) (world : World ℕ) (task_name : TaskName) (task : Ta
 
       by : (o : Option ℕ) → entries_in (node_moved o n) ≡ entries_in (node_on n)
       by None = under
-      by (Some gone) = part_at entries_in node_under gone (node_with_parent gone) (entries_with_parent gone (node_under gone)) n ∙ under
+      by (Some gone) = part_at entries_in node_under gone (node_with_parent gone)
+          (entries_with_parent gone (node_under gone)) n ∙ under
 
   parent_on : (n : ℕ) → parent_in n (node_on n) ≡ parent_in n (tree.node n)
   parent_on n =
@@ -131,13 +137,16 @@ module _ (beside : Beside) (world : World ℕ) (task_name : TaskName) (task : Ta
   apart_one : (n m : ℕ) → one_if n m ≡ 0 → n ≢ m
   apart_one n m none same = let one : one_if n m ≡ 1 = ap (λ b. cond b 1 0) (eq-eqb n m same) in omega arith
 
-  not_gone : (n : ℕ) (change : ℕ → Option (Node ℕ) → Option (Node ℕ)) (o : Option ℕ) → one_if_some n o ≡ 0 → node_moved o n ≡ node_under n
+  not_gone : (n : ℕ) (change : ℕ → Option (Node ℕ) → Option (Node ℕ)) (o : Option ℕ) → one_if_some n o ≡ 0
+      → node_moved o n ≡ node_under n
   not_gone n change None none = refl
   not_gone n change (Some gone) none = at_other node_under gone (node_with_parent gone) n (apart_one n gone none)
 
-  parent_moved : (n : ℕ) → n ≢ object → one_if_some n replaced ≡ 0 → parent_in n (node_moved replaced n) ≡ parent_in n (tree.node n)
+  parent_moved : (n : ℕ) → n ≢ object → one_if_some n replaced ≡ 0
+      → parent_in n (node_moved replaced n) ≡ parent_in n (tree.node n)
   parent_moved n apart none =
-      ap (parent_in n) (not_gone n (λ m o. o) replaced none ∙ at_other node_on object (node_with_parent to) n apart) ∙ parent_on n
+      ap (parent_in n) (not_gone n (λ m o. o) replaced none ∙ at_other node_on object (node_with_parent to) n apart)
+      ∙ parent_on n
 
   parent_object : IsDirectory tree object → parent_in object (node_moved replaced object) ≡ to
   parent_object is =
@@ -148,13 +157,15 @@ module _ (beside : Beside) (world : World ℕ) (task_name : TaskName) (task : Ta
   once : (d : ℕ) → IsDirectory tree d → times_in d beside.numbers ≡ 1
   once d is = fit.each_once d ∙ ap (λ b. cond b 1 0) (directory_there beside.numbers world fit d is)
 
-  off_targets : (n : ℕ) → times_in n (targets_in (node_without_entry old (tree.node from))) + one_if n object ≡ times_in n
+  off_targets : (n : ℕ) → times_in n (targets_in (node_without_entry old (tree.node from))) + one_if n object
+      ≡ times_in n
       (targets_in (tree.node from))
   off_targets n =
       let less : times_in n (targets (without_entry old (entries_in (tree.node from)))) + one_if_some n
       (entry_named old (entries_in (tree.node from))) ≡ times_in n (targets (entries_in (tree.node from)))
       = times_without n old (entries_in (tree.node from)) (fit.whole.in_order from) in
-      let it : one_if_some n (entry_named old (entries_in (tree.node from))) ≡ one_if n object = ap (one_if_some n) leads in
+      let it : one_if_some n (entry_named old (entries_in (tree.node from))) ≡ one_if n object =
+      ap (one_if_some n) leads in
       let same : times_in n (targets_in (node_without_entry old (tree.node from))) ≡ times_in n
       (targets (without_entry old (entries_in (tree.node from)))) = ap (λ e. times_in n (targets e))
       (entries_without old (tree.node from)) in
@@ -167,7 +178,8 @@ module _ (beside : Beside) (world : World ℕ) (task_name : TaskName) (task : Ta
       ∙ sorted_without old (entries_in (tree.node from)) (fit.whole.in_order from))
 
   to_off : is_directory_node (node_off to) ≡ true
-  to_off = part_at is_directory_node tree.node from (node_without_entry old) (directory_without old (tree.node from)) to ∙ to_is
+  to_off = part_at is_directory_node tree.node from (node_without_entry old)
+      (directory_without old (tree.node from)) to ∙ to_is
 
   -- the new name still leads where it led
   finds_off : entry_named new (entries_in (node_off to)) ≡ replaced
@@ -176,18 +188,22 @@ module _ (beside : Beside) (world : World ℕ) (task_name : TaskName) (task : Ta
       (λ t. ap (λ b. entry_named new (entries_in (cond b (node_without_entry old (tree.node from)) (tree.node to)))) t.0
       ∙ ap (entry_named new) (entries_without old (tree.node from))
       ∙ here t.1 (bytes_eq new old) refl)
-      (λ t. ap (λ b. entry_named new (entries_in (cond b (node_without_entry old (tree.node from)) (tree.node to)))) t.0 ∙ finds)
+      (λ t. ap (λ b. entry_named new
+      (entries_in (cond b (node_without_entry old (tree.node from)) (tree.node to)))) t.0 ∙ finds)
       (eqb_tells to from)
     where
-      here : to ≡ from → (b : Bool) → bytes_eq new old ≡ b → entry_named new (without_entry old (entries_in (tree.node from))) ≡ replaced
+      here : to ≡ from → (b : Bool) → bytes_eq new old ≡ b
+          → entry_named new (without_entry old (entries_in (tree.node from))) ≡ replaced
       here same true e =
           let name : new ≡ old = (bytes_decides new old).0 e in
-          let it : replaced ≡ Some object = sym finds ∙ (λ i. entry_named (name i) (entries_in (tree.node (same i)))) ∙ leads in
+          let it : replaced ≡ Some object =
+          sym finds ∙ (λ i. entry_named (name i) (entries_in (tree.node (same i)))) ∙ leads in
           let one : one_if_some object replaced ≡ one_if object object = ap (one_if_some object) it in
           let self = own object in
           absurd (omega (arith, other))
       here same false e =
-          find_without old new (entries_in (tree.node from)) e ∙ ap (λ n. entry_named new (entries_in (tree.node n))) (sym same) ∙ finds
+          find_without old new (entries_in (tree.node from)) e
+          ∙ ap (λ n. entry_named new (entries_in (tree.node n))) (sym same) ∙ finds
 
   on_targets : (n : ℕ)
       → times_in n (targets_in (node_with_entry new object (node_off to))) + one_if_some n replaced ≡ times_in n
@@ -196,14 +212,16 @@ module _ (beside : Beside) (world : World ℕ) (task_name : TaskName) (task : Ta
       let put : times_in n (targets (with_entry new object (entries_in (node_off to)))) + one_if_some n
       (entry_named new (entries_in (node_off to))) ≡ times_in n (targets (entries_in (node_off to))) + one_if n object
       = times_put n new object (entries_in (node_off to)) (off_order to) in
-      let it : one_if_some n (entry_named new (entries_in (node_off to))) ≡ one_if_some n replaced = ap (one_if_some n) finds_off in
+      let it : one_if_some n (entry_named new (entries_in (node_off to))) ≡ one_if_some n replaced =
+      ap (one_if_some n) finds_off in
       let same : times_in n (targets_in (node_with_entry new object (node_off to))) ≡ times_in n
       (targets (with_entry new object (entries_in (node_off to)))) = ap (λ e. times_in n (targets e))
       (entries_with_entry new object (node_off to) to_off) in
       omega arith
 
   abbrev uses_moved : ℕ → ℕ
-  uses_moved n = one_if n world.inodes.root + (times_in n (named_by (node_moved replaced) beside.numbers) + times_in n (opened_in world))
+  uses_moved n = one_if n world.inodes.root +
+      (times_in n (named_by (node_moved replaced) beside.numbers) + times_in n (opened_in world))
 
   named_same : (list : List ℕ) → named_by (node_moved replaced) list ≡ named_by node_on list
   named_same [] = refl
@@ -211,9 +229,11 @@ module _ (beside : Beside) (world : World ℕ) (task_name : TaskName) (task : Ta
 
   less : (n : ℕ) → one_if_some n replaced + uses_moved n ≡ uses_was n
   less n =
-      let one = named_changed n tree.node from (node_without_entry old (tree.node from)) beside.numbers (once from from_is) in
+      let one = named_changed n tree.node from (node_without_entry old (tree.node from)) beside.numbers
+      (once from from_is) in
       let two = named_changed n node_off to (node_with_entry new object (node_off to)) beside.numbers (once to to_is) in
-      let same : times_in n (named_by (node_moved replaced) beside.numbers) ≡ times_in n (named_by node_on beside.numbers) =
+      let same : times_in n (named_by (node_moved replaced) beside.numbers)
+      ≡ times_in n (named_by node_on beside.numbers) =
       ap (times_in n) (named_same beside.numbers) in
       let off = off_targets n in
       let on = on_targets n in
@@ -236,14 +256,16 @@ module _ (beside : Beside) (world : World ℕ) (task_name : TaskName) (task : Ta
 
   object_used : 1 ≤ uses_was object
   object_used =
-      let named = target_used from object from_is object_target in let parts = uses_parts beside.numbers world fit object in omega arith
+      let named = target_used from object from_is object_target in let parts =
+      uses_parts beside.numbers world fit object in omega arith
 
   counted_under : IsCounted uses_was node_under inodes_under
   counted_under =
       counted_at uses_was node_on
       (with_changed nat_eq (with_changed nat_eq world.inodes from (node_without_entry old)) to
       (node_with_entry new object)) object (node_with_parent to)
-      (counted_at uses_was node_off (with_changed nat_eq world.inodes from (node_without_entry old)) to (node_with_entry new object)
+      (counted_at uses_was node_off (with_changed nat_eq world.inodes from (node_without_entry old)) to
+      (node_with_entry new object)
       (counted_at uses_was tree.node world.inodes from (node_without_entry old) (counted_start beside.numbers world fit)
       (used_directory from from_is) (λ some. (_, refl)))
       (used_directory to to_is) (λ some. (_, refl)))
@@ -254,7 +276,8 @@ module _ (beside : Beside) (world : World ℕ) (task_name : TaskName) (task : Ta
   gone_target n =
       let found : one_if_some n (entry_named new (entries_in (tree.node to))) ≤ times_in n (targets (entries_in (tree.node to))) =
       found_target n new (entries_in (tree.node to)) in
-      let it : one_if_some n (entry_named new (entries_in (tree.node to))) ≡ one_if_some n replaced = ap (one_if_some n) finds in
+      let it : one_if_some n (entry_named new (entries_in (tree.node to))) ≡ one_if_some n replaced =
+      ap (one_if_some n) finds in
       omega arith
 
   none_or_one : (n : ℕ) → (one_if_some n replaced ≡ 0) ⊎ (1 ≤ one_if_some n replaced)
@@ -267,7 +290,8 @@ module _ (beside : Beside) (world : World ℕ) (task_name : TaskName) (task : Ta
   full_stays : (d n : ℕ) → 1 ≤ times_in n (targets_in (tree.node d)) → one_if_some d replaced ≡ 0
   full_stays d n full =
       ⊎_elim (λ none. none)
-      (λ gone. absurd (let none : times_in n (targets_in (tree.node d)) ≡ 0 = ap (times_in n) (empty d gone) in omega arith))
+      (λ gone. absurd (let none : times_in n (targets_in (tree.node d))
+      ≡ 0 = ap (times_in n) (empty d gone) in omega arith))
       (none_or_one d)
 
   from_stays : one_if_some from replaced ≡ 0
@@ -285,7 +309,8 @@ module _ (beside : Beside) (world : World ℕ) (task_name : TaskName) (task : Ta
       ⊎_elim
       (λ t. ap (λ b. times_in n (targets_in (cond b (node_with_entry new object (node_off to)) (node_off p)))) t.0
       ∙ (let on = on_targets n in let no : one_if n object ≡ 0 = other_if n object apart in
-      let same : times_in n (targets_in (node_with_entry new object (node_off to))) ≡ times_in n (targets_in (node_off to)) =
+      let same : times_in n (targets_in (node_with_entry new object (node_off to)))
+      ≡ times_in n (targets_in (node_off to)) =
       omega arith in same)
       ∙ ap (λ m. times_in n (targets_in (node_off m))) (sym t.1))
       (λ t. ap (λ b. times_in n (targets_in (cond b (node_with_entry new object (node_off to)) (node_off p)))) t.0)
@@ -293,7 +318,8 @@ module _ (beside : Beside) (world : World ℕ) (task_name : TaskName) (task : Ta
       ∙ ⊎_elim
       (λ t. ap (λ b. times_in n (targets_in (cond b (node_without_entry old (tree.node from)) (tree.node p)))) t.0
       ∙ (let off = off_targets n in let no : one_if n object ≡ 0 = other_if n object apart in
-      let same : times_in n (targets_in (node_without_entry old (tree.node from))) ≡ times_in n (targets_in (tree.node from)) =
+      let same : times_in n (targets_in (node_without_entry old (tree.node from)))
+      ≡ times_in n (targets_in (tree.node from)) =
       omega arith in same)
       ∙ ap (λ m. times_in n (targets_in (tree.node m))) (sym t.1))
       (λ t. ap (λ b. times_in n (targets_in (cond b (node_without_entry old (tree.node from)) (tree.node p)))) t.0)
@@ -327,7 +353,8 @@ module _ (beside : Beside) (world : World ℕ) (task_name : TaskName) (task : Ta
       by (Some gone) e =
           let one : one_if_some gone replaced ≡ 1 = ap (one_if_some gone) e ∙ own gone in
           let used : 1 ≤ uses_was gone = (let l = less gone in omega arith) in
-          let second = counted_at uses_was node_under inodes_under gone (node_with_parent gone) counted_under used (λ some. (_, refl)) in
+          let second = counted_at uses_was node_under inodes_under gone (node_with_parent gone) counted_under used
+          (λ some. (_, refl)) in
           let inode =
           some_inode ((with_changed nat_eq inodes_under gone (node_with_parent gone)).inode gone)
           (counted_some uses_was (node_moved (Some gone))
@@ -338,15 +365,18 @@ module _ (beside : Beside) (world : World ℕ) (task_name : TaskName) (task : Ta
           (ap targets (ap (λ o. entries_in (node_moved o gone)) (sym e) ∙ entries_moved gone
           ∙ ap entries_in
           (at_other node_off to (node_with_entry new object) gone
-          (λ same. let none : one_if_some gone replaced ≡ 0 = ap (λ n. one_if_some n replaced) same ∙ to_stays in absurd (omega arith))
+          (λ same. let none : one_if_some gone replaced ≡ 0 = ap (λ n. one_if_some n replaced) same
+          ∙ to_stays in absurd (omega arith))
           ∙ at_other tree.node from (node_without_entry old) gone
-          (λ same. let none : one_if_some gone replaced ≡ 0 = ap (λ n. one_if_some n replaced) same ∙ from_stays in absurd (omega arith))))
+          (λ same. let none : one_if_some gone replaced ≡ 0 = ap (λ n. one_if_some n replaced) same
+          ∙ from_stays in absurd (omega arith))))
           ∙ empty gone (omega arith))
 
   -- what stays
   kept_some : (d : ℕ) → IsDirectory tree d → one_if_some d replaced ≡ 0 → is_some (inodes_moved.inode d) ≡ true
   kept_some d is none =
-      counted_some uses_moved (node_moved replaced) inodes_moved counted_moved d (let u = used_directory d is in let l = less d in
+      counted_some uses_moved (node_moved replaced) inodes_moved counted_moved d
+      (let u = used_directory d is in let l = less d in
       omega arith)
 
   stays_apart : (d : ℕ) → is_some (inodes_moved.inode d) ≡ true → IsDirectory tree d → one_if_some d replaced ≡ 0
@@ -374,7 +404,8 @@ module _ (beside : Beside) (world : World ℕ) (task_name : TaskName) (task : Ta
       root_unnamed from from_is in let some : 1 ≤ times_in world.inodes.root (targets_in (tree.node from)) =
       subst (λ n. 1 ≤ times_in n (targets_in (tree.node from))) (sym same) object_target in omega arith
 
-  parent_stays : (d : ℕ) → IsDirectory tree d → d ≢ world.inodes.root → one_if_some (parent_in d (tree.node d)) replaced ≡ 0
+  parent_stays : (d : ℕ) → IsDirectory tree d → d ≢ world.inodes.root
+      → one_if_some (parent_in d (tree.node d)) replaced ≡ 0
   parent_stays d is root =
       full_stays (parent_in d (tree.node d)) d
       (among_times d (targets_in (tree.node (parent_in d (tree.node d)))) (fit.whole.in_parent d is root))
@@ -385,8 +416,10 @@ module _ (beside : Beside) (world : World ℕ) (task_name : TaskName) (task : Ta
   up_kept zero d is far free none = far
   up_kept (suc steps) d is far free none =
       let here : one_if object d ≡ 0 = let g = free in omega (arith, g) in
-      let later : times_in object (way_up tree steps (parent_in d (tree.node d))) ≡ 0 = let g = free in omega (arith, g) in
-      ap (upwards (bare world.inodes.root (node_moved replaced)) steps) (parent_moved d (λ e. apart_one object d here (sym e)) none)
+      let later : times_in object (way_up tree steps (parent_in d (tree.node d))) ≡ 0 = let g = free in
+      omega (arith, g) in
+      ap (upwards (bare world.inodes.root (node_moved replaced)) steps)
+      (parent_moved d (λ e. apart_one object d here (sym e)) none)
       ∙ up_kept steps (parent_in d (tree.node d)) (parent_is tree fit.whole d is) far.1 later (parent_stays d is far.0)
 
   up_moved : (steps d : ℕ) → IsDirectory tree d → IsAway tree steps d → one_if_some d replaced ≡ 0
@@ -396,12 +429,17 @@ module _ (beside : Beside) (world : World ℕ) (task_name : TaskName) (task : Ta
       ⊎_elim
       (λ t. (
         suc above.0,
-        ap (upwards (bare world.inodes.root (node_moved replaced)) above.0) (ap (λ n. parent_in n (node_moved replaced n)) t.1
+        ap (upwards (bare world.inodes.root (node_moved replaced)) above.0)
+            (ap (λ n. parent_in n (node_moved replaced n)) t.1
             ∙ parent_object (subst (IsDirectory tree) t.1 is))
             ∙ up_kept above.0 to to_is above.1 (outside (subst (IsDirectory tree) t.1 is) above.0 above.1) to_stays,
       ))
-      (λ t. let later = up_moved steps (parent_in d (tree.node d)) (parent_is tree fit.whole d is) far.1 (parent_stays d is far.0) in
-      (suc later.0, ap (upwards (bare world.inodes.root (node_moved replaced)) later.0) (parent_moved d t.1 none) ∙ later.1))
+      (λ t. let later = up_moved steps (parent_in d (tree.node d)) (parent_is tree fit.whole d is) far.1
+      (parent_stays d is far.0) in (
+        suc later.0,
+        ap (upwards (bare world.inodes.root (node_moved replaced)) later.0) (parent_moved d t.1 none)
+            ∙ later.1,
+      ))
       (eqb_tells d object)
     where
       above : (some : ℕ) × IsAway tree some to
@@ -416,7 +454,8 @@ module _ (beside : Beside) (world : World ℕ) (task_name : TaskName) (task : Ta
     one_use = λ d there is.
         let was : IsDirectory tree d = sym (directory_moved d) ∙ is in
         let none = stays_apart d there was in
-        let one : uses_in (world.inodes.inode d) ≡ 1 = fit.one_use d was in let f = fit.uses d in let l = less d in omega arith;
+        let one : uses_in (world.inodes.inode d) ≡ 1 = fit.one_use d was in let f = fit.uses d in let l = less d in
+        omega arith;
     stays = record {
       root_stays =
           subst (λ r. is_some (inodes_moved.inode r) ≡ true) (sym root_is)
@@ -427,10 +466,12 @@ module _ (beside : Beside) (world : World ℕ) (task_name : TaskName) (task : Ta
       root_parent =
           subst (λ r. parent_in r (node_moved replaced r) ≡ r) (sym root_is)
           (parent_moved world.inodes.root root_apart root_stays ∙ fit.whole.root_parent);
-      in_order = λ n. ap (is_sorted name_cmp) (entries_moved n) ∙ sorted_at node_off to (node_with_entry new object) off_order
+      in_order = λ n. ap (is_sorted name_cmp) (entries_moved n)
+          ∙ sorted_at node_off to (node_with_entry new object) off_order
           (ap (is_sorted name_cmp) (entries_with_entry new object (node_off to) to_off)
           ∙ sorted_put new object (entries_in (node_off to)) (off_order to)) n;
-      in_parent = λ d there is other_root. lies d there (sym (directory_moved d) ∙ is) (λ e. other_root (e ∙ sym root_is));
+      in_parent = λ d there is other_root.
+          lies d there (sym (directory_moved d) ∙ is) (λ e. other_root (e ∙ sym root_is));
       under_root = λ d there is.
           let was : IsDirectory tree d = sym (directory_moved d) ∙ is in
           let under = fit.whole.under_root d was in
@@ -448,12 +489,14 @@ module _ (beside : Beside) (world : World ℕ) (task_name : TaskName) (task : Ta
       root_is = by replaced
 
       lies : (d : ℕ) → is_some (inodes_moved.inode d) ≡ true → IsDirectory tree d → d ≢ world.inodes.root
-          → (has_entry_to nat_eq (bare inodes_moved.root (node_moved replaced)) (parent_in d (node_moved replaced d)) d ≡ true)
+          → (has_entry_to nat_eq (bare inodes_moved.root (node_moved replaced)) (parent_in d (node_moved replaced d)) d
+          ≡ true)
           × (is_some (inodes_moved.inode (parent_in d (node_moved replaced d))) ≡ true)
       lies d there is root =
           ⊎_elim
           (λ t. subst
-          (λ n. (has_entry_to nat_eq (bare inodes_moved.root (node_moved replaced)) (parent_in n (node_moved replaced n)) n
+          (λ n. (has_entry_to nat_eq (bare inodes_moved.root (node_moved replaced))
+          (parent_in n (node_moved replaced n)) n
           ≡ true) × (is_some (inodes_moved.inode (parent_in n (node_moved replaced n))) ≡ true)) (sym t.1)
           (subst (λ p. (has_entry_to nat_eq (bare inodes_moved.root (node_moved replaced)) p object ≡ true)
           × (is_some (inodes_moved.inode p) ≡ true)) (sym (parent_object (subst (IsDirectory tree) t.1 is)))
@@ -473,7 +516,8 @@ module _ (beside : Beside) (world : World ℕ) (task_name : TaskName) (task : Ta
       at_place (at_place (at_place (at_place tree.node gone (node_with_parent gone)) from (node_without_entry old)) to
       (node_with_entry new object)) object (node_with_parent to)
 
-  same_there : (o : Option ℕ) → one_if_some from o ≡ 0 → one_if_some to o ≡ 0 → one_if_some object o ≡ 0 → node_there o ≡ node_moved o
+  same_there : (o : Option ℕ) → one_if_some from o ≡ 0 → one_if_some to o ≡ 0 → one_if_some object o ≡ 0
+      → node_there o ≡ node_moved o
   same_there None a b c = refl
   same_there (Some gone) a b c =
       (λ i. at_place
@@ -482,18 +526,22 @@ module _ (beside : Beside) (world : World ℕ) (task_name : TaskName) (task : Ta
       ∙ (λ i. at_place
       (λ n. commute node_off gone to (node_with_parent gone) (node_with_entry new object)
       (λ e. apart_one to gone b (sym e)) n i) object (node_with_parent to))
-      ∙ (λ i. λ n. commute node_on gone object (node_with_parent gone) (node_with_parent to) (λ e. apart_one object gone c (sym e)) n i)
+      ∙ (λ i. λ n. commute node_on gone object (node_with_parent gone) (node_with_parent to)
+      (λ e. apart_one object gone c (sym e)) n i)
 
   pub moved_settled : (now : Beside) × IsFit now.numbers (with_inodes world inodes_moved)
       × (settled nat_eq
       (raw world.inodes.root (node_there replaced) beside.numbers beside.filesystem_change
-      (map (task_there beside world.inodes.root) world.tasks) beside.change) ≡ embedded now (with_inodes world inodes_moved))
+      (map (task_there beside world.inodes.root) world.tasks) beside.change)
+      ≡ embedded now (with_inodes world inodes_moved))
   moved_settled =
       let settles =
-      rearranged beside world task_name task fit beside.filesystem_change uses_moved (node_moved replaced) inodes_moved moved_is in (
+      rearranged beside world task_name task fit beside.filesystem_change uses_moved
+      (node_moved replaced) inodes_moved moved_is in (
         settles.0,
         settles.1,
         (λ i. settled nat_eq
-            (raw world.inodes.root (same_there replaced from_stays to_stays other i) beside.numbers beside.filesystem_change
+            (raw world.inodes.root
+            (same_there replaced from_stays to_stays other i) beside.numbers beside.filesystem_change
             (map (task_there beside world.inodes.root) world.tasks) beside.change)) ∙ settles.2,
       )

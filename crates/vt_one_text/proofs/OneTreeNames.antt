@@ -62,33 +62,39 @@ sorted_at node place change all here n =
 
 -- a directory without an entry
 
-pub directory_without : (name : List ℕ) (o : Option (Node ℕ)) → is_directory_node (node_without_entry name o) ≡ is_directory_node o
+pub directory_without : (name : List ℕ) (o : Option (Node ℕ))
+    → is_directory_node (node_without_entry name o) ≡ is_directory_node o
 directory_without name None = refl
 directory_without name (Some node) = by node.content
   where
     by : (content : Content ℕ)
-        → is_directory (kind_of (with_entries content (without_entry name (entries_of content)))) ≡ is_directory (kind_of content)
+        → is_directory (kind_of (with_entries content (without_entry name (entries_of content))))
+        ≡ is_directory (kind_of content)
     by (Directory parent entries opaque) = refl
     by (Regular bytes) = refl
     by (Symlink text) = refl
     by Whiteout = refl
 
-pub parent_without : (name : List ℕ) (own : ℕ) (o : Option (Node ℕ)) → parent_in own (node_without_entry name o) ≡ parent_in own o
+pub parent_without : (name : List ℕ) (own : ℕ) (o : Option (Node ℕ))
+    → parent_in own (node_without_entry name o) ≡ parent_in own o
 parent_without name own None = refl
 parent_without name own (Some node) = by node.content
   where
-    by : (content : Content ℕ) → parent_of own (with_entries content (without_entry name (entries_of content))) ≡ parent_of own content
+    by : (content : Content ℕ) → parent_of own (with_entries content (without_entry name (entries_of content)))
+        ≡ parent_of own content
     by (Directory parent entries opaque) = refl
     by (Regular bytes) = refl
     by (Symlink text) = refl
     by Whiteout = refl
 
-pub entries_without : (name : List ℕ) (o : Option (Node ℕ)) → entries_in (node_without_entry name o) ≡ without_entry name (entries_in o)
+pub entries_without : (name : List ℕ) (o : Option (Node ℕ))
+    → entries_in (node_without_entry name o) ≡ without_entry name (entries_in o)
 entries_without name None = refl
 entries_without name (Some node) = by node.content
   where
     by : (content : Content ℕ)
-        → entries_of (with_entries content (without_entry name (entries_of content))) ≡ without_entry name (entries_of content)
+        → entries_of (with_entries content (without_entry name (entries_of content)))
+        ≡ without_entry name (entries_of content)
     by (Directory parent entries opaque) = refl
     by (Regular bytes) = refl
     by (Symlink text) = refl
@@ -104,11 +110,13 @@ some_with name number (Some node) = refl
 
 -- a directory with another parent
 
-pub directory_with_parent : (parent : ℕ) (o : Option (Node ℕ)) → is_directory_node (node_with_parent parent o) ≡ is_directory_node o
+pub directory_with_parent : (parent : ℕ) (o : Option (Node ℕ))
+    → is_directory_node (node_with_parent parent o) ≡ is_directory_node o
 directory_with_parent parent None = refl
 directory_with_parent parent (Some node) = by node.content
   where
-    by : (content : Content ℕ) → is_directory (kind_of (content_with_parent parent content)) ≡ is_directory (kind_of content)
+    by : (content : Content ℕ) → is_directory (kind_of (content_with_parent parent content))
+        ≡ is_directory (kind_of content)
     by (Directory old entries opaque) = refl
     by (Regular bytes) = refl
     by (Symlink text) = refl
@@ -129,7 +137,8 @@ pub parent_with_parent : (parent own : ℕ) (o : Option (Node ℕ)) → is_direc
 parent_with_parent parent own None d = cc
 parent_with_parent parent own (Some node) d = by node.content d
   where
-    by : (content : Content ℕ) → is_directory (kind_of content) ≡ true → parent_of own (content_with_parent parent content) ≡ parent
+    by : (content : Content ℕ) → is_directory (kind_of content) ≡ true
+        → parent_of own (content_with_parent parent content) ≡ parent
     by (Directory old entries opaque) e = refl
     by (Regular bytes) e = cc
     by (Symlink text) e = cc
@@ -139,7 +148,8 @@ pub some_with_parent : (parent : ℕ) (o : Option (Node ℕ)) → is_some (node_
 some_with_parent parent None = refl
 some_with_parent parent (Some node) = refl
 
-pub targets_same : (change : Option (Node ℕ) → Option (Node ℕ)) → ((o : Option (Node ℕ)) → entries_in (change o) ≡ entries_in o)
+pub targets_same : (change : Option (Node ℕ) → Option (Node ℕ))
+    → ((o : Option (Node ℕ)) → entries_in (change o) ≡ entries_in o)
     → (o : Option (Node ℕ)) → targets_in (change o) ≡ targets_in o
 targets_same change same o = ap targets (same o)
 
@@ -154,15 +164,18 @@ counted_at uses node inodes place change counted used some =
 
 -- What is done with the entries, and what has to hold for it, so that the whole machine does it alike
 
-pub record IsRearranged (numbers : List ℕ) (world : World ℕ) (uses : ℕ → ℕ) (node : ℕ → Option (Node ℕ)) (inodes : Inodes ℕ) : Type 0 where
+pub record IsRearranged (numbers : List ℕ) (world : World ℕ) (uses : ℕ → ℕ) (node : ℕ → Option (Node ℕ))
+    (inodes : Inodes ℕ) : Type 0 where
   pub counted : IsCounted uses node inodes
   pub root_same : inodes.root ≡ world.inodes.root
   pub some_same : (n : ℕ) → is_some (node n) ≡ is_some ((tree_of world.inodes).node n)
-  pub names : (n : ℕ) → uses n ≡ one_if n world.inodes.root + (times_in n (named_by node numbers) + times_in n (opened_in world))
+  pub names : (n : ℕ) → uses n ≡ one_if n world.inodes.root +
+      (times_in n (named_by node numbers) + times_in n (opened_in world))
   pub one_use : (d : ℕ) → is_some (inodes.inode d) ≡ true → is_directory_node (node d) ≡ true → uses d ≡ 1
   pub stays : StaysWhole node inodes
 
-pub rearranged : (beside : Beside) (world : World ℕ) (name : TaskName) (task : Task ℕ) (fit : IsFit beside.numbers world)
+pub rearranged : (beside : Beside) (world : World ℕ) (name : TaskName) (task : Task ℕ)
+    (fit : IsFit beside.numbers world)
     (filesystem_change : ℕ) (uses : ℕ → ℕ) (node : ℕ → Option (Node ℕ)) (inodes : Inodes ℕ)
     → IsRearranged beside.numbers world uses node inodes
     → (now : Beside) × IsFit now.numbers (with_inodes world inodes)
@@ -171,8 +184,10 @@ pub rearranged : (beside : Beside) (world : World ℕ) (name : TaskName) (task :
     (map (task_there beside world.inodes.root) world.tasks) beside.change) ≡ embedded now (with_inodes world inodes))
 rearranged beside world name task fit filesystem_change uses node inodes is =
     let settles =
-    settled_fit (record beside { filesystem_change = filesystem_change }) (with_inodes world inodes) uses node beside.numbers is.counted
-    (λ n. is.names n ∙ (λ i. one_if n (sym is.root_same i) + sym (times_append n (named_by node beside.numbers) (opened_in world)) i))
+    settled_fit (record beside { filesystem_change = filesystem_change })
+    (with_inodes world inodes) uses node beside.numbers is.counted
+    (λ n. is.names n ∙ (λ i. one_if n (sym is.root_same i) + sym
+    (times_append n (named_by node beside.numbers) (opened_in world)) i))
     (λ n. there_once beside.numbers world fit n ∙ ap (λ b. cond b 1 0) (sym (is.some_same n)))
     (whole_counted uses node inodes is.counted is.stays)
     (λ d is_d. is.one_use d (there d is_d) (directory_now uses node inodes is.counted d is_d))
@@ -219,7 +234,8 @@ module _ (beside : Beside) (world : World ℕ) (task_name : TaskName) (task : Ta
   abbrev uses_linked : ℕ → ℕ
   uses_linked n = one_if n object + uses_before n
 
-  counted_entry : IsCounted uses_before node_linked (with_changed nat_eq world.inodes directory (node_with_entry name object))
+  counted_entry : IsCounted uses_before node_linked
+      (with_changed nat_eq world.inodes directory (node_with_entry name object))
   counted_entry =
       counted_at uses_before tree.node world.inodes directory (node_with_entry name object)
       (counted_start beside.numbers world fit) (directory_used directory is) (λ some. (_, refl))
@@ -239,7 +255,8 @@ module _ (beside : Beside) (world : World ℕ) (task_name : TaskName) (task : Ta
       (targets_in (tree.node directory)) + one_if n object
   linked_targets n =
       let put : times_in n (targets (with_entry name object (entries_in (tree.node directory)))) + one_if_some n
-      (entry_named name (entries_in (tree.node directory))) ≡ times_in n (targets (entries_in (tree.node directory))) + one_if n object
+      (entry_named name (entries_in (tree.node directory)))
+      ≡ times_in n (targets (entries_in (tree.node directory))) + one_if n object
       = times_put n name object (entries_in (tree.node directory)) (fit.whole.in_order directory) in
       let none : one_if_some n (entry_named name (entries_in (tree.node directory))) ≡ 0 = ap (one_if_some n) free in
       let same : times_in n (targets_in (node_with_entry name object (tree.node directory))) ≡ times_in n
@@ -249,41 +266,51 @@ module _ (beside : Beside) (world : World ℕ) (task_name : TaskName) (task : Ta
 
   linked_directory : (n : ℕ) → is_directory_node (node_linked n) ≡ is_directory_node (tree.node n)
   linked_directory =
-      part_at is_directory_node tree.node directory (node_with_entry name object) (directory_with_entry name object (tree.node directory))
+      part_at is_directory_node tree.node directory (node_with_entry name object)
+      (directory_with_entry name object (tree.node directory))
 
   linked_parent : (n : ℕ) → parent_in n (node_linked n) ≡ parent_in n (tree.node n)
   linked_parent n =
-      part_at (parent_in n) tree.node directory (node_with_entry name object) (parent_with_entry name object n (tree.node directory)) n
+      part_at (parent_in n) tree.node directory (node_with_entry name object)
+      (parent_with_entry name object n (tree.node directory)) n
 
   linked_some : (n : ℕ) → IsDirectory tree n → is_some (inodes_linked.inode n) ≡ true
-  linked_some n d = counted_some uses_linked node_linked inodes_linked counted_linked n (let u = directory_used n d in omega arith)
+  linked_some n d = counted_some uses_linked node_linked inodes_linked counted_linked n
+      (let u = directory_used n d in omega arith)
 
-  linked_entry : (p n : ℕ) → has_entry_to nat_eq tree p n ≡ true → has_entry_to nat_eq (bare world.inodes.root node_linked) p n ≡ true
+  linked_entry : (p n : ℕ) → has_entry_to nat_eq tree p n ≡ true
+      → has_entry_to nat_eq (bare world.inodes.root node_linked) p n ≡ true
   linked_entry p n e =
       times_among n (targets_in (node_linked p))
       (⊎_elim
-      (λ t. subst (λ b. 1 ≤ times_in n (targets_in (cond b (node_with_entry name object (tree.node directory)) (tree.node p)))) (sym t.0)
+      (λ t. subst (λ b. 1 ≤ times_in n
+      (targets_in (cond b (node_with_entry name object (tree.node directory)) (tree.node p)))) (sym t.0)
       (let more = linked_targets n in
-      let some : 1 ≤ times_in n (targets_in (tree.node directory)) = subst (λ m. 1 ≤ times_in n (targets_in (tree.node m))) t.1
+      let some : 1 ≤ times_in n (targets_in (tree.node directory)) =
+      subst (λ m. 1 ≤ times_in n (targets_in (tree.node m))) t.1
       (among_times n (targets_in (tree.node p)) e) in omega arith))
-      (λ t. subst (λ b. 1 ≤ times_in n (targets_in (cond b (node_with_entry name object (tree.node directory)) (tree.node p))))
+      (λ t. subst (λ b. 1 ≤ times_in n
+      (targets_in (cond b (node_with_entry name object (tree.node directory)) (tree.node p))))
       (sym t.0) (among_times n (targets_in (tree.node p)) e))
       (eqb_tells p directory))
 
   linked_up : (steps d : ℕ) → upwards (bare world.inodes.root node_linked) steps d ≡ upwards tree steps d
   linked_up zero d = refl
   linked_up (suc steps) d =
-      ap (upwards (bare world.inodes.root node_linked) steps) (linked_parent d) ∙ linked_up steps (parent_in d (tree.node d))
+      ap (upwards (bare world.inodes.root node_linked) steps) (linked_parent d)
+      ∙ linked_up steps (parent_in d (tree.node d))
 
   linked_is : IsRearranged beside.numbers world uses_linked node_linked inodes_linked
   linked_is = record {
     counted = counted_linked;
     root_same = refl;
-    some_same = part_at is_some tree.node directory (node_with_entry name object) (some_with name object (tree.node directory));
+    some_same = part_at is_some tree.node directory (node_with_entry name object)
+        (some_with name object (tree.node directory));
     names = λ n.
         let one : times_in directory beside.numbers ≡ 1 =
         fit.each_once directory ∙ ap (λ b. cond b 1 0) (directory_there beside.numbers world fit directory is) in
-        let changed_names = named_changed n tree.node directory (node_with_entry name object (tree.node directory)) beside.numbers one in
+        let changed_names = named_changed n tree.node directory
+        (node_with_entry name object (tree.node directory)) beside.numbers one in
         let more = linked_targets n in
         let parts = uses_parts beside.numbers world fit n in
         omega arith;
@@ -316,7 +343,8 @@ module _ (beside : Beside) (world : World ℕ) (task_name : TaskName) (task : Ta
 
   pub linked_alike : (fresh : Fresh ℕ)
       → IsChanged beside world task_name task fit (Ok (ToChange (AddName directory name object)))
-      (Outcomes.granted Done (with_change nat_eq fresh (embedded beside world) (location_there directory) (AddName directory name object)))
+      (Outcomes.granted Done (with_change nat_eq fresh (embedded beside world) (location_there directory)
+      (AddName directory name object)))
   linked_alike fresh =
       let settles = rearranged beside world task_name task fit beside.filesystem_change uses_linked node_linked inodes_linked linked_is in
       (refl, refl, settles.0, settles.1, settles.2)
@@ -344,7 +372,8 @@ module _ (beside : Beside) (world : World ℕ) (task_name : TaskName) (task : Ta
   inodes_removed = without_name nat_eq world.inodes directory name object
 
   abbrev uses_removed : ℕ → ℕ
-  uses_removed n = one_if n world.inodes.root + (times_in n (named_by node_removed beside.numbers) + times_in n (opened_in world))
+  uses_removed n = one_if n world.inodes.root +
+      (times_in n (named_by node_removed beside.numbers) + times_in n (opened_in world))
 
   is_target : 1 ≤ times_in object (targets_in (tree_r.node directory))
   is_target =
@@ -358,26 +387,31 @@ module _ (beside : Beside) (world : World ℕ) (task_name : TaskName) (task : Ta
   apart : directory ≢ object
   apart e =
       let none : times_in object (targets_in (tree_r.node directory)) ≡ 0 =
-      ap (λ n. times_in object (targets_in (tree_r.node n))) e ∙ ap (times_in object) empty in let some = is_target in absurd (omega arith)
+      ap (λ n. times_in object (targets_in (tree_r.node n))) e ∙ ap (times_in object) empty in let some = is_target in
+      absurd (omega arith)
 
   once_directory : times_in directory beside.numbers ≡ 1
-  once_directory = fit.each_once directory ∙ ap (λ b. cond b 1 0) (directory_there beside.numbers world fit directory is)
+  once_directory = fit.each_once directory
+      ∙ ap (λ b. cond b 1 0) (directory_there beside.numbers world fit directory is)
 
   off_targets : (n : ℕ)
       → times_in n (targets_in (node_without_entry name (tree_r.node directory))) + one_if n object ≡ times_in n
       (targets_in (tree_r.node directory))
   off_targets n =
       let less : times_in n (targets (without_entry name (entries_in (tree_r.node directory)))) + one_if_some n
-      (entry_named name (entries_in (tree_r.node directory))) ≡ times_in n (targets (entries_in (tree_r.node directory)))
+      (entry_named name (entries_in (tree_r.node directory)))
+      ≡ times_in n (targets (entries_in (tree_r.node directory)))
       = times_without n name (entries_in (tree_r.node directory)) (fit.whole.in_order directory) in
-      let own : one_if_some n (entry_named name (entries_in (tree_r.node directory))) ≡ one_if n object = ap (one_if_some n) leads in
+      let own : one_if_some n (entry_named name (entries_in (tree_r.node directory))) ≡ one_if n object =
+      ap (one_if_some n) leads in
       let same : times_in n (targets_in (node_without_entry name (tree_r.node directory))) ≡ times_in n
       (targets (without_entry name (entries_in (tree_r.node directory)))) = ap (λ e. times_in n (targets e))
       (entries_without name (tree_r.node directory)) in
       omega arith
 
   removed_entries : (n : ℕ) → entries_in (node_removed n) ≡ entries_in (node_off n)
-  removed_entries = part_at entries_in node_off object (node_with_parent object) (entries_with_parent object (node_off object))
+  removed_entries = part_at entries_in node_off object (node_with_parent object)
+      (entries_with_parent object (node_off object))
 
   named_same : (list : List ℕ) → named_by node_removed list ≡ named_by node_off list
   named_same [] = refl
@@ -386,7 +420,8 @@ module _ (beside : Beside) (world : World ℕ) (task_name : TaskName) (task : Ta
   one_less : (n : ℕ) → one_if n object + uses_removed n ≡ uses_was n
   one_less n =
       let changed_names =
-      named_changed n tree_r.node directory (node_without_entry name (tree_r.node directory)) beside.numbers once_directory in
+      named_changed n tree_r.node directory
+      (node_without_entry name (tree_r.node directory)) beside.numbers once_directory in
       let same : times_in n (named_by node_removed beside.numbers) ≡ times_in n (named_by node_off beside.numbers) =
       ap (times_in n) (named_same beside.numbers) in
       let off = off_targets n in
@@ -400,12 +435,14 @@ module _ (beside : Beside) (world : World ℕ) (task_name : TaskName) (task : Ta
 
   used_object : 1 ≤ uses_was object
   used_object =
-      let l = one_less object in let one : one_if object object ≡ 1 = ap (λ b. cond b 1 0) (eq-eqb object object refl) in omega arith
+      let l = one_less object in let one : one_if object object ≡ 1 =
+      ap (λ b. cond b 1 0) (eq-eqb object object refl) in omega arith
 
   counted_removed : IsCounted uses_removed node_removed inodes_removed
   counted_removed =
       let first =
-      counted_at uses_was tree_r.node world.inodes directory (node_without_entry name) (counted_start beside.numbers world fit)
+      counted_at uses_was tree_r.node world.inodes directory (node_without_entry name)
+      (counted_start beside.numbers world fit)
       (used_directory directory is) (λ some. (_, refl)) in
       let second =
       counted_at uses_was node_off (with_changed nat_eq world.inodes directory (node_without_entry name)) object
@@ -424,13 +461,16 @@ module _ (beside : Beside) (world : World ℕ) (task_name : TaskName) (task : Ta
 
   removed_directory : (n : ℕ) → is_directory_node (node_removed n) ≡ is_directory_node (tree_r.node n)
   removed_directory n =
-      part_at is_directory_node node_off object (node_with_parent object) (directory_with_parent object (node_off object)) n
-      ∙ part_at is_directory_node tree_r.node directory (node_without_entry name) (directory_without name (tree_r.node directory)) n
+      part_at is_directory_node node_off object (node_with_parent object)
+      (directory_with_parent object (node_off object)) n
+      ∙ part_at is_directory_node tree_r.node directory (node_without_entry name)
+      (directory_without name (tree_r.node directory)) n
 
   removed_parent : (n : ℕ) → n ≢ object → parent_in n (node_removed n) ≡ parent_in n (tree_r.node n)
   removed_parent n other =
       ap (parent_in n) (at_other node_off object (node_with_parent object) n other)
-      ∙ part_at (parent_in n) tree_r.node directory (node_without_entry name) (parent_without name n (tree_r.node directory)) n
+      ∙ part_at (parent_in n) tree_r.node directory (node_without_entry name)
+      (parent_without name n (tree_r.node directory)) n
 
   -- a directory that loses its name goes
   stays_apart : (d : ℕ) → is_some (inodes_removed.inode d) ≡ true → IsDirectory tree_r d → d ≢ object
@@ -446,9 +486,11 @@ module _ (beside : Beside) (world : World ℕ) (task_name : TaskName) (task : Ta
   kept_some : (d : ℕ) → IsDirectory tree_r d → d ≢ object → is_some (inodes_removed.inode d) ≡ true
   kept_some d is_d other =
       counted_some uses_removed node_removed inodes_removed counted_removed d
-      (let u = used_directory d is_d in let l = one_less d in let none : one_if d object ≡ 0 = other_if d object other in omega arith)
+      (let u = used_directory d is_d in let l = one_less d in let none : one_if d object
+      ≡ 0 = other_if d object other in omega arith)
 
-  parent_apart : (d : ℕ) → has_entry_to nat_eq tree_r (parent_in d (tree_r.node d)) d ≡ true → parent_in d (tree_r.node d) ≢ object
+  parent_apart : (d : ℕ) → has_entry_to nat_eq tree_r (parent_in d (tree_r.node d)) d ≡ true
+      → parent_in d (tree_r.node d) ≢ object
   parent_apart d e same =
       let some : 1 ≤ times_in d (targets_in (tree_r.node (parent_in d (tree_r.node d)))) =
       among_times d (targets_in (tree_r.node (parent_in d (tree_r.node d)))) e in
@@ -462,11 +504,14 @@ module _ (beside : Beside) (world : World ℕ) (task_name : TaskName) (task : Ta
       times_among d (targets_in (node_removed p))
       (subst (λ l. 1 ≤ times_in d (targets l)) (sym (removed_entries p))
       (⊎_elim
-      (λ t. subst (λ b. 1 ≤ times_in d (targets_in (cond b (node_without_entry name (tree_r.node directory)) (tree_r.node p)))) (sym t.0)
+      (λ t. subst (λ b. 1 ≤ times_in d
+      (targets_in (cond b (node_without_entry name (tree_r.node directory)) (tree_r.node p)))) (sym t.0)
       (let off = off_targets d in let none : one_if d object ≡ 0 = other_if d object other in
       let some : 1 ≤ times_in d (targets_in (tree_r.node directory)) =
-      subst (λ m. 1 ≤ times_in d (targets_in (tree_r.node m))) t.1 (among_times d (targets_in (tree_r.node p)) e) in omega arith))
-      (λ t. subst (λ b. 1 ≤ times_in d (targets_in (cond b (node_without_entry name (tree_r.node directory)) (tree_r.node p))))
+      subst (λ m. 1 ≤ times_in d (targets_in (tree_r.node m))) t.1 (among_times d (targets_in (tree_r.node p)) e) in
+      omega arith))
+      (λ t. subst (λ b. 1 ≤ times_in d
+      (targets_in (cond b (node_without_entry name (tree_r.node directory)) (tree_r.node p))))
       (sym t.0) (among_times d (targets_in (tree_r.node p)) e))
       (eqb_tells p directory)))
 
@@ -474,7 +519,8 @@ module _ (beside : Beside) (world : World ℕ) (task_name : TaskName) (task : Ta
   root_apart same =
       let named : times_in world.inodes.root (named_by tree_r.node beside.numbers) + one_if world.inodes.root world.inodes.root ≡ 1 =
       (directory_uses beside.numbers world fit world.inodes.root fit.whole.root_directory).1 in
-      let own : one_if world.inodes.root world.inodes.root ≡ 1 = ap (λ b. cond b 1 0) (eq-eqb world.inodes.root world.inodes.root refl) in
+      let own : one_if world.inodes.root world.inodes.root ≡ 1 =
+      ap (λ b. cond b 1 0) (eq-eqb world.inodes.root world.inodes.root refl) in
       let target : 1 ≤ times_in world.inodes.root (targets_in (tree_r.node directory)) =
       subst (λ n. 1 ≤ times_in n (targets_in (tree_r.node directory))) (sym same) is_target in
       let all : times_in world.inodes.root (targets_in (tree_r.node directory)) ≤ times_in world.inodes.root (named_by tree_r.node beside.numbers) = Rattle.vt_one_text.proofs.OneTreeEntries.named_of world.inodes.root tree_r.node directory beside.numbers (let o = once_directory in omega arith) in
@@ -510,13 +556,15 @@ module _ (beside : Beside) (world : World ℕ) (task_name : TaskName) (task : Ta
       root_directory = removed_directory world.inodes.root ∙ fit.whole.root_directory;
       root_parent = removed_parent world.inodes.root root_apart ∙ fit.whole.root_parent;
       in_order =
-          λ n. ap (is_sorted name_cmp) (removed_entries n) ∙ sorted_at tree_r.node directory (node_without_entry name) fit.whole.in_order
+          λ n. ap (is_sorted name_cmp) (removed_entries n)
+          ∙ sorted_at tree_r.node directory (node_without_entry name) fit.whole.in_order
           (ap (is_sorted name_cmp) (entries_without name (tree_r.node directory))
           ∙ sorted_without name (entries_in (tree_r.node directory)) (fit.whole.in_order directory)) n;
       in_parent = λ d there is_d root_other.
           let was : IsDirectory tree_r d = sym (removed_directory d) ∙ is_d in
           let other : d ≢ object = stays_apart d there was in
-          let entry : has_entry_to nat_eq tree_r (parent_in d (tree_r.node d)) d ≡ true = fit.whole.in_parent d was root_other in
+          let entry : has_entry_to nat_eq tree_r (parent_in d (tree_r.node d)) d ≡ true =
+          fit.whole.in_parent d was root_other in
           subst (λ p. (has_entry_to nat_eq (bare world.inodes.root node_removed) p d ≡ true)
           × (is_some (inodes_removed.inode p) ≡ true)) (sym (removed_parent d other)) (
             kept_entry (parent_in d (tree_r.node d)) d other entry,
@@ -532,7 +580,8 @@ module _ (beside : Beside) (world : World ℕ) (task_name : TaskName) (task : Ta
 
   pub removed_alike : (fresh : Fresh ℕ)
       → IsChanged beside world task_name task fit (Ok (ToChange (Remove directory name object)))
-      (Outcomes.granted Done (with_change nat_eq fresh (embedded beside world) (location_there directory) (Remove directory name object)))
+      (Outcomes.granted Done (with_change nat_eq fresh (embedded beside world) (location_there directory)
+      (Remove directory name object)))
   removed_alike fresh =
       let settles =
       rearranged beside world task_name task fit beside.filesystem_change uses_removed node_removed inodes_removed removed_is in

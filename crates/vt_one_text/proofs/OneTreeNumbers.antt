@@ -56,4 +56,5 @@ named_outcome = record {
 
 pub one_tree_renamed : OneTreeDoesNotSeeNumbers
 one_tree_renamed renaming world name call number =
-    commutes_nat Handed Outcome named_handed named_outcome (λ A eq handed. policy eq handed.1 name call handed.0) renaming (number, world)
+    commutes_nat Handed Outcome named_handed named_outcome
+    (λ A eq handed. policy eq handed.1 name call handed.0) renaming (number, world)

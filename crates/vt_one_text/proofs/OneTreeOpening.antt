@@ -66,6 +66,7 @@ opening_is_fit root = record {
     longer [] number rest task e = cc
     longer (first ∷ name) number rest task e = cc
 
-    none : (name : TaskName) (task : Task ℕ) → task_called (opening nat_eq root) name ≡ Some task → AreInOrder 0 task.descriptors
+    none : (name : TaskName) (task : Task ℕ) → task_called (opening nat_eq root) name ≡ Some task
+        → AreInOrder 0 task.descriptors
     none [] task e = let same : first_task ≡ task = cc in subst (λ t. AreInOrder 0 t.descriptors) same tt
     none (first ∷ name) task e = cc

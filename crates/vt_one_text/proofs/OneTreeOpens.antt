@@ -39,7 +39,8 @@ use Rattle.vt_one_text.proofs.OneTreeTrees.{times_append}
 -- a directory that is there has a node that says so
 pub directory_now : (uses : ℕ → ℕ) (node : ℕ → Option (Node ℕ)) (inodes : Inodes ℕ) → IsCounted uses node inodes
     → (directory : ℕ) → IsDirectory (tree_of inodes) directory → is_directory_node (node directory) ≡ true
-directory_now uses node inodes counted directory is = ap is_directory_node (counted.kept directory (by (inodes.inode directory) is)) ∙ is
+directory_now uses node inodes counted directory is =
+    ap is_directory_node (counted.kept directory (by (inodes.inode directory) is)) ∙ is
   where
     by : (o : Option (Inode ℕ)) → is_directory_node (node_in o) ≡ true → is_some o ≡ true
     by None e = cc
@@ -60,7 +61,8 @@ module _ (beside : Beside) (world : World ℕ) (name : TaskName) (task : Task �
   names_with : (now : Task ℕ) (tasks : List Entry) (number : ℕ)
       → times_in number (flat_map files_of tasks) + times_in number (files_of (name, task)) ≡ times_in number
       (opened_in world) + times_in number (files_of (name, now))
-      → times_in number (world.inodes.root ∷ (named_by tree.node beside.numbers ++ flat_map files_of tasks)) + times_in number
+      → times_in number (world.inodes.root
+      ∷ (named_by tree.node beside.numbers ++ flat_map files_of tasks)) + times_in number
       (files_of (name, task)) ≡ times_in number (used_in beside.numbers world) + times_in number (files_of (name, now))
   names_with now tasks number e =
       let one : times_in number (named_by tree.node beside.numbers ++ flat_map files_of tasks) ≡ times_in number
@@ -89,16 +91,22 @@ module _ (beside : Beside) (world : World ℕ) (name : TaskName) (task : Task �
         (some_inode (world.inodes.inode file) there_is).1
 
     uses_are : (number : ℕ)
-        → uses_now number ≡ times_in number (world.inodes.root ∷ (named_by tree.node beside.numbers ++ opened_in world_now))
+        → uses_now number ≡ times_in number
+        (world.inodes.root ∷ (named_by tree.node beside.numbers ++ opened_in world_now))
     uses_are number =
-        let more : times_in number (files_of (name, now)) ≡ one_if number file + times_in number (files_of (name, task)) =
+        let more : times_in number (files_of (name, now))
+        ≡ one_if number file + times_in number (files_of (name, task)) =
         inserted_times number (descriptor_on task file access) task.descriptors in
         let all = names_with now world_now.tasks number (uses_changed name now number task world.tasks fit.apart is) in
         omega arith
 
-    task_now : Descriptors.with_descriptor there_task (location_there file) access ≡ task_there beside world.inodes.root (name, now)
+    task_now : Descriptors.with_descriptor there_task (location_there file) access
+        ≡ task_there beside world.inodes.root (name, now)
     task_now =
-        (λ i. record there_task { descriptors = Descriptors.inserted (record { number = free_there 0 task.descriptors i; location = location_there file; reads = access.reads; writes = access.writes }) (map descriptor_there task.descriptors) })
+        (λ i. record there_task {
+          descriptors = Descriptors.inserted
+              (record { number = free_there 0 task.descriptors i; location = location_there file; reads = access.reads; writes = access.writes }) (map descriptor_there task.descriptors);
+        })
         ∙ (λ i. record there_task { descriptors = inserted_there (descriptor_on task file access) task.descriptors i })
 
     world_there : MachineWorld.with_task there (Descriptors.with_descriptor there_task (location_there file) access)
@@ -112,7 +120,8 @@ module _ (beside : Beside) (world : World ℕ) (name : TaskName) (task : Task �
         (Descriptors.opened there there_task (location_there file) access)
     opened_alike =
         let settles =
-        settled_fit beside world_now uses_now tree.node beside.numbers counted_now uses_are (there_once beside.numbers world fit)
+        settled_fit beside world_now uses_now tree.node beside.numbers counted_now uses_are
+        (there_once beside.numbers world fit)
         (whole_uses beside.numbers world fit uses_now (pinned nat_eq world.inodes file) counted_now refl
         (λ directory d. let one : 1 ≤ uses_in (world.inodes.inode directory) = fit.in_use directory
         (directory_there beside.numbers world fit directory d) in let e = fit.uses directory in omega arith))
@@ -122,13 +131,20 @@ module _ (beside : Beside) (world : World ℕ) (name : TaskName) (task : Task �
         let apart : directory ≢ file =
         (λ (e : directory ≡ file). true≢false (sym was ∙ ap (λ n. is_directory_node (tree.node n)) e ∙ no_directory)) in
         let none : one_if directory file ≡ 0 = other_if directory file apart in
-        let one : uses_in (world.inodes.inode directory) ≡ 1 = fit.one_use directory was in let e = fit.uses directory in omega arith)
+        let one : uses_in (world.inodes.inode directory) ≡ 1 = fit.one_use directory was in let e =
+        fit.uses directory in omega arith)
         (apart_changed name now world.tasks fit.apart)
         (forked_changed beside.numbers world name task fit is now (omega arith))
         (descriptors_changed beside.numbers world name task fit is now
         (inserted_order 0 task.descriptors (descriptor_on task file access)
-        (fit.descriptors name task (task_is beside.numbers world name task fit is)) refl)) in
-        (refl, ap (λ n. Ok (Opened n)) (free_there 0 task.descriptors), settles.0, settles.1, ap (settled nat_eq) world_there ∙ settles.2)
+        (fit.descriptors name task (task_is beside.numbers world name task fit is)) refl)) in (
+          refl,
+          ap (λ n. Ok (Opened n)) (free_there 0 task.descriptors),
+          settles.0,
+          settles.1,
+          ap
+              (settled nat_eq) world_there ∙ settles.2,
+        )
 
   -- a file that may be opened is there, and is no directory
   pub open_file_alike : (fresh : Fresh ℕ) (file : ℕ) (access : Access)
@@ -137,7 +153,8 @@ module _ (beside : Beside) (world : World ℕ) (name : TaskName) (task : Task �
   open_file_alike fresh file access = by access.writes
     where
       some : (o : Option (Inode ℕ))
-          → not (Rattle.vt_spec.specs.Machine.Rightful.node_allows task.credentials (access_rights access) (node_in o)) ≡ false
+          → not (Rattle.vt_spec.specs.Machine.Rightful.node_allows task.credentials (access_rights access) (node_in o))
+          ≡ false
           → is_some o ≡ true
       some None e = cc
       some (Some inode) e = refl
@@ -145,22 +162,27 @@ module _ (beside : Beside) (world : World ℕ) (name : TaskName) (task : Task �
       by : (writes : Bool)
           → IsJudged beside world name task fit (open_file tree task file access)
           (Outcomes.judged there
-          ((is_directory_at tree file, E2) ∷ (is_kind_at tree file White, E9) ∷ (writes && false, F1) ∷ (writes && false, F2) ∷
+          ((is_directory_at tree file, E2) ∷ (is_kind_at tree file White, E9) ∷ (writes && false, F1)
+          ∷ (writes && false, F2) ∷
           (writes && false, L1)
-          ∷ (may_not tree task.credentials file (access_rights access), C1) ∷ (false, B1) ∷ Descriptors.copy_rules nat_eq
+          ∷ (may_not tree task.credentials file (access_rights access), C1) ∷ (false, B1)
+          ∷ Descriptors.copy_rules nat_eq
           (writes && false) there (location_there file))
-          (Descriptors.opened (Descriptors.with_copy nat_eq (writes && false) fresh there (location_there file)) there_task
+          (Descriptors.opened (Descriptors.with_copy nat_eq (writes && false) fresh there
+          (location_there file)) there_task
           (location_there file) access))
       by true = inside
         where
           inside : IsJudged beside world name task fit (open_file tree task file access)
               (Outcomes.judged there
-              ((is_directory_at tree file, E2) ∷ (is_kind_at tree file White, E9) ∷ (false, F1) ∷ (false, F2) ∷ (false, L1) ∷
+              ((is_directory_at tree file, E2) ∷ (is_kind_at tree file White, E9) ∷ (false, F1) ∷ (false, F2)
+              ∷ (false, L1) ∷
               (may_not tree task.credentials file (access_rights access), C1) ∷ (false, B1) ∷ [])
               (Descriptors.opened there there_task (location_there file) access))
           inside =
               judged_when there (IsJudged beside world name task fit) (refused beside world name task fit)
-              (inl (is_directory_at tree file, E2) ∷ inl (is_kind_at tree file White, E9) ∷ inr F1 ∷ inr F2 ∷ inr L1 ∷ inl
+              (inl (is_directory_at tree file, E2) ∷ inl (is_kind_at tree file White, E9) ∷ inr F1 ∷ inr F2 ∷ inr L1
+              ∷ inl
               (may_not tree task.credentials file (access_rights access), C1) ∷ inr B1 ∷ [])
               (Ok (ToOpen file access)) (Descriptors.opened there there_task (location_there file) access)
               (λ pass. inr (opened_alike file access (some (world.inodes.inode file) pass.1.1.0) pass.0))
@@ -177,7 +199,8 @@ module _ (beside : Beside) (world : World ℕ) (name : TaskName) (task : Task �
     where
       by : (b : Bool) → is_directory_node (tree.node number) ≡ b → targets_in (tree.node number) ≡ []
       by true e =
-          absurd (let none : times_in number (opened_in world) ≡ 0 = (directory_uses beside.numbers world fit number e).0 in omega arith)
+          absurd (let none : times_in number (opened_in world)
+          ≡ 0 = (directory_uses beside.numbers world fit number e).0 in omega arith)
       by false e = no_entries beside.numbers world fit number e
 
   -- Close
@@ -204,23 +227,28 @@ module _ (beside : Beside) (world : World ℕ) (name : TaskName) (task : Task �
     -- the descriptor counts among those that are open
     is_opened : 1 ≤ times_in descriptor.file (opened_in world)
     is_opened =
-        let own : one_if descriptor.file descriptor.file ≡ 1 = ap (λ b. cond b 1 0) (eq-eqb descriptor.file descriptor.file refl) in
+        let own : one_if descriptor.file descriptor.file ≡ 1 =
+        ap (λ b. cond b 1 0) (eq-eqb descriptor.file descriptor.file refl) in
         let less : times_in descriptor.file (files_of (name, left)) + one_if descriptor.file descriptor.file
-        ≡ times_in descriptor.file (files_of (name, task)) = without_times descriptor.file number 0 task.descriptors descriptor
+        ≡ times_in descriptor.file (files_of (name, task)) =
+        without_times descriptor.file number 0 task.descriptors descriptor
         (fit.descriptors name task (task_is beside.numbers world name task fit is)) found in
         let all : times_in descriptor.file (opened_in world) ≡ times_in descriptor.file
         (files_of (name, task)) + times_in descriptor.file
         (flat_map files_of
-        (filter (λ entry. not (is_called name entry)) world.tasks)) = uses_stay descriptor.file name task world.tasks fit.apart is in
+        (filter (λ entry. not
+        (is_called name entry)) world.tasks)) = uses_stay descriptor.file name task world.tasks fit.apart is in
         omega arith
 
     counted_left : IsCounted uses_left tree.node (unpinned nat_eq world.inodes descriptor.file)
     counted_left =
         let used : 1 ≤ times_in descriptor.file (used_in beside.numbers world) =
         (let parts = uses_parts beside.numbers world fit descriptor.file in let o = is_opened in omega arith) in
-        let inode = some_inode (world.inodes.inode descriptor.file) (used_is_there beside.numbers world fit descriptor.file used) in
+        let inode = some_inode (world.inodes.inode descriptor.file)
+        (used_is_there beside.numbers world fit descriptor.file used) in
         counted_unpinned (λ k. times_in k (used_in beside.numbers world)) tree.node world.inodes
-        (counted_start beside.numbers world fit) descriptor.file inode.0 inode.1 uses_left one_less (opened_empty descriptor.file is_opened)
+        (counted_start beside.numbers world fit) descriptor.file inode.0 inode.1 uses_left one_less
+        (opened_empty descriptor.file is_opened)
 
     directory_kept : (directory : ℕ) → IsDirectory tree directory → uses_left directory ≡ 1
     directory_kept directory d =
@@ -236,7 +264,8 @@ module _ (beside : Beside) (world : World ℕ) (name : TaskName) (task : Task �
         (Outcomes.granted Done (MachineWorld.with_task there (Descriptors.without_descriptor there_task number)))
     closed_alike =
         let settles =
-        settled_fit beside world_left uses_left tree.node beside.numbers counted_left (λ k. refl) (there_once beside.numbers world fit)
+        settled_fit beside world_left uses_left tree.node beside.numbers counted_left (λ k. refl)
+        (there_once beside.numbers world fit)
         (whole_uses beside.numbers world fit uses_left (unpinned nat_eq world.inodes descriptor.file) counted_left refl
         (λ directory d. let one = directory_kept directory d in omega arith))
         (λ directory d. directory_kept directory
@@ -244,10 +273,13 @@ module _ (beside : Beside) (world : World ℕ) (name : TaskName) (task : Task �
         (apart_changed name left world.tasks fit.apart)
         (forked_changed beside.numbers world name task fit is left (omega arith))
         (descriptors_changed beside.numbers world name task fit is left
-        (without_order number 0 task.descriptors (fit.descriptors name task (task_is beside.numbers world name task fit is)))) in
-        subst (λ w. (is_ok (Outcomes.granted Done there).answer ≡ true) × ((Outcomes.granted Done there).answer ≡ (granted Done w).answer)
+        (without_order number 0 task.descriptors
+        (fit.descriptors name task (task_is beside.numbers world name task fit is)))) in
+        subst (λ w. (is_ok (Outcomes.granted Done there).answer ≡ true)
+        × ((Outcomes.granted Done there).answer ≡ (granted Done w).answer)
         × (now : Beside) × IsFit now.numbers w
-        × (settled nat_eq (MachineWorld.with_task there (Descriptors.without_descriptor there_task number)) ≡ embedded now w))
+        × (settled nat_eq (MachineWorld.with_task there (Descriptors.without_descriptor there_task number))
+        ≡ embedded now w))
         world_is (
           refl,
           refl,
@@ -267,11 +299,13 @@ module _ (beside : Beside) (world : World ℕ) (name : TaskName) (task : Task �
             ∙ ap (closed nat_eq world name task) (sym found)
 
   close_alike : (number : ℕ)
-      → IsJudged beside world name task fit (close_permit task number) (Descriptors.close_outcome there there_task number)
+      → IsJudged beside world name task fit (close_permit task number)
+      (Descriptors.close_outcome there there_task number)
   unfolding close_permit Descriptors.close_outcome
   close_alike number =
       descriptor_alike there (IsJudged beside world name task fit)
-      (refused beside world name task fit) beside world.inodes.root name task number (λ descriptor. true) (λ descriptor. true)
+      (refused beside world name task fit) beside world.inodes.root name task number (λ descriptor. true)
+      (λ descriptor. true)
       (λ descriptor. refl) _ _
       (λ descriptor found. inr (closed_alike descriptor number found))
 
@@ -289,7 +323,8 @@ module _ (beside : Beside) (world : World ℕ) (name : TaskName) (task : Task �
   all_less : (k : ℕ) → times_in k (map (λ descriptor. descriptor.file) task.descriptors) + uses_gone k ≡ times_in k
       (used_in beside.numbers world)
   all_less k =
-      let stays : times_in k (opened_in world) ≡ times_in k (files_of (name, task)) + times_in k (flat_map files_of stay) =
+      let stays : times_in k (opened_in world)
+      ≡ times_in k (files_of (name, task)) + times_in k (flat_map files_of stay) =
       uses_stay k name task world.tasks fit.apart is in
       let one : times_in k (named_by tree.node beside.numbers ++ flat_map files_of stay) ≡ times_in k
       (named_by tree.node beside.numbers) + times_in k (flat_map files_of stay) = times_append k
@@ -297,9 +332,11 @@ module _ (beside : Beside) (world : World ℕ) (name : TaskName) (task : Task �
       let two = uses_parts beside.numbers world fit k in
       omega arith
 
-  own_opened : (k : ℕ) → times_in k (map (λ descriptor. descriptor.file) task.descriptors) ≤ times_in k (opened_in world)
+  own_opened : (k : ℕ) → times_in k (map (λ descriptor. descriptor.file) task.descriptors) ≤ times_in k
+      (opened_in world)
   own_opened k =
-      let stays : times_in k (opened_in world) ≡ times_in k (files_of (name, task)) + times_in k (flat_map files_of stay) =
+      let stays : times_in k (opened_in world)
+      ≡ times_in k (files_of (name, task)) + times_in k (flat_map files_of stay) =
       uses_stay k name task world.tasks fit.apart is in omega arith
 
   counted_gone : IsCounted uses_gone tree.node (without_uses nat_eq world.inodes task.descriptors)
@@ -325,11 +362,13 @@ module _ (beside : Beside) (world : World ℕ) (name : TaskName) (task : Task �
       (sym (root_without world.inodes task.descriptors)))
       (there_once beside.numbers world fit)
       (whole_uses beside.numbers world fit uses_gone (without_uses nat_eq world.inodes task.descriptors) counted_gone
-      (root_without world.inodes task.descriptors) (λ directory d. let one = directory_stays directory d in omega arith))
+      (root_without world.inodes task.descriptors)
+      (λ directory d. let one = directory_stays directory d in omega arith))
       (λ directory d. directory_stays directory
       (directory_now uses_gone tree.node (without_uses nat_eq world.inodes task.descriptors) counted_gone directory d))
       (apart_stays name world.tasks fit.apart)
-      (λ other rest number a b one two. fit.forked other rest number a b (was (other ++ (number ∷ rest)) a one) (was other b two))
+      (λ other rest number a b one two.
+      fit.forked other rest number a b (was (other ++ (number ∷ rest)) a one) (was other b two))
       (λ other a found. fit.descriptors other a (was other a found))
     where
       was : (other : TaskName) (a : Task ℕ) → task_called world_gone other ≡ Some a → task_called world other ≡ Some a
@@ -338,13 +377,15 @@ module _ (beside : Beside) (world : World ℕ) (name : TaskName) (task : Task �
           by : (o : Option Entry) → find (is_called other) stay ≡ o → option_map (λ (entry : Entry). entry.1) o ≡ Some a
               → task_called world other ≡ Some a
           by None e f = cc
-          by (Some entry) e f = ap (option_map (λ (entry : Entry). entry.1)) (find_stays name other world.tasks entry fit.apart e) ∙ f
+          by (Some entry) e f = ap (option_map (λ (entry : Entry). entry.1))
+              (find_stays name other world.tasks entry fit.apart e) ∙ f
 
   -- the whole machine keeps the namespace, if anybody is left in it
   ended : (entries : List Entry) → stay ≡ entries → (changed : List ℕ)
       → IsSameOutcome (granted Done world_gone)
       (Machine.finished_by nat_eq false there name changed
-      (Outcomes.granted Done (namespaces_ended nat_eq (record there { tasks = map (task_there beside world.inodes.root) stay }))))
+      (Outcomes.granted Done (namespaces_ended nat_eq
+      (record there { tasks = map (task_there beside world.inodes.root) stay }))))
   ended [] none changed = (refl, inr (none, tasks_none, gone_settled.0.numbers, gone_settled.1))
     where
       kept : (b : Bool) (w : MachineWorld.World ℕ) → (Receives.regrouped_by nat_eq b w).tasks ≡ w.tasks
@@ -360,7 +401,8 @@ module _ (beside : Beside) (world : World ℕ) (name : TaskName) (task : Task �
       beside_raised name changed gone_settled.0,
       gone_settled.1,
       (λ i. Machine.numbers_raised nat_eq there name changed
-          (settled nat_eq (namespaces_ended nat_eq (record there { tasks = map (task_there beside world.inodes.root) (some i) }))))
+          (settled nat_eq (namespaces_ended nat_eq
+          (record there { tasks = map (task_there beside world.inodes.root) (some i) }))))
           ∙ (λ i. Machine.numbers_raised nat_eq there name changed
           (settled nat_eq (record there { tasks = map (task_there beside world.inodes.root) (sym some i) })))
           ∙ (λ i. Machine.numbers_raised nat_eq there name changed

@@ -44,11 +44,13 @@ attr_kept attr = record {
 }
   where
     directory : (o : Option (Node ℕ))
-        → Rattle.vt_spec.specs.Tree.is_directory_node (node_with_attr attr o) ≡ Rattle.vt_spec.specs.Tree.is_directory_node o
+        → Rattle.vt_spec.specs.Tree.is_directory_node (node_with_attr attr o)
+        ≡ Rattle.vt_spec.specs.Tree.is_directory_node o
     directory None = refl
     directory (Some node) = refl
 
-    entries : (o : Option (Node ℕ)) → Rattle.vt_spec.specs.Tree.entries_in (node_with_attr attr o) ≡ Rattle.vt_spec.specs.Tree.entries_in o
+    entries : (o : Option (Node ℕ))
+        → Rattle.vt_spec.specs.Tree.entries_in (node_with_attr attr o) ≡ Rattle.vt_spec.specs.Tree.entries_in o
     entries None = refl
     entries (Some node) = refl
 
@@ -67,7 +69,8 @@ bytes_kept bytes = record {
 }
   where
     directory : (o : Option (Node ℕ))
-        → Rattle.vt_spec.specs.Tree.is_directory_node (node_with_bytes bytes o) ≡ Rattle.vt_spec.specs.Tree.is_directory_node o
+        → Rattle.vt_spec.specs.Tree.is_directory_node (node_with_bytes bytes o)
+        ≡ Rattle.vt_spec.specs.Tree.is_directory_node o
     directory None = refl
     directory (Some node) = by node.content
       where
@@ -99,7 +102,8 @@ bytes_kept bytes = record {
         by (Symlink text) = refl
         by Whiteout = refl
 
-module _ (beside : Beside) (world : World ℕ) (name : TaskName) (task : Task ℕ) (fit : IsFit beside.numbers world) (fresh : Fresh ℕ) where
+module _ (beside : Beside) (world : World ℕ) (name : TaskName) (task : Task ℕ) (fit : IsFit beside.numbers world)
+    (fresh : Fresh ℕ) where
   abbrev there : MachineWorld.World ℕ
   there = embedded beside world
 
@@ -124,7 +128,8 @@ module _ (beside : Beside) (world : World ℕ) (name : TaskName) (task : Task �
       (Outcomes.granted Done (with_change nat_eq fresh there (location_there object) (SetAttr object attr)))
   attr_set object attr =
       let settles =
-      kept_settled beside.numbers world fit object (node_with_attr attr) (attr_kept attr) beside refl beside.filesystem_change in
+      kept_settled beside.numbers world fit object (node_with_attr attr)
+      (attr_kept attr) beside refl beside.filesystem_change in
       (refl, refl, settles.0, settles.1, settles.2)
 
   pub bytes_set : (file : ℕ) (bytes : List ℕ)
@@ -132,35 +137,43 @@ module _ (beside : Beside) (world : World ℕ) (name : TaskName) (task : Task �
       (Outcomes.granted Done (with_change nat_eq fresh there (location_there file) (SetBytes file bytes)))
   bytes_set file bytes =
       let settles =
-      kept_settled beside.numbers world fit file (node_with_bytes bytes) (bytes_kept bytes) beside refl beside.filesystem_change in
+      kept_settled beside.numbers world fit file (node_with_bytes bytes)
+      (bytes_kept bytes) beside refl beside.filesystem_change in
       (refl, refl, settles.0, settles.1, settles.2)
 
   chmod_alike : (path : List ℕ) (mode : ℕ)
       → Judged (chmod_permit tree task path mode) (Attributes.chmod_outcome nat_eq fresh there there_task path mode)
   unfolding chmod_permit Attributes.chmod_outcome
   chmod_alike path mode =
-      after_alike there Judged denied here_there (object_walk tree who path) _ _ _ (object_walk_alike beside world (name, task) fit path)
-      (λ here steps e. judged_alike there Judged denied (inr F1 ∷ inr F2 ∷ inr L1 ∷ inl (not (owns who (attr_at tree here.node)), C2) ∷ [])
+      after_alike there Judged denied here_there (object_walk tree who path) _ _ _
+      (object_walk_alike beside world (name, task) fit path)
+      (λ here steps e. judged_alike there Judged denied
+      (inr F1 ∷ inr F2 ∷ inr L1 ∷ inl (not (owns who (attr_at tree here.node)), C2) ∷ [])
       (Ok (ToChange (SetAttr here.node (attr_with_mode (attr_at tree here.node) mode))))
       (Outcomes.granted Done
-      (with_change nat_eq fresh there (location_there here.node) (SetAttr here.node (attr_with_mode (attr_at tree here.node) mode))))
+      (with_change nat_eq fresh there (location_there here.node)
+      (SetAttr here.node (attr_with_mode (attr_at tree here.node) mode))))
       (inr (attr_set here.node (attr_with_mode (attr_at tree here.node) mode))))
 
   chown_alike : (path : List ℕ) (uid gid : Option ℕ)
-      → Judged (chown_permit tree task path uid gid) (Attributes.chown_outcome nat_eq fresh there there_task path uid gid)
+      → Judged (chown_permit tree task path uid gid)
+      (Attributes.chown_outcome nat_eq fresh there there_task path uid gid)
   unfolding chown_permit Attributes.chown_outcome
   chown_alike path uid gid =
-      after_alike there Judged denied here_there (object_walk tree who path) _ _ _ (object_walk_alike beside world (name, task) fit path)
+      after_alike there Judged denied here_there (object_walk tree who path) _ _ _
+      (object_walk_alike beside world (name, task) fit path)
       (λ here steps e. judged_alike there Judged denied
       (inr F1 ∷ inr F2 ∷ inr L1 ∷ inl
       (not (may_chown who (attr_at tree here.node) (attr_with_owner (attr_at tree here.node) uid gid)), C2) ∷ [])
       (Ok (ToChange (SetAttr here.node (attr_with_owner (attr_at tree here.node) uid gid))))
       (Outcomes.granted Done
-      (with_change nat_eq fresh there (location_there here.node) (SetAttr here.node (attr_with_owner (attr_at tree here.node) uid gid))))
+      (with_change nat_eq fresh there (location_there here.node)
+      (SetAttr here.node (attr_with_owner (attr_at tree here.node) uid gid))))
       (inr (attr_set here.node (attr_with_owner (attr_at tree here.node) uid gid))))
 
   pwrite_alike : (number offset : ℕ) (bytes : List ℕ)
-      → Judged (pwrite_permit tree task number offset bytes) (Descriptors.pwrite_outcome nat_eq fresh there there_task number offset bytes)
+      → Judged (pwrite_permit tree task number offset bytes)
+      (Descriptors.pwrite_outcome nat_eq fresh there there_task number offset bytes)
   unfolding pwrite_permit Descriptors.pwrite_outcome
   pwrite_alike number offset bytes =
       descriptor_alike there Judged denied beside world.inodes.root name task number (λ descriptor. descriptor.writes)
@@ -182,11 +195,14 @@ attributes_agree path = (
   λ mode beside world name fresh fit vacant. policy_alike beside world name fresh (Chmod path mode) fit (λ task is.
       judged_finished beside world name task fit (chmod_permit (tree_of world.inodes) task path mode)
       (Attributes.chmod_outcome nat_eq fresh (embedded beside world)
-      (task_there beside world.inodes.root (name, task)) path mode) (chmod_alike beside world name task fit fresh path mode)),
-  λ uid gid beside world name fresh fit vacant. policy_alike beside world name fresh (Chown path uid gid) fit (λ task is.
+      (task_there beside world.inodes.root (name, task)) path mode)
+      (chmod_alike beside world name task fit fresh path mode)),
+  λ uid gid beside world name fresh fit vacant.
+      policy_alike beside world name fresh (Chown path uid gid) fit (λ task is.
       judged_finished beside world name task fit (chown_permit (tree_of world.inodes) task path uid gid)
       (Attributes.chown_outcome nat_eq fresh (embedded beside world)
-      (task_there beside world.inodes.root (name, task)) path uid gid) (chown_alike beside world name task fit fresh path uid gid)),
+      (task_there beside world.inodes.root (name, task)) path uid gid)
+      (chown_alike beside world name task fit fresh path uid gid)),
 )
 
 pub partial_writes_agree : PartialWritesAgree

@@ -92,31 +92,36 @@ vacant_if numbers world fit number none = by (world.inodes.inode number) (fit.ea
 -- what nothing uses in the whole machine
 vacant_there : (beside : Beside) (world : World ℕ) → IsFit beside.numbers world → (fresh : ℕ)
     → is_among nat_eq fresh (Machine.numbers_in_use (embedded beside world)) ≡ false → world.inodes.inode fresh ≡ None
-vacant_there beside world fit fresh unused = vacant_if beside.numbers world fit fresh (by (times_in fresh beside.numbers) refl)
+vacant_there beside world fit fresh unused =
+    vacant_if beside.numbers world fit fresh (by (times_in fresh beside.numbers) refl)
   where
     later : (a b : Bool) → b ≡ true → (a || b) ≡ true
     later true b e = refl
     later false b e = e
 
-    found : is_among nat_eq fresh beside.numbers ≡ true → is_among nat_eq fresh (Machine.numbers_in_use (embedded beside world)) ≡ true
+    found : is_among nat_eq fresh beside.numbers ≡ true
+        → is_among nat_eq fresh (Machine.numbers_in_use (embedded beside world)) ≡ true
     found e =
         later (nat_eq fresh 0) _ (later (nat_eq fresh 2) _
         (list_any-append (nat_eq fresh) (beside.numbers ++ []) (1 ∷ [])
-        ∙ ap (λ b. b || list_any (nat_eq fresh) (1 ∷ [])) (list_any-append (nat_eq fresh) beside.numbers [] ∙ ap (λ b. b || false) e)))
+        ∙ ap (λ b. b || list_any (nat_eq fresh) (1 ∷ []))
+        (list_any-append (nat_eq fresh) beside.numbers [] ∙ ap (λ b. b || false) e)))
 
     by : (k : ℕ) → times_in fresh beside.numbers ≡ k → times_in fresh beside.numbers ≡ 0
     by zero e = e
     by (suc k) e = absurd (true≢false (sym (found (times_among fresh beside.numbers (omega arith))) ∙ unused))
 
 -- where no task is left nobody calls
-nobody_calls : (world : World ℕ) (there : MachineWorld.World ℕ) (name : TaskName) (call : Call) (number : ℕ) (fresh : Fresh ℕ)
+nobody_calls : (world : World ℕ) (there : MachineWorld.World ℕ) (name : TaskName) (call : Call) (number : ℕ)
+    (fresh : Fresh ℕ)
     → world.tasks ≡ [] → there.tasks ≡ []
     → (policy nat_eq world name call number ≡ denied world (denial S2))
     × (MachinePolicy.policy nat_eq fresh there name call ≡ Outcomes.denied there (denial S2))
 nobody_calls world there name call number fresh none none_there = (
   ap (λ tasks. after world (ok_or (option_map (λ entry. entry.1) (find (is_called name) tasks)) (denial S2))
       (λ task. after world (judge nat_eq number world.inodes name task call) (spent nat_eq world name task))) none,
-  ap (λ tasks. Outcomes.after there (ok_or (find (λ task. MachineWorldLanguage.same_name name task.name) tasks) (denial S2))
+  ap (λ tasks. Outcomes.after there
+      (ok_or (find (λ task. MachineWorldLanguage.same_name name task.name) tasks) (denial S2))
       (λ task. MachinePolicy.finished nat_eq there name call
       (MachinePolicy.filesystems_changed_by nat_eq there (judge_in nat_eq fresh there task call))
       (MachinePolicy.call_outcome nat_eq fresh there task call))) none_there,
@@ -128,7 +133,8 @@ module _ (world : World ℕ) (there : MachineWorld.World ℕ) (place : ℕ) (lin
   -- the same text, and the same world
   abbrev IsSameStep : Tree.Step ℕ → Machine.Step ℕ → Type 0
   IsSameStep step other =
-      (Machine.step_text place other ≡ Tree.step_text place step) × IsImage (Tree.step_world world step) (Machine.step_world there other)
+      (Machine.step_text place other ≡ Tree.step_text place step)
+      × IsImage (Tree.step_world world step) (Machine.step_world there other)
 
   answered : (outcome : Outcome ℕ) (other : Outcomes.Outcome ℕ) → IsSameOutcome outcome other
       → IsSameStep (Tree.Step.Answered outcome) (Machine.Step.Answered other)
@@ -161,7 +167,8 @@ module _ (world : World ℕ) (there : MachineWorld.World ℕ) (place : ℕ) (lin
           → IsSameOutcome (Tree.requested nat_eq world request (fresh 0)) (Machine.requested nat_eq there request fresh)
       asked None is = (refl, inl image)
       asked (Some (Script.Request.Calling task call)) is =
-          subst (λ w. IsSameOutcome (policy nat_eq world task call (fresh 0)) (MachinePolicy.policy nat_eq fresh w task call))
+          subst (λ w. IsSameOutcome (policy nat_eq world task call (fresh 0))
+          (MachinePolicy.policy nat_eq fresh w task call))
           (sym image.2) (is image.0 world task fresh image.1 vacant)
       asked (Some (Script.Request.Asking directive)) is = absurd is
 
@@ -182,7 +189,8 @@ module _ (world : World ℕ) (there : MachineWorld.World ℕ) (place : ℕ) (lin
       number = sum_of image.2 + 1
 
       asked : (request : Option Script.Request) → RequestAnswered request
-          → IsSameOutcome (Tree.requested nat_eq world request (sum_of image.2 + 1)) (Machine.requested nat_eq there request fresh)
+          → IsSameOutcome (Tree.requested nat_eq world request (sum_of image.2 + 1))
+          (Machine.requested nat_eq there request fresh)
       asked None is = (refl, inr image)
       asked (Some (Script.Request.Calling task call)) is =
           let nobody = nobody_calls world there task call (sum_of image.2 + 1) fresh image.0 image.1 in
@@ -190,7 +198,8 @@ module _ (world : World ℕ) (there : MachineWorld.World ℕ) (place : ℕ) (lin
           (subst (IsSameOutcome (denied world (denial S2))) (sym nobody.1) (refl, inr image))
       asked (Some (Script.Request.Asking directive)) is = absurd is
 
-      by : (long silent : Bool) → IsSameStep (Tree.line_step_by nat_eq long silent world line (Some (sum_of image.2 + 1)))
+      by : (long silent : Bool) → IsSameStep
+          (Tree.line_step_by nat_eq long silent world line (Some (sum_of image.2 + 1)))
           (Machine.line_step_by nat_eq long silent Script.files there line (Some fresh))
       by true silent = (refl, inr image)
       by false true = (refl, inr image)
@@ -200,44 +209,80 @@ module _ (world : World ℕ) (there : MachineWorld.World ℕ) (place : ℕ) (lin
 
 told : (lines : List (List ℕ)) (refused : List Bool) (number : ℕ) (world : World ℕ) (there : MachineWorld.World ℕ)
     → IsImage world there → (text : List ℕ)
-    → Machine.Tells nat_eq Script.files there number lines refused text → Tree.Tells nat_eq world number lines refused text
+    → Machine.Tells nat_eq Script.files there number lines refused text
+    → Tree.Tells nat_eq world number lines refused text
 told [] refused number world there image text tells = tells
 told (line ∷ lines) [] number world there image text tells = absurd tells
 told (line ∷ lines) (true ∷ refused) number world there image text tells =
     let same = refused_same world there number line image in
     (tells.0, tells.1 ∙ ap (λ t. t ++ tells.0) same.0, told lines refused (number + 1) _ _ same.1 tells.0 tells.2)
 told (line ∷ lines) (false ∷ refused) number world there image text tells =
-    let step = step_same world there number line tells.0 tells.1 image in
-    (step.0, step.1, tells.2, tells.3 ∙ ap (λ t. t ++ tells.2) step.2.0, told lines refused (number + 1) _ _ step.2.1 tells.2 tells.4)
+    let step = step_same world there number line tells.0 tells.1 image in (
+      step.0,
+      step.1,
+      tells.2,
+      tells.3
+          ∙ ap (λ t. t ++ tells.2) step.2.0,
+      told lines refused (number + 1) _ _ step.2.1 tells.2 tells.4,
+    )
 
 -- the opening worlds
-opening_there : Machine.first_world ≡ embedded (record { numbers = 3 ∷ []; filesystem_change = 0; task_change = λ name. 0; change = 0 }) (opening nat_eq 3)
+opening_there : Machine.first_world
+    ≡ embedded (record { numbers = 3 ∷ []; filesystem_change = 0; task_change = λ name. 0; change = 0 })
+    (opening nat_eq 3)
 opening_there =
     λ i. record Machine.first_world {
-      filesystems = record { number = 2; files = record { tree = record { root = 3; node = λ n. by (nat_eq n 3) i }; numbers = 3 ∷ [] }; overlay = None; change = 0 } ∷ [];
+      filesystems = record {
+        number = 2;
+        files = record {
+          tree = record {
+            root = 3;
+            node = λ n.
+                by (nat_eq n 3) i;
+          };
+          numbers = 3 ∷ [];
+        };
+        overlay = None;
+        change = 0;
+      } ∷ [];
     }
   where
-    by : (b : Bool) → cond b (Some (record { attr = MachineWorld.root_attr; content = new_directory 3 })) None ≡ node_in {N = ℕ} (cond b (Some (record { node = record { attr = MachineWorld.root_attr; content = new_directory 3 }; uses = 1 })) None)
+    by : (b : Bool) → cond b (Some (record { attr = MachineWorld.root_attr; content = new_directory 3 })) None
+        ≡ node_in {N = ℕ} (cond b (Some
+        (record { node = record { attr = MachineWorld.root_attr; content = new_directory 3 }; uses = 1 })) None)
     by true = refl
     by false = refl
 
 pub files_are_told : FilesAreTold
 files_are_told script refused text tells =
     told (Script.lines_of script) refused 1 (opening nat_eq 3) Machine.first_world
-    (inl (record { numbers = 3 ∷ []; filesystem_change = 0; task_change = λ name. 0; change = 0 }, opening_is_fit 3, opening_there)) text tells
+    (inl (
+      record {
+        numbers = 3 ∷ [];
+        filesystem_change = 0;
+        task_change = λ name.
+            0;
+        change = 0;
+      },
+      opening_is_fit 3,
+      opening_there,
+    )) text tells
 
 -- a line that asks for the same in two grammars is answered the same
 step_in_both : (one other : Script.Grammar) (world : MachineWorld.World ℕ) (line : List ℕ) (fresh : Option (Fresh ℕ))
     → Script.request_of one line ≡ Script.request_of other line
     → Machine.line_step nat_eq one world line fresh ≡ Machine.line_step nat_eq other world line fresh
-step_in_both one other world line fresh same = by (nat_lt ScriptLanguage.longest_line (length line)) (Script.is_silent line) fresh
+step_in_both one other world line fresh same =
+    by (nat_lt ScriptLanguage.longest_line (length line)) (Script.is_silent line) fresh
   where
     by : (long silent : Bool) (fresh : Option (Fresh ℕ))
-        → Machine.line_step_by nat_eq long silent one world line fresh ≡ Machine.line_step_by nat_eq long silent other world line fresh
+        → Machine.line_step_by nat_eq long silent one world line fresh
+        ≡ Machine.line_step_by nat_eq long silent other world line fresh
     by true silent fresh = refl
     by false true fresh = refl
     by false false None = refl
-    by false false (Some fresh) = ap (λ request. Machine.Step.Answered (Machine.requested nat_eq world request fresh)) same
+    by false false (Some fresh) = ap
+        (λ request. Machine.Step.Answered (Machine.requested nat_eq world request fresh)) same
 
 -- and so are lines
 told_in_both : (one other : Script.Grammar) (lines : List (List ℕ)) (refused : List Bool) (number : ℕ)
@@ -247,25 +292,30 @@ told_in_both : (one other : Script.Grammar) (lines : List (List ℕ)) (refused :
 told_in_both one other [] refused number world same text tells = tells
 told_in_both one other (line ∷ lines) [] number world same text tells = absurd tells
 told_in_both one other (line ∷ lines) (true ∷ refused) number world same text tells =
-    let step = step_in_both one other world line None (same 0 line (let less : 0 < suc (length lines) = omega arith in less)) in (
+    let step = step_in_both one other world line None
+    (same 0 line (let less : 0 < suc (length lines) = omega arith in less)) in (
       tells.0,
       tells.1 ∙ (λ i. Machine.step_text number (step i) ++ tells.0),
       told_in_both one other lines refused (number + 1) _
           (λ k d below. same (suc k) d (let less : suc k < suc (length lines) = omega arith in less)) tells.0
-          (subst (λ s. Machine.Tells nat_eq one (Machine.step_world world s) (number + 1) lines refused tells.0) step tells.2),
+          (subst (λ s. Machine.Tells nat_eq one (Machine.step_world world s)
+          (number + 1) lines refused tells.0) step tells.2),
     )
 told_in_both one other (line ∷ lines) (false ∷ refused) number world same text tells =
-    let step = step_in_both one other world line (Some tells.0) (same 0 line (let less : 0 < suc (length lines) = omega arith in less)) in (
+    let step = step_in_both one other world line (Some tells.0)
+    (same 0 line (let less : 0 < suc (length lines) = omega arith in less)) in (
       tells.0,
       tells.1,
       tells.2,
       tells.3 ∙ (λ i. Machine.step_text number (step i) ++ tells.2),
       told_in_both one other lines refused (number + 1) _
           (λ k d below. same (suc k) d (let less : suc k < suc (length lines) = omega arith in less)) tells.2
-          (subst (λ s. Machine.Tells nat_eq one (Machine.step_world world s) (number + 1) lines refused tells.2) step tells.4),
+          (subst (λ s. Machine.Tells nat_eq one (Machine.step_world world s)
+          (number + 1) lines refused tells.2) step tells.4),
     )
 
 pub language_is_told : LanguageIsTold
 language_is_told version script refused text same tells =
     files_are_told script refused text
-    (told_in_both (Script.whole version) Script.files (Script.lines_of script) refused 1 Machine.first_world same text tells)
+    (told_in_both (Script.whole version) Script.files
+    (Script.lines_of script) refused 1 Machine.first_world same text tells)

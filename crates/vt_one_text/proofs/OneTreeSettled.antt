@@ -31,13 +31,15 @@ raw root node numbers filesystem_change tasks change = record {
 abbrev pub tasks_there : Beside → ℕ → List (TaskName × Task ℕ) → List (MachineWorld.Task ℕ)
 tasks_there beside root entries = map (task_there beside root) entries
 
--- What the whole machine has before it settles, where it then is to have this world: the nodes, some of which have no use.
+-- What the whole machine has before it settles, where it then is to have this world: the nodes, some of which have no
+-- use.
 pub record IsBefore (numbers : List ℕ) (node : ℕ → Option (Node ℕ)) (world : World ℕ) : Type 0 where
   pub uses : (number : ℕ)
       → uses_in (world.inodes.inode number) ≡ times_in number
       (world.inodes.root ∷ (flat_map (λ directory. targets_in (node directory)) numbers ++ opened_in world))
   pub in_use : (number : ℕ) → is_some (world.inodes.inode number) ≡ true → 1 ≤ uses_in (world.inodes.inode number)
-  pub kept : (number : ℕ) → is_some (world.inodes.inode number) ≡ true → node number ≡ node_in (world.inodes.inode number)
+  pub kept : (number : ℕ) → is_some (world.inodes.inode number) ≡ true
+      → node number ≡ node_in (world.inodes.inode number)
   pub once : (number : ℕ) → times_in number numbers ≡ cond (is_some (node number)) 1 0
   pub emptied : (number : ℕ) → is_some (world.inodes.inode number) ≡ false → targets_in (node number) ≡ []
 
@@ -53,20 +55,23 @@ filter_all p (first ∷ rest) e = by (p first) e (filter_all p rest)
     by true e later = ap (λ l. first ∷ l) (later e)
     by false e later = cc
 
-all_among : (p : ℕ → Bool) (number : ℕ) (list : List ℕ) → list_all p list ≡ true → 1 ≤ times_in number list → p number ≡ true
+all_among : (p : ℕ → Bool) (number : ℕ) (list : List ℕ) → list_all p list ≡ true → 1 ≤ times_in number list
+    → p number ≡ true
 all_among p number [] e found = absurd (omega arith)
 all_among p number (first ∷ rest) e found =
     ⊎_elim
     (λ t. ap p t.1 ∙ (both (p first) (list_all p rest) e).0)
     (λ t. all_among p number rest (both (p first) (list_all p rest) e).1
-    (let h : 1 ≤ 0 + times_in number rest = subst (λ b. 1 ≤ cond b 1 0 + times_in number rest) t.0 found in omega arith))
+    (let h : 1 ≤ 0 + times_in number rest = subst
+    (λ b. 1 ≤ cond b 1 0 + times_in number rest) t.0 found in omega arith))
     (eqb_tells number first)
   where
     both : (a b : Bool) → (a && b) ≡ true → (a ≡ true) × (b ≡ true)
     both true b e = (refl, e)
     both false b e = cc
 
-pub times_filter : (p : ℕ → Bool) (number : ℕ) (list : List ℕ) → times_in number (filter p list) ≡ cond (p number) (times_in number list) 0
+pub times_filter : (p : ℕ → Bool) (number : ℕ) (list : List ℕ)
+    → times_in number (filter p list) ≡ cond (p number) (times_in number list) 0
 times_filter p number [] = by (p number)
   where
     by : (b : Bool) → ◌≡◌ {A = ℕ} 0 (cond b 0 0)
@@ -78,7 +83,8 @@ times_filter p number (first ∷ rest) =
     (λ t. later (p first) (p number) t.0 (times_filter p number rest))
     (eqb_tells number first)
   where
-    here : (a b : Bool) → b ≡ a → nat_eq number first ≡ true → times_in number (filter p rest) ≡ cond b (times_in number rest) 0
+    here : (a b : Bool) → b ≡ a → nat_eq number first ≡ true
+        → times_in number (filter p rest) ≡ cond b (times_in number rest) 0
         → times_in number (cond a (first ∷ filter p rest) (filter p rest)) ≡ cond b
         (cond (nat_eq number first) 1 0 + times_in number rest) 0
     here true true e same h = ap (λ n. cond (nat_eq number first) 1 0 + n) h
@@ -86,12 +92,14 @@ times_filter p number (first ∷ rest) =
     here false true e same h = cc
     here false false e same h = h
 
-    later : (a b : Bool) → nat_eq number first ≡ false → times_in number (filter p rest) ≡ cond b (times_in number rest) 0
+    later : (a b : Bool) → nat_eq number first ≡ false
+        → times_in number (filter p rest) ≡ cond b (times_in number rest) 0
         → times_in number (cond a (first ∷ filter p rest) (filter p rest)) ≡ cond b
         (cond (nat_eq number first) 1 0 + times_in number rest) 0
     later true true e h = ap (λ n. cond (nat_eq number first) 1 0 + n) h
     later true false e h =
-        ap (λ c. cond c 1 0 + times_in number (filter p rest)) e ∙ (let g : times_in number (filter p rest) ≡ 0 = h in omega arith)
+        ap (λ c. cond c 1 0 + times_in number (filter p rest)) e
+        ∙ (let g : times_in number (filter p rest) ≡ 0 = h in omega arith)
     later false true e h =
         h ∙ (let g : times_in number rest ≡ 0 + times_in number rest = omega arith in g)
         ∙ ap (λ c. cond c 1 0 + times_in number rest) (sym e)
@@ -102,7 +110,8 @@ times_filter p number (first ∷ rest) =
 module _ (beside : Beside) (world : World ℕ) (node : ℕ → Option (Node ℕ)) (numbers : List ℕ) (number : ℕ) where
   -- the whole machine before it settles
   abbrev before : MachineWorld.World ℕ
-  before = raw world.inodes.root node numbers beside.filesystem_change (tasks_there beside world.inodes.root world.tasks) beside.change
+  before = raw world.inodes.root node numbers beside.filesystem_change
+      (tasks_there beside world.inodes.root world.tasks) beside.change
 
   abbrev shown : Location ℕ → Bool
   shown location = nat_eq 2 (MachineWorld.mount_at nat_eq before location).filesystem
@@ -114,12 +123,15 @@ module _ (beside : Beside) (world : World ℕ) (node : ℕ → Option (Node ℕ)
   is_root = nat_eq number world.inodes.root
 
   by_descriptors : (descriptors : List (Descriptor ℕ)) (rest : List (Location ℕ))
-      → is_among nat_eq number (nodes_of (map (λ descriptor. descriptor.location) (map descriptor_there descriptors) ++ rest))
-      ≡ (is_among nat_eq number (map (λ descriptor. descriptor.file) descriptors) || is_among nat_eq number (nodes_of rest))
+      → is_among nat_eq number (nodes_of
+      (map (λ descriptor. descriptor.location) (map descriptor_there descriptors) ++ rest))
+      ≡ (is_among nat_eq number (map (λ descriptor. descriptor.file) descriptors)
+      || is_among nat_eq number (nodes_of rest))
   by_descriptors [] rest = refl
   by_descriptors (descriptor ∷ descriptors) rest =
       ap (λ b. nat_eq number descriptor.file || b) (by_descriptors descriptors rest)
-      ∙ or_again (nat_eq number descriptor.file) (is_among nat_eq number (map (λ descriptor. descriptor.file) descriptors))
+      ∙ or_again (nat_eq number descriptor.file)
+      (is_among nat_eq number (map (λ descriptor. descriptor.file) descriptors))
       (is_among nat_eq number (nodes_of rest))
     where
       or_again : (a b c : Bool) → (a || (b || c)) ≡ ((a || b) || c)
@@ -136,7 +148,8 @@ module _ (beside : Beside) (world : World ℕ) (node : ℕ → Option (Node ℕ)
   append_again (x ∷ a) b c = ap (λ l. x ∷ l) (append_again a b c)
 
   by_tasks : (entries : List (TaskName × Task ℕ))
-      → is_among nat_eq number (nodes_of (located entries)) ≡ (is_among nat_eq number (flat_map files_of entries) || is_root)
+      → is_among nat_eq number (nodes_of (located entries))
+      ≡ (is_among nat_eq number (flat_map files_of entries) || is_root)
   by_tasks [] = by is_root
     where
       by : (b : Bool) → (b || false) ≡ (false || b)
@@ -146,7 +159,8 @@ module _ (beside : Beside) (world : World ℕ) (node : ℕ → Option (Node ℕ)
       ap (λ l. is_root || (is_root || is_among nat_eq number (nodes_of l)))
       (ap (λ l. l ++ [])
       (append_again (map (λ descriptor. descriptor.location) (map descriptor_there entry.1.descriptors))
-      (flat_map MachineWorld.locations_of (map (task_there beside world.inodes.root) entries)) (location_there world.inodes.root ∷ []))
+      (flat_map MachineWorld.locations_of (map (task_there beside world.inodes.root) entries))
+      (location_there world.inodes.root ∷ []))
       ∙ append_again (map (λ descriptor. descriptor.location) (map descriptor_there entry.1.descriptors))
       (flat_map MachineWorld.locations_of (map (task_there beside world.inodes.root) entries) ++
       (location_there world.inodes.root ∷ [])) [])
@@ -164,7 +178,8 @@ module _ (beside : Beside) (world : World ℕ) (node : ℕ → Option (Node ℕ)
 
   -- all uses, in the whole machine and in one tree
   abbrev used : List ℕ
-  used = Settled.used_in nat_eq before (record { number = 2; files = record { tree = record { root = world.inodes.root; node = node }; numbers = numbers }; overlay = None; change = beside.filesystem_change })
+  used = Settled.used_in nat_eq before
+      (record { number = 2; files = record { tree = record { root = world.inodes.root; node = node }; numbers = numbers }; overlay = None; change = beside.filesystem_change })
 
   abbrev used_here : List ℕ
   used_here = world.inodes.root ∷ (flat_map (λ directory. targets_in (node directory)) numbers ++ opened_in world)
@@ -175,13 +190,16 @@ module _ (beside : Beside) (world : World ℕ) (node : ℕ → Option (Node ℕ)
       (list_any-append (nat_eq number)
       (flat_map (λ directory. targets_in (node directory)) numbers ++ nodes_of (located world.tasks) ++ []) []
       ∙ ap (λ b. b || false)
-      (list_any-append (nat_eq number) (flat_map (λ directory. targets_in (node directory)) numbers ++ nodes_of (located world.tasks)) []
+      (list_any-append (nat_eq number)
+      (flat_map (λ directory. targets_in (node directory)) numbers ++ nodes_of (located world.tasks)) []
       ∙ ap (λ b. b || false)
-      (list_any-append (nat_eq number) (flat_map (λ directory. targets_in (node directory)) numbers) (nodes_of (located world.tasks)))))
+      (list_any-append (nat_eq number) (flat_map (λ directory. targets_in (node directory)) numbers)
+      (nodes_of (located world.tasks)))))
       ∙ ap (λ b. is_root || (((named || b) || false) || false)) (by_tasks world.tasks)
       ∙ by is_root named (is_among nat_eq number (opened_in world))
       ∙ ap (λ b. is_root || b)
-      (sym (list_any-append (nat_eq number) (flat_map (λ directory. targets_in (node directory)) numbers) (opened_in world)))
+      (sym (list_any-append (nat_eq number) (flat_map (λ directory. targets_in (node directory)) numbers)
+      (opened_in world)))
     where
       named : Bool
       named = is_among nat_eq number (flat_map (λ directory. targets_in (node directory)) numbers)
@@ -192,10 +210,13 @@ module _ (beside : Beside) (world : World ℕ) (node : ℕ → Option (Node ℕ)
       by false false true = refl
       by false false false = refl
 
-module _ (beside : Beside) (world : World ℕ) (node : ℕ → Option (Node ℕ)) (numbers : List ℕ) (is : IsBefore numbers node world) where
+module _ (beside : Beside) (world : World ℕ) (node : ℕ → Option (Node ℕ)) (numbers : List ℕ)
+    (is : IsBefore numbers node world) where
   -- it has a use if it is there in the end
-  used_there : (number : ℕ) → is_among nat_eq number (used beside world node numbers number) ≡ is_some (world.inodes.inode number)
-  used_there number = used_is beside world node numbers number ∙ by (world.inodes.inode number) (is.uses number) (is.in_use number)
+  used_there : (number : ℕ) → is_among nat_eq number (used beside world node numbers number)
+      ≡ is_some (world.inodes.inode number)
+  used_there number = used_is beside world node numbers number
+      ∙ by (world.inodes.inode number) (is.uses number) (is.in_use number)
     where
       none : (b : Bool) → is_among nat_eq number (used_here beside world node numbers number) ≡ b
           → times_in number (used_here beside world node numbers number) ≡ 0 → b ≡ false
@@ -235,7 +256,8 @@ module _ (beside : Beside) (world : World ℕ) (node : ℕ → Option (Node ℕ)
 
   abbrev with_files : (ℕ → Option (Node ℕ)) → List ℕ → MachineWorld.World ℕ
   with_files some_node some_numbers =
-      raw world.inodes.root some_node some_numbers beside.filesystem_change (tasks_there beside world.inodes.root world.tasks) beside.change
+      raw world.inodes.root some_node some_numbers beside.filesystem_change
+      (tasks_there beside world.inodes.root world.tasks) beside.change
 
   -- so the whole machine settles to that world
   pub settled_is : Settled.settled nat_eq (before beside world node numbers 0) ≡ embedded beside_after world
@@ -248,14 +270,16 @@ module _ (beside : Beside) (world : World ℕ) (node : ℕ → Option (Node ℕ)
           none None e = refl
           none (Some n) e = cc
 
-      all_kept : list_all (λ number. is_among nat_eq number (used beside world node numbers 0)) numbers ≡ true → (number : ℕ)
+      all_kept : list_all (λ number. is_among nat_eq number (used beside world node numbers 0)) numbers ≡ true
+          → (number : ℕ)
           → node number ≡ node_in (world.inodes.inode number)
       all_kept all number = found (is_some (node number)) refl
         where
           found : (b : Bool) → is_some (node number) ≡ b → node number ≡ node_in (world.inodes.inode number)
           found true e =
               is.kept number
-              (sym (used_there number) ∙ all_among (λ n. is_among nat_eq n (used beside world node numbers 0)) number numbers all
+              (sym (used_there number) ∙ all_among
+              (λ n. is_among nat_eq n (used beside world node numbers 0)) number numbers all
               (let one : times_in number numbers ≡ cond (is_some (node number)) 1 0 = is.once number in
               let two : times_in number numbers ≡ 1 = one ∙ ap (λ b. cond b 1 0) e in omega arith))
           found false e = absent number e ∙ sym (there (stays number) refl)
@@ -265,7 +289,11 @@ module _ (beside : Beside) (world : World ℕ) (node : ℕ → Option (Node ℕ)
               there false s = missing (world.inodes.inode number) s
 
       by : (all : Bool) → list_all (λ number. is_among nat_eq number (used beside world node numbers 0)) numbers ≡ all
-          → record (before beside world node numbers 0) { filesystems = Settled.only_used_by nat_eq all (used beside world node numbers 0) (record { number = 2; files = record { tree = record { root = world.inodes.root; node = node }; numbers = numbers }; overlay = None; change = beside.filesystem_change }) ∷ [] }
+          → record (before beside world node numbers 0) {
+            filesystems = Settled.only_used_by nat_eq all
+                (used beside world node numbers 0)
+                (record { number = 2; files = record { tree = record { root = world.inodes.root; node = node }; numbers = numbers }; overlay = None; change = beside.filesystem_change }) ∷ [];
+          }
           ≡ embedded beside_after world
       by true all =
           λ i. with_files (λ number. all_kept all number i)
@@ -288,7 +316,8 @@ module _ (beside : Beside) (world : World ℕ) (node : ℕ → Option (Node ℕ)
           (cond b (first ∷ filter stays rest) (filter stays rest)) ≡ targets_in (node first) ++ flat_map
           (λ directory. targets_in (node directory)) rest
       by true e later = λ i. targets_in (sym (is.kept first e) i) ++ later i
-      by false e later = later ∙ ap (λ l. l ++ flat_map (λ directory. targets_in (node directory)) rest) (sym (is.emptied first e))
+      by false e later = later ∙ ap (λ l. l ++ flat_map (λ directory. targets_in (node directory)) rest)
+          (sym (is.emptied first e))
 
   pub once_after : (number : ℕ) → times_in number numbers_after ≡ cond (is_some (world.inodes.inode number)) 1 0
   once_after number = times_filter stays number numbers ∙ by (stays number) refl
@@ -298,13 +327,15 @@ module _ (beside : Beside) (world : World ℕ) (node : ℕ → Option (Node ℕ)
       there (Some inode) e = refl
 
       by : (b : Bool) → stays number ≡ b → cond b (times_in number numbers) 0 ≡ cond b 1 0
-      by true e = is.once number ∙ ap (λ b. cond b 1 0) (ap is_some (is.kept number e) ∙ there (world.inodes.inode number) e)
+      by true e = is.once number ∙ ap (λ b. cond b 1 0)
+          (ap is_some (is.kept number e) ∙ there (world.inodes.inode number) e)
       by false e = refl
 
   pub fit_after : IsWhole (tree_of world.inodes) → world.inodes.count ≡ length numbers_after
       → ((directory : ℕ) → IsDirectory (tree_of world.inodes) directory → uses_in (world.inodes.inode directory) ≡ 1)
       → AreApart world.tasks
-      → ((name rest : TaskName) (number : ℕ) (task forker : Task ℕ) → task_called world (name ++ (number ∷ rest)) ≡ Some task
+      → ((name rest : TaskName) (number : ℕ) (task forker : Task ℕ)
+      → task_called world (name ++ (number ∷ rest)) ≡ Some task
       → task_called world name ≡ Some forker → number ≤ forker.forks)
       → ((name : TaskName) (task : Task ℕ) → task_called world name ≡ Some task → AreInOrder 0 task.descriptors)
       → IsFit numbers_after world
@@ -312,7 +343,8 @@ module _ (beside : Beside) (world : World ℕ) (node : ℕ → Option (Node ℕ)
     whole = whole;
     each_once = once_after;
     counted = counted;
-    uses = λ number. is.uses number ∙ ap (λ l. times_in number (world.inodes.root ∷ (l ++ opened_in world))) (sym (named_same numbers));
+    uses = λ number. is.uses number
+        ∙ ap (λ l. times_in number (world.inodes.root ∷ (l ++ opened_in world))) (sym (named_same numbers));
     in_use = is.in_use;
     one_use = one_use;
     apart = apart;
@@ -334,14 +366,20 @@ beside_raised name changed beside = record beside {
   change = Rattle.vt_spec.specs.Machine.Filesystems.raised beside.change;
 }
 
-pub raised_is : (name : TaskName) (changed : List ℕ) (beside : Beside) (world : World ℕ) (root : ℕ) (node : ℕ → Option (Node ℕ))
+pub raised_is : (name : TaskName) (changed : List ℕ) (beside : Beside) (world : World ℕ) (root : ℕ)
+    (node : ℕ → Option (Node ℕ))
     (numbers : List ℕ) (some_change : ℕ) (tasks : List (MachineWorld.Task ℕ)) (change : ℕ)
     → Machine.numbers_raised nat_eq (raw root node numbers some_change tasks change) name changed
     (embedded beside world) ≡ embedded (beside_raised name changed beside) world
 raised_is name changed beside world root node numbers some_change tasks change =
-    λ i. record (embedded (beside_raised name changed beside) world) { filesystems = tree (list_any (λ number. nat_eq number 2) changed) i ∷ []; tasks = by world.tasks i }
+    λ i. record (embedded (beside_raised name changed beside) world) {
+      filesystems = tree
+          (list_any (λ number. nat_eq number 2) changed) i ∷ [];
+      tasks = by world.tasks i;
+    }
   where
-    tree : (b : Bool) → cond b (record (filesystem_there beside world.inodes) { change = Rattle.vt_spec.specs.Machine.Filesystems.raised beside.filesystem_change }) (filesystem_there beside world.inodes)
+    tree : (b : Bool) → cond b (record
+        (filesystem_there beside world.inodes) { change = Rattle.vt_spec.specs.Machine.Filesystems.raised beside.filesystem_change }) (filesystem_there beside world.inodes)
         ≡ record (filesystem_there beside world.inodes) {
           change = cond b
               (Rattle.vt_spec.specs.Machine.Filesystems.raised beside.filesystem_change) beside.filesystem_change;
@@ -363,7 +401,8 @@ raised_is name changed beside world root node numbers some_change tasks change =
             }) (task_there beside world.inodes.root entry)
             ≡ record (task_there beside world.inodes.root entry) {
               change = cond b
-                  (Rattle.vt_spec.specs.Machine.Filesystems.raised (beside.task_change entry.0)) (beside.task_change entry.0);
+                  (Rattle.vt_spec.specs.Machine.Filesystems.raised (beside.task_change entry.0))
+                  (beside.task_change entry.0);
             }
         inside true = refl
         inside false = refl

@@ -34,7 +34,8 @@ found_is name entries entry e = λ i. (sym (same_is name entry.0 (found_name nam
 
 -- a task is found alike
 pub find_there : (beside : Beside) (root : ℕ) (name : TaskName) (entries : List Entry)
-    → find (λ task. same_name name task.name) (map (task_there beside root) entries) ≡ option_map (task_there beside root)
+    → find (λ task. same_name name task.name) (map (task_there beside root) entries)
+    ≡ option_map (task_there beside root)
     (find (is_called name) entries)
 find_there beside root name [] = refl
 find_there beside root name (entry ∷ rest) = by (is_called name entry) (find_there beside root name rest)
@@ -42,17 +43,20 @@ find_there beside root name (entry ∷ rest) = by (is_called name entry) (find_t
     by : (b : Bool) → find (λ task. same_name name task.name) (map (task_there beside root) rest) ≡ option_map
         (task_there beside root) (find (is_called name) rest)
         → cond b (Some (task_there beside root entry))
-        (find (λ task. same_name name task.name) (map (task_there beside root) rest)) ≡ option_map (task_there beside root)
+        (find (λ task. same_name name task.name) (map (task_there beside root) rest))
+        ≡ option_map (task_there beside root)
         (cond b (Some entry) (find (is_called name) rest))
     by true later = refl
     by false later = later
 
 -- a task is changed alike
 pub changed_there : (beside : Beside) (root : ℕ) (name : TaskName) (task : Task ℕ) (entries : List Entry)
-    → map (MachineWorld.replaced_if_called (task_there beside root (name, task))) (map (task_there beside root) entries) ≡ map
+    → map (MachineWorld.replaced_if_called (task_there beside root (name, task)))
+    (map (task_there beside root) entries) ≡ map
     (task_there beside root) (map (changed_if_called name task) entries)
 changed_there beside root name task [] = refl
-changed_there beside root name task (entry ∷ rest) = λ i. by (is_called name entry) refl i ∷ changed_there beside root name task rest i
+changed_there beside root name task (entry ∷ rest) =
+    λ i. by (is_called name entry) refl i ∷ changed_there beside root name task rest i
   where
     by : (b : Bool) → is_called name entry ≡ b
         → cond b (task_there beside root (name, task)) (task_there beside root entry) ≡ task_there beside root
@@ -62,7 +66,8 @@ changed_there beside root name task (entry ∷ rest) = λ i. by (is_called name 
 
 -- and leaves alike
 pub without_there : (beside : Beside) (root : ℕ) (name : TaskName) (entries : List Entry)
-    → filter (λ task. not (same_name name task.name)) (map (task_there beside root) entries) ≡ map (task_there beside root)
+    → filter (λ task. not (same_name name task.name)) (map (task_there beside root) entries)
+    ≡ map (task_there beside root)
     (filter (λ entry. not (is_called name entry)) entries)
 without_there beside root name [] = refl
 without_there beside root name (entry ∷ rest) = by (is_called name entry) (without_there beside root name rest)
@@ -70,10 +75,12 @@ without_there beside root name (entry ∷ rest) = by (is_called name entry) (wit
     by : (b : Bool) → filter (λ task. not (same_name name task.name)) (map (task_there beside root) rest) ≡ map
         (task_there beside root) (filter (λ entry. not (is_called name entry)) rest)
         → cond (not b)
-        (task_there beside root entry ∷ filter (λ task. not (same_name name task.name)) (map (task_there beside root) rest))
+        (task_there beside root entry ∷ filter (λ task. not (same_name name task.name))
+        (map (task_there beside root) rest))
         (filter (λ task. not (same_name name task.name)) (map (task_there beside root) rest))
         ≡ map (task_there beside root)
-        (cond (not b) (entry ∷ filter (λ entry. not (is_called name entry)) rest) (filter (λ entry. not (is_called name entry)) rest))
+        (cond (not b) (entry ∷ filter (λ entry. not (is_called name entry)) rest)
+        (filter (λ entry. not (is_called name entry)) rest))
     by true later = later
     by false later = ap (λ l. task_there beside root entry ∷ l) later
 
@@ -81,7 +88,8 @@ without_there beside root name (entry ∷ rest) = by (is_called name entry) (wit
 
 module _ (name : TaskName) (task : Task ℕ) where
   -- names stay
-  called_changed : (other : TaskName) (entry : Entry) → is_called other (changed_if_called name task entry) ≡ is_called other entry
+  called_changed : (other : TaskName) (entry : Entry)
+      → is_called other (changed_if_called name task entry) ≡ is_called other entry
   called_changed other entry = by (is_called name entry)
     where
       by : (b : Bool) → same_name other (cond b (entry.0, task) entry).0 ≡ same_name other entry.0
@@ -100,7 +108,8 @@ module _ (name : TaskName) (task : Task ℕ) where
       by : (b : Bool)
           → find (is_called other) (map (changed_if_called name task) rest) ≡ option_map (changed_if_called name task)
           (find (is_called other) rest)
-          → cond b (Some (changed_if_called name task entry)) (find (is_called other) (map (changed_if_called name task) rest))
+          → cond b (Some (changed_if_called name task entry))
+          (find (is_called other) (map (changed_if_called name task) rest))
           ≡ option_map (changed_if_called name task) (cond b (Some entry) (find (is_called other) rest))
       by true later = refl
       by false later = later
@@ -113,7 +122,8 @@ module _ (name : TaskName) (task : Task ℕ) where
       none : find (is_called entry.0) (map (changed_if_called name task) rest) ≡ None
       none = find_changed entry.0 rest ∙ ap (option_map (changed_if_called name task)) apart.0
 
-      by : (b : Bool) → find (is_called (cond b (entry.0, task) entry).0) (map (changed_if_called name task) rest) ≡ None
+      by : (b : Bool) → find (is_called (cond b (entry.0, task) entry).0) (map (changed_if_called name task) rest)
+          ≡ None
       by true = none
       by false = none
 
@@ -124,11 +134,13 @@ module _ (name : TaskName) (task : Task ℕ) where
       → ((option_map (λ entry. entry.1) (find (is_called other) entries) ≡ Some now)
       ⊎ ((option_map (λ entry. entry.1) (find (is_called other) entries) ≡ Some was) × (now ≡ task)))
   task_changed entries was is other now e =
-      by (find (is_called other) entries) refl (sym (ap (option_map (λ entry. entry.1)) (find_changed other entries)) ∙ e)
+      by (find (is_called other) entries) refl
+      (sym (ap (option_map (λ entry. entry.1)) (find_changed other entries)) ∙ e)
     where
       by : (o : Option Entry) → find (is_called other) entries ≡ o
           → option_map (λ entry. entry.1) (option_map (changed_if_called name task) o) ≡ Some now
-          → ((option_map (λ entry. entry.1) o ≡ Some now) ⊎ ((option_map (λ entry. entry.1) o ≡ Some was) × (now ≡ task)))
+          → ((option_map (λ entry. entry.1) o ≡ Some now)
+          ⊎ ((option_map (λ entry. entry.1) o ≡ Some was) × (now ≡ task)))
       by None f e = inl e
       by (Some entry) f e = inside (is_called name entry) refl e
         where
@@ -138,12 +150,14 @@ module _ (name : TaskName) (task : Task ℕ) where
           inside true c e =
               let one : name ≡ entry.0 = same_is name entry.0 c in
               let two : other ≡ entry.0 = same_is other entry.0 (found_name other entries entry f) in
-              let here : Some entry ≡ Some (name, was) = sym f ∙ ap (λ n. find (is_called n) entries) (two ∙ sym one) ∙ is in
+              let here : Some entry ≡ Some (name, was) =
+              sym f ∙ ap (λ n. find (is_called n) entries) (two ∙ sym one) ∙ is in
               let it : task ≡ now = cc in
               inr (ap (option_map (λ entry. entry.1)) here, sym it)
 
   -- where nobody has the name nothing changes
-  none_changed : (entries : List Entry) → find (is_called name) entries ≡ None → map (changed_if_called name task) entries ≡ entries
+  none_changed : (entries : List Entry) → find (is_called name) entries ≡ None
+      → map (changed_if_called name task) entries ≡ entries
   none_changed [] e = refl
   none_changed (entry ∷ rest) e = by (is_called name entry) e (none_changed rest)
     where
@@ -159,7 +173,8 @@ module _ (name : TaskName) (task : Task ℕ) where
       → times_in number (flat_map files_of (map (changed_if_called name task) entries)) + times_in number
       (files_of (name, was)) ≡ times_in number (flat_map files_of entries) + times_in number (files_of (name, task))
   uses_changed number was [] apart e = cc
-  uses_changed number was (entry ∷ rest) apart e = by (is_called name entry) refl e (uses_changed number was rest apart.1)
+  uses_changed number was (entry ∷ rest) apart e =
+      by (is_called name entry) refl e (uses_changed number was rest apart.1)
     where
       by : (b : Bool) → is_called name entry ≡ b → cond b (Some entry) (find (is_called name) rest) ≡ Some (name, was)
           → (find (is_called name) rest ≡ Some (name, was)
@@ -168,12 +183,15 @@ module _ (name : TaskName) (task : Task ℕ) where
           → times_in number
           (files_of (cond b (entry.0, task) entry) ++ flat_map files_of
           (map (changed_if_called name task) rest)) + times_in number (files_of
-          (name, was)) ≡ times_in number (files_of entry ++ flat_map files_of rest) + times_in number (files_of (name, task))
+          (name, was)) ≡ times_in number (files_of entry ++ flat_map files_of rest) + times_in number
+          (files_of (name, task))
       by true is e later =
           let same : entry ≡ (name, was) = cc in
-          let none : find (is_called name) rest ≡ None = ap (λ n. find (is_called n) rest) (same_is name entry.0 is) ∙ apart.0 in
+          let none : find (is_called name) rest ≡ None =
+          ap (λ n. find (is_called n) rest) (same_is name entry.0 is) ∙ apart.0 in
           let rest_same : map (changed_if_called name task) rest ≡ rest = none_changed rest none in
-          let left : times_in number (files_of (name, task) ++ flat_map files_of (map (changed_if_called name task) rest))
+          let left : times_in number (files_of (name, task)
+          ++ flat_map files_of (map (changed_if_called name task) rest))
           ≡ times_in number (files_of (name, task)) + times_in number (flat_map files_of rest)
           =
           ap (λ l. times_in number (files_of (name, task) ++ flat_map files_of l)) rest_same
@@ -191,10 +209,13 @@ module _ (name : TaskName) (task : Task ℕ) where
           ∙ (λ i. sym right i + times_in number (files_of (name, task)))
       by false is e later =
           let h : times_in number (flat_map files_of (map (changed_if_called name task) rest)) + times_in number
-          (files_of (name, was)) ≡ times_in number (flat_map files_of rest) + times_in number (files_of (name, task)) = later e in
+          (files_of (name, was)) ≡ times_in number (flat_map files_of rest) + times_in number (files_of (name, task)) =
+          later e in
           let left : times_in number (files_of entry ++ flat_map files_of (map (changed_if_called name task) rest))
-          ≡ times_in number (files_of entry) + times_in number (flat_map files_of (map (changed_if_called name task) rest))
+          ≡ times_in number (files_of entry) + times_in number
+          (flat_map files_of (map (changed_if_called name task) rest))
           = times_append number (files_of entry) (flat_map files_of (map (changed_if_called name task) rest)) in
           let right : times_in number (files_of entry ++ flat_map files_of rest) ≡ times_in number
-          (files_of entry) + times_in number (flat_map files_of rest) = times_append number (files_of entry) (flat_map files_of rest) in
+          (files_of entry) + times_in number (flat_map files_of rest) =
+          times_append number (files_of entry) (flat_map files_of rest) in
           omega arith

@@ -46,19 +46,26 @@ named_line = record {
 }
 
 abbrev named_step : Named Step
-named_step = record { rename = λ A B there back step. renamed_step there back step; itself = λ A step. step_itself step }
+named_step = record {
+  rename = λ A B there back step. renamed_step there back step;
+  itself = λ A step.
+      step_itself step;
+}
 
 module _ (renaming : Renaming ℕ ℕ) where
   abbrev renamed : World ℕ → World ℕ
   renamed world = renamed_world renaming.there renaming.back world
 
   line_renamed : (world : World ℕ) (line : List ℕ) (handed : Option ℕ)
-      → line_step nat_eq (renamed world) line (option_map renaming.there handed) ≡ renamed_step renaming.there renaming.back
+      → line_step nat_eq (renamed world) line (option_map renaming.there handed)
+      ≡ renamed_step renaming.there renaming.back
       (line_step nat_eq world line handed)
   line_renamed world line handed =
-      commutes_nat HandedLine Step named_line named_step (λ A eq given. line_step eq given.1 line given.0) renaming (handed, world)
+      commutes_nat HandedLine Step named_line named_step (λ A eq given. line_step eq given.1 line given.0) renaming
+      (handed, world)
 
-  text_renamed : (place : ℕ) (step : Step ℕ) → step_text place (renamed_step renaming.there renaming.back step) ≡ step_text place step
+  text_renamed : (place : ℕ) (step : Step ℕ)
+      → step_text place (renamed_step renaming.there renaming.back step) ≡ step_text place step
   text_renamed place Silent = refl
   text_renamed place (Answered outcome) = refl
 
@@ -101,15 +108,23 @@ fit_called : (numbers : List ℕ) (world : World ℕ) → IsFit numbers world �
     → world.inodes.inode number ≡ None
     → IsAnsweredAlike call → (now : List ℕ) × IsFit now (policy nat_eq world name call number).world
 fit_called numbers world fit name call number vacant answered =
-    by _ (answered (record { numbers = numbers; filesystem_change = 0; task_change = λ name. 0; change = 0 }) world name (λ k. number) fit vacant).1
+    by _ (answered (record {
+      numbers = numbers;
+      filesystem_change = 0;
+      task_change = λ name.
+          0;
+      change = 0;
+    }) world name (λ k. number) fit vacant).1
   where
     by : (there : _) → IsImage (policy nat_eq world name call number).world there
         → (now : List ℕ) × IsFit now (policy nat_eq world name call number).world
     by there image = ⊎_elim (λ one. (one.0.numbers, one.1)) (λ none. (none.2, none.3)) image
 
-fit_line : (numbers : List ℕ) (world : World ℕ) → IsFit numbers world → (line : List ℕ) (number : ℕ) → world.inodes.inode number ≡ None
+fit_line : (numbers : List ℕ) (world : World ℕ) → IsFit numbers world → (line : List ℕ) (number : ℕ)
+    → world.inodes.inode number ≡ None
     → (now : List ℕ) × IsFit now (step_world world (line_step nat_eq world line (Some number)))
-fit_line numbers world fit line number vacant = by (nat_lt ScriptLanguage.longest_line (length line)) (Script.is_silent line)
+fit_line numbers world fit line number vacant =
+    by (nat_lt ScriptLanguage.longest_line (length line)) (Script.is_silent line)
   where
     asked : (request : Option Script.Request) → RequestAnswered request
         → (now : List ℕ) × IsFit now (requested nat_eq world request number).world
@@ -117,7 +132,8 @@ fit_line numbers world fit line number vacant = by (nat_lt ScriptLanguage.longes
     asked (Some (Script.Request.Calling task call)) is = fit_called numbers world fit task call number vacant is
     asked (Some (Script.Request.Asking directive)) is = absurd is
 
-    by : (long silent : Bool) → (now : List ℕ) × IsFit now (step_world world (line_step_by nat_eq long silent world line (Some number)))
+    by : (long silent : Bool) → (now : List ℕ)
+        × IsFit now (step_world world (line_step_by nat_eq long silent world line (Some number)))
     by true silent = (numbers, fit)
     by false true = (numbers, fit)
     by false false = asked (Script.request_of Script.files line) (request_answered line)
@@ -140,7 +156,8 @@ record IsReady (world : World ℕ) (number : ℕ) : Type 0 where
   fit : IsFit numbers world
   keeps : KeepsTo (is_earlier number) world
 
-later_leaves : (renaming : Renaming ℕ ℕ) (number : ℕ) → Leaves renaming (is_earlier (number + 1)) → Leaves renaming (is_earlier number)
+later_leaves : (renaming : Renaming ℕ ℕ) (number : ℕ) → Leaves renaming (is_earlier (number + 1))
+    → Leaves renaming (is_earlier number)
 later_leaves renaming number leaves other is =
     let less : other < number = ltb-true other number is in
     leaves other (lt-ltb other (number + 1) (omega arith))
@@ -150,8 +167,10 @@ ready_vacant : (world : World ℕ) (number : ℕ) → IsReady world number → w
 ready_vacant world number ready =
     sym (ap (λ w. w.inodes.inode number)
     (ready.keeps (exchange number far)
-    (exchange_leaves (is_earlier number) number far (not_earlier number (omega arith)) (not_earlier far (omega arith)))))
-    ∙ ap (λ k. option_map (renamed_inode (swapped number far) (swapped number far)) (world.inodes.inode k)) (swapped_first number far)
+    (exchange_leaves (is_earlier number) number far (not_earlier number (omega arith))
+    (not_earlier far (omega arith)))))
+    ∙ ap (λ k. option_map (renamed_inode (swapped number far) (swapped number far)) (world.inodes.inode k))
+    (swapped_first number far)
     ∙ ap (option_map (renamed_inode (swapped number far) (swapped number far)))
     (vacant_if ready.numbers world ready.fit far (not_above far ready.numbers (omega arith)))
   where
@@ -202,11 +221,13 @@ ready_opening = record {
 
     stays : (renaming : Renaming ℕ ℕ) → Leaves renaming (is_earlier 1) → (number : ℕ) → nat_eq number 0 ≡ true
         → renaming.there number ≡ number
-    stays renaming leaves number is = let root : number ≡ 0 = eqb-true number 0 is in ap renaming.there root ∙ leaves 0 refl ∙ sym root
+    stays renaming leaves number is = let root : number ≡ 0 = eqb-true number 0 is in
+        ap renaming.there root ∙ leaves 0 refl ∙ sym root
 
 -- Texts
 
--- A renaming, and then an exchange of a vacant number's own with another that is vacant: it renames the world as before.
+-- A renaming, and then an exchange of a vacant number's own with another that is vacant: it renames the world as
+-- before.
 module _ (renaming : Renaming ℕ ℕ) (world other : World ℕ) (same : renamed renaming world ≡ other) (number fresh : ℕ)
     (vacant : world.inodes.inode number ≡ None) (unused : other.inodes.inode fresh ≡ None) where
   abbrev fresh_renaming : Renaming ℕ ℕ
@@ -216,17 +237,20 @@ module _ (renaming : Renaming ℕ ℕ) (world other : World ℕ) (same : renamed
     there_back =
         λ k. ap (swapped (renaming.there number) fresh) (renaming.there_back (swapped (renaming.there number) fresh k))
         ∙ swapped_twice (renaming.there number) fresh k;
-    back_there = λ k. ap renaming.back (swapped_twice (renaming.there number) fresh (renaming.there k)) ∙ renaming.back_there k;
+    back_there = λ k. ap renaming.back (swapped_twice (renaming.there number) fresh (renaming.there k))
+        ∙ renaming.back_there k;
   }
 
   -- what is there is renamed as before
   kept_there : (k : ℕ) → is_some (world.inodes.inode k) ≡ true → fresh_renaming.there k ≡ renaming.there k
   kept_there k is =
       swapped_other (renaming.there number) fresh (renaming.there k)
-      (λ e. true≢false (sym is ∙ ap (λ n. is_some (world.inodes.inode n)) (stay_apart renaming k number e) ∙ ap is_some vacant))
+      (λ e. true≢false (sym is ∙ ap (λ n. is_some (world.inodes.inode n)) (stay_apart renaming k number e)
+      ∙ ap is_some vacant))
       (λ e. true≢false (sym is ∙ sym (there k) ∙ ap (λ n. is_some (other.inodes.inode n)) e ∙ ap is_some unused))
     where
-      is_some-renamed : (o : Option (Inode ℕ)) → is_some (option_map (renamed_inode renaming.there renaming.back) o) ≡ is_some o
+      is_some-renamed : (o : Option (Inode ℕ))
+          → is_some (option_map (renamed_inode renaming.there renaming.back) o) ≡ is_some o
       is_some-renamed None = refl
       is_some-renamed (Some inode) = refl
 
@@ -243,8 +267,10 @@ module _ (renaming : Renaming ℕ ℕ) (world other : World ℕ) (same : renamed
   fresh_there = swapped_first (renaming.there number) fresh
 
 -- What may be written from a world is what is written from another that differs in its numbers alone.
-texts_alike : (lines : List (List ℕ)) (refused : List Bool) (number : ℕ) (renaming : Renaming ℕ ℕ) (world other : World ℕ)
-    → renamed renaming world ≡ other → IsReady world number → (text : List ℕ) → Tells nat_eq other number lines refused text
+texts_alike : (lines : List (List ℕ)) (refused : List Bool) (number : ℕ) (renaming : Renaming ℕ ℕ)
+    (world other : World ℕ)
+    → renamed renaming world ≡ other → IsReady world number → (text : List ℕ)
+    → Tells nat_eq other number lines refused text
     → text ≡ text_from world number lines refused
 texts_alike [] refused number renaming world other same ready text tells = tells
 texts_alike (line ∷ lines) [] number renaming world other same ready text tells = absurd tells
@@ -265,7 +291,8 @@ texts_alike (line ∷ lines) (false ∷ refused) number renaming world other sam
     let leads =
     line_leads next world other next_same line (Some number)
     ∙ ap (λ n. step_world other (line_step nat_eq other line (Some n))) next_there in
-    let rest = texts_alike lines refused (number + 1) next _ _ leads (ready_step world number line ready) tells.2 tells.4 in
+    let rest = texts_alike lines refused (number + 1) next _ _ leads
+    (ready_step world number line ready) tells.2 tells.4 in
     tells.3 ∙ (λ i. alike i ++ rest i)
 
 -- a number alone
@@ -273,7 +300,11 @@ abbrev named_number : Named (λ A. A)
 named_number = record { rename = λ A B there back number. there number; itself = λ A number. refl }
 
 abbrev named_world : Named World
-named_world = record { rename = λ A B there back world. renamed_world there back world; itself = λ A world. world_itself world }
+named_world = record {
+  rename = λ A B there back world. renamed_world there back world;
+  itself = λ A world.
+      world_itself world;
+}
 
 -- an opening world with another root is the opening world renamed
 opening_renamed : (root : ℕ) → renamed (exchange 0 root) (opening nat_eq 0) ≡ opening nat_eq root
@@ -295,17 +326,25 @@ text_told [] refused number world ready long = refl
 text_told (line ∷ lines) [] number world ready long = cc
 text_told (line ∷ lines) (true ∷ refused) number world ready long =
     (_, refl, text_told lines refused (number + 1) _ (ready_refused world number line ready) cc)
-text_told (line ∷ lines) (false ∷ refused) number world ready long =
-    (number, ready_vacant world number ready, _, refl, text_told lines refused (number + 1) _ (ready_step world number line ready) cc)
+text_told (line ∷ lines) (false ∷ refused) number world ready long = (
+  number,
+  ready_vacant world number ready,
+  _,
+  refl,
+  text_told lines refused (number + 1) _
+      (ready_step world number line ready) cc,
+)
 
 -- so some text may be written
 pub one_tree_has_some_text : OneTreeHasSomeText
 unfolding script_text
-one_tree_has_some_text script refused long = text_told (Script.lines_of script) refused 1 (opening nat_eq 0) ready_opening long
+one_tree_has_some_text script refused long =
+    text_told (Script.lines_of script) refused 1 (opening nat_eq 0) ready_opening long
 
 -- and it is what the whole machine may write, kept to the calls on files and tasks, and in the whole language
 pub whole_text_is_the_text : WholeTextIsTheText
-whole_text_is_the_text script refused text tells = one_tree_has_one_text script refused 3 text (files_are_told script refused text tells)
+whole_text_is_the_text script refused text tells =
+    one_tree_has_one_text script refused 3 text (files_are_told script refused text tells)
 
 pub language_text_is_the_text : LanguageTextIsTheText
 language_text_is_the_text version script refused text same tells =

@@ -26,7 +26,8 @@ pub times_among : (number : ℕ) (list : List ℕ) → 1 ≤ times_in number lis
 times_among number [] e = absurd (omega arith)
 times_among number (other ∷ rest) e = by (nat_eq number other) e (times_among number rest)
   where
-    by : (b : Bool) → 1 ≤ cond b 1 0 + times_in number rest → (1 ≤ times_in number rest → is_among nat_eq number rest ≡ true)
+    by : (b : Bool) → 1 ≤ cond b 1 0 + times_in number rest
+        → (1 ≤ times_in number rest → is_among nat_eq number rest ≡ true)
         → (b || is_among nat_eq number rest) ≡ true
     by true e later = refl
     by false e later = later (omega arith)
@@ -36,11 +37,13 @@ abbrev pub removed : ℕ → List ℕ → List ℕ
 removed number [] = []
 removed number (other ∷ rest) = cond (nat_eq number other) rest (other ∷ removed number rest)
 
-pub times_removed : (number z : ℕ) (list : List ℕ) → 1 ≤ times_in number list → times_in z (number ∷ removed number list) ≡ times_in z list
+pub times_removed : (number z : ℕ) (list : List ℕ) → 1 ≤ times_in number list
+    → times_in z (number ∷ removed number list) ≡ times_in z list
 times_removed number z [] e = absurd (omega arith)
 times_removed number z (other ∷ rest) e = ⊎_elim here (later (times_removed number z rest)) (eqb_tells number other)
   where
-    here : (nat_eq number other ≡ true) × (number ≡ other) → times_in z (number ∷ removed number (other ∷ rest)) ≡ times_in z (other ∷ rest)
+    here : (nat_eq number other ≡ true) × (number ≡ other)
+        → times_in z (number ∷ removed number (other ∷ rest)) ≡ times_in z (other ∷ rest)
     here t =
         ap (λ b. cond (nat_eq z number) 1 0 + times_in z (cond b rest (other ∷ removed number rest))) t.0
         ∙ ap (λ n. cond (nat_eq z n) 1 0 + times_in z rest) t.1
@@ -50,22 +53,27 @@ times_removed number z (other ∷ rest) e = ⊎_elim here (later (times_removed 
         → times_in z (number ∷ removed number (other ∷ rest)) ≡ times_in z (other ∷ rest)
     later rec t =
         let more : 1 ≤ 0 + times_in number rest = subst (λ b. 1 ≤ cond b 1 0 + times_in number rest) t.0 e in
-        let same : cond (nat_eq z number) 1 0 + times_in z (removed number rest) ≡ times_in z rest = rec (omega arith) in
+        let same : cond (nat_eq z number) 1 0 + times_in z (removed number rest) ≡ times_in z rest =
+        rec (omega arith) in
         ap (λ b. cond (nat_eq z number) 1 0 + times_in z (cond b rest (other ∷ removed number rest))) t.0
-        ∙ (let aside : cond (nat_eq z number) 1 0 + (cond (nat_eq z other) 1 0 + times_in z (removed number rest)) ≡ cond
+        ∙ (let aside : cond (nat_eq z number) 1 0 + (cond (nat_eq z other) 1 0 + times_in z (removed number rest))
+        ≡ cond
         (nat_eq z other) 1 0 + times_in z rest = omega arith in aside)
 
-pub length_removed : (number : ℕ) (list : List ℕ) → 1 ≤ times_in number list → suc (length (removed number list)) ≡ length list
+pub length_removed : (number : ℕ) (list : List ℕ) → 1 ≤ times_in number list
+    → suc (length (removed number list)) ≡ length list
 length_removed number [] e = absurd (omega arith)
 length_removed number (other ∷ rest) e = by (nat_eq number other) e (length_removed number rest)
   where
-    by : (b : Bool) → 1 ≤ cond b 1 0 + times_in number rest → (1 ≤ times_in number rest → suc (length (removed number rest)) ≡ length rest)
+    by : (b : Bool) → 1 ≤ cond b 1 0 + times_in number rest
+        → (1 ≤ times_in number rest → suc (length (removed number rest)) ≡ length rest)
         → suc (length (cond b rest (other ∷ removed number rest))) ≡ suc (length rest)
     by true e later = refl
     by false e later = ap suc (later (omega arith))
 
 -- a list that has no number more often than another is no longer
-pub no_longer : (list other : List ℕ) → ((number : ℕ) → times_in number list ≤ times_in number other) → length list ≤ length other
+pub no_longer : (list other : List ℕ) → ((number : ℕ) → times_in number list ≤ times_in number other)
+    → length list ≤ length other
 no_longer [] other less = omega arith
 no_longer (first ∷ list) other less =
     let own : nat_eq first first ≡ true = eq-eqb first first refl in
@@ -76,21 +84,25 @@ no_longer (first ∷ list) other less =
     let shorter : length list ≤ length (removed first other) = no_longer list (removed first other) (λ number.
     let same : cond (nat_eq number first) 1 0 + times_in number (removed first other) ≡ times_in number other =
     times_removed first number other found in
-    let all : cond (nat_eq number first) 1 0 + times_in number list ≤ times_in number other = less number in omega arith) in
+    let all : cond (nat_eq number first) 1 0 + times_in number list ≤ times_in number other = less number in
+    omega arith) in
     let long : suc (length (removed first other)) ≡ length other = length_removed first other found in
     omega arith
 
 -- so lists that have each number as often are as long
-pub as_long : (list other : List ℕ) → ((number : ℕ) → times_in number list ≡ times_in number other) → length list ≡ length other
+pub as_long : (list other : List ℕ) → ((number : ℕ) → times_in number list ≡ times_in number other)
+    → length list ≡ length other
 as_long list other same =
     let one : length list ≤ length other = no_longer list other (λ number. let e = same number in omega arith) in
     let two : length other ≤ length list = no_longer other list (λ number. let e = same number in omega arith) in
     omega arith
 
-pub times_append : (number : ℕ) (list other : List ℕ) → times_in number (list ++ other) ≡ times_in number list + times_in number other
+pub times_append : (number : ℕ) (list other : List ℕ)
+    → times_in number (list ++ other) ≡ times_in number list + times_in number other
 times_append number [] other = omega arith
 times_append number (first ∷ list) other =
-    let e : times_in number (list ++ other) ≡ times_in number list + times_in number other = times_append number list other in omega arith
+    let e : times_in number (list ++ other) ≡ times_in number list + times_in number other =
+    times_append number list other in omega arith
 
 -- what is found, and not first, is found later
 pub later_found : (number other : ℕ) (rest : List ℕ) → nat_eq number other ≡ false → 1 ≤ times_in number (other ∷ rest)
@@ -120,9 +132,11 @@ has_entry_directory tree directory object e = by (tree.node directory) e
 -- the root is so many steps up, and no fewer
 abbrev pub IsAway : Tree ℕ → ℕ → ℕ → Type 0
 IsAway tree zero directory = directory ≡ tree.root
-IsAway tree (suc steps) directory = (directory ≢ tree.root) × IsAway tree steps (parent_in directory (tree.node directory))
+IsAway tree (suc steps) directory = (directory ≢ tree.root)
+    × IsAway tree steps (parent_in directory (tree.node directory))
 
-pub away : (tree : Tree ℕ) (steps directory : ℕ) → upwards tree steps directory ≡ tree.root → (some : ℕ) × IsAway tree some directory
+pub away : (tree : Tree ℕ) (steps directory : ℕ) → upwards tree steps directory ≡ tree.root
+    → (some : ℕ) × IsAway tree some directory
 away tree zero directory e = (0, e)
 away tree (suc steps) directory e =
     ⊎_elim
@@ -130,11 +144,13 @@ away tree (suc steps) directory e =
     (λ t. let later = away tree steps (parent_in directory (tree.node directory)) e in (suc later.0, (t.1, later.1)))
     (eqb_tells directory tree.root)
 
-pub away_once : (tree : Tree ℕ) (one other directory : ℕ) → IsAway tree one directory → IsAway tree other directory → one ≡ other
+pub away_once : (tree : Tree ℕ) (one other directory : ℕ) → IsAway tree one directory → IsAway tree other directory
+    → one ≡ other
 away_once tree zero zero directory a b = refl
 away_once tree zero (suc other) directory a b = absurd (b.0 a)
 away_once tree (suc one) zero directory a b = absurd (a.0 b)
-away_once tree (suc one) (suc other) directory a b = ap suc (away_once tree one other (parent_in directory (tree.node directory)) a.1 b.1)
+away_once tree (suc one) (suc other) directory a b =
+    ap suc (away_once tree one other (parent_in directory (tree.node directory)) a.1 b.1)
 
 -- the directories on the way
 abbrev pub way_up : Tree ℕ → ℕ → ℕ → List ℕ
@@ -174,14 +190,17 @@ way_once tree (suc steps) directory number is =
     ⊎_elim
     (λ t. ⊎_elim
     (λ (few : times_in number (way_up tree steps (parent_in directory (tree.node directory))) ≡ 0). subst
-    (λ b. cond b 1 0 + times_in number (way_up tree steps (parent_in directory (tree.node directory))) ≤ 1) (sym t.0) (omega arith))
+    (λ b. cond b 1 0 + times_in number (way_up tree steps (parent_in directory (tree.node directory))) ≤ 1) (sym t.0)
+    (omega arith))
     (λ (some : 1 ≤ times_in number (way_up tree steps (parent_in directory (tree.node directory)))).
     let near = way_away tree steps (parent_in directory (tree.node directory)) number is.1 some in
-    let far : near.0 ≡ suc steps = away_once tree near.0 (suc steps) number near.2 (subst (IsAway tree (suc steps)) (sym t.1) is) in
+    let far : near.0 ≡ suc steps =
+    away_once tree near.0 (suc steps) number near.2 (subst (IsAway tree (suc steps)) (sym t.1) is) in
     let below : near.0 ≤ steps = near.1 in
     absurd (omega arith))
     (some_or_none (times_in number (way_up tree steps (parent_in directory (tree.node directory))))))
-    (λ t. subst (λ b. cond b 1 0 + times_in number (way_up tree steps (parent_in directory (tree.node directory))) ≤ 1) (sym t.0)
+    (λ t. subst (λ b. cond b 1 0 + times_in number (way_up tree steps (parent_in directory (tree.node directory))) ≤ 1)
+    (sym t.0)
     (let h : times_in number (way_up tree steps (parent_in directory (tree.node directory))) ≤ 1 = way_once tree steps
     (parent_in directory (tree.node directory)) number is.1 in omega arith))
     (eqb_tells number directory)
@@ -192,16 +211,19 @@ way_once tree (suc steps) directory number is =
 
 module _ (tree : Tree ℕ) (whole : IsWhole tree) where
   -- the parent of a directory is a directory
-  pub parent_is : (directory : ℕ) → IsDirectory tree directory → IsDirectory tree (parent_in directory (tree.node directory))
+  pub parent_is : (directory : ℕ) → IsDirectory tree directory
+      → IsDirectory tree (parent_in directory (tree.node directory))
   parent_is directory is =
       ⊎_elim
       (λ t. subst (λ d. IsDirectory tree (parent_in d (tree.node d))) (sym t.1)
       (subst (IsDirectory tree) (sym whole.root_parent) whole.root_directory))
-      (λ t. has_entry_directory tree (parent_in directory (tree.node directory)) directory (whole.in_parent directory is t.1))
+      (λ t. has_entry_directory tree (parent_in directory (tree.node directory)) directory
+      (whole.in_parent directory is t.1))
       (eqb_tells directory tree.root)
 
   -- those on the way are directories
-  pub way_is : (steps directory number : ℕ) → IsDirectory tree directory → 1 ≤ times_in number (way_up tree steps directory)
+  pub way_is : (steps directory number : ℕ) → IsDirectory tree directory
+      → 1 ≤ times_in number (way_up tree steps directory)
       → IsDirectory tree number
   way_is zero directory number is found =
       ⊎_elim
@@ -250,7 +272,8 @@ module _ (tree : Tree ℕ) (whole : IsWhole tree) where
       by (Some b) = begins (chain most (named_parent nat_eq tree) b)
   root_above (suc most) (suc steps) directory is far less =
       ap (λ o. list_any (nat_eq tree.root)
-      (elim o [ None ↦ directory ∷ [] | Some b ↦ directory ∷ chain most (named_parent nat_eq tree) b ])) (parent_named directory is far.0)
+      (elim o [ None ↦ directory ∷ [] | Some b ↦ directory ∷ chain most (named_parent nat_eq tree) b ]))
+      (parent_named directory is far.0)
       ∙ either (nat_eq tree.root directory) _
       (root_above most steps (parent_in directory (tree.node directory)) (parent_is directory is) far.1 (omega arith))
     where
@@ -267,16 +290,19 @@ module _ (numbers : List ℕ) (world : World ℕ) (fit : IsFit numbers world) wh
   pub directory_once : (directory : ℕ) → IsDirectory tree directory → times_in directory numbers ≡ 1
   directory_once directory is = fit.each_once directory ∙ ap (λ b. cond b 1 0) (by (world.inodes.inode directory) is)
     where
-      by : (o : Option (Rattle.vt_spec.specs.Inodes.Inode ℕ)) → is_directory_node (Rattle.vt_spec.specs.Inodes.node_in o) ≡ true
+      by : (o : Option (Rattle.vt_spec.specs.Inodes.Inode ℕ))
+          → is_directory_node (Rattle.vt_spec.specs.Inodes.node_in o) ≡ true
           → is_some o ≡ true
       by None e = cc
       by (Some inode) e = refl
 
   -- the root is not as many steps away as there are inodes
-  pub near : (steps directory : ℕ) → IsDirectory tree directory → IsAway tree steps directory → suc steps ≤ length numbers
+  pub near : (steps directory : ℕ) → IsDirectory tree directory → IsAway tree steps directory
+      → suc steps ≤ length numbers
   near steps directory is far =
       let long : length (way_up tree steps directory) ≡ suc steps = length_way tree steps directory in
-      let short : length (way_up tree steps directory) ≤ length numbers = no_longer (way_up tree steps directory) numbers less in
+      let short : length (way_up tree steps directory) ≤ length numbers =
+      no_longer (way_up tree steps directory) numbers less in
       omega arith
     where
       none_or_one : (n : ℕ) → (n ≡ 0) ⊎ (1 ≤ n)
@@ -289,12 +315,14 @@ module _ (numbers : List ℕ) (world : World ℕ) (fit : IsFit numbers world) wh
           (λ (none : times_in number (way_up tree steps directory) ≡ 0). omega arith)
           (λ (some : 1 ≤ times_in number (way_up tree steps directory)).
           let one : times_in number (way_up tree steps directory) ≤ 1 = way_once tree steps directory number far in
-          let there : times_in number numbers ≡ 1 = directory_once number (way_is tree fit.whole steps directory number is some) in
+          let there : times_in number numbers ≡ 1 =
+          directory_once number (way_is tree fit.whole steps directory number is some) in
           omega arith)
           (none_or_one (times_in number (way_up tree steps directory)))
 
   -- so each directory lies under the root
-  pub lies_under : (directory : ℕ) → IsDirectory tree directory → is_directory_under nat_eq (record { tree = tree; numbers = numbers }) tree.root directory ≡ true
+  pub lies_under : (directory : ℕ) → IsDirectory tree directory
+      → is_directory_under nat_eq (record { tree = tree; numbers = numbers }) tree.root directory ≡ true
   lies_under directory is =
       let under = fit.whole.under_root directory is in
       let far = away tree under.0 directory under.1 in

@@ -31,7 +31,8 @@ pub then_alike : {A B X C D Y : Type 0} (image : A → X → B) (last : C → Y 
     (other : Result B (Machine.Stop ℕ)) (f : A → Result C Deny) (g : B → Result D (Machine.Stop ℕ))
     → EndsAlike image first other → ((a : A) (x : X) → first ≡ Ok a → EndsAlike last (f a) (g (image a x)))
     → EndsAlike last (and_then first f) (Machine.then_walk other g)
-then_alike image last (Ok a) (Ok b) f g alike h = subst (λ b. EndsAlike last (f a) (g b)) (sym alike.1) (h a alike.0 refl)
+then_alike image last (Ok a) (Ok b) f g alike h =
+    subst (λ b. EndsAlike last (f a) (g b)) (sym alike.1) (h a alike.0 refl)
 then_alike image last (Ok a) (Err stop) f g alike h = absurd alike
 then_alike image last (Err deny) (Ok b) f g alike h = absurd alike
 then_alike image last (Err deny) (Err stop) f g alike h = alike
@@ -49,7 +50,8 @@ then_same image (Err deny) (Err stop) g alike h = alike
 -- a table that is asked before more is walked
 rules_then : {A B X C : Type 0} (image : A → X → B) (steps : Steps) (rows : Rules) (small : Result A Deny) (start : C)
     (g : C → Result B (Machine.Stop ℕ))
-    → EndsAlike image small (g start) → EndsAlike image (unless rows small) (Machine.then_walk (Machine.walk_unless steps rows start) g)
+    → EndsAlike image small (g start)
+    → EndsAlike image (unless rows small) (Machine.then_walk (Machine.walk_unless steps rows start) g)
 rules_then image steps [] small start g alike = alike
 rules_then image steps ((true, rule) ∷ rows) small start g alike = refl
 rules_then image steps ((false, rule) ∷ rows) small start g alike = rules_then image steps rows small start g alike
@@ -73,14 +75,16 @@ parsed_alike image (Err deny) f g alike = refl
 parsed_is : (path text : List ℕ) → parsed_path path ≡ Ok text → text ≡ path
 parsed_is path text e = by _ _ e
   where
-    by : (empty long : Bool) → unless ((empty, Rattle.vt_spec.specs.declared.errors.Rule.TheVariants.W1) ∷ (long, W2) ∷ [])
+    by : (empty long : Bool) → unless
+        ((empty, Rattle.vt_spec.specs.declared.errors.Rule.TheVariants.W1) ∷ (long, W2) ∷ [])
         (Ok path) ≡ Ok text → text ≡ path
     by true long e = cc
     by false true e = cc
     by false false e = cc
 
 -- what follows, where walks are cut in another way
-then_again : {A B C : Type 0} (first : Result A (Machine.Stop ℕ)) (f : A → Result B (Machine.Stop ℕ)) (g : B → Result C (Machine.Stop ℕ))
+then_again : {A B C : Type 0} (first : Result A (Machine.Stop ℕ)) (f : A → Result B (Machine.Stop ℕ))
+    (g : B → Result C (Machine.Stop ℕ))
     → Machine.then_walk (Machine.then_walk first f) g ≡ Machine.then_walk first (λ a. Machine.then_walk (f a) g)
 then_again (Ok a) f g = refl
 then_again (Err stop) f g = refl
@@ -141,17 +145,21 @@ module _ (beside : Beside) (world : World ℕ) (entry : TaskName × Task ℕ) (f
   up_alike here is =
       ⊎_elim
       (λ t. ap (λ b. cond (b || b) (Ok (location_there here))
-      (unless ((Machine.is_lost nat_eq there (location_there here), W8) ∷ []) (Ok (location_there (parent_in here (tree.node here)))))) t.0
+      (unless ((Machine.is_lost nat_eq there (location_there here), W8) ∷ [])
+      (Ok (location_there (parent_in here (tree.node here)))))) t.0
       ∙ ap (λ number. Ok (location_there number))
       (sym (ap (λ number. parent_in number (tree.node number)) t.1 ∙ fit.whole.root_parent ∙ sym t.1)))
       (λ t. ap (λ b. cond (b || b) (Ok (location_there here))
-      (unless ((Machine.is_lost nat_eq there (location_there here), W8) ∷ []) (Ok (location_there (parent_in here (tree.node here)))))) t.0
+      (unless ((Machine.is_lost nat_eq there (location_there here), W8) ∷ [])
+      (Ok (location_there (parent_in here (tree.node here)))))) t.0
       ∙ ap (λ b. unless ((b, W8) ∷ []) (Ok (location_there (parent_in here (tree.node here))))) (not_lost here is))
       (eqb_tells here tree.root)
 
   dots_alike : (here : ℕ) → IsDirectory tree here
-      → Machine.stepped nat_eq there task (location_there here) DotDot ≡ Ok (location_there (parent_in here (tree.node here)))
-  dots_alike here is = ap (λ hops. Machine.up_from nat_eq there task (last_or (location_there here) hops)) (no_hops here) ∙ up_alike here is
+      → Machine.stepped nat_eq there task (location_there here) DotDot
+      ≡ Ok (location_there (parent_in here (tree.node here)))
+  dots_alike here is = ap (λ hops. Machine.up_from nat_eq there task (last_or (location_there here) hops))
+      (no_hops here) ∙ up_alike here is
 
   -- where a step leads, in the one mount
   abbrev located : Result ℕ Deny → Result (Location ℕ) Deny
@@ -166,30 +174,41 @@ module _ (beside : Beside) (world : World ℕ) (entry : TaskName × Task ℕ) (f
   stepped_alike here DotDot is = dots_alike here is
   stepped_alike here (Named name) is = by (entry_named name (entries_in (tree.node here)))
     where
-      by : (o : Option ℕ) → ok_or (option_map (topmost nat_eq there.mounts) (option_map location_there o)) (denial W6) ≡ located
+      by : (o : Option ℕ) → ok_or (option_map (topmost nat_eq there.mounts) (option_map location_there o)) (denial W6)
+          ≡ located
           (ok_or o (denial W6))
       by None = refl
       by (Some number) = refl
 
   -- a search of a directory, and a step from there
-  searched_alike : (is searched : Bool) (small : Result ℕ Deny) (big : Result (Location ℕ) Deny) (left : ℕ) (steps : Steps)
+  searched_alike : (is searched : Bool) (small : Result ℕ Deny) (big : Result (Location ℕ) Deny) (left : ℕ)
+      (steps : Steps)
       → (is ≡ true → big ≡ located small)
-      → EndsAlike here_there (unless ((not is, W3) ∷ (not searched, W4) ∷ []) (and_then small (λ next. Ok (record { node = next; left = left }))))
-      (Machine.stopped_by steps (and_then (unless ((not is, W3) ∷ (not searched, W4) ∷ (false, W5) ∷ []) big) (λ reached. Ok (record { location = reached; left = left; steps = steps }))))
+      → EndsAlike here_there (unless ((not is, W3) ∷ (not searched, W4) ∷ [])
+      (and_then small (λ next. Ok (record { node = next; left = left }))))
+      (Machine.stopped_by steps (and_then (unless ((not is, W3) ∷ (not searched, W4) ∷ (false, W5) ∷ []) big)
+      (λ reached. Ok (record { location = reached; left = left; steps = steps }))))
   searched_alike false searched small big left steps same = refl
   searched_alike true false small big left steps same = refl
   searched_alike true true small big left steps same =
-      subst (λ b. EndsAlike here_there (and_then small (λ next. Ok (record { node = next; left = left }))) (Machine.stopped_by steps (and_then b (λ reached. Ok (record { location = reached; left = left; steps = steps }))))) (sym (same refl)) (by small)
+      subst (λ b. EndsAlike here_there (and_then small (λ next. Ok (record { node = next; left = left })))
+      (Machine.stopped_by steps (and_then b
+      (λ reached. Ok (record { location = reached; left = left; steps = steps }))))) (sym (same refl)) (by small)
     where
-      by : (small : Result ℕ Deny) → EndsAlike here_there (and_then small (λ next. Ok (record { node = next; left = left }))) (Machine.stopped_by steps (and_then (located small) (λ reached. Ok (record { location = reached; left = left; steps = steps }))))
+      by : (small : Result ℕ Deny) → EndsAlike here_there
+          (and_then small (λ next. Ok (record { node = next; left = left })))
+          (Machine.stopped_by steps (and_then (located small)
+          (λ reached. Ok (record { location = reached; left = left; steps = steps }))))
       by (Ok number) = (steps, refl)
       by (Err deny) = refl
 
   -- a word is walked alike
   word_alike : (here : Here ℕ) (steps : Steps) (word : LastWord)
-      → EndsAlike here_there (word_walked tree who here word) (Machine.word_walked nat_eq there task (here_there here steps) word)
+      → EndsAlike here_there (word_walked tree who here word)
+      (Machine.word_walked nat_eq there task (here_there here steps) word)
   word_alike here steps word =
-      searched_alike (is_directory_at tree here.node) (may tree who here.node execute_right) (stepped tree here.node word)
+      searched_alike (is_directory_at tree here.node) (may tree who here.node execute_right)
+      (stepped tree here.node word)
       (Machine.stepped nat_eq there task (location_there here.node) word) here.left
       (Machine.steps_with nat_eq there task (here_there here steps) word)
       (stepped_alike here.node word)
@@ -198,7 +217,8 @@ module _ (beside : Beside) (world : World ℕ) (entry : TaskName × Task ℕ) (f
   abbrev FollowAlike : Follow ℕ → Machine.Follow ℕ → Type 0
   FollowAlike follow other =
       (directory : ℕ) (link : Here ℕ) (steps : Steps) (text : List ℕ)
-      → EndsAlike here_there (follow directory link text) (other (location_there directory) (here_there link steps) text)
+      → EndsAlike here_there (follow directory link text)
+      (other (location_there directory) (here_there link steps) text)
 
   -- words are walked alike
   words_alike : (follow : Follow ℕ) (other : Machine.Follow ℕ) → FollowAlike follow other
@@ -229,7 +249,8 @@ module _ (beside : Beside) (world : World ℕ) (entry : TaskName × Task ℕ) (f
       → Machine.start_of task (location_there directory) text ≡ location_there (start_of tree directory text)
   start_alike directory text = by (is_absolute text)
     where
-      by : (b : Bool) → cond b (location_there tree.root) (location_there directory) ≡ location_there (cond b tree.root directory)
+      by : (b : Bool) → cond b (location_there tree.root) (location_there directory)
+          ≡ location_there (cond b tree.root directory)
       by true = refl
       by false = refl
 
@@ -238,7 +259,12 @@ module _ (beside : Beside) (world : World ℕ) (entry : TaskName × Task ℕ) (f
       ≡ here_there (symlink_start tree directory link text)
       (Machine.symlink_start nat_eq there task (location_there directory) (here_there link steps) text).steps
   link_start_alike directory link steps text =
-      λ i. record { location = start_alike directory text i; left = link.left - 1; steps = (Machine.symlink_start nat_eq there task (location_there directory) (here_there link steps) text).steps }
+      λ i. record {
+        location = start_alike directory text i;
+        left = link.left - 1;
+        steps =
+            (Machine.symlink_start nat_eq there task (location_there directory) (here_there link steps) text).steps;
+      }
 
   walk_start_alike : (text : List ℕ) → Machine.walk_start task text ≡ here_there (walk_start tree) []
   walk_start_alike text = λ i. record { location = by (is_absolute text) i; left = most_symlinks; steps = [] }
@@ -248,7 +274,8 @@ module _ (beside : Beside) (world : World ℕ) (entry : TaskName × Task ℕ) (f
       by false = refl
 
   -- a slash behind asks for the same
-  slash_same : (path : List ℕ) (here : ℕ) → Machine.slash_rules nat_eq there path (location_there here) ≡ slash_rules tree path here
+  slash_same : (path : List ℕ) (here : ℕ)
+      → Machine.slash_rules nat_eq there path (location_there here) ≡ slash_rules tree path here
   slash_same path here = ap (λ b. (b, W3) ∷ []) (by (ends_in_slash path) (not (is_directory_at tree here)))
     where
       by : (a b : Bool) → cond a b false ≡ (a && b)
@@ -257,7 +284,8 @@ module _ (beside : Beside) (world : World ℕ) (entry : TaskName × Task ℕ) (f
 
   slash_alike : (path : List ℕ) (here : Here ℕ) (steps : Steps)
       → EndsAlike here_there (unless (slash_rules tree path here.node) (Ok here))
-      (Machine.walk_unless steps (Machine.slash_rules nat_eq there path (location_there here.node)) (here_there here steps))
+      (Machine.walk_unless steps (Machine.slash_rules nat_eq there path (location_there here.node))
+      (here_there here steps))
   slash_alike path here steps =
       subst (λ rows. EndsAlike here_there (unless (slash_rules tree path here.node) (Ok here))
       (Machine.walk_unless steps rows (here_there here steps))) (sym (slash_same path here.node))
@@ -279,7 +307,8 @@ module _ (beside : Beside) (world : World ℕ) (entry : TaskName × Task ℕ) (f
       unless (slash_rules tree text reached.node) (Ok reached)))
       (Machine.then_walk
       (Machine.words_walked nat_eq there task
-      (λ inside next inner. Machine.symlink_walked nat_eq depth there task inside next inner) start (reverse (words text))) (λ reached.
+      (λ inside next inner. Machine.symlink_walked nat_eq depth there task inside next inner) start
+      (reverse (words text))) (λ reached.
       Machine.walk_unless reached.steps (Machine.slash_rules nat_eq there text reached.location) reached)))
       (sym (link_start_alike directory link steps text))
       (then_alike here_there here_there _ _ (λ reached. unless (slash_rules tree text reached.node) (Ok reached)) _
@@ -298,9 +327,11 @@ module _ (beside : Beside) (world : World ℕ) (entry : TaskName × Task ℕ) (f
       → EndsAlike image (and_then (parsed_path path) (λ text. and_then (path_walked tree who text) (f text)))
       (Machine.then_walk (Machine.path_walked nat_eq there task path) g)
   path_alike image path f g alike =
-      subst (λ r. EndsAlike image (and_then (parsed_path path) (λ text. and_then (path_walked tree who text) (f text))) r)
+      subst (λ r. EndsAlike image (and_then (parsed_path path)
+      (λ text. and_then (path_walked tree who text) (f text))) r)
       (sym (then_again (Machine.path_text path)
-      (λ text. Machine.words_walked nat_eq there task (Machine.followed nat_eq there task) (Machine.walk_start task text)
+      (λ text. Machine.words_walked nat_eq there task (Machine.followed nat_eq there task)
+      (Machine.walk_start task text)
       (reverse (words text))) g))
       (by (parsed_path path) (parsed_is path))
     where
@@ -312,7 +343,8 @@ module _ (beside : Beside) (world : World ℕ) (entry : TaskName × Task ℕ) (f
           subst (λ start. EndsAlike here_there (path_walked tree who text)
           (Machine.words_walked nat_eq there task (Machine.followed nat_eq there task) start (reverse (words text))))
           (sym (walk_start_alike text))
-          (words_alike (followed tree who) (Machine.followed nat_eq there task) followed_alike (walk_start tree) (reverse (words text)) [])
+          (words_alike (followed tree who) (Machine.followed nat_eq there task) followed_alike (walk_start tree)
+          (reverse (words text)) [])
 
       by : (parsed : Result (List ℕ) Deny) → ((text : List ℕ) → parsed ≡ Ok text → text ≡ path)
           → EndsAlike image (and_then parsed (λ text. and_then (path_walked tree who text) (f text)))
@@ -323,10 +355,12 @@ module _ (beside : Beside) (world : World ℕ) (entry : TaskName × Task ℕ) (f
       by (Err deny) is = refl
       by (Ok text) is =
           then_alike here_there image (path_walked tree who text) _ (f text) g (walked text)
-          (λ here steps e. subst (λ t. EndsAlike image (f t here) (g (here_there here steps))) (sym (is text refl)) (alike here steps))
+          (λ here steps e. subst (λ t. EndsAlike image (f t here) (g (here_there here steps))) (sym (is text refl))
+          (alike here steps))
 
   -- walks to an object end alike
-  pub object_walk_alike : (path : List ℕ) → EndsAlike here_there (object_walk tree who path) (Machine.object_walk nat_eq there task path)
+  pub object_walk_alike : (path : List ℕ)
+      → EndsAlike here_there (object_walk tree who path) (Machine.object_walk nat_eq there task path)
   object_walk_alike path =
       path_alike here_there path (λ text here. unless (slash_rules tree text here.node) (Ok here)) _ (slash_alike path)
 
@@ -335,7 +369,8 @@ module _ (beside : Beside) (world : World ℕ) (entry : TaskName × Task ℕ) (f
       → EndsAlike here_there (directory_walk tree who path) (Machine.directory_walk nat_eq there task path)
   directory_walk_alike path =
       path_alike here_there path (λ text here. unless ((not (is_directory_at tree here.node), W3) ∷ []) (Ok here)) _
-      (λ here steps. rules_end here_there steps ((not (is_directory_at tree here.node), W3) ∷ []) here (here_there here steps) steps refl)
+      (λ here steps. rules_end here_there steps ((not (is_directory_at tree here.node), W3) ∷ []) here
+      (here_there here steps) steps refl)
 
   -- all words but the last
   front_alike : (start : Here ℕ) (words : List (List ℕ)) (steps : Steps)
@@ -346,8 +381,10 @@ module _ (beside : Beside) (world : World ℕ) (entry : TaskName × Task ℕ) (f
       words_alike (followed tree who) (Machine.followed nat_eq there task) followed_alike start front steps
 
   -- the front of a path
-  path_front_alike : (text : List ℕ) → EndsAlike here_there (front_walked tree who (walk_start tree) (reverse (words text)))
-      (Machine.front_walked nat_eq there task (Machine.followed nat_eq there task) (Machine.walk_start task text) (reverse (words text)))
+  path_front_alike : (text : List ℕ)
+      → EndsAlike here_there (front_walked tree who (walk_start tree) (reverse (words text)))
+      (Machine.front_walked nat_eq there task (Machine.followed nat_eq there task) (Machine.walk_start task text)
+      (reverse (words text)))
   path_front_alike text =
       subst (λ start. EndsAlike here_there (front_walked tree who (walk_start tree) (reverse (words text)))
       (Machine.front_walked nat_eq there task (Machine.followed nat_eq there task) start (reverse (words text))))
@@ -355,14 +392,16 @@ module _ (beside : Beside) (world : World ℕ) (entry : TaskName × Task ℕ) (f
 
   -- a last word
   last_alike : (here : Here ℕ) (steps : Steps) (word : LastWord)
-      → EndsAlike here_there (last_walked tree who here word) (Machine.last_walked nat_eq there task (here_there here steps) word)
+      → EndsAlike here_there (last_walked tree who here word)
+      (Machine.last_walked nat_eq there task (here_there here steps) word)
   last_alike here steps NoWord = (steps, refl)
   last_alike here steps Dot = word_alike here steps Dot
   last_alike here steps DotDot = word_alike here steps DotDot
   last_alike here steps (Named name) = word_alike here steps (Named name)
 
   -- walks to an object or a link end alike
-  pub link_walk_alike : (path : List ℕ) → EndsAlike here_there (symlink_walk tree who path) (Machine.symlink_walk nat_eq there task path)
+  pub link_walk_alike : (path : List ℕ)
+      → EndsAlike here_there (symlink_walk tree who path) (Machine.symlink_walk nat_eq there task path)
   link_walk_alike path = by (ends_in_slash path)
     where
       by : (slash : Bool)
@@ -393,43 +432,65 @@ module _ (beside : Beside) (world : World ℕ) (entry : TaskName × Task ℕ) (f
 
   -- a last word names the same
   placed_alike : (here : Here ℕ) (steps : Steps) (word : LastWord) (slash : Bool)
-      → EndsAlike place_there (placed tree who here.node word slash) (Machine.placed nat_eq there task (here_there here steps) word slash)
+      → EndsAlike place_there (placed tree who here.node word slash)
+      (Machine.placed nat_eq there task (here_there here steps) word slash)
   placed_alike here steps NoWord slash = (steps, refl)
   placed_alike here steps Dot slash =
-      searched_place (is_directory_at tree here.node) (may tree who here.node execute_right) (record { parent = here.node; last = Dot; object = Some here.node; slash = slash })
-      (Ok (Some (location_there here.node))) (Machine.steps_at nat_eq there task (here_there here steps) Dot) (λ is. refl)
+      searched_place (is_directory_at tree here.node) (may tree who here.node execute_right)
+      (record { parent = here.node; last = Dot; object = Some here.node; slash = slash })
+      (Ok (Some (location_there here.node))) (Machine.steps_at nat_eq there task (here_there here steps) Dot)
+      (λ is. refl)
   placed_alike here steps DotDot slash =
-      searched_place (is_directory_at tree here.node) (may tree who here.node execute_right) (record { parent = here.node; last = DotDot; object = object_named tree here.node DotDot; slash = slash })
+      searched_place (is_directory_at tree here.node) (may tree who here.node execute_right)
+      (record { parent = here.node; last = DotDot; object = object_named tree here.node DotDot; slash = slash })
       (Machine.object_named nat_eq there task (location_there here.node) DotDot)
       (Machine.steps_at nat_eq there task (here_there here steps) DotDot)
       (λ is. ap (λ r. and_then r (λ parent. Ok (Some parent))) (dots_alike here.node is))
   placed_alike here steps (Named name) slash =
-      searched_place (is_directory_at tree here.node) (may tree who here.node execute_right) (record { parent = here.node; last = Named name; object = object_named tree here.node (Named name); slash = slash })
+      searched_place (is_directory_at tree here.node) (may tree who here.node execute_right)
+      (record {
+        parent = here.node;
+        last = Named name;
+        object = object_named tree here.node
+            (Named name);
+        slash = slash;
+      })
       (Machine.object_named nat_eq there task (location_there here.node) (Named name))
       (Machine.steps_at nat_eq there task (here_there here steps) (Named name)) (λ is. refl)
 
   -- it is a place
   placed_is : (here : ℕ) (word : LastWord) (slash : Bool) → IfOk (placed tree who here word slash) (IsPlace tree)
   placed_is here NoWord slash = refl
-  placed_is here Dot slash = ifok_unless (IsPlace tree) (search_rules tree who here) (record { parent = here; last = Dot; object = Some here; slash = slash }) refl
-  placed_is here DotDot slash = ifok_unless (IsPlace tree) (search_rules tree who here) (record { parent = here; last = DotDot; object = object_named tree here DotDot; slash = slash }) refl
+  placed_is here Dot slash = ifok_unless (IsPlace tree) (search_rules tree who here)
+      (record { parent = here; last = Dot; object = Some here; slash = slash }) refl
+  placed_is here DotDot slash = ifok_unless (IsPlace tree) (search_rules tree who here)
+      (record { parent = here; last = DotDot; object = object_named tree here DotDot; slash = slash }) refl
   placed_is here (Named name) slash = by (is_directory_at tree here) refl (may tree who here execute_right)
     where
       by : (is : Bool) → is_directory_at tree here ≡ is → (searched : Bool)
-          → IfOk (unless ((not is, W3) ∷ (not searched, W4) ∷ []) (Ok (record { parent = here; last = Named name; object = object_named tree here (Named name); slash = slash }))) (IsPlace tree)
+          → IfOk (unless ((not is, W3) ∷ (not searched, W4) ∷ [])
+          (Ok (record {
+            parent = here;
+            last = Named name;
+            object = object_named tree here
+                (Named name);
+            slash = slash;
+          }))) (IsPlace tree)
       by false e searched = tt
       by true e false = tt
       by true e true = (e, refl)
 
   -- walks to a place end alike
-  place_walk_alike : (path : List ℕ) → EndsAlike place_there (new_walk tree who path) (Machine.place_walk nat_eq there task path)
+  place_walk_alike : (path : List ℕ)
+      → EndsAlike place_there (new_walk tree who path) (Machine.place_walk nat_eq there task path)
   place_walk_alike path =
       parsed_alike place_there (parsed_path path)
       (λ text. and_then (front_walked tree who (walk_start tree) (reverse (words text)))
       (λ here. placed tree who here.node (final_word (reverse (words text))) (ends_in_slash text))) _ (λ text.
       then_alike here_there place_there (front_walked tree who (walk_start tree) (reverse (words text))) _
       (λ here. placed tree who here.node (final_word (reverse (words text))) (ends_in_slash text)) _
-      (path_front_alike text) (λ here steps e. placed_alike here steps (final_word (reverse (words text))) (ends_in_slash text)))
+      (path_front_alike text) (λ here steps e.
+      placed_alike here steps (final_word (reverse (words text))) (ends_in_slash text)))
 
   pub new_walk_is : (path : List ℕ) → IfOk (new_walk tree who path) (IsPlace tree)
   new_walk_is path =
@@ -440,7 +501,8 @@ module _ (beside : Beside) (world : World ℕ) (entry : TaskName × Task ℕ) (f
   -- a name that is missing is in no removed directory
   kept_place : (place : Place ℕ) (steps : Steps) → IsPlace tree place
       → EndsAlike place_there (Ok place)
-      (Machine.walk_unless steps (Machine.new_name_rules nat_eq there (place_there place steps)) (place_there place steps))
+      (Machine.walk_unless steps (Machine.new_name_rules nat_eq there (place_there place steps))
+      (place_there place steps))
   kept_place place steps is =
       subst (λ b. EndsAlike place_there (Ok place) (Machine.walk_unless steps ((b, W8) ∷ []) (place_there place steps)))
       (sym (by place.last place.object is)) (steps, refl)
@@ -464,21 +526,26 @@ module _ (beside : Beside) (world : World ℕ) (entry : TaskName × Task ℕ) (f
       by (Named name) object is = any object _ (not_removed tree fit.whole place.parent is.0)
 
   -- walks to a new name end alike
-  pub new_walk_alike : (path : List ℕ) → EndsAlike place_there (new_walk tree who path) (Machine.new_walk nat_eq there task path)
+  pub new_walk_alike : (path : List ℕ)
+      → EndsAlike place_there (new_walk tree who path) (Machine.new_walk nat_eq there task path)
   new_walk_alike path =
-      then_same place_there (new_walk tree who path) (Machine.place_walk nat_eq there task path) _ (place_walk_alike path)
+      then_same place_there (new_walk tree who path) (Machine.place_walk nat_eq there task path) _
+      (place_walk_alike path)
       (λ place steps e. kept_place place steps (subst (λ r. IfOk r (IsPlace tree)) e (new_walk_is path)))
 
   -- a table more at the end
-  end_alike : (first : Result (Place ℕ) Deny) (other : Result (Machine.Place ℕ) (Machine.Stop ℕ)) (rows : Place ℕ → Rules)
+  end_alike : (first : Result (Place ℕ) Deny) (other : Result (Machine.Place ℕ) (Machine.Stop ℕ))
+      (rows : Place ℕ → Rules)
       (more : Machine.Place ℕ → Rules)
-      → ((place : Place ℕ) (steps : Steps) → more (place_there place steps) ≡ rows place) → EndsAlike place_there first other
+      → ((place : Place ℕ) (steps : Steps) → more (place_there place steps) ≡ rows place)
+      → EndsAlike place_there first other
       → EndsAlike place_there (and_then first (λ place. unless (rows place) (Ok place)))
       (Machine.then_walk other (λ place. Machine.walk_unless place.steps (more place) place))
   end_alike first other rows more same alike =
       then_alike place_there place_there first other (λ place. unless (rows place) (Ok place)) _ alike
       (λ place steps e. subst
-      (λ r. EndsAlike place_there (unless (rows place) (Ok place)) (Machine.walk_unless steps r (place_there place steps)))
+      (λ r. EndsAlike place_there (unless (rows place) (Ok place))
+      (Machine.walk_unless steps r (place_there place steps)))
       (sym (same place steps))
       (rules_end place_there steps (rows place) place (place_there place steps) steps refl))
 
@@ -487,7 +554,8 @@ module _ (beside : Beside) (world : World ℕ) (entry : TaskName × Task ℕ) (f
   missing_same (Some number) = refl
 
   directory_same : (object : Option ℕ)
-      → Rattle.vt_spec.specs.Lists.holds_of (MachineWorld.is_directory_at nat_eq there) (option_map location_there object)
+      → Rattle.vt_spec.specs.Lists.holds_of (MachineWorld.is_directory_at nat_eq there)
+      (option_map location_there object)
       ≡ Rattle.vt_spec.specs.Lists.holds_of (is_directory_at tree) object
   directory_same None = refl
   directory_same (Some number) = refl
@@ -496,10 +564,12 @@ module _ (beside : Beside) (world : World ℕ) (entry : TaskName × Task ℕ) (f
       → EndsAlike place_there (new_leaf_walk tree who path) (Machine.new_leaf_walk nat_eq there task path)
   new_leaf_walk_alike path =
       end_alike (new_walk tree who path) (Machine.new_walk nat_eq there task path)
-      (λ place. (place.slash && not (is_some place.object), W6) ∷ []) (λ place. (place.slash && not (is_some place.object), W6) ∷ [])
+      (λ place. (place.slash && not (is_some place.object), W6) ∷ [])
+      (λ place. (place.slash && not (is_some place.object), W6) ∷ [])
       (λ place steps. ap (λ b. (place.slash && not b, W6) ∷ []) (missing_same place.object)) (new_walk_alike path)
 
-  pub old_walk_alike : (path : List ℕ) → EndsAlike place_there (old_walk tree who path) (Machine.old_walk nat_eq there task path)
+  pub old_walk_alike : (path : List ℕ)
+      → EndsAlike place_there (old_walk tree who path) (Machine.old_walk nat_eq there task path)
   old_walk_alike path =
       end_alike (new_walk tree who path) (Machine.place_walk nat_eq there task path)
       (λ place. (not (is_some place.object), W6) ∷ []) (λ place. (not (is_some place.object), W6) ∷ [])
@@ -518,7 +588,8 @@ module _ (beside : Beside) (world : World ℕ) (entry : TaskName × Task ℕ) (f
       (Removing.rename_new_walk nat_eq there task path old_is_directory)
   rename_new_walk_alike path old_is_directory =
       end_alike (new_walk tree who path) (Machine.new_walk nat_eq there task path)
-      (λ place. (place.slash && not old_is_directory, W3) ∷ []) (λ place. (place.slash && not old_is_directory, W3) ∷ [])
+      (λ place. (place.slash && not old_is_directory, W3) ∷ [])
+      (λ place. (place.slash && not old_is_directory, W3) ∷ [])
       (λ place steps. refl) (new_walk_alike path)
 
   -- The place of a file
@@ -527,7 +598,8 @@ module _ (beside : Beside) (world : World ℕ) (entry : TaskName × Task ℕ) (f
   abbrev then_followed : ℕ → Bool → Here ℕ → Place ℕ → Steps → List ℕ → Result (Machine.Place ℕ) (Machine.Stop ℕ)
   then_followed depth slash here place met inner =
       Machine.then_walk
-      (Machine.walk_unless met (Machine.follow_rules nat_eq there (Machine.symlink_of (here_there here []) (place_there place met)) inner)
+      (Machine.walk_unless met (Machine.follow_rules nat_eq there
+      (Machine.symlink_of (here_there here []) (place_there place met)) inner)
       (Machine.symlink_start nat_eq there task (location_there here.node)
       (Machine.symlink_of (here_there here []) (place_there place met)) inner))
       (λ next. Machine.file_walked nat_eq depth there task next inner slash)
@@ -541,29 +613,35 @@ module _ (beside : Beside) (world : World ℕ) (entry : TaskName × Task ℕ) (f
       (λ here. and_then (placed tree who here.node (final_word (reverse (words text))) (slash || ends_in_slash text))
       (λ place. file_or_symlink place (symlink_there tree place) (λ inner.
       unless (follow_rules (symlink_of here place) inner)
-      (file_walked depth tree who (symlink_start tree here.node (symlink_of here place) inner) inner (slash || ends_in_slash text))))) _
+      (file_walked depth tree who (symlink_start tree here.node (symlink_of here place) inner) inner
+      (slash || ends_in_slash text))))) _
       (front_alike start (reverse (words text)) steps)
       (λ here on e. then_alike place_there place_there
       (placed tree who here.node (final_word (reverse (words text))) (slash || ends_in_slash text)) _
       (λ place. file_or_symlink place (symlink_there tree place) (λ inner.
       unless (follow_rules (symlink_of here place) inner)
-      (file_walked depth tree who (symlink_start tree here.node (symlink_of here place) inner) inner (slash || ends_in_slash text)))) _
+      (file_walked depth tree who (symlink_start tree here.node (symlink_of here place) inner) inner
+      (slash || ends_in_slash text)))) _
       (placed_alike here on (final_word (reverse (words text))) (slash || ends_in_slash text))
-      (λ place met e. by here place met place.object (λ next way inner. file_alike depth next way inner (slash || ends_in_slash text))))
+      (λ place met e. by here place met place.object
+      (λ next way inner. file_alike depth next way inner (slash || ends_in_slash text))))
     where
       by : (here : Here ℕ) (place : Place ℕ) (met : Steps) (object : Option ℕ)
           → ((next : Here ℕ) (way : Steps) (inner : List ℕ)
           → EndsAlike place_there (file_walked depth tree who next inner (slash || ends_in_slash text))
           (Machine.file_walked nat_eq depth there task (here_there next way) inner (slash || ends_in_slash text)))
           → EndsAlike place_there
-          (file_or_symlink (record place { object = object }) (symlink_there tree (record place { object = object })) (λ inner.
+          (file_or_symlink (record place { object = object }) (symlink_there tree (record place { object = object }))
+          (λ inner.
           unless (follow_rules (symlink_of here (record place { object = object })) inner)
           (file_walked depth tree who
-          (symlink_start tree here.node (symlink_of here (record place { object = object })) inner) inner (slash || ends_in_slash text))))
+          (symlink_start tree here.node (symlink_of here (record place { object = object })) inner) inner
+          (slash || ends_in_slash text))))
           (Machine.file_or_symlink nat_eq there (place_there (record place { object = object }) met)
           (Machine.symlink_there nat_eq there (place_there (record place { object = object }) met))
           (then_followed depth (slash || ends_in_slash text) here (record place { object = object }) met))
-      by here place met None later = ((Machine.entered nat_eq there (place_there (record place { object = None }) met)).steps, refl)
+      by here place met None later =
+          ((Machine.entered nat_eq there (place_there (record place { object = None }) met)).steps, refl)
       by here place met (Some object) later = inside (symlink_text (tree.node object))
         where
           inside : (found : Option (List ℕ))
@@ -575,11 +653,18 @@ module _ (beside : Beside) (world : World ℕ) (entry : TaskName × Task ℕ) (f
               (slash || ends_in_slash text))))
               (Machine.file_or_symlink nat_eq there (place_there (record place { object = Some object }) met) found
               (then_followed depth (slash || ends_in_slash text) here (record place { object = Some object }) met))
-          inside None = ((Machine.entered nat_eq there (place_there (record place { object = Some object }) met)).steps, refl)
+          inside None = (
+            (Machine.entered nat_eq there
+                (place_there (record place { object = Some object }) met)).steps,
+            refl,
+          )
           inside (Some inner) =
               rules_then place_there met (follow_rules (record { node = object; left = here.left }) inner)
-              (file_walked depth tree who (symlink_start tree here.node (record { node = object; left = here.left }) inner) inner (slash || ends_in_slash text)) _ _
-              (subst (λ start. EndsAlike place_there (file_walked depth tree who (symlink_start tree here.node (record { node = object; left = here.left }) inner) inner (slash || ends_in_slash text))
+              (file_walked depth tree who (symlink_start tree here.node
+              (record { node = object; left = here.left }) inner) inner (slash || ends_in_slash text)) _ _
+              (subst (λ start. EndsAlike place_there
+              (file_walked depth tree who (symlink_start tree here.node
+              (record { node = object; left = here.left }) inner) inner (slash || ends_in_slash text))
               (Machine.file_walked nat_eq depth there task start inner (slash || ends_in_slash text)))
               (sym (link_start_alike here.node (record { node = object; left = here.left }) met inner))
               (later (symlink_start tree here.node (record { node = object; left = here.left }) inner) _ inner))
@@ -590,9 +675,12 @@ module _ (beside : Beside) (world : World ℕ) (entry : TaskName × Task ℕ) (f
   file_walked_is zero start text slash = tt
   file_walked_is (suc depth) start text slash =
       ifok_then (IsPlace tree) (front_walked tree who start (reverse (words text))) _ (λ here e.
-      ifok_then (IsPlace tree) (placed tree who here.node (final_word (reverse (words text))) (slash || ends_in_slash text)) _ (λ place e.
-      by here place (symlink_there tree place) (λ next inner. file_walked_is depth next inner (slash || ends_in_slash text))
-      (subst (λ r. IfOk r (IsPlace tree)) e (placed_is here.node (final_word (reverse (words text))) (slash || ends_in_slash text)))))
+      ifok_then (IsPlace tree) (placed tree who here.node (final_word (reverse (words text)))
+      (slash || ends_in_slash text)) _ (λ place e.
+      by here place (symlink_there tree place)
+      (λ next inner. file_walked_is depth next inner (slash || ends_in_slash text))
+      (subst (λ r. IfOk r (IsPlace tree)) e
+      (placed_is here.node (final_word (reverse (words text))) (slash || ends_in_slash text)))))
     where
       ruled : (rows : Rules) (r : Result (Place ℕ) Deny) → IfOk r (IsPlace tree) → IfOk (unless rows r) (IsPlace tree)
       ruled [] r is = is
@@ -601,28 +689,34 @@ module _ (beside : Beside) (world : World ℕ) (entry : TaskName × Task ℕ) (f
 
       by : (here : Here ℕ) (place : Place ℕ) (o : Option (List ℕ))
           → ((next : Here ℕ) (inner : List ℕ)
-          → IfOk (file_walked depth tree who next inner (slash || ends_in_slash text)) (IsPlace tree)) → IsPlace tree place
+          → IfOk (file_walked depth tree who next inner (slash || ends_in_slash text)) (IsPlace tree))
+          → IsPlace tree place
           → IfOk (file_or_symlink place o
           (λ inner. unless (follow_rules (symlink_of here place) inner)
           (file_walked depth tree who (symlink_start tree here.node (symlink_of here place) inner) inner
           (slash || ends_in_slash text)))) (IsPlace tree)
       by here place None later is = is
       by here place (Some inner) later is =
-          ruled (follow_rules (symlink_of here place) inner) _ (later (symlink_start tree here.node (symlink_of here place) inner) inner)
+          ruled (follow_rules (symlink_of here place) inner) _
+          (later (symlink_start tree here.node (symlink_of here place) inner) inner)
 
   pub file_walk_is : (path : List ℕ) → IfOk (file_walk tree who path) (IsPlace tree)
-  file_walk_is path = ifok_then (IsPlace tree) (parsed_path path) _ (λ text e. file_walked_is 41 (walk_start tree) text false)
+  file_walk_is path = ifok_then (IsPlace tree) (parsed_path path) _
+      (λ text e. file_walked_is 41 (walk_start tree) text false)
 
   -- walks to a file end alike
-  pub file_walk_alike : (path : List ℕ) → EndsAlike place_there (file_walk tree who path) (Machine.file_walk nat_eq there task path)
+  pub file_walk_alike : (path : List ℕ)
+      → EndsAlike place_there (file_walk tree who path) (Machine.file_walk nat_eq there task path)
   file_walk_alike path =
-      parsed_alike place_there (parsed_path path) (λ text. file_walked 41 tree who (walk_start tree) text false) _ (λ text.
+      parsed_alike place_there (parsed_path path) (λ text. file_walked 41 tree who (walk_start tree) text false) _
+      (λ text.
       then_same place_there (file_walked 41 tree who (walk_start tree) text false)
       (Machine.file_walked nat_eq 41 there task (Machine.walk_start task text) text false) _
       (subst (λ start. EndsAlike place_there (file_walked 41 tree who (walk_start tree) text false)
       (Machine.file_walked nat_eq 41 there task start text false)) (sym (walk_start_alike text))
       (file_alike 41 (walk_start tree) [] text false))
-      (λ place steps e. kept_place place steps (subst (λ r. IfOk r (IsPlace tree)) e (file_walked_is 41 (walk_start tree) text false))))
+      (λ place steps e. kept_place place steps
+      (subst (λ r. IfOk r (IsPlace tree)) e (file_walked_is 41 (walk_start tree) text false))))
 
 -- the statements
 pub object_walks_agree : Rattle.vt_one_text.specs.OneTree.ObjectWalksAgree
@@ -647,7 +741,8 @@ pub old_leaf_walks_agree : Rattle.vt_one_text.specs.OneTree.OldLeafWalksAgree
 old_leaf_walks_agree beside world entry path fit = old_leaf_walk_alike beside world entry fit path
 
 pub rename_new_walks_agree : Rattle.vt_one_text.specs.OneTree.RenameNewWalksAgree
-rename_new_walks_agree old_is_directory beside world entry path fit = rename_new_walk_alike beside world entry fit path old_is_directory
+rename_new_walks_agree old_is_directory beside world entry path fit =
+    rename_new_walk_alike beside world entry fit path old_is_directory
 
 pub file_walks_agree : Rattle.vt_one_text.specs.OneTree.FileWalksAgree
 file_walks_agree beside world entry path fit = file_walk_alike beside world entry fit path

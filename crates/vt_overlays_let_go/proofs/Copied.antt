@@ -12,21 +12,25 @@ use Rattle.vt_spec.specs.Tree.{Node, entry_named, entries_in}
 use Rattle.vt_letting_go.proofs.Lists.{Among}
 
 -- one half of some numbers that are no number twice, and the other
-pub even_distinct : (fresh : Fresh ℕ) → ((j k : ℕ) → fresh j ≡ fresh k → j ≡ k) → (j k : ℕ) → evens fresh j ≡ evens fresh k → j ≡ k
+pub even_distinct : (fresh : Fresh ℕ) → ((j k : ℕ) → fresh j ≡ fresh k → j ≡ k) → (j k : ℕ)
+    → evens fresh j ≡ evens fresh k → j ≡ k
 even_distinct fresh distinct j k e = let same = distinct (2 * j) (2 * k) e in omega arith
 
-pub odd_distinct : (fresh : Fresh ℕ) → ((j k : ℕ) → fresh j ≡ fresh k → j ≡ k) → (j k : ℕ) → odds fresh j ≡ odds fresh k → j ≡ k
+pub odd_distinct : (fresh : Fresh ℕ) → ((j k : ℕ) → fresh j ≡ fresh k → j ≡ k) → (j k : ℕ)
+    → odds fresh j ≡ odds fresh k → j ≡ k
 odd_distinct fresh distinct j k e = let same = distinct (2 * j + 1) (2 * k + 1) e in omega arith
 
 -- Copies are real objects of inodes that are there, and each real object in the upper layer stays.
 pub record Grows (before later : Merge ℕ) : Type 0 where
   pub files : later.files ≡ before.files
   pub root : later.upper.tree.root ≡ before.upper.tree.root
-  pub grows : (number object : ℕ) → upper_object (before.real number) ≡ Some object → upper_object (later.real number) ≡ Some object
+  pub grows : (number object : ℕ) → upper_object (before.real number) ≡ Some object
+      → upper_object (later.real number) ≡ Some object
   pub there : (number : ℕ) → is_some (later.real number) ≡ true
       → (is_some (before.real number) ≡ true) ⊎ (is_some (before.files.tree.node number) ≡ true)
   pub numbers : (inode : ℕ) → Among inode later.upper.numbers → Among inode before.upper.numbers
-      ⊎ ((number : ℕ) × (is_some (before.files.tree.node number) ≡ true) × (upper_object (later.real number) ≡ Some inode))
+      ⊎ ((number : ℕ) × (is_some (before.files.tree.node number) ≡ true)
+      × (upper_object (later.real number) ≡ Some inode))
 
 pub grows_not : (merge : Merge ℕ) → Grows merge merge
 grows_not merge = record {
@@ -58,16 +62,22 @@ module _ (merge : Merge ℕ) (object copy : ℕ) (node : Node ℕ) (is_node : me
     (below : is_in_upper merge object ≡ false) where
   abbrev with_copy : FileTree ℕ
   with_copy = with_inode nat_eq merge.upper copy
-      (record { attr = node.attr; content = copied_content (copy_parent merge copy (a_name nat_eq merge.files object)) node.content })
+      (record {
+        attr = node.attr;
+        content = copied_content
+            (copy_parent merge copy (a_name nat_eq merge.files object)) node.content;
+      })
 
   abbrev later_real : ℕ → Option (Real ℕ)
   later_real = with_real nat_eq merge.real object (Upper copy)
 
-  root_named : (named : Option (ℕ × List ℕ)) → (copy_named nat_eq merge copy named with_copy).tree.root ≡ merge.upper.tree.root
+  root_named : (named : Option (ℕ × List ℕ))
+      → (copy_named nat_eq merge copy named with_copy).tree.root ≡ merge.upper.tree.root
   root_named None = refl
   root_named (Some name) = refl
 
-  numbers_named : (named : Option (ℕ × List ℕ)) → (copy_named nat_eq merge copy named with_copy).numbers ≡ copy ∷ merge.upper.numbers
+  numbers_named : (named : Option (ℕ × List ℕ))
+      → (copy_named nat_eq merge copy named with_copy).numbers ≡ copy ∷ merge.upper.numbers
   numbers_named None = refl
   numbers_named (Some name) = refl
 
@@ -80,7 +90,8 @@ module _ (merge : Merge ℕ) (object copy : ℕ) (node : Node ℕ) (is_node : me
     root = root_named (a_name nat_eq merge.files object);
     grows = λ number seen e.
         ⊎_elim
-        (λ same. absurd (true≢false (sym (ap (λ n. is_some (upper_object (merge.real n))) (sym same.1) ∙ ap is_some e) ∙ below)))
+        (λ same. absurd (true≢false (sym (ap (λ n. is_some (upper_object (merge.real n))) (sym same.1) ∙ ap is_some e)
+        ∙ below)))
         (λ other. ap (λ b. upper_object (cond b (Some (Upper copy)) (merge.real number))) other.0 ∙ e)
         (eqb_tells number object);
     there = λ number h.
@@ -96,12 +107,15 @@ module _ (merge : Merge ℕ) (object copy : ℕ) (node : Node ℕ) (is_node : me
   }
 
 -- and all that a change asks for
-grows_each : (fresh : Fresh ℕ) (k : ℕ) (merge : Merge ℕ) (objects : List ℕ) → Grows merge (copied_each nat_eq fresh k merge objects)
+grows_each : (fresh : Fresh ℕ) (k : ℕ) (merge : Merge ℕ) (objects : List ℕ)
+    → Grows merge (copied_each nat_eq fresh k merge objects)
 grows_each fresh k merge [] = grows_not merge
 grows_each fresh k merge (object ∷ rest) =
-    grows_twice merge (copy_of nat_eq merge object (fresh k) (merge.files.tree.node object) (is_in_upper merge object)) _
+    grows_twice merge (copy_of nat_eq merge object (fresh k) (merge.files.tree.node object)
+    (is_in_upper merge object)) _
     (by (merge.files.tree.node object) refl (is_in_upper merge object) refl)
-    (grows_each fresh (k + 1) (copy_of nat_eq merge object (fresh k) (merge.files.tree.node object) (is_in_upper merge object)) rest)
+    (grows_each fresh (k + 1) (copy_of nat_eq merge object (fresh k) (merge.files.tree.node object)
+    (is_in_upper merge object)) rest)
   where
     by : (o : Option (Node ℕ)) → merge.files.tree.node object ≡ o → (b : Bool) → is_in_upper merge object ≡ b
         → Grows merge (copy_of nat_eq merge object (fresh k) o b)
@@ -114,11 +128,13 @@ grows_up fresh merge object = grows_each fresh 0 merge (line_to nat_eq merge.fil
 
 -- Numbers and the root of a tree stay in changes of nodes
 
-pub numbers_parted : (files : FileTree ℕ) (object : Option ℕ) → (without_parent nat_eq files object).numbers ≡ files.numbers
+pub numbers_parted : (files : FileTree ℕ) (object : Option ℕ)
+    → (without_parent nat_eq files object).numbers ≡ files.numbers
 numbers_parted files None = refl
 numbers_parted files (Some object) = refl
 
-pub root_parted : (files : FileTree ℕ) (object : Option ℕ) → (without_parent nat_eq files object).tree.root ≡ files.tree.root
+pub root_parted : (files : FileTree ℕ) (object : Option ℕ)
+    → (without_parent nat_eq files object).tree.root ≡ files.tree.root
 root_parted files None = refl
 root_parted files (Some object) = refl
 
@@ -130,11 +146,13 @@ pub root_emptied : (upper : FileTree ℕ) (object : Option ℕ) → (emptied nat
 root_emptied upper None = refl
 root_emptied upper (Some object) = refl
 
-pub numbers_marked : (mark : Bool) (upper : FileTree ℕ) (object : ℕ) → (marked nat_eq mark upper object).numbers ≡ upper.numbers
+pub numbers_marked : (mark : Bool) (upper : FileTree ℕ) (object : ℕ)
+    → (marked nat_eq mark upper object).numbers ≡ upper.numbers
 numbers_marked true upper object = refl
 numbers_marked false upper object = refl
 
-pub root_marked : (mark : Bool) (upper : FileTree ℕ) (object : ℕ) → (marked nat_eq mark upper object).tree.root ≡ upper.tree.root
+pub root_marked : (mark : Bool) (upper : FileTree ℕ) (object : ℕ)
+    → (marked nat_eq mark upper object).tree.root ≡ upper.tree.root
 root_marked true upper object = refl
 root_marked false upper object = refl
 
@@ -157,7 +175,8 @@ pub numbers_stay : (files : FileTree ℕ) (change : Change ℕ) (inode : ℕ) �
 numbers_stay files (Make directory name number node) inode m = inr m
 numbers_stay files (AddName directory name object) inode m = m
 numbers_stay files (Remove directory name object) inode m = m
-numbers_stay files (Move from old to new object) inode m = subst (Among inode) (sym (numbers_moved files from old to new object)) m
+numbers_stay files (Move from old to new object) inode m =
+    subst (Among inode) (sym (numbers_moved files from old to new object)) m
 numbers_stay files (SetBytes file bytes) inode m = m
 numbers_stay files (SetAttr object attr) inode m = m
 numbers_stay files (SetMark directory opaque) inode m = m

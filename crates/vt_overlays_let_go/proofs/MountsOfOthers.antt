@@ -65,7 +65,8 @@ module _ (world : World ℕ) (whole : IsWorld nat_eq world) where
       ∙ tree_namespace world whole.mounts.one_number
       (λ m n. among_from_all (λ (x : Mount ℕ). Stands nat_eq world x.number) world.mounts whole.mounts.standing m n)
       (length world.mounts) tree.0 (found_itself world.mounts whole.mounts.one_number tree.0 top.0) gone.0 tree.2 in
-      let point = any_among (λ (point : ℕ × ℕ). is_point nat_eq world point.0 point.1 tree.0) (points_of nat_eq world directory) top.1 in
+      let point = any_among (λ (point : ℕ × ℕ). is_point nat_eq world point.0 point.1 tree.0)
+      (points_of nat_eq world directory) top.1 in
       ap (λ o. list_all (nat_eq task.namespace) (option_to_list o)) same
       ∙ by tree.0 top.0 (has_point point.0.0 point.0.1 tree.0 point.2) tree.0.namespace refl
       (none_among (λ (m : Mount ℕ). holds_of (nat_eq task.namespace) m.namespace) tops free tree.0 tree.1)
@@ -110,7 +111,8 @@ module _ (fresh : Fresh ℕ) (world : World ℕ) (whole : IsWorld nat_eq world) 
   rmdir_removes : (path : List ℕ) → Gives Removes (rmdir_permit nat_eq looks task path)
   unfolding rmdir_permit
   rmdir_removes path =
-      gives_walk Removes OldPlace (old_walk nat_eq looks task path) _ (old_walk_found world whole task called path) (λ place is.
+      gives_walk Removes OldPlace (old_walk nat_eq looks task path) _ (old_walk_found world whole task called path)
+      (λ place is.
       gives_unless Removes (rmdir_word_rules place) _ (λ plain.
       gives_unless Removes (rmdir_rules nat_eq looks task place (object_there place)) _ (λ passed.
       (is_reached world whole task place.parent is.0.0, passed.1.1.1.1.1.0))))
@@ -131,7 +133,8 @@ module _ (fresh : Fresh ℕ) (world : World ℕ) (whole : IsWorld nat_eq world) 
   rename_removes : (old new : List ℕ) → Gives Removes (rename_permit nat_eq looks task old new)
   unfolding rename_permit
   rename_removes old new =
-      gives_walk Removes OldPlace (old_leaf_walk nat_eq looks task old) _ (old_leaf_walk_found world whole task called old) (λ from is.
+      gives_walk Removes OldPlace (old_leaf_walk nat_eq looks task old) _
+      (old_leaf_walk_found world whole task called old) (λ from is.
       gives_unless Removes (old_word_rules from) _ (λ plain.
       gives_walk Removes FoundPlace (rename_new_walk nat_eq looks task new (is_directory_there nat_eq looks from)) _
       (rename_new_walk_found world whole task called new (is_directory_there nat_eq looks from)) (λ to found.
@@ -154,7 +157,8 @@ module _ (fresh : Fresh ℕ) (world : World ℕ) (whole : IsWorld nat_eq world) 
       → Removes (ToRename from old to new object (Some replaced))
   from_reached call from old to new object replaced e =
       let for = permits_are_for_their_calls fresh world task call (ToRename from old to new object (Some replaced)) e in
-      given_is Removes (rename_permit nat_eq looks task for.0 for.1) _ (ap judged (sym for.2) ∙ e) (rename_removes for.0 for.1)
+      given_is Removes (rename_permit nat_eq looks task for.0 for.1) _ (ap judged (sym for.2) ∙ e)
+      (rename_removes for.0 for.1)
 
 -- so the mount that it goes through stays
 pub removing_keeps_the_mount : RemovingKeepsTheMount

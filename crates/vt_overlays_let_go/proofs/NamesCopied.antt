@@ -24,7 +24,8 @@ use Rattle.vt_layer_laws.proofs.UpperLine.{ReachedIn, is_reached_in, named_so, r
 use Rattle.vt_letting_go.proofs.Lists.{decided}
 
 -- a place of an entry is another, or is not
-pub one_place : (d directory : ℕ) (n name : List ℕ) → ((d ≡ directory) × (n ≡ name)) ⊎ ((d ≡ directory) → (n ≡ name) → ⊥)
+pub one_place : (d directory : ℕ) (n name : List ℕ)
+    → ((d ≡ directory) × (n ≡ name)) ⊎ ((d ≡ directory) → (n ≡ name) → ⊥)
 one_place d directory n name =
     ⊎_elim
     (λ same. ⊎_elim (λ e. inl (same.1, (bytes_decides n name).0 e))
@@ -34,24 +35,28 @@ one_place d directory n name =
     (eqb_tells d directory)
 
 -- an entry at another place stays
-pub put_same : (files : FileTree ℕ) (directory : ℕ) (name : List ℕ) (number d : ℕ) (n : List ℕ) → ((d ≡ directory) → (n ≡ name) → ⊥)
+pub put_same : (files : FileTree ℕ) (directory : ℕ) (name : List ℕ) (number d : ℕ) (n : List ℕ)
+    → ((d ≡ directory) → (n ≡ name) → ⊥)
     → entry_at (with_name nat_eq files directory name number).tree d n ≡ entry_at files.tree d n
 put_same files directory name number d n differ =
     ⊎_elim
     (λ same. ap (λ m. entry_at (with_name nat_eq files directory name number).tree m n) same.1
-    ∙ ap (λ o. entry_named n (entries_in o)) (node_set files.tree directory (node_with_entry name number (files.tree.node directory)))
+    ∙ ap (λ o. entry_named n (entries_in o))
+    (node_set files.tree directory (node_with_entry name number (files.tree.node directory)))
     ∙ name_stays_put n name number (files.tree.node directory) (differ same.1)
     ∙ ap (λ m. entry_at files.tree m n) (sym same.1))
     (λ other. ap (λ o. entry_named n (entries_in o))
     (node_other files.tree directory (node_with_entry name number (files.tree.node directory)) d other.1))
     (eqb_tells d directory)
 
-pub take_same : (files : FileTree ℕ) (directory : ℕ) (name : List ℕ) (d : ℕ) (n : List ℕ) → ((d ≡ directory) → (n ≡ name) → ⊥)
+pub take_same : (files : FileTree ℕ) (directory : ℕ) (name : List ℕ) (d : ℕ) (n : List ℕ)
+    → ((d ≡ directory) → (n ≡ name) → ⊥)
     → entry_at (without_name nat_eq files directory name).tree d n ≡ entry_at files.tree d n
 take_same files directory name d n differ =
     ⊎_elim
     (λ same. ap (λ m. entry_at (without_name nat_eq files directory name).tree m n) same.1
-    ∙ ap (λ o. entry_named n (entries_in o)) (node_set files.tree directory (node_without_entry name (files.tree.node directory)))
+    ∙ ap (λ o. entry_named n (entries_in o))
+    (node_set files.tree directory (node_without_entry name (files.tree.node directory)))
     ∙ name_stays_without n name (files.tree.node directory) (differ same.1)
     ∙ ap (λ m. entry_at files.tree m n) (sym same.1))
     (λ other. ap (λ o. entry_named n (entries_in o))
@@ -65,8 +70,10 @@ copy_empty parent (Regular bytes) = refl
 copy_empty parent (Symlink text) = refl
 copy_empty parent Whiteout = refl
 
-module _ (files : FileTree ℕ) (tree : IsTree files.tree) (numbers : ListsNumbers nat_eq files) (start : FileTree ℕ) (fresh : Fresh ℕ)
-    (distinct : (j k : ℕ) → fresh j ≡ fresh k → j ≡ k) (spare : ℕ → Type 0) (apart : (k : ℕ) → ¬ (spare (fresh k))) where
+module _ (files : FileTree ℕ) (tree : IsTree files.tree) (numbers : ListsNumbers nat_eq files) (start : FileTree ℕ)
+    (fresh : Fresh ℕ)
+    (distinct : (j k : ℕ) → fresh j ≡ fresh k → j ≡ k) (spare : ℕ → Type 0)
+    (apart : (k : ℕ) → ¬ (spare (fresh k))) where
   abbrev pub MergeOf : (ℕ → Option (Real ℕ)) → FileTree ℕ → Merge ℕ
   MergeOf real upper = record { files = files; real = real; upper = upper }
 
@@ -74,13 +81,14 @@ module _ (files : FileTree ℕ) (tree : IsTree files.tree) (numbers : ListsNumbe
   abbrev pub IsLeft : ℕ → ℕ → Type 0
   IsLeft k inode = ((j : ℕ) × (k ≤ j) × (inode ≡ fresh j)) ⊎ spare inode
 
-  -- All names that there were stand; names of what lies only below are free; two inodes have two upper objects; and nothing has a
-  -- number that is left.
+  -- All names that there were stand; names of what lies only below are free; two inodes have two upper objects; and
+  -- nothing has a number that is left.
   pub record IsFine (k : ℕ) (real : ℕ → Option (Real ℕ)) (upper : FileTree ℕ) : Type 0 where
     pub stays : (directory : ℕ) (name : List ℕ) (number : ℕ) → entry_at start.tree directory name ≡ Some number
         → entry_at upper.tree directory name ≡ Some number
     pub free : (directory : ℕ) (name : List ℕ) (object seen : ℕ) → entry_at files.tree directory name ≡ Some object
-        → upper_object (real object) ≡ None → upper_object (real directory) ≡ Some seen → entry_at upper.tree seen name ≡ None
+        → upper_object (real object) ≡ None → upper_object (real directory) ≡ Some seen
+        → entry_at upper.tree seen name ≡ None
     pub one : (a b object : ℕ) → upper_object (real a) ≡ Some object → upper_object (real b) ≡ Some object → a ≡ b
     pub clear : (inode : ℕ) → IsLeft k inode
         → (entries_in (upper.tree.node inode) ≡ []) × ((number : ℕ) → upper_object (real number) ≢ Some inode)
@@ -98,7 +106,8 @@ module _ (files : FileTree ℕ) (tree : IsTree files.tree) (numbers : ListsNumbe
   }
 
   -- one copy
-  module _ (k : ℕ) (real : ℕ → Option (Real ℕ)) (upper : FileTree ℕ) (fine : IsFine k real upper) (object : ℕ) (copied : Node ℕ)
+  module _ (k : ℕ) (real : ℕ → Option (Real ℕ)) (upper : FileTree ℕ) (fine : IsFine k real upper) (object : ℕ)
+      (copied : Node ℕ)
       (empty : entries_of copied.content ≡ []) (below : upper_object (real object) ≡ None) where
     abbrev copy : ℕ
     copy = fresh k
@@ -133,13 +142,15 @@ module _ (files : FileTree ℕ) (tree : IsTree files.tree) (numbers : ListsNumbe
         (eqb_tells number object)
 
     not_copy : (inode : ℕ) → IsLeft (k + 1) inode → inode ≢ copy
-    not_copy inode (inl j) same = let e = distinct j.0 k (sym j.2 ∙ same) in let h = j.1 in let no : ⊥ = omega arith in no
+    not_copy inode (inl j) same = let e = distinct j.0 k (sym j.2 ∙ same) in let h = j.1 in let no : ⊥ = omega arith in
+        no
     not_copy inode (inr s) same = apart k (subst spare same s)
 
     fine_by : (later : FileTree ℕ)
         → ((d : ℕ) (n : List ℕ) (x : ℕ) → entry_at upper.tree d n ≡ Some x → entry_at later.tree d n ≡ Some x)
         → ((n : List ℕ) → entry_at later.tree copy n ≡ None)
-        → ((d : ℕ) (n : List ℕ) (o seen : ℕ) → entry_at files.tree d n ≡ Some o → o ≢ object → upper_object (real d) ≡ Some seen
+        → ((d : ℕ) (n : List ℕ) (o seen : ℕ) → entry_at files.tree d n ≡ Some o → o ≢ object
+        → upper_object (real d) ≡ Some seen
         → entry_at later.tree seen n ≡ entry_at upper.tree seen n)
         → ((inode : ℕ) → IsLeft (k + 1) inode → entries_in (later.tree.node inode) ≡ [])
         → IsFine (k + 1) real_later later
@@ -162,7 +173,8 @@ module _ (files : FileTree ℕ) (tree : IsTree files.tree) (numbers : ListsNumbe
           (told a x e);
       clear = λ inode left. (
         empties inode left,
-        λ number e. ⊎_elim (λ new. not_copy inode left new.1) (λ old. (fine.clear inode (later_left k inode left)).1 number old)
+        λ number e. ⊎_elim (λ new. not_copy inode left new.1)
+            (λ old. (fine.clear inode (later_left k inode left)).1 number old)
             (told number inode e),
       );
     }
@@ -183,7 +195,8 @@ module _ (files : FileTree ℕ) (tree : IsTree files.tree) (numbers : ListsNumbe
         by (Some parent) u h =
             fine_by (with_name nat_eq added parent name.1 copy)
             (λ d n x f. put_same added parent name.1 copy d n
-            (λ a b. none_is_some x (sym (fine.free name.0 name.1 object parent (named_so files tree object name e) below u)
+            (λ a b. none_is_some x (sym (fine.free name.0 name.1 object parent
+            (named_so files tree object name e) below u)
             ∙ ap (λ m. entry_at upper.tree parent m) (sym b) ∙ ap (λ m. entry_at upper.tree m n) (sym a) ∙ f))
             ∙ ap (entry_named n) (same_added d) ∙ f)
             (λ n. put_same added parent name.1 copy copy n (λ a b. copy_clear.1 name.0 (u ∙ ap Some (sym a)))
@@ -203,7 +216,8 @@ module _ (files : FileTree ℕ) (tree : IsTree files.tree) (numbers : ListsNumbe
   ParentsStand real [] = ⊤
   ParentsStand real (object ∷ rest) =
       ((name : ℕ × List ℕ) → a_name nat_eq files object ≡ Some name → HasUpper real name.0)
-      × ((later : ℕ → Option (Real ℕ)) → (is_some (files.tree.node object) ≡ true → HasUpper later object) → ParentsStand later rest)
+      × ((later : ℕ → Option (Real ℕ)) → (is_some (files.tree.node object) ≡ true → HasUpper later object)
+      → ParentsStand later rest)
 
   pub record Fine (merge : Merge ℕ) : Type 0 where
     pub k : ℕ
@@ -212,7 +226,8 @@ module _ (files : FileTree ℕ) (tree : IsTree files.tree) (numbers : ListsNumbe
     pub is : merge ≡ MergeOf real upper
     pub fine : IsFine k real upper
 
-  each_fine : (list : List ℕ) (k : ℕ) (real : ℕ → Option (Real ℕ)) (upper : FileTree ℕ) → IsFine k real upper → ParentsStand real list
+  each_fine : (list : List ℕ) (k : ℕ) (real : ℕ → Option (Real ℕ)) (upper : FileTree ℕ) → IsFine k real upper
+      → ParentsStand real list
       → Fine (copied_each nat_eq fresh k (MergeOf real upper) list)
   each_fine [] k real upper fine stand = record { k = k; real = real; upper = upper; is = refl; fine = fine }
   each_fine (object ∷ rest) k real upper fine stand =
@@ -222,10 +237,13 @@ module _ (files : FileTree ℕ) (tree : IsTree files.tree) (numbers : ListsNumbe
       by : (o : Option (Node ℕ)) → files.tree.node object ≡ o → (p : Option ℕ) → upper_object (real object) ≡ p
           → ((r : ℕ → Option (Real ℕ)) (u : FileTree ℕ) → IsFine (k + 1) r u → ParentsStand r rest
           → Fine (copied_each nat_eq fresh (k + 1) (MergeOf r u) rest))
-          → Fine (copied_each nat_eq fresh (k + 1) (copy_of nat_eq (MergeOf real upper) object (fresh k) o (is_some p)) rest)
+          → Fine (copied_each nat_eq fresh (k + 1)
+          (copy_of nat_eq (MergeOf real upper) object (fresh k) o (is_some p)) rest)
       by None e p f later =
-          later real upper (skipped k real upper fine) (stand.1 real (λ there. absurd (true≢false (sym there ∙ ap is_some e))))
-      by (Some node) e (Some seen) f later = later real upper (skipped k real upper fine) (stand.1 real (λ there. ap is_some f))
+          later real upper (skipped k real upper fine)
+          (stand.1 real (λ there. absurd (true≢false (sym there ∙ ap is_some e))))
+      by (Some node) e (Some seen) f later =
+          later real upper (skipped k real upper fine) (stand.1 real (λ there. ap is_some f))
       by (Some node) e None f later =
           later (with_real nat_eq real object (Upper (fresh k))) _
           (copy_named_fine k real upper fine object
@@ -237,7 +255,8 @@ module _ (files : FileTree ℕ) (tree : IsTree files.tree) (numbers : ListsNumbe
           (copy_empty (copy_parent (MergeOf real upper) (fresh k) (a_name nat_eq files object)) node.content) f
           (a_name nat_eq files object) refl stand.0)
           (stand.1 (with_real nat_eq real object (Upper (fresh k)))
-          (λ there. ap (λ b. is_some (upper_object (cond b (Some (Upper (fresh k))) (real object)))) (eq-eqb object object refl)))
+          (λ there. ap (λ b. is_some (upper_object (cond b (Some (Upper (fresh k))) (real object))))
+          (eq-eqb object object refl)))
 
   -- so it is in the line from the root down to an object
   up_stands : (steps most directory : ℕ) → ReachedIn files.tree steps directory → steps ≤ most
@@ -247,7 +266,8 @@ module _ (files : FileTree ℕ) (tree : IsTree files.tree) (numbers : ListsNumbe
   up_stands zero most directory r h real rest next =
       subst (λ list. ParentsStand real (reverse list ++ rest)) (sym (up_at_root files tree most directory r)) (
         λ name e. absurd (tree.root_unnamed name.0 name.1 (named_so files tree directory name e ∙ ap Some r)),
-        λ later has. next later (has (directory_used files.tree directory (reached_directory files tree zero directory r))),
+        λ later has. next later (has (directory_used files.tree directory
+            (reached_directory files tree zero directory r))),
       )
   up_stands (suc steps) zero directory r h real rest next = absurd (let no : ⊥ = omega arith in no)
   up_stands (suc steps) (suc most) directory r h real rest next =
@@ -265,13 +285,19 @@ module _ (files : FileTree ℕ) (tree : IsTree files.tree) (numbers : ListsNumbe
   line_stands : (real : ℕ → Option (Real ℕ)) (object : ℕ) → ParentsStand real (line_to nat_eq files object)
   line_stands real object = by (a_name nat_eq files object) refl
     where
-      by : (named : Option (ℕ × List ℕ)) → a_name nat_eq files object ≡ named → ParentsStand real (line_by nat_eq files object named)
+      by : (named : Option (ℕ × List ℕ)) → a_name nat_eq files object ≡ named
+          → ParentsStand real (line_by nat_eq files object named)
       by None e = (λ name is. absurd (true≢false (sym (ap is_some (sym e ∙ is)))), λ later has. tt)
       by (Some name) e =
           let reached = is_reached_in files tree name.0 name.1 object (named_so files tree object name e) in
-          up_stands reached.0 (length files.numbers) name.0 reached.1 (depth_bound files tree numbers reached.0 name.0 reached.1) real
+          up_stands reached.0 (length files.numbers) name.0 reached.1
+          (depth_bound files tree numbers reached.0 name.0 reached.1) real
           (object ∷ [])
-          (λ later has. (λ other is. subst (HasUpper later) (ap (λ n. n.0) (some_is_one name other (sym e ∙ is))) has, λ last there. tt))
+          (λ later has. (
+            λ other is. subst (HasUpper later)
+                (ap (λ n. n.0) (some_is_one name other (sym e ∙ is))) has,
+            λ last there. tt,
+          ))
 
   pub line_fine : (object : ℕ) (real : ℕ → Option (Real ℕ)) (upper : FileTree ℕ) → IsFine 0 real upper
       → Fine (copied_up nat_eq fresh (MergeOf real upper) object)

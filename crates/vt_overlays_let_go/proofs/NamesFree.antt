@@ -28,37 +28,44 @@ module _ (top : OpenLayer ℕ) (lower : List (OpenLayer ℕ)) (path : List (List
   upper_at object e = by (shown (top ∷ lower) path) refl e
     where
       seen_so : (layer found : ℕ) → IsShown (top ∷ lower) path (record { layer = layer; object = found })
-          → real_of_shown (Some (record { layer = layer; object = found })) ≡ Some object → at_path top path ≡ Some object
+          → real_of_shown (Some (record { layer = layer; object = found })) ≡ Some object
+          → at_path top path ≡ Some object
       seen_so zero found shows u =
           ap (λ l. at_path l path) (some_is_one top shows.has_uncut.0.0 shows.has_uncut.0.1) ∙ shows.has_uncut.0.2 ∙ u
       seen_so (suc layer) found shows u = none_is_some object u
 
-      by : (o : Option (Shown ℕ)) → shown (top ∷ lower) path ≡ o → real_of_shown o ≡ Some object → at_path top path ≡ Some object
+      by : (o : Option (Shown ℕ)) → shown (top ∷ lower) path ≡ o → real_of_shown o ≡ Some object
+          → at_path top path ≡ Some object
       by None s u = none_is_some object u
       by (Some seen) s u = seen_so seen.layer seen.object ((computed (top ∷ lower) path seen).0 s) u
 
   -- where something else is shown, it leads nowhere
-  nothing_at : is_some (shown (top ∷ lower) path) ≡ true → upper_object (real_at top lower path) ≡ None → at_path top path ≡ None
+  nothing_at : is_some (shown (top ∷ lower) path) ≡ true → upper_object (real_at top lower path) ≡ None
+      → at_path top path ≡ None
   nothing_at there e = by (at_path top path) refl
     where
       seen_by : (object : ℕ) → at_path top path ≡ Some object
-          → shown (top ∷ lower) path ≡ when (not (is_kind_in White (top.tree.node object))) (record { layer = 0; object = object })
+          → shown (top ∷ lower) path ≡ when (not (is_kind_in White (top.tree.node object)))
+          (record { layer = 0; object = object })
       seen_by object f = ap (λ o. shown_over top 0 o (cuts top path) (shown_from 1 lower path)) f
 
       white : (object : ℕ) → at_path top path ≡ Some object → (b : Bool) → is_kind_in White (top.tree.node object) ≡ b
           → at_path top path ≡ None
       white object f true w =
-          absurd (true≢false (sym there ∙ ap is_some (seen_by object f ∙ ap (λ b. when (not b) (record { layer = 0; object = object })) w)))
+          absurd (true≢false (sym there ∙ ap is_some
+          (seen_by object f ∙ ap (λ b. when (not b) (record { layer = 0; object = object })) w)))
       white object f false w =
           none_is_some object
-          (sym e ∙ ap real_of_shown (seen_by object f ∙ ap (λ b. when (not b) (record { layer = 0; object = object })) w))
+          (sym e ∙ ap real_of_shown (seen_by object f
+          ∙ ap (λ b. when (not b) (record { layer = 0; object = object })) w))
 
       by : (o : Option ℕ) → at_path top path ≡ o → at_path top path ≡ None
       by None f = f
       by (Some object) f = white object f (is_kind_in White (top.tree.node object)) refl
 
 module _ (world : World ℕ) (conditions : IsWorld nat_eq world) (number : ℕ) (overlay : Overlay ℕ)
-    (is : (filesystem_numbered nat_eq world number).overlay ≡ Some overlay) (upper : Layer ℕ) (has : overlay.upper ≡ Some upper) where
+    (is : (filesystem_numbered nat_eq world number).overlay ≡ Some overlay) (upper : Layer ℕ)
+    (has : overlay.upper ≡ Some upper) where
   abbrev files : FileTree ℕ
   files = (filesystem_numbered nat_eq world number).files
 
@@ -77,7 +84,10 @@ module _ (world : World ℕ) (conditions : IsWorld nat_eq world) (number : ℕ) 
       let longer = led-append files.tree files.tree.root way.0 name directory object way.1 e in
       let at = upper_at top_layer (map (open_layer nat_eq world) overlay.lowers) way.0 seen
       (ap upper_object (sym (real_named world conditions number overlay is upper has way.0 directory way.1)) ∙ above) in
-      sym (last_name top_layer.tree top_layer.directory way.0 name ∙ ap (option_and_then (λ d. entry_at top_layer.tree d name)) at)
+      sym (last_name top_layer.tree top_layer.directory way.0 name
+      ∙ ap (option_and_then (λ d. entry_at top_layer.tree d name)) at)
       ∙ nothing_at top_layer (map (open_layer nat_eq world) overlay.lowers) (way.0 ++ name ∷ [])
-      (shown_there world conditions number overlay is upper has (way.0 ++ name ∷ []) object longer (tree.alive directory name object e))
-      (ap upper_object (sym (real_named world conditions number overlay is upper has (way.0 ++ name ∷ []) object longer)) ∙ below)
+      (shown_there world conditions number overlay is upper has (way.0 ++ name ∷ []) object longer
+      (tree.alive directory name object e))
+      (ap upper_object (sym (real_named world conditions number overlay is upper has
+      (way.0 ++ name ∷ []) object longer)) ∙ below)

@@ -57,9 +57,11 @@ emptied_out files (Some object) d n k e =
     (eqb_tells d object)
 
 -- Changes of an overlay of which all that they ask for is copied
-module _ (fresh : Fresh ℕ) (stack : Stack ℕ) (merge : Merge ℕ) (vacant : entries_in (merge.upper.tree.node (fresh 0)) ≡ []) where
+module _ (fresh : Fresh ℕ) (stack : Stack ℕ) (merge : Merge ℕ)
+    (vacant : entries_in (merge.upper.tree.node (fresh 0)) ≡ []) where
   abbrev NamedOr : FileTree ℕ → List ℕ → Type 0
-  NamedOr later lost = (d : ℕ) (n : List ℕ) (k : ℕ) → entry_at merge.upper.tree d n ≡ Some k → HasName later.tree k ⊎ Among k lost
+  NamedOr later lost = (d : ℕ) (n : List ℕ) (k : ℕ) → entry_at merge.upper.tree d n ≡ Some k
+      → HasName later.tree k ⊎ Among k lost
 
   not_new : (d : ℕ) (n : List ℕ) (k : ℕ) → entry_at merge.upper.tree d n ≡ Some k → d ≢ fresh 0
   not_new d n k e same =
@@ -67,21 +69,25 @@ module _ (fresh : Fresh ℕ) (stack : Stack ℕ) (merge : Merge ℕ) (vacant : e
 
   with_new : (files : FileTree ℕ) (node : Node ℕ) (d : ℕ) (n : List ℕ) → d ≢ fresh 0
       → entry_at (with_inode nat_eq files (fresh 0) node).tree d n ≡ entry_at files.tree d n
-  with_new files node d n differ = ap (λ o. entry_named n (entries_in o)) (node_other files.tree (fresh 0) (Some node) d differ)
+  with_new files node d n differ =
+      ap (λ o. entry_named n (entries_in o)) (node_other files.tree (fresh 0) (Some node) d differ)
 
   left_same : (hidden : Bool) (files : FileTree ℕ) (directory : ℕ) (name : List ℕ) (d : ℕ) (n : List ℕ) → d ≢ fresh 0
-      → ((d ≡ directory) → (n ≡ name) → ⊥) → entry_at (name_left_by nat_eq hidden fresh stack files directory name).tree d n
+      → ((d ≡ directory) → (n ≡ name) → ⊥)
+      → entry_at (name_left_by nat_eq hidden fresh stack files directory name).tree d n
       ≡ entry_at files.tree d n
   left_same true files directory name d n new differ =
       put_same (with_inode nat_eq files (fresh 0) (whiteout_of stack.mounter)) directory name (fresh 0) d n differ
       ∙ with_new files (whiteout_of stack.mounter) d n new
   left_same false files directory name d n new differ = take_same files directory name d n differ
 
-  in_emptied : (replaced : Option ℕ) (d : ℕ) (n : List ℕ) (k : ℕ) → entry_at merge.upper.tree d n ≡ Some k → replaced ≡ Some d
+  in_emptied : (replaced : Option ℕ) (d : ℕ) (n : List ℕ) (k : ℕ) → entry_at merge.upper.tree d n ≡ Some k
+      → replaced ≡ Some d
       → Among k (names_under merge replaced)
   in_emptied replaced d n k e is =
       subst (λ o. Among k (names_under merge o)) (sym is)
-      (among_numbers k (targets_in (merge.upper.tree.node d)) (among_targets n (entries_in (merge.upper.tree.node d)) k e))
+      (among_numbers k (targets_in (merge.upper.tree.node d))
+      (among_targets n (entries_in (merge.upper.tree.node d)) k e))
 
   made_loses : (directory : ℕ) (name : List ℕ) (number : ℕ) (node : Node ℕ)
       → NamedOr (made nat_eq fresh stack merge directory name number node).upper (under_name merge directory name)
@@ -92,8 +98,10 @@ module _ (fresh : Fresh ℕ) (stack : Stack ℕ) (merge : Merge ℕ) (vacant : e
         n,
         ap (entry_named n)
             (marked_entries (hides_directory nat_eq stack merge directory name)
-            (with_name nat_eq (with_inode nat_eq merge.upper (fresh 0) object) (upper_of merge directory) name (fresh 0)) (fresh 0) d)
-            ∙ put_same (with_inode nat_eq merge.upper (fresh 0) object) (upper_of merge directory) name (fresh 0) d n differ
+            (with_name nat_eq (with_inode nat_eq merge.upper (fresh 0) object) (upper_of merge directory) name
+            (fresh 0)) (fresh 0) d)
+            ∙ put_same (with_inode nat_eq merge.upper (fresh 0) object) (upper_of merge directory) name
+            (fresh 0) d n differ
             ∙ with_new merge.upper object d n (not_new d n k e) ∙ e,
       ))
       (one_place d (upper_of merge directory) n name)
@@ -105,17 +113,25 @@ module _ (fresh : Fresh ℕ) (stack : Stack ℕ) (merge : Merge ℕ) (vacant : e
       → NamedOr (linked nat_eq merge directory name object).upper (under_name merge directory name)
   linked_loses directory name object d n k e =
       ⊎_elim (λ same. inr (at_place merge.upper d (upper_of merge directory) n name k e same))
-      (λ differ. inl (d, n, put_same merge.upper (upper_of merge directory) name (upper_of merge object) d n differ ∙ e))
+      (λ differ. inl (
+        d,
+        n,
+        put_same merge.upper (upper_of merge directory) name (upper_of merge object) d n differ
+            ∙ e,
+      ))
       (one_place d (upper_of merge directory) n name)
 
   removed_loses : (directory : ℕ) (name : List ℕ) (object : ℕ)
-      → NamedOr (removed nat_eq fresh stack merge directory name object).upper (upper_names_lost merge (Remove directory name object))
+      → NamedOr (removed nat_eq fresh stack merge directory name object).upper
+      (upper_names_lost merge (Remove directory name object))
   removed_loses directory name object d n k e =
       ⊎_elim
-      (λ same. inr (among-append_left (under_name merge directory name) (names_under merge (upper_directory_named merge directory name)) k
+      (λ same. inr (among-append_left (under_name merge directory name)
+      (names_under merge (upper_directory_named merge directory name)) k
       (at_place merge.upper d (upper_of merge directory) n name k e same)))
       (λ differ. ⊎_elim (λ still. inl (d, n, still))
-      (λ out. inr (among-append_right (under_name merge directory name) (names_under merge (upper_directory_named merge directory name)) k
+      (λ out. inr (among-append_right (under_name merge directory name)
+      (names_under merge (upper_directory_named merge directory name)) k
       (in_emptied (upper_directory_named merge directory name) d n k e out)))
       (emptied_out (name_left_by nat_eq hidden fresh stack merge.upper (upper_of merge directory) name)
       (upper_directory_named merge directory name) d n k
@@ -126,7 +142,8 @@ module _ (fresh : Fresh ℕ) (stack : Stack ℕ) (merge : Merge ℕ) (vacant : e
       hidden = is_some (shown_below nat_eq stack merge directory name)
 
   moved_loses : (from : ℕ) (old : List ℕ) (to : ℕ) (new : List ℕ) (object : ℕ)
-      → NamedOr (moved nat_eq fresh stack merge from old to new object).upper (upper_names_lost merge (Move from old to new object))
+      → NamedOr (moved nat_eq fresh stack merge from old to new object).upper
+      (upper_names_lost merge (Move from old to new object))
   moved_loses from old to new object d n k e =
       ⊎_elim
       (λ freed. ⊎_elim
@@ -143,17 +160,21 @@ module _ (fresh : Fresh ℕ) (stack : Stack ℕ) (merge : Merge ℕ) (vacant : e
             (name_left_by nat_eq hidden fresh stack away (upper_of merge from) old) (upper_of merge object) d)
             ∙ left_same hidden away (upper_of merge from) old d n (not_new d n k e) left
             ∙ ap (entry_named n)
-            (kept_part entries_in (with_name nat_eq (without_name nat_eq apart (upper_of merge from) old) (upper_of merge to) new
+            (kept_part entries_in (with_name nat_eq (without_name nat_eq apart (upper_of merge from) old)
+            (upper_of merge to) new
             (upper_of merge object))
             (upper_of merge object) (node_with_parent (upper_of merge to)) (parent_entries (upper_of merge to)) d)
-            ∙ put_same (without_name nat_eq apart (upper_of merge from) old) (upper_of merge to) new (upper_of merge object) d n put
+            ∙ put_same (without_name nat_eq apart (upper_of merge from) old) (upper_of merge to) new
+            (upper_of merge object) d n put
             ∙ take_same apart (upper_of merge from) old d n left
-            ∙ ap (entry_named n) (freed_entries empty (entry_named new (entries_in (empty.tree.node (upper_of merge to)))) d)
+            ∙ ap (entry_named n) (freed_entries empty
+            (entry_named new (entries_in (empty.tree.node (upper_of merge to)))) d)
             ∙ freed,
       ))
       (one_place d (upper_of merge to) n new))
       (one_place d (upper_of merge from) n old))
-      (λ out. inr (among-append_right (under_name merge from old ++ under_name merge to new) (names_under merge replaced) k
+      (λ out. inr (among-append_right (under_name merge from old ++ under_name merge to new)
+      (names_under merge replaced) k
       (in_emptied replaced d n k e out)))
       (emptied_out merge.upper replaced d n k e)
     where
@@ -174,19 +195,22 @@ module _ (fresh : Fresh ℕ) (stack : Stack ℕ) (merge : Merge ℕ) (vacant : e
 
       first_two : Among k (under_name merge from old ++ under_name merge to new)
           → Among k (upper_names_lost merge (Move from old to new object))
-      first_two m = among-append_left (under_name merge from old ++ under_name merge to new) (names_under merge replaced) k m
+      first_two m = among-append_left (under_name merge from old ++ under_name merge to new)
+          (names_under merge replaced) k m
 
 module _ (fresh : Fresh ℕ) (stack : Stack ℕ) (before : Merge ℕ) (fit : IsFitToChange fresh before)
     (vacant : (k : ℕ) → before.upper.tree.node (fresh k) ≡ None)
     (free : (directory : ℕ) (name : List ℕ) (object seen : ℕ) → entry_at before.files.tree directory name ≡ Some object
-    → upper_object (before.real object) ≡ None → upper_object (before.real directory) ≡ Some seen → entry_at before.upper.tree seen name
+    → upper_object (before.real object) ≡ None → upper_object (before.real directory) ≡ Some seen
+    → entry_at before.upper.tree seen name
     ≡ None) where
   abbrev files : FileTree ℕ
   files = before.files
 
   -- where all that is asked for is copied, all names of before stand, and the next number is nothing's
   record IsCopied (next : ℕ) (copied : Merge ℕ) : Type 0 where
-    stays : (d : ℕ) (n : List ℕ) (k : ℕ) → entry_at before.upper.tree d n ≡ Some k → entry_at copied.upper.tree d n ≡ Some k
+    stays : (d : ℕ) (n : List ℕ) (k : ℕ) → entry_at before.upper.tree d n ≡ Some k
+        → entry_at copied.upper.tree d n ≡ Some k
     empty_next : entries_in (copied.upper.tree.node next) ≡ []
 
   begin : (supply : Fresh ℕ) (distinct : (j k : ℕ) → supply j ≡ supply k → j ≡ k) (spare : ℕ → Type 0) (apart : (k : ℕ)
@@ -207,18 +231,22 @@ module _ (fresh : Fresh ℕ) (stack : Stack ℕ) (before : Merge ℕ) (fit : IsF
   abbrev no_spare : ℕ → Type 0
   no_spare number = ⊥
 
-  not_odd : (supply : Fresh ℕ) → ((j k : ℕ) → supply j ≡ supply k → j ≡ k) → (k : ℕ) → ¬ (IsNew (odds supply) (evens supply k))
+  not_odd : (supply : Fresh ℕ) → ((j k : ℕ) → supply j ≡ supply k → j ≡ k) → (k : ℕ)
+      → ¬ (IsNew (odds supply) (evens supply k))
   not_odd supply distinct k s = let same = distinct (2 * k) (2 * s.0 + 1) s.1 in let no : ⊥ = omega arith in no
 
   -- by one half of the numbers, with the other left
   by_evens : (object : ℕ)
-      → Fine files fit.tree fit.numbers before.upper (evens fresh) (even_distinct fresh fit.distinct) (IsNew (odds fresh))
+      → Fine files fit.tree fit.numbers before.upper (evens fresh) (even_distinct fresh fit.distinct)
+      (IsNew (odds fresh))
       (not_odd fresh fit.distinct)
       (copied_up nat_eq (evens fresh) before object)
   by_evens object =
-      line_fine files fit.tree fit.numbers before.upper (evens fresh) (even_distinct fresh fit.distinct) (IsNew (odds fresh))
+      line_fine files fit.tree fit.numbers before.upper (evens fresh) (even_distinct fresh fit.distinct)
+      (IsNew (odds fresh))
       (not_odd fresh fit.distinct) object before.real before.upper
-      (begin (evens fresh) (even_distinct fresh fit.distinct) (IsNew (odds fresh)) (not_odd fresh fit.distinct) (λ k. (2 * k, refl))
+      (begin (evens fresh) (even_distinct fresh fit.distinct) (IsNew (odds fresh)) (not_odd fresh fit.distinct)
+      (λ k. (2 * k, refl))
       (λ number s. (2 * s.0 + 1, s.1)))
 
   evens_copied : (object : ℕ) → IsCopied (odds fresh 0) (copied_up nat_eq (evens fresh) before object)
@@ -237,20 +265,25 @@ module _ (fresh : Fresh ℕ) (stack : Stack ℕ) (before : Merge ℕ) (fit : IsF
       (copied_up nat_eq supply (copied_up nat_eq (evens fresh) before object) other)
   then_by object other supply distinct spare apart own new =
       let done = by_evens object in
-      subst (λ m. Fine files fit.tree fit.numbers before.upper supply distinct spare apart (copied_up nat_eq supply m other)) (sym done.is)
-      (line_fine files fit.tree fit.numbers before.upper supply distinct spare apart other done.real done.upper (record {
+      subst (λ m. Fine files fit.tree fit.numbers before.upper supply distinct spare apart
+      (copied_up nat_eq supply m other)) (sym done.is)
+      (line_fine files fit.tree fit.numbers before.upper supply distinct spare apart other done.real done.upper
+      (record {
         stays = done.fine.stays;
         free = done.fine.free;
         one = done.fine.one;
-        clear = λ inode left. done.fine.clear inode (inr (⊎_elim (λ j. let o = own j.0 in (o.0, j.2 ∙ o.1)) (λ s. new inode s) left));
+        clear = λ inode left. done.fine.clear inode
+            (inr (⊎_elim (λ j. let o = own j.0 in (o.0, j.2 ∙ o.1)) (λ s. new inode s) left));
       }))
 
   all_copied : (object : ℕ) → (d : ℕ) (n : List ℕ) (k : ℕ) → entry_at before.upper.tree d n ≡ Some k
       → entry_at (copied_up nat_eq fresh before object).upper.tree d n ≡ Some k
   all_copied object =
-      let done = line_fine files fit.tree fit.numbers before.upper fresh fit.distinct no_spare (λ k s. s) object before.real before.upper
+      let done = line_fine files fit.tree fit.numbers before.upper fresh fit.distinct no_spare
+      (λ k s. s) object before.real before.upper
       (begin fresh fit.distinct no_spare (λ k s. s) (λ k. (k, refl)) (λ number s. absurd s)) in
-      subst (λ m. (d : ℕ) (n : List ℕ) (k : ℕ) → entry_at before.upper.tree d n ≡ Some k → entry_at m.upper.tree d n ≡ Some k)
+      subst (λ m. (d : ℕ) (n : List ℕ) (k : ℕ) → entry_at before.upper.tree d n ≡ Some k
+      → entry_at m.upper.tree d n ≡ Some k)
       (sym done.is) done.fine.stays
 
   abbrev later : Change ℕ → FileTree ℕ
@@ -260,20 +293,29 @@ module _ (fresh : Fresh ℕ) (stack : Stack ℕ) (before : Merge ℕ) (fit : IsF
       → HasName (later change).tree k ⊎ Among k (upper_names_lost (copied_for fresh before change) change)
   loses (Make directory name number node) d n k e =
       let copied = evens_copied directory in
-      made_loses (odds fresh) stack (copied_up nat_eq (evens fresh) before directory) copied.empty_next directory name number node d n k
+      made_loses (odds fresh) stack (copied_up nat_eq
+      (evens fresh) before directory) copied.empty_next directory name number node d n k
       (copied.stays d n k e)
   loses (AddName directory name object) d n k e =
-      let done = then_by object directory (odds fresh) (odd_distinct fresh fit.distinct) no_spare (λ j s. s) (λ j. (j, refl))
+      let done = then_by object directory (odds fresh) (odd_distinct fresh fit.distinct) no_spare (λ j s. s)
+      (λ j. (j, refl))
       (λ m s. absurd s) in
       let copied = copied_up nat_eq (odds fresh) (copied_up nat_eq (evens fresh) before object) directory in
-      let still : entry_at copied.upper.tree d n ≡ Some k = subst (λ m. entry_at m.upper.tree d n ≡ Some k) (sym done.is)
+      let still : entry_at copied.upper.tree d n ≡ Some k =
+      subst (λ m. entry_at m.upper.tree d n ≡ Some k) (sym done.is)
       (done.fine.stays d n k e) in
       ⊎_elim (λ same. inr (at_place copied.upper d (upper_of copied directory) n name k still same))
-      (λ differ. inl (d, n, put_same copied.upper (upper_of copied directory) name (upper_of copied object) d n differ ∙ still))
+      (λ differ. inl (
+        d,
+        n,
+        put_same copied.upper (upper_of copied directory) name (upper_of copied object) d n differ
+            ∙ still,
+      ))
       (one_place d (upper_of copied directory) n name)
   loses (Remove directory name object) d n k e =
       let copied = evens_copied directory in
-      removed_loses (odds fresh) stack (copied_up nat_eq (evens fresh) before directory) copied.empty_next directory name object d n k
+      removed_loses (odds fresh) stack
+      (copied_up nat_eq (evens fresh) before directory) copied.empty_next directory name object d n k
       (copied.stays d n k e)
   loses (Move from old to new object) d n k e =
       let done = then_by object to (evens (odds fresh)) (even_distinct (odds fresh) (odd_distinct fresh fit.distinct))
@@ -333,7 +375,8 @@ only_these_lose_names fresh world location change overlay upper conditions can =
     (λ gone. is_among_numbers k lost gone)
     (loses fresh (stack_of nat_eq world overlay upper) (merge_at world location overlay upper)
     (fit fresh world location change overlay upper conditions can) can.unused
-    (names_free world conditions (mount_at nat_eq world location).filesystem overlay can.overlay_there upper can.upper_there)
+    (names_free world conditions
+    (mount_at nat_eq world location).filesystem overlay can.overlay_there upper can.upper_there)
     change place.0 place.1 k place.2))
   where
     layer : Filesystem ℕ
@@ -357,7 +400,8 @@ none_of : (list : List ℕ) → list_all (λ inode. is_among nat_eq inode []) li
 none_of [] e = refl
 none_of (first ∷ rest) e = absurd (true≢false (sym e))
 
-nothing_lost : (fresh : Fresh ℕ) (world : World ℕ) (location : Location ℕ) (change : Change ℕ) (overlay : Overlay ℕ) (upper : Layer ℕ)
+nothing_lost : (fresh : Fresh ℕ) (world : World ℕ) (location : Location ℕ) (change : Change ℕ) (overlay : Overlay ℕ)
+    (upper : Layer ℕ)
     → IsWorld nat_eq world → CanChange fresh world location change overlay upper
     → names_lost (files_at nat_eq world location) change ≡ []
     → upper_names_lost (copied_for fresh (merge_at world location overlay upper) change) change ≡ []

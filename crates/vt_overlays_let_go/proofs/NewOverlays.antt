@@ -34,9 +34,11 @@ named_if_led : (tree : Tree ℕ) (path : List (List ℕ)) (n : ℕ) → n ≢ tr
 named_if_led tree [] n isnt e = absurd (isnt (sym (some_is_one tree.root n e)))
 named_if_led tree (name ∷ path) n isnt e =
     let last = last_of (name ∷ path) (not_empty name path) in
-    by last.1 (led tree tree.root last.0) (sym (last_name tree tree.root last.0 last.1) ∙ ap (led tree tree.root) last.2 ∙ e)
+    by last.1 (led tree tree.root last.0)
+    (sym (last_name tree tree.root last.0 last.1) ∙ ap (led tree tree.root) last.2 ∙ e)
   where
-    by : (last : List ℕ) (o : Option ℕ) → option_and_then (λ directory. entry_at tree directory last) o ≡ Some n → HasName tree n
+    by : (last : List ℕ) (o : Option ℕ) → option_and_then (λ directory. entry_at tree directory last) o ≡ Some n
+        → HasName tree n
     by last None f = none_is_some n f
     by last (Some directory) f = (directory, last, f)
 
@@ -57,16 +59,20 @@ module _ (layers : List (OpenLayer ℕ)) (are_open : AreOpen layers) (longest : 
       arrives_at : (path : List (List ℕ)) (seen : Shown ℕ) → shown layers path ≡ Some seen
           → led tree tree.root path ≡ Some (num (record { path = path; seen = seen }))
       arrives_at path seen s =
-          subst (λ o. Arrives layers are_open longest bounded fresh distinct has_upper top is_top o path (led tree tree.root path)) s
+          subst (λ o. Arrives layers are_open longest bounded fresh distinct has_upper top is_top o path
+          (led tree tree.root path)) s
           (arrives layers are_open longest bounded fresh distinct has_upper top is_top path)
 
-      by : (o : Option (MergedInode ℕ)) → inode_of (inodes layers are_open longest bounded fresh distinct has_upper) n nat_eq ≡ o
-          → is_some (option_map (λ inode. inode.node) o) ≡ true → (path : List (List ℕ)) × (led tree tree.root path ≡ Some n)
+      by : (o : Option (MergedInode ℕ))
+          → inode_of (inodes layers are_open longest bounded fresh distinct has_upper) n nat_eq ≡ o
+          → is_some (option_map (λ inode. inode.node) o) ≡ true
+          → (path : List (List ℕ)) × (led tree tree.root path ≡ Some n)
       by None e h = absurd (true≢false (sym h))
       by (Some inode) e h =
           let is = is_of_object layers are_open longest bounded fresh distinct has_upper n inode e in (
             is.object.path,
-            arrives_at is.object.path is.object.seen (object_is layers are_open longest bounded is.object is.among) ∙ ap Some
+            arrives_at is.object.path is.object.seen (object_is layers are_open longest bounded is.object is.among)
+                ∙ ap Some
                 (sym is.numbered),
           )
 
@@ -76,7 +82,8 @@ new_overlays_are_named fresh world overlay conditions are_layers distinct =
     ⊎_elim
     (λ root. or_first (nat_eq n made.files.tree.root) _ (eq-eqb n made.files.tree.root root.1))
     (λ other. or_second (nat_eq n made.files.tree.root) (is_among nat_eq n (named_in made.files))
-    (named_among made.files listed n (named n other.1 (sym (listed.numbers n) ∙ is_among_numbers n made.files.numbers m))))
+    (named_among made.files listed n
+    (named n other.1 (sym (listed.numbers n) ∙ is_among_numbers n made.files.numbers m))))
     (eqb_tells n made.files.tree.root))
   where
     made : Filesystem ℕ
@@ -90,7 +97,8 @@ new_overlays_are_named fresh world overlay conditions are_layers distinct =
 
     named : (n : ℕ) → n ≢ made.files.tree.root → is_some (made.files.tree.node n) ≡ true → HasName made.files.tree n
     named n isnt there =
-        let leads = led_to (layers world conditions overlay are_layers) (are_open world conditions overlay are_layers) (inode_count world)
+        let leads = led_to (layers world conditions overlay are_layers) (are_open world conditions overlay are_layers)
+        (inode_count world)
         (bounded world conditions overlay are_layers)
         (odds fresh) (odd_distinct world conditions overlay are_layers fresh distinct) (is_some overlay.upper)
         (root_shown world conditions overlay are_layers).0 (root_shown world conditions overlay are_layers).1 n there in

@@ -47,7 +47,8 @@ keeps_its_mount : (world : World ℕ) → IsWorld nat_eq world → (gone : List 
     → is_on_mount world location ≡ true → is_among nat_eq location.mount gone ≡ false
     → keeps_a_mount world gone (mount_at nat_eq world location).filesystem ≡ true
 keeps_its_mount world conditions gone location on stays =
-    any_passes (λ (m : Mount ℕ). nat_eq number m.filesystem && (not (is_among nat_eq m.number gone) || is_located nat_eq world m.number))
+    any_passes (λ (m : Mount ℕ). nat_eq number m.filesystem
+    && (not (is_among nat_eq m.number gone) || is_located nat_eq world m.number))
     world.mounts (mount_at nat_eq world location) (mount_there world conditions location on)
     (ap (λ b. b && (not (is_among nat_eq (mount_at nat_eq world location).number gone)
     || is_located nat_eq world (mount_at nat_eq world location).number)) (eq-eqb number number refl)
@@ -64,7 +65,8 @@ reached_on_mount world task location reached =
     (is_there nat_eq world (mount_at nat_eq world location).filesystem location.node) reached.there).0
 
 -- a filesystem that keeps a mount is mounted still, by a mount in use
-still_mounted : (world : World ℕ) → IsSettled world → (gone : List ℕ) (number : ℕ) → keeps_a_mount world gone number ≡ true
+still_mounted : (world : World ℕ) → IsSettled world → (gone : List ℕ) (number : ℕ)
+    → keeps_a_mount world gone number ≡ true
     → is_mounted nat_eq (without_dead_mounts nat_eq (taken_away nat_eq world gone)) number ≡ true
 still_mounted world settles gone number keeps =
     subst (λ w. is_mounted nat_eq (without_dead_mounts nat_eq w) number ≡ true) (sym (taken_is world gone))
@@ -83,7 +85,8 @@ still_mounted world settles gone number keeps =
 
     kept : (m : Mount ℕ) × Among m world.mounts × ((nat_eq number m.filesystem
         && (not (is_among nat_eq m.number gone) || is_located nat_eq world m.number)) ≡ true)
-    kept = one_passes (λ m. nat_eq number m.filesystem && (not (is_among nat_eq m.number gone) || is_located nat_eq world m.number))
+    kept = one_passes (λ m. nat_eq number m.filesystem
+        && (not (is_among nat_eq m.number gone) || is_located nat_eq world m.number))
         world.mounts keeps
 
     mount : Mount ℕ
@@ -95,7 +98,8 @@ still_mounted world settles gone number keeps =
     parts : (nat_eq number mount.filesystem ≡ true)
         × ((not (is_among nat_eq mount.number gone) || is_located nat_eq world mount.number) ≡ true)
     parts =
-        and_parts (nat_eq number mount.filesystem) (not (is_among nat_eq mount.number gone) || is_located nat_eq world mount.number) kept.2
+        and_parts (nat_eq number mount.filesystem)
+        (not (is_among nat_eq mount.number gone) || is_located nat_eq world mount.number) kept.2
 
     located : is_located nat_eq world mount.number ≡ true → mount_lives nat_eq then_ image ≡ true
     located on =
@@ -106,10 +110,12 @@ still_mounted world settles gone number keeps =
     stays isnt =
         ap (λ n. is_some n || is_located nat_eq world image.number)
         (same_namespace world gone world.namespaces b mount (not-true (is_among nat_eq mount.number gone) isnt))
-        ∙ ap (λ n. is_some mount.namespace || is_located nat_eq world n) (same_number world gone world.namespaces b mount)
+        ∙ ap (λ n. is_some mount.namespace || is_located nat_eq world n)
+        (same_number world gone world.namespaces b mount)
         ∙ passes (mount_lives nat_eq world) world.mounts settles.in_use.mounts mount kept.1
 
-module _ (fresh : Fresh ℕ) (world : World ℕ) (location : Location ℕ) (change : Change ℕ) (overlay : Overlay ℕ) (upper : Layer ℕ)
+module _ (fresh : Fresh ℕ) (world : World ℕ) (location : Location ℕ) (change : Change ℕ) (overlay : Overlay ℕ)
+    (upper : Layer ℕ)
     (conditions : IsWorld nat_eq world) (can : CanChange fresh world location change overlay upper) where
   abbrev swap : Filesystem ℕ → Filesystem ℕ
   swap = swap_both fresh world location change overlay upper conditions can
@@ -128,7 +134,8 @@ module _ (fresh : Fresh ℕ) (world : World ℕ) (location : Location ℕ) (chan
       among-filter (filesystem_lives nat_eq (without_dead_mounts nat_eq (with_filesystems other swap)))
       (map swap other.filesystems) then_merged
       (subst (λ fs. Among then_merged (map swap fs)) (sym same)
-      (subst (λ f. Among f (map swap world.filesystems)) (becomes fresh world location change overlay upper conditions can)
+      (subst (λ f. Among f (map swap world.filesystems))
+      (becomes fresh world location change overlay upper conditions can)
       (among-map swap world.filesystems (merged fresh world location change overlay upper conditions can)
       (merged_there fresh world location change overlay upper conditions can))))
       (or_first (is_mounted nat_eq (without_dead_mounts nat_eq other) then_merged.number) _
@@ -137,11 +144,13 @@ module _ (fresh : Fresh ℕ) (world : World ℕ) (location : Location ℕ) (chan
   goes_with_mounts : (gone : List ℕ) → keeps_a_mount world gone number ≡ true
       → settled nat_eq (with_change nat_eq fresh (taken_away nat_eq world gone) location change)
       ≡ let_go_all (with_change nat_eq fresh (taken_away nat_eq world gone) location change)
-      (with_lost (used_by_gone_with_layers world gone) (inodes_lost_with_upper fresh world location overlay upper change))
+      (with_lost (used_by_gone_with_layers world gone)
+      (inodes_lost_with_upper fresh world location overlay upper change))
   goes_with_mounts gone keeps =
       subst (λ w. settled nat_eq w ≡ let_go_all w (with_lost (used_by_gone_with_layers world gone)
       (inodes_lost_with_upper fresh world location overlay upper change)))
-      (sym (is_swap fresh world location change overlay upper conditions can taken (ap (λ w. w.filesystems) (taken_is world gone))
+      (sym (is_swap fresh world location change overlay upper conditions can taken
+      (ap (λ w. w.filesystems) (taken_is world gone))
       (ap (λ w. (mount_at nat_eq w location).filesystem) (taken_is world gone)
       ∙ shows_the_same world gone world.namespaces (hands_on world gone) location.mount)))
       (taken_and_changed_lets_go world gone swap (inodes_lost_with_upper fresh world location overlay upper change)
@@ -160,7 +169,8 @@ module _ (fresh : Fresh ℕ) (world : World ℕ) (location : Location ℕ) (chan
       taken = taken_away nat_eq world gone
 
   -- and a task comes to more locations
-  pub goes_with_task : (new : Task ℕ) → only_these_are_left world (with_task world new).tasks [] ≡ true → is_on_mount world location ≡ true
+  pub goes_with_task : (new : Task ℕ) → only_these_are_left world (with_task world new).tasks [] ≡ true
+      → is_on_mount world location ≡ true
       → settled nat_eq (with_task (with_change nat_eq fresh world location change) new)
       ≡ let_go_all_inodes (with_task (with_change nat_eq fresh world location change) new)
       (inodes_lost_with_upper fresh world location overlay upper change)
@@ -173,9 +183,11 @@ module _ (fresh : Fresh ℕ) (world : World ℕ) (location : Location ℕ) (chan
       (trees_then fresh world location change overlay upper conditions can)
       (uppers_then fresh world location change overlay upper conditions can)
       (reals_then fresh world location change overlay upper conditions can)
-      (all_changed fresh world location change overlay upper conditions can (in_use_of (with_filesystems (with_tasks world tasks) swap))
+      (all_changed fresh world location change overlay upper conditions can
+      (in_use_of (with_filesystems (with_tasks world tasks) swap))
       (lives_then (with_tasks world tasks) refl
-      (any_passes (λ (m : Mount ℕ). nat_eq number m.filesystem) (without_dead_mounts nat_eq (with_tasks world tasks)).mounts at_location
+      (any_passes (λ (m : Mount ℕ). nat_eq number m.filesystem)
+      (without_dead_mounts nat_eq (with_tasks world tasks)).mounts at_location
       (among-filter (mount_lives nat_eq (with_tasks world tasks)) world.mounts at_location there
       (passes (mount_lives nat_eq (with_tasks world tasks)) world.mounts
       (mounts_but world tasks [] settled_world.in_use settled_world.mounts only) at_location there))
@@ -195,7 +207,8 @@ module _ (fresh : Fresh ℕ) (world : World ℕ) (location : Location ℕ) (chan
 
 pub made_in_overlays_lets_go : MadeInOverlaysLetsGo
 made_in_overlays_lets_go fresh world task directory name node overlay upper conditions can =
-    overlay_changes_let_go (odds fresh) world directory (Make directory.node name (evens fresh 0) node) overlay upper conditions can
+    overlay_changes_let_go (odds fresh) world directory
+    (Make directory.node name (evens fresh 0) node) overlay upper conditions can
 
 pub taken_and_overlay_changes_let_go : TakenAndOverlayChangesLetGo
 taken_and_overlay_changes_let_go fresh world gone location change overlay upper conditions can keeps =
@@ -206,7 +219,8 @@ removed_from_overlays_let_go fresh world task call parent name directory overlay
     goes_with_mounts fresh world parent (Remove parent.node name directory.node) overlay upper conditions can
     (numbers_of_trees world (mounts_on nat_eq world directory))
     (keeps_its_mount world conditions (numbers_of_trees world (mounts_on nat_eq world directory)) parent
-    (reached_on_mount world task parent (parent_reached fresh world conditions task called call parent name directory judged).0)
+    (reached_on_mount world task parent
+    (parent_reached fresh world conditions task called call parent name directory judged).0)
     (removing_keeps_the_mount fresh world task call parent name directory conditions called judged))
 
 pub replaced_in_overlays_let_go : ReplacedInOverlaysLetGo
@@ -220,7 +234,8 @@ replaced_in_overlays_let_go fresh world task call from old to new object replace
 
 pub opened_new_in_overlays_lets_go : OpenedNewInOverlaysLetsGo
 opened_new_in_overlays_lets_go fresh world task directory name node access overlay upper conditions there on can =
-    goes_with_task (odds fresh) world directory (Make directory.node name (evens fresh 0) node) overlay upper conditions can
+    goes_with_task (odds fresh) world directory
+    (Make directory.node name (evens fresh 0) node) overlay upper conditions can
     (with_descriptor task file access)
     (none_left world task file access conditions.tasks.one_task (among_from_contains world.tasks task there)) on
   where

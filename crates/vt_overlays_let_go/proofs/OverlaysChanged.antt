@@ -41,7 +41,8 @@ use Rattle.vt_overlays_let_go.proofs.Copied.{numbers_stay}
 of_number : (number : ℕ) (list : List ℕ) (filesystem inode : ℕ) → filesystem ≡ number → Among inode list
     → is_inode_among filesystem inode (map (λ i. (number, i)) list) ≡ true
 of_number number list filesystem inode same m =
-    any_passes (λ (loser : Inode). nat_eq filesystem loser.0 && nat_eq inode loser.1) (map (λ i. (number, i)) list) (number, inode)
+    any_passes (λ (loser : Inode). nat_eq filesystem loser.0 && nat_eq inode loser.1) (map (λ i. (number, i)) list)
+    (number, inode)
     (among-map (λ i. (number, i)) list inode m)
     (ap (λ b. b && nat_eq inode inode) (eq-eqb filesystem number same) ∙ eq-eqb inode inode refl)
 
@@ -53,7 +54,8 @@ objects_by filesystem numbers overlay =
 
 objects_stay : (filesystem : ℕ) (numbers more : List ℕ) (overlay : Overlay ℕ) (real : ℕ → Option (Real ℕ))
     → ((inode : ℕ) → Among inode numbers → Among inode more)
-    → ((number object : ℕ) → upper_object (overlay.real number) ≡ Some object → upper_object (real number) ≡ Some object)
+    → ((number object : ℕ) → upper_object (overlay.real number) ≡ Some object
+    → upper_object (real number) ≡ Some object)
     → (object : ℕ) → Among object (objects_by filesystem numbers overlay)
     → Among object (objects_by filesystem more (record overlay { real = real }))
 objects_stay filesystem numbers more overlay real stay grows object =
@@ -63,10 +65,12 @@ objects_stay filesystem numbers more overlay real stay grows object =
         → Among object (cond b (filter_map (λ number. upper_object (real number)) more) [])
     by true m =
         let from = among-from_filter_map (λ number. upper_object (overlay.real number)) numbers object m in
-        among-filter_map (λ number. upper_object (real number)) more from.0 object (stay from.0 from.1) (grows from.0 object from.2)
+        among-filter_map (λ number. upper_object (real number)) more from.0 object (stay from.0 from.1)
+        (grows from.0 object from.2)
     by false m = absurd m
 
-module _ (fresh : Fresh ℕ) (world : World ℕ) (location : Location ℕ) (change : Change ℕ) (overlay : Overlay ℕ) (upper : Layer ℕ)
+module _ (fresh : Fresh ℕ) (world : World ℕ) (location : Location ℕ) (change : Change ℕ) (overlay : Overlay ℕ)
+    (upper : Layer ℕ)
     (conditions : IsWorld nat_eq world) (can : CanChange fresh world location change overlay upper) where
   abbrev number : ℕ
   number = (mount_at nat_eq world location).filesystem
@@ -93,7 +97,8 @@ module _ (fresh : Fresh ℕ) (world : World ℕ) (location : Location ℕ) (chan
   reals_there inode h = by (merged.files.tree.node inode) refl
     where
       by : (o : Option (Node ℕ)) → merged.files.tree.node inode ≡ o → is_some o ≡ true
-      by None e = sym (ap is_some ((conditions.overlays.overlays_merge number overlay can.overlay_there).real_there inode e)) ∙ h
+      by None e = sym (ap is_some
+          ((conditions.overlays.overlays_merge number overlay can.overlay_there).real_there inode e)) ∙ h
       by (Some node) e = refl
 
   added : Adds change before later
@@ -102,7 +107,8 @@ module _ (fresh : Fresh ℕ) (world : World ℕ) (location : Location ℕ) (chan
   -- both filesystems are there
   pub merged_there : Among merged world.filesystems
   merged_there =
-      (found_in (λ f. nat_eq number f.number) world.filesystems merged (overlay_found world number overlay can.overlay_there)).0
+      (found_in (λ f. nat_eq number f.number) world.filesystems merged
+      (overlay_found world number overlay can.overlay_there)).0
 
   plain_parts : (not (is_overlay layer) ≡ true) × (is_directory_node (layer.files.tree.node upper.directory) ≡ true)
   plain_parts =
@@ -150,22 +156,27 @@ module _ (fresh : Fresh ℕ) (world : World ℕ) (location : Location ℕ) (chan
   which f m = by (nat_eq merged.number f.number) refl (nat_eq layer.number f.number) refl
     where
       numbered : (n : ℕ) → f.number ≡ n → f ≡ filesystem_numbered nat_eq world n
-      numbered n e = sym (found_filesystem world.filesystems conditions.files.one_filesystem f m) ∙ ap (filesystem_numbered nat_eq world) e
+      numbered n e = sym (found_filesystem world.filesystems conditions.files.one_filesystem f m)
+          ∙ ap (filesystem_numbered nat_eq world) e
 
       by : (a : Bool) → nat_eq merged.number f.number ≡ a → (b : Bool) → nat_eq layer.number f.number ≡ b → Is f
       by true e b g =
           is_merged (numbered number (sym (eqb-true merged.number f.number e) ∙ number_of_filesystem world number))
-          (ap (λ c. replaced_if_numbered nat_eq new_layer (cond c new_merged f)) e ∙ ap (λ c. cond c new_layer new_merged) apart)
+          (ap (λ c. replaced_if_numbered nat_eq new_layer (cond c new_merged f)) e
+          ∙ ap (λ c. cond c new_layer new_merged) apart)
       by false e true g =
-          is_layer (numbered upper.filesystem (sym (eqb-true layer.number f.number g) ∙ number_of_filesystem world upper.filesystem))
+          is_layer (numbered upper.filesystem
+          (sym (eqb-true layer.number f.number g) ∙ number_of_filesystem world upper.filesystem))
           (ap (λ c. replaced_if_numbered nat_eq new_layer (cond c new_merged f)) e ∙ ap (λ c. cond c new_layer f) g)
       by false e false g =
-          is_other (ap (λ c. replaced_if_numbered nat_eq new_layer (cond c new_merged f)) e ∙ ap (λ c. cond c new_layer f) g)
+          is_other (ap (λ c. replaced_if_numbered nat_eq new_layer (cond c new_merged f)) e
+          ∙ ap (λ c. cond c new_layer f) g)
 
   abbrev then_ : World ℕ
   then_ = with_filesystems world swap_both
 
-  for_all : (P : Filesystem ℕ → Type 0) → P new_merged → P new_layer → ((f : Filesystem ℕ) → Among f world.filesystems → P f)
+  for_all : (P : Filesystem ℕ → Type 0) → P new_merged → P new_layer
+      → ((f : Filesystem ℕ) → Among f world.filesystems → P f)
       → All P then_.filesystems
   for_all P here there others =
       all_from_among P then_.filesystems (λ x m. let from = among-from_map swap_both world.filesystems x m in
@@ -188,13 +199,15 @@ module _ (fresh : Fresh ℕ) (world : World ℕ) (location : Location ℕ) (chan
   reals_then =
       for_all (λ f. (k : ℕ) → f.files.tree.node k ≡ None → real_in f k ≡ None)
       (λ k e. by k (later.real k) refl e) (λ k e. no_real new_layer layer_plain k)
-      (among_from_all (λ (f : Filesystem ℕ). (k : ℕ) → f.files.tree.node k ≡ None → real_in f k ≡ None) world.filesystems settles.reals)
+      (among_from_all (λ (f : Filesystem ℕ). (k : ℕ) → f.files.tree.node k ≡ None
+      → real_in f k ≡ None) world.filesystems settles.reals)
     where
       by : (k : ℕ) (o : Option (Real ℕ)) → later.real k ≡ o → later.files.tree.node k ≡ None → o ≡ None
       by k None r e = refl
       by k (Some real) r e =
           absurd (true≢false
-          (sym (is_among_numbers k later.files.numbers (added.reals k (ap is_some r))) ∙ listed_after.numbers k ∙ ap is_some e))
+          (sym (is_among_numbers k later.files.numbers (added.reals k (ap is_some r))) ∙ listed_after.numbers k
+          ∙ ap is_some e))
 
   pub uppers_then : UppersArePlain then_
   uppers_then =
@@ -203,7 +216,8 @@ module _ (fresh : Fresh ℕ) (world : World ℕ) (location : Location ℕ) (chan
       (λ is. absurd (true≢false (sym is ∙ layer_plain)))
       (λ f m is. all_upper f.number (was f m is))
     where
-      was : (f : Filesystem ℕ) → Among f world.filesystems → is_overlay f ≡ true → (g : Filesystem ℕ) → Among g world.filesystems
+      was : (f : Filesystem ℕ) → Among f world.filesystems → is_overlay f ≡ true → (g : Filesystem ℕ)
+          → Among g world.filesystems
           → has_upper_in f.number g ≡ false
       was f m is =
           among_from_all (λ g. has_upper_in f.number g ≡ false) world.filesystems
@@ -214,7 +228,8 @@ module _ (fresh : Fresh ℕ) (world : World ℕ) (location : Location ℕ) (chan
           → All (λ g. has_upper_in n g ≡ false) then_.filesystems
       all_upper n none =
           for_all (λ g. has_upper_in n g ≡ false)
-          (sym (ap (overlay_or false (λ o. holds_of (λ (l : Layer ℕ). nat_eq n l.filesystem) o.upper)) can.overlay_there)
+          (sym (ap (overlay_or false (λ o.
+          holds_of (λ (l : Layer ℕ). nat_eq n l.filesystem) o.upper)) can.overlay_there)
           ∙ none merged merged_there)
           (none layer layer_there) none
 
@@ -236,14 +251,16 @@ module _ (fresh : Fresh ℕ) (world : World ℕ) (location : Location ℕ) (chan
 
   lost_here : (inode : ℕ) → Among inode lost_names → is_inode_among merged.number inode lost ≡ true
   lost_here inode m =
-      list_any-append (λ (loser : Inode). nat_eq merged.number loser.0 && nat_eq inode loser.1) (map (λ i. (number, i)) lost_names)
+      list_any-append (λ (loser : Inode). nat_eq merged.number loser.0 && nat_eq inode loser.1)
+      (map (λ i. (number, i)) lost_names)
       (map (λ i. (upper.filesystem, i)) lost_above)
       ∙ or_first (is_inode_among merged.number inode (map (λ i. (number, i)) lost_names)) _
       (of_number number lost_names merged.number inode (number_of_filesystem world number) m)
 
   lost_there : (inode : ℕ) → Among inode lost_above → is_inode_among layer.number inode lost ≡ true
   lost_there inode m =
-      list_any-append (λ (loser : Inode). nat_eq layer.number loser.0 && nat_eq inode loser.1) (map (λ i. (number, i)) lost_names)
+      list_any-append (λ (loser : Inode). nat_eq layer.number loser.0 && nat_eq inode loser.1)
+      (map (λ i. (number, i)) lost_names)
       (map (λ i. (upper.filesystem, i)) lost_above)
       ∙ or_second (is_inode_among layer.number inode (map (λ i. (number, i)) lost_names)) _
       (of_number upper.filesystem lost_above layer.number inode (number_of_filesystem world upper.filesystem) m)
@@ -262,7 +279,8 @@ module _ (fresh : Fresh ℕ) (world : World ℕ) (location : Location ℕ) (chan
           (is_among nat_eq k (upper_objects last merged.number))
           (passes (λ n. is_among nat_eq n merged.files.numbers || is_among nat_eq n
           (named_in later.files)) later.files.numbers names_tree.inodes k m));
-      names = all_pass (λ k. is_among nat_eq k (named_in later.files) || is_inode_among merged.number k lost) (named_in merged.files)
+      names = all_pass (λ k. is_among nat_eq k (named_in later.files) || is_inode_among merged.number k lost)
+          (named_in merged.files)
           (λ k m.
           ⊎_elim (or_first (is_among nat_eq k (named_in later.files)) (is_inode_among merged.number k lost))
           (λ gone. or_second (is_among nat_eq k (named_in later.files)) (is_inode_among merged.number k lost)
@@ -270,9 +288,11 @@ module _ (fresh : Fresh ℕ) (world : World ℕ) (location : Location ℕ) (chan
           (or_cases (is_among nat_eq k (named_in later.files)) (is_among nat_eq k lost_names)
           (passes (λ n. is_among nat_eq n (named_in later.files) || is_among nat_eq n lost_names)
           (named_in merged.files) names_tree.names k m)));
-      objects = λ target. all_pass (λ k. is_among nat_eq k (objects_of_overlay nat_eq target new_merged) || is_inode_among target k lost)
+      objects = λ target. all_pass (λ k. is_among nat_eq k (objects_of_overlay nat_eq target new_merged)
+          || is_inode_among target k lost)
           (objects_of_overlay nat_eq target merged)
-          (λ k m. or_first (is_among nat_eq k (objects_of_overlay nat_eq target new_merged)) (is_inode_among target k lost)
+          (λ k m. or_first (is_among nat_eq k (objects_of_overlay nat_eq target new_merged))
+          (is_inode_among target k lost)
           (is_among_numbers k (objects_of_overlay nat_eq target new_merged)
           (objects_stay target merged.files.numbers later.files.numbers overlay later.real
           (λ inode n. subst (λ (f : FileTree ℕ). Among inode f.numbers) (sym added.files)
@@ -280,11 +300,13 @@ module _ (fresh : Fresh ℕ) (world : World ℕ) (location : Location ℕ) (chan
           (subst (Among k) (ap (overlay_or [] (λ o. objects_by target merged.files.numbers o)) can.overlay_there) m))));
     }
 
-    is_object : (inode object : ℕ) → Among inode later.files.numbers → upper_object (later.real inode) ≡ Some object → Among object
+    is_object : (inode object : ℕ) → Among inode later.files.numbers → upper_object (later.real inode) ≡ Some object
+        → Among object
         (upper_objects last layer.number)
     is_object inode object m e =
         among-flat_map (objects_of_overlay nat_eq layer.number) last.filesystems new_merged object in_last
-        (subst (λ b. Among object (cond b (filter_map (λ n. upper_object (later.real n)) later.files.numbers) [])) (sym above)
+        (subst (λ b. Among object (cond b (filter_map (λ n. upper_object (later.real n)) later.files.numbers) []))
+        (sym above)
         (among-filter_map (λ n. upper_object (later.real n)) later.files.numbers inode object m e))
       where
         above : holds_of (λ (l : Layer ℕ). nat_eq layer.number l.filesystem) overlay.upper ≡ true
@@ -295,9 +317,11 @@ module _ (fresh : Fresh ℕ) (world : World ℕ) (location : Location ℕ) (chan
     is_used : (k : ℕ) → Among k later.upper.numbers
         → (is_among nat_eq k layer.files.numbers || is_among nat_eq k (named_in later.upper)
         || is_among nat_eq k (upper_objects last layer.number)) ≡ true
-    is_used k m = by (is_among nat_eq k layer.files.numbers) refl (is_among nat_eq k (named_in later.upper)) refl (added.numbers k m)
+    is_used k m = by (is_among nat_eq k layer.files.numbers) refl (is_among nat_eq k (named_in later.upper)) refl
+        (added.numbers k m)
       where
-        by : (a : Bool) → is_among nat_eq k layer.files.numbers ≡ a → (b : Bool) → is_among nat_eq k (named_in later.upper) ≡ b
+        by : (a : Bool) → is_among nat_eq k layer.files.numbers ≡ a → (b : Bool)
+            → is_among nat_eq k (named_in later.upper) ≡ b
             → Among k layer.files.numbers
             ⊎ (((number : ℕ) × Among number later.files.numbers × (upper_object (later.real number) ≡ Some k))
             ⊎ HasName later.upper.tree k)
@@ -307,7 +331,8 @@ module _ (fresh : Fresh ℕ) (world : World ℕ) (location : Location ℕ) (chan
         by false e false f (inl was) = absurd (true≢false (sym (is_among_numbers k layer.files.numbers was) ∙ e))
         by false e false f (inr (inl object)) =
             is_among_numbers k (upper_objects last layer.number) (is_object object.0 k object.1 object.2)
-        by false e false f (inr (inr named)) = absurd (true≢false (sym (named_among later.upper can.upper_tree k named) ∙ f))
+        by false e false f (inr (inr named)) =
+            absurd (true≢false (sym (named_among later.upper can.upper_tree k named) ∙ f))
 
     of_layer : ChangesFilesystem last lost layer new_layer
     of_layer = record {
@@ -317,10 +342,12 @@ module _ (fresh : Fresh ℕ) (world : World ℕ) (location : Location ℕ) (chan
       inodes = all_pass (λ k. is_among nat_eq k layer.files.numbers || is_among nat_eq k (named_in later.upper)
           || is_among nat_eq k (upper_objects last layer.number))
           later.upper.numbers is_used;
-      names = all_pass (λ k. is_among nat_eq k (named_in later.upper) || is_inode_among layer.number k lost) (named_in layer.files) (λ k m.
+      names = all_pass (λ k. is_among nat_eq k (named_in later.upper) || is_inode_among layer.number k lost)
+          (named_in layer.files) (λ k m.
           ⊎_elim (or_first (is_among nat_eq k (named_in later.upper)) (is_inode_among layer.number k lost))
           (λ gone. or_second (is_among nat_eq k (named_in later.upper)) (is_inode_among layer.number k lost)
-          (lost_there k (among-filter (λ n. not (is_among nat_eq n (named_in later.upper))) (named_in layer.files) k m (ap not gone))))
+          (lost_there k (among-filter (λ n. not (is_among nat_eq n (named_in later.upper))) (named_in layer.files) k m
+          (ap not gone))))
           (decided (is_among nat_eq k (named_in later.upper))));
       objects = λ target. ap (list_all (λ k.
           is_among nat_eq k (objects_of_overlay nat_eq target new_layer) || is_inode_among target k lost))
@@ -328,29 +355,36 @@ module _ (fresh : Fresh ℕ) (world : World ℕ) (location : Location ℕ) (chan
     }
 
     pub all_changed : All (λ f. ChangesFilesystem last lost f (swap_both f)) world.filesystems
-    all_changed = all_from_among (λ f. ChangesFilesystem last lost f (swap_both f)) world.filesystems (λ f m. by f (which f m))
+    all_changed = all_from_among (λ f. ChangesFilesystem last lost f (swap_both f)) world.filesystems
+        (λ f m. by f (which f m))
       where
         by : (f : Filesystem ℕ) → Is f → ChangesFilesystem last lost f (swap_both f)
         by f (is_merged e s) =
-            subst (λ x. ChangesFilesystem last lost x (swap_both f)) (sym e) (subst (ChangesFilesystem last lost merged) (sym s) of_merged)
+            subst (λ x. ChangesFilesystem last lost x (swap_both f)) (sym e)
+            (subst (ChangesFilesystem last lost merged) (sym s) of_merged)
         by f (is_layer e s) =
-            subst (λ x. ChangesFilesystem last lost x (swap_both f)) (sym e) (subst (ChangesFilesystem last lost layer) (sym s) of_layer)
+            subst (λ x. ChangesFilesystem last lost x (swap_both f)) (sym e)
+            (subst (ChangesFilesystem last lost layer) (sym s) of_layer)
         by f (is_other s) = subst (ChangesFilesystem last lost f) (sym s) (unchanged last lost f)
 
   pub becomes : swap_both merged ≡ new_merged
   becomes =
-      ap (λ c. replaced_if_numbered nat_eq new_layer (cond c new_merged merged)) (eq-eqb merged.number merged.number refl)
+      ap (λ c. replaced_if_numbered nat_eq new_layer (cond c new_merged merged))
+      (eq-eqb merged.number merged.number refl)
       ∙ ap (λ c. cond c new_layer new_merged) apart
 
   merged_then : Among new_merged then_.filesystems
-  merged_then = subst (λ f. Among f then_.filesystems) becomes (among-map swap_both world.filesystems merged merged_there)
+  merged_then = subst (λ f. Among f then_.filesystems) becomes
+      (among-map swap_both world.filesystems merged merged_there)
 
   -- so it is in every world that has these filesystems, and shows this one at the location
-  pub is_swap : (other : World ℕ) → other.filesystems ≡ world.filesystems → (mount_at nat_eq other location).filesystem ≡ number
+  pub is_swap : (other : World ℕ) → other.filesystems ≡ world.filesystems
+      → (mount_at nat_eq other location).filesystem ≡ number
       → with_change nat_eq fresh other location change ≡ with_filesystems other swap_both
   is_swap other same shows =
       ap (λ f. filesystem_changed nat_eq fresh other f f.overlay change)
-      (ap (filesystem_numbered nat_eq other) shows ∙ ap (λ fs. filesystem_numbered nat_eq (record other { filesystems = fs }) number) same)
+      (ap (filesystem_numbered nat_eq other) shows
+      ∙ ap (λ fs. filesystem_numbered nat_eq (record other { filesystems = fs }) number) same)
       ∙ ap (λ o. filesystem_changed nat_eq fresh other merged o change) can.overlay_there
       ∙ ap (λ u. overlay_changed nat_eq fresh other merged overlay u change) can.upper_there
       ∙ ap (λ fs. record other { filesystems = merged_in fs }) same
@@ -368,10 +402,12 @@ module _ (fresh : Fresh ℕ) (world : World ℕ) (location : Location ℕ) (chan
           (merge_of nat_eq (of fs) merged overlay upper) change)).filesystems
 
   goes : settled nat_eq then_ ≡ let_go_all_inodes then_ lost
-  goes = changed_trees_let_go world swap_both lost settles trees_then uppers_then reals_then (all_changed then_ merged_then)
+  goes = changed_trees_let_go world swap_both lost settles trees_then uppers_then reals_then
+      (all_changed then_ merged_then)
 
 pub overlay_changes_let_go : OverlayChangesLetGo
 overlay_changes_let_go fresh world location change overlay upper conditions can =
-    subst (λ w. settled nat_eq w ≡ let_go_all_inodes w (inodes_lost_with_upper fresh world location overlay upper change))
+    subst (λ w. settled nat_eq w ≡ let_go_all_inodes w
+    (inodes_lost_with_upper fresh world location overlay upper change))
     (sym (is_swap fresh world location change overlay upper conditions can world refl refl))
     (goes fresh world location change overlay upper conditions can)

@@ -66,7 +66,8 @@ found_by_name (first ∷ entries) entry sorted (inr among) =
         → cond tied (Some first.1) (entry_named entry.0 entries) ≡ Some entry.1
     by true t named =
         absurd (true≢false (ap there
-        (sym named ∙ ap (λ n. entry_named n entries) (same_name entry.0 first.0 t) ∙ below_none first.0 entries parts.0)))
+        (sym named ∙ ap (λ n. entry_named n entries) (same_name entry.0 first.0 t)
+        ∙ below_none first.0 entries parts.0)))
     by false t named = named
 
 -- A group that lives has a member, and so has its master.
@@ -123,7 +124,8 @@ module _ (world : World ℕ) (whole : IsWorld nat_eq world) (plain : IsPlain wor
   used_namespace : (number : ℕ) → is_listed nat_eq world number ≡ true → Used number
   used_namespace number listed =
       is_among_numbers number (numbers_in_use world)
-      (among-append_right (of_mounts ++ of_filesystems) of_namespaces number (among_numbers number of_namespaces listed))
+      (among-append_right (of_mounts ++ of_filesystems) of_namespaces number
+      (among_numbers number of_namespaces listed))
 
   -- Inodes
   listed_used : (filesystem : Filesystem ℕ) → Among filesystem world.filesystems → (number : ℕ)
@@ -260,7 +262,8 @@ module _ (world : World ℕ) (whole : IsWorld nat_eq world) (plain : IsPlain wor
     tree = filesystem.files.tree
 
     is_tree : IsTree tree
-    is_tree = among_from_all (λ (f : Filesystem ℕ). IsTree f.files.tree) world.filesystems whole.files.trees filesystem there
+    is_tree = among_from_all
+        (λ (f : Filesystem ℕ). IsTree f.files.tree) world.filesystems whole.files.trees filesystem there
 
     content_is : (number : ℕ) (node : Node ℕ) (content : Content ℕ) → tree.node number ≡ Some node
         → node.content ≡ content → content_named (is_in_use world) content ≡ true

@@ -66,7 +66,11 @@ module _ {N : Type 0} where
 
 abbrev pub named_permit : Named Permit
 named_permit =
-    record { rename = λ A B there back permit. renamed_permit there back permit; itself = λ A permit. permit_itself permit }
+    record {
+      rename = λ A B there back permit. renamed_permit there back permit;
+      itself = λ A permit.
+          permit_itself permit;
+    }
 
 module _ (named : ℕ → Bool) (renaming : Renaming ℕ ℕ) (leaves : Leaves renaming named) where
   abbrev there : ℕ → ℕ
@@ -144,7 +148,8 @@ module _ (named : ℕ → Bool) (renaming : Renaming ℕ ℕ) (leaves : Leaves r
       let last =
       and_parts (location_named named from && location_named named to && location_named named object)
       (none_or (location_named named) replaced) e in
-      let next = and_parts (location_named named from && location_named named to) (location_named named object) last.0 in
+      let next = and_parts (location_named named from && location_named named to)
+      (location_named named object) last.0 in
       let first = and_parts (location_named named from) (location_named named to) next.0 in
       λ i. ToRename (place_left from first.0 i) old (place_left to first.1 i) new (place_left object next.1 i)
       (places_left replaced last.1 i)

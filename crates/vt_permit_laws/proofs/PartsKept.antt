@@ -15,10 +15,12 @@ use Rattle.vt_spec.specs.Machine.World.{Filesystem, World, filesystem_numbered, 
 use Rattle.vt_spec.specs.Tree.{is_directory_node}
 
 -- receivers are mounts of the world
-pub receivers_there : (world : World ℕ) (mount one : Mount ℕ) → Among one (receivers_of nat_eq world mount) → Among one world.mounts
+pub receivers_there : (world : World ℕ) (mount one : Mount ℕ) → Among one (receivers_of nat_eq world mount)
+    → Among one world.mounts
 receivers_there world mount one = by (group_of mount.propagation)
   where
-    by : (group : Option ℕ) → Among one (unwrap_or (option_map (receivers nat_eq world) group) []) → Among one world.mounts
+    by : (group : Option ℕ) → Among one (unwrap_or (option_map (receivers nat_eq world) group) [])
+        → Among one world.mounts
     by None m = absurd m
     by (Some group) m = (among-from_filter (receives nat_eq world group) world.mounts one m).0
 
@@ -47,10 +49,12 @@ module _ (world : World ℕ) (whole : IsWorld nat_eq world) (added : Filesystem 
           ap (λ o. unwrap_or o (no_filesystem mount.filesystem))
           (find-append test world.filesystems (added ∷ []) ∙ ap (λ o. option_or o (find test (added ∷ []))) e ∙ sym e)
 
-  pub same_parts : (place : Location ℕ) → parts_of nat_eq (with_new_filesystem world added) place ≡ parts_of nat_eq world place
+  pub same_parts : (place : Location ℕ)
+      → parts_of nat_eq (with_new_filesystem world added) place ≡ parts_of nat_eq world place
   same_parts place =
       ap (λ rest. mount_at nat_eq world place ∷ rest)
-      (filter_alike (takes_part nat_eq larger place) (takes_part nat_eq world place) (receivers_of nat_eq world (mount_at nat_eq world place))
+      (filter_alike (takes_part nat_eq larger place) (takes_part nat_eq world place)
+      (receivers_of nat_eq world (mount_at nat_eq world place))
       (λ mount m.
       ap (λ (filesystem : Filesystem ℕ). not (nat_eq place.mount mount.number) && is_some mount.namespace
       && nat_eq (mount_at nat_eq world place).filesystem mount.filesystem

@@ -42,7 +42,8 @@ module _ (one second : World ℕ) (same : Alike one (with_mounts_of one second))
       one.filesystems other.filesystems same.filesystems i))
 
   objects_same : (a b : ℕ)
-      → flat_map (objects_of_overlay nat_eq a) one.filesystems ≡ flat_map (objects_of_overlay nat_eq b) other.filesystems
+      → flat_map (objects_of_overlay nat_eq a) one.filesystems
+      ≡ flat_map (objects_of_overlay nat_eq b) other.filesystems
   objects_same a b =
       each_flat AlikeFilesystem (objects_of_overlay nat_eq a) (objects_of_overlay nat_eq b)
       (λ first next known.
@@ -99,7 +100,8 @@ module _ (one second : World ℕ) (same : Alike one (with_mounts_of one second))
   in_use is = record {
     mounts =
         (λ i. list_all (λ (mount : Mount ℕ). is_some mount.namespace
-        || list_any (λ (location : Location ℕ). nat_eq mount.number location.mount) (sym (locations_same one other same) i))
+        || list_any (λ (location : Location ℕ). nat_eq mount.number location.mount)
+        (sym (locations_same one other same) i))
         one.mounts)
         ∙ is.mounts;
     filesystems =
@@ -119,8 +121,11 @@ alike_in_use one other same is =
 
 pub alike_worlds : (one other : World ℕ) → Alike one other → IsWorld nat_eq one → IsWorld nat_eq other × IsPlain other
 alike_worlds one other same is =
-    let unsettled = alike_under_way one other same (unsettled_of one is (plain_from_alike one other same)) in
-    (world_of other unsettled (nothing_goes other (alike_in_use one other same (worlds_are_in_use one is))), unsettled.plain)
+    let unsettled = alike_under_way one other same (unsettled_of one is (plain_from_alike one other same)) in (
+      world_of other unsettled (nothing_goes other
+          (alike_in_use one other same (worlds_are_in_use one is))),
+      unsettled.plain,
+    )
 
 pub same_worlds_are_worlds : SameWorldsAreWorlds
 same_worlds_are_worlds one other same plain is = alike_worlds one other (alike_from_same one other same plain) is

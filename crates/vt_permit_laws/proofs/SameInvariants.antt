@@ -41,7 +41,8 @@ module _ (one other : FileTree ℕ) (same : SameFiles one other) where
 
   abbrev fits : Tree ℕ → ℕ → Bool
   fits tree number =
-      is_no_larger (record { tree = tree; numbers = [] }) number && has_fit_names (record { tree = tree; numbers = [] }) number
+      is_no_larger (record { tree = tree; numbers = [] }) number
+      && has_fit_names (record { tree = tree; numbers = [] }) number
       && has_fit_text (record { tree = tree; numbers = [] }) number
 
   fit_alike : list_all (fits one.tree) one.numbers ≡ list_all (fits other.tree) other.numbers

@@ -82,7 +82,8 @@ module _ (renaming : Renaming ℕ ℕ) where
     master =
         ((λ j group. option_map there (sym same.master j (back group))) ∙ (λ j. (left j).master) ∙ same.master) i;
     filesystems =
-        each_left_alike AlikeFilesystem (renamed_filesystem there back) filesystem_left one.filesystems other.filesystems
+        each_left_alike AlikeFilesystem
+        (renamed_filesystem there back) filesystem_left one.filesystems other.filesystems
         same.filesystems (λ j. (left j).filesystems) i;
     namespaces =
         each_left_alike SameNamespace (renamed_namespace there back) namespace_left one.namespaces other.namespaces

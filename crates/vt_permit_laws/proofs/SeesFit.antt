@@ -61,7 +61,8 @@ module _ (inodes : Inodes ℕ) where
   tree = tree_of inodes
 
   -- nothing above a directory is what does not lead to it
-  module _ (is : IsTree tree) (object to : ℕ) (not_under : (names : List (List ℕ)) → led tree object names ≢ Some to) where
+  module _ (is : IsTree tree) (object to : ℕ)
+      (not_under : (names : List (List ℕ)) → led tree object names ≢ Some to) where
     apart : (directory : ℕ) (names : List (List ℕ)) → led tree directory names ≡ Some to
         → nat_eq object directory ≡ false
     apart directory names leads =
@@ -76,14 +77,16 @@ module _ (inodes : Inodes ℕ) where
     above zero directory there reached names leads = ap (λ b. b || false) (apart directory names leads)
     above (suc most) directory there reached names leads =
         by (nat_eq directory inodes.root) refl (λ (named : HasName tree directory).
-        above most (parent directory) (is.parent_directory directory there) (parent_reached tree is directory there reached)
+        above most (parent directory) (is.parent_directory directory there)
+        (parent_reached tree is directory there reached)
         (named.1 ∷ names)
         (ap (option_and_then (λ next. led tree next names))
         (ap (λ d. entry_at tree d named.1) (is.one_parent named.0 named.1 directory named.2 there) ∙ named.2)
         ∙ leads))
       where
         by : (b : Bool) → nat_eq directory inodes.root ≡ b
-            → (HasName tree directory → is_among nat_eq object (chain most (parent_above nat_eq inodes) (parent directory)) ≡ false)
+            → (HasName tree directory → is_among nat_eq object
+            (chain most (parent_above nat_eq inodes) (parent directory)) ≡ false)
             → is_among nat_eq object (chain (suc most) (parent_above nat_eq inodes) directory) ≡ false
         by true e goes_on =
             ap (is_among nat_eq object)
@@ -241,7 +244,8 @@ module _ (world : World ℕ) (fresh : Fresh ℕ) (task : Task ℕ) (permit : Per
   facts_of (ToRemoveDirectory parent name directory) names seen = ((seen.1, tt), tt)
   facts_of (ToRename from old to new object replaced) names seen =
       let kinds : (other : ℕ) → entry_at (tree_at world from) to.node new ≡ Some other
-      → is_directory_node ((tree_at world from).node other) ≡ is_directory_node ((tree_at world from).node object.node) =
+      → is_directory_node ((tree_at world from).node other)
+      ≡ is_directory_node ((tree_at world from).node object.node) =
       λ other e.
       ap (λ m. is_directory_node ((shown m).node other)) (sym seen.to_mount)
       ∙ seen.kinds (record { mount = to.mount; node = other })

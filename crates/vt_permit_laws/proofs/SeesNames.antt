@@ -137,7 +137,8 @@ module _ (world : World ℕ) (whole : IsWorld nat_eq world) (plain : IsPlain wor
   whiteout_seen path =
       gives_walk (SeesTo world task) NewPlace (new_leaf_walk nat_eq looks task path) _ (new_leaf_ends path) (λ place is.
       gives_unless (SeesTo world task) (whiteout_rules looks task place) _ (λ passed.
-      made_at_new place (record { attr = exact_attr task 0; content = Whiteout }) is passed.0 passed.1.0 (inr refl) refl))
+      made_at_new place (record { attr = exact_attr task 0; content = Whiteout }) is passed.0 passed.1.0
+      (inr refl) refl))
 
   pub link_seen : (old new : List ℕ) → Seen (hard_link_permit nat_eq looks task old new)
   unfolding hard_link_permit
@@ -163,7 +164,8 @@ module _ (world : World ℕ) (whole : IsWorld nat_eq world) (plain : IsPlain wor
       (refl, passed.0, no_longer largest_file bytes passed.1.0))
   written_seen place bytes is named None e =
       gives_unless (SeesTo world task) ((nat_lt largest_file (length bytes), E6) ∷ []) _ (λ small.
-      gives_unless (SeesTo world task) (make_rules looks task place (unnumbered place (new_file task file_mode bytes))) _
+      gives_unless (SeesTo world task)
+      (make_rules looks task place (unnumbered place (new_file task file_mode bytes))) _
       (λ passed.
       may_be_made place (new_file task file_mode bytes) is.0.0 is.0.1 is.1 named (ap is_some e) (inr refl)
       (ap (λ b. b && true && true) (no_longer largest_file bytes small.0))))
@@ -176,7 +178,8 @@ module _ (world : World ℕ) (whole : IsWorld nat_eq world) (plain : IsPlain wor
       written_seen place bytes is (first_false (is_special place.last) place.slash passed.0) place.object refl))
 
   -- open(2)
-  opened_seen : (file : Location ℕ) (access : Access) → HasRoom task → Seen (open_file_permit nat_eq looks task file access)
+  opened_seen : (file : Location ℕ) (access : Access) → HasRoom task
+      → Seen (open_file_permit nat_eq looks task file access)
   opened_seen file access room =
       gives_unless (SeesTo world task) (open_rules looks task file access) _ (λ passed. (passed.0, room))
 
@@ -278,7 +281,8 @@ module _ (world : World ℕ) (whole : IsWorld nat_eq world) (plain : IsPlain wor
       → Ends NewPlace (rename_new_walk nat_eq looks task path old_is_directory)
   rename_ends path old_is_directory =
       ends_then NewPlace NewPlace (new_walk nat_eq looks task path) _ (new_ends path)
-      (λ place is. ends_unless NewPlace place.steps ((place.slash && not old_is_directory, W3) ∷ []) place (λ passed. is))
+      (λ place is. ends_unless NewPlace place.steps ((place.slash && not old_is_directory, W3) ∷ []) place
+      (λ passed. is))
 
   -- what is replaced is of the kind of what replaces it
   same_kind : (old new : Bool) → (not old && new) ≡ false → (old && not new) ≡ false → new ≡ old
@@ -294,7 +298,8 @@ module _ (world : World ℕ) (whole : IsWorld nat_eq world) (plain : IsPlain wor
   renamed_seen true from to from_is to_is from_named to_named one =
       gives_unless (SeesTo world task) (same_object_rules nat_eq looks from to) _ (λ passed. tt)
   renamed_seen false from to from_is to_is from_named to_named another =
-      gives_unless (SeesTo world task) (rename_rules nat_eq looks task from to (object_there from)) _ (λ passed. record {
+      gives_unless (SeesTo world task) (rename_rules nat_eq looks task from to (object_there from)) _
+      (λ passed. record {
         to_mount =
             sym (eqb-true from.parent.mount to.parent.mount
             (not_true (nat_eq from.parent.mount to.parent.mount) passed.1.1.1.1.1.1.1.1.0));
@@ -306,7 +311,8 @@ module _ (world : World ℕ) (whole : IsWorld nat_eq world) (plain : IsPlain wor
         replaces = (place_named world to.parent to.last to.object to_named to_is.0.0).1;
         kinds = λ other e.
             same_kind (is_directory_at nat_eq world (object_there from)) (is_directory_at nat_eq world other)
-            (ap (λ o. not (is_directory_at nat_eq world (object_there from)) && holds_of (is_directory_at nat_eq world) o)
+            (ap (λ o. not (is_directory_at nat_eq world (object_there from))
+            && holds_of (is_directory_at nat_eq world) o)
             (sym e) ∙ passed.0)
             (ap (λ o. is_directory_at nat_eq world (object_there from)
             && holds_of (λ new. not (is_directory_at nat_eq world new)) o) (sym e) ∙ passed.1.0);

@@ -90,7 +90,8 @@ module _ (world : World ℕ) (whole : IsWorld nat_eq world) (plain : IsPlain wor
       gives_walk (SeesTo world task) (λ here. ⊤) (symlink_walk nat_eq looks task path) _
       (ends_anyhow (symlink_walk nat_eq looks task path)) (λ here any.
       gives_unless (SeesTo world task) (readlink_rules looks here.location) _ (λ passed.
-      link_is_no_directory (node_at nat_eq world here.location) (not_true (kind_at looks here.location SymlinkKind) passed.0)))
+      link_is_no_directory (node_at nat_eq world here.location)
+      (not_true (kind_at looks here.location SymlinkKind) passed.0)))
 
   read_seen : (path : List ℕ) → Seen (read_permit nat_eq looks task path)
   unfolding read_permit

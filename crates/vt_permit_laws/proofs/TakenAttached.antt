@@ -19,7 +19,8 @@ place_bound test k (first ∷ rest) j e = by (test first) e (place_bound test (k
     by true f later = let same : k ≡ j = cc in omega arith
     by false f later = let low = later f in omega arith
 
-pub index_bound : (mounts : List (Mount ℕ)) (number : ℕ) → 0 < length mounts → index_of nat_eq mounts number < length mounts
+pub index_bound : (mounts : List (Mount ℕ)) (number : ℕ) → 0 < length mounts
+    → index_of nat_eq mounts number < length mounts
 index_bound mounts number some = by (place_from (λ mount. nat_eq number mount.number) 0 mounts) refl
   where
     by : (o : Option ℕ) → place_from (λ mount. nat_eq number mount.number) 0 mounts ≡ o → unwrap_or o 0 < length mounts
@@ -52,7 +53,8 @@ module _ (world : World ℕ) (place : Location ℕ) (mounts : List (Mount ℕ)) 
   abbrev pub place_by : Bool → Bool → Copies ℕ → Mount ℕ → Location ℕ
   place_by there moves new origin =
       if is_top nat_eq (graft moves) origin.number then record { mount = destination.number; node = place.node }
-      else unwrap_or (option_map (λ (at : Location ℕ). record { mount = number_by there moves new at.mount; node = at.node })
+      else unwrap_or (option_map
+      (λ (at : Location ℕ). record { mount = number_by there moves new at.mount; node = at.node })
       origin.mount_point) place
 
   abbrev pub type_by : Bool → Copies ℕ → Twig ℕ → Propagation ℕ
@@ -92,7 +94,8 @@ module _ (world : World ℕ) (place : Location ℕ) (mounts : List (Mount ℕ)) 
 
     at_one_part : (fresh : Fresh ℕ)
         → attach nat_eq world fresh place moves mounts
-        ≡ attached_alone (nat_eq destination.number place.mount) moves (copies_from nat_eq fresh (destination ∷ []) mounts)
+        ≡ attached_alone (nat_eq destination.number place.mount) moves
+        (copies_from nat_eq fresh (destination ∷ []) mounts)
     at_one_part fresh = λ i.
         attached_at nat_eq world (copies_from nat_eq fresh (parts_by (alone i)) mounts)
         (record {
@@ -164,7 +167,8 @@ pub copies_at_one : (world other : World ℕ) → other.mounts ≡ world.mounts 
 copies_at_one world other same place one new alone fresh again =
     ends world one alone fresh
     ∙ (λ i. fronted (sym same i))
-    ∙ sym (ends other new (subst (λ mounts. group_of (mount_in nat_eq mounts place.mount).propagation ≡ None) (sym same) alone) again)
+    ∙ sym (ends other new (subst (λ mounts. group_of (mount_in nat_eq mounts place.mount).propagation ≡ None)
+    (sym same) alone) again)
   where
     fronted : List (Mount ℕ) → List (Option ℕ)
     fronted mounts =
@@ -172,7 +176,8 @@ copies_at_one world other same place one new alone fresh again =
         (map (λ (mount : Mount ℕ). mount) mounts ++ (mount_in nat_eq mounts place.mount ∷ []) ++ [])
 
     ends : (w : World ℕ) (m : Mount ℕ) → group_of (mount_at nat_eq w place).propagation ≡ None → (supply : Fresh ℕ)
-        → map (λ (mount : Mount ℕ). mount.namespace) (attach nat_eq w supply place false (m ∷ [])).mounts ≡ fronted w.mounts
+        → map (λ (mount : Mount ℕ). mount.namespace) (attach nat_eq w supply place false (m ∷ [])).mounts
+        ≡ fronted w.mounts
     ends w m there supply =
         (λ i. map (λ (mount : Mount ℕ). mount.namespace) (at_destination w place (m ∷ []) there false supply i).mounts)
         ∙ front_same w place (m ∷ []) (map (λ (mount : Mount ℕ). mount) w.mounts) _ (mount_at nat_eq w place ∷ []) refl

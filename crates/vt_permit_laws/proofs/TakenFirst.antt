@@ -47,7 +47,8 @@ no_group (Slave master) e = absurd (true≢false (sym e))
 no_group Private e = refl
 no_group Unbindable e = refl
 
-pub found_ungrouped : (mounts : List (Mount ℕ)) → list_all (λ (mount : Mount ℕ). is_ungrouped mount.propagation) mounts ≡ true
+pub found_ungrouped : (mounts : List (Mount ℕ))
+    → list_all (λ (mount : Mount ℕ). is_ungrouped mount.propagation) mounts ≡ true
     → (number : ℕ) → group_of (mount_in nat_eq mounts number).propagation ≡ None
 found_ungrouped [] all number = refl
 found_ungrouped (mount ∷ rest) all number =

@@ -47,7 +47,8 @@ judged_if eq call handed (Some task) = judge_in eq handed.0 handed.1 task call
 abbrev judged_called : {N : Type 0} → TaskName → Call → (N → N → Bool) → Handed N → Judgement N
 judged_called name call eq handed = judged_if eq call handed (task_called handed.1 name)
 
-same_permit : (one other : Permit ℕ) (first next : Judgement ℕ) → first ≡ Ok one → next ≡ Ok other → first ≡ next → one ≡ other
+same_permit : (one other : Permit ℕ) (first next : Judgement ℕ) → first ≡ Ok one → next ≡ Ok other → first ≡ next
+    → one ≡ other
 same_permit one other first next e f g = cc
 
 pub given_permits_are_left : GivenPermitsAreLeft
@@ -88,7 +89,8 @@ given_permits_keep_to_taken before later world task permit fresh more whole plai
 
 pub given_counts_go_on : GivenCountsGoOn
 given_counts_go_on next inode world task permit even whole plain ungrouped keeps given =
-    given_permits_keep_to_taken (is_counted_before next) (is_counted_before (next + counts_taken world task permit)) world
+    given_permits_keep_to_taken (is_counted_before next)
+    (is_counted_before (next + counts_taken world task permit)) world
     task permit (handed_to next inode permit)
     (λ number named. counted_later next (next + counts_taken world task permit) number (omega arith) named) whole plain
     ungrouped keeps given (taken next inode even world task permit)

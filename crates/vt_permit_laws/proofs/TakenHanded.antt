@@ -58,25 +58,31 @@ module _ (next inode : ℕ) (even : inode % 2 ≡ 0) (world : World ℕ) (task :
   taken (ToList directory) k low = counted_here next (numbers_taken world task (ToList directory)) k low
   taken (ToStat object) k low = counted_here next (numbers_taken world task (ToStat object)) k low
   taken (ToRead file) k low = counted_here next (numbers_taken world task (ToRead file)) k low
-  taken (ToReadPart file offset size) k low = counted_here next (numbers_taken world task (ToReadPart file offset size)) k low
+  taken (ToReadPart file offset size) k low =
+      counted_here next (numbers_taken world task (ToReadPart file offset size)) k low
   taken (ToChange location change) k low = counted_here next (numbers_taken world task (ToChange location change)) k low
   taken (ToRemoveDirectory parent name directory) k low =
       counted_here next (numbers_taken world task (ToRemoveDirectory parent name directory)) k low
   taken (ToRename from old to new object replaced) k low =
       counted_here next (numbers_taken world task (ToRename from old to new object replaced)) k low
   taken (ToOpen file access) k low = counted_here next (numbers_taken world task (ToOpen file access)) k low
-  taken (ToWritePart file offset bytes) k low = counted_here next (numbers_taken world task (ToWritePart file offset bytes)) k low
+  taken (ToWritePart file offset bytes) k low =
+      counted_here next (numbers_taken world task (ToWritePart file offset bytes)) k low
   taken (ToClose descriptor) k low = counted_here next (numbers_taken world task (ToClose descriptor)) k low
   taken (ToSetDirectory directory) k low = counted_here next (numbers_taken world task (ToSetDirectory directory)) k low
   taken (ToSetRoot root) k low = counted_here next (numbers_taken world task (ToSetRoot root)) k low
   taken (ToSetUmask umask) k low = counted_here next (numbers_taken world task (ToSetUmask umask)) k low
-  taken (ToSetCredentials credentials) k low = counted_here next (numbers_taken world task (ToSetCredentials credentials)) k low
+  taken (ToSetCredentials credentials) k low =
+      counted_here next (numbers_taken world task (ToSetCredentials credentials)) k low
   taken (ToFork credentials) k low = counted_here next (numbers_taken world task (ToFork credentials)) k low
   taken ToExit k low = counted_here next (numbers_taken world task ToExit) k low
   taken ToUnshare k low = counted_here next (numbers_taken world task ToUnshare) k low
-  taken (ToEnterNamespace namespace) k low = counted_here next (numbers_taken world task (ToEnterNamespace namespace)) k low
-  taken (ToMountOverlay place overlay flags) k low = counted_here next (numbers_taken world task (ToMountOverlay place overlay flags)) k low
-  taken (ToBind source place recursive) k low = counted_here next (numbers_taken world task (ToBind source place recursive)) k low
+  taken (ToEnterNamespace namespace) k low =
+      counted_here next (numbers_taken world task (ToEnterNamespace namespace)) k low
+  taken (ToMountOverlay place overlay flags) k low =
+      counted_here next (numbers_taken world task (ToMountOverlay place overlay flags)) k low
+  taken (ToBind source place recursive) k low =
+      counted_here next (numbers_taken world task (ToBind source place recursive)) k low
   taken (ToMove mount place) k low = counted_here next (numbers_taken world task (ToMove mount place)) k low
   taken (ToUnmount mount) k low = counted_here next (numbers_taken world task (ToUnmount mount)) k low
   taken (ToUnmountLazily mount) k low = counted_here next (numbers_taken world task (ToUnmountLazily mount)) k low

@@ -31,7 +31,8 @@ count_by : (mounts : List (Mount ℕ)) (number : ℕ)
 count_by mounts number =
     sym (length-map (filter (λ (mount : Mount ℕ). holds_of (nat_eq number) mount.namespace) mounts)
     (λ (mount : Mount ℕ). mount.namespace))
-    ∙ ap length (sym (filter-map (holds_of (nat_eq number)) (λ (mount : Mount ℕ). mount.namespace) mounts (λ mount. refl)))
+    ∙ ap length (sym (filter-map (holds_of (nat_eq number)) (λ (mount : Mount ℕ). mount.namespace) mounts
+    (λ mount. refl)))
 
 many_alike : (one other : World ℕ) → one.namespaces ≡ other.namespaces
     → map (λ (mount : Mount ℕ). mount.namespace) one.mounts ≡ map (λ (mount : Mount ℕ). mount.namespace) other.mounts
@@ -54,13 +55,15 @@ module _ (world : World ℕ) (whole : IsWorld nat_eq world) (task : Task ℕ) (f
   -- the mounts of a new filesystem get namespaces that do not go by its numbers
   new_namespaces : (place : Location ℕ) (flags : MountFlags) (supply : Fresh ℕ)
       → namespaces_in (apply nat_eq supply world task (ToMountPlain place flags)).world.mounts
-      ≡ namespaces_after false world.mounts (mount_at nat_eq world place) (rest_of (parts_of nat_eq world place)) (mount_at nat_eq world place ∷ [])
+      ≡ namespaces_after false world.mounts (mount_at nat_eq world place) (rest_of (parts_of nat_eq world place))
+      (mount_at nat_eq world place ∷ [])
   new_namespaces place flags supply =
       let added = plain_filesystem nat_eq supply in
       let larger = with_new_filesystem world added in
       let tree = new_mount (supply 0) (supply 2) flags ∷ [] in
       attached_namespaces larger place false tree (copies_from nat_eq (odds supply) (parts_of nat_eq larger place) tree)
-      ∙ ap (λ parts. namespaces_after false world.mounts (mount_at nat_eq world place) (rest_of parts) tree) (same_parts world whole added place)
+      ∙ ap (λ parts. namespaces_after false world.mounts (mount_at nat_eq world place) (rest_of parts) tree)
+      (same_parts world whole added place)
 
   mount_many : (place : Location ℕ) (flags : MountFlags)
       → overfills nat_eq fresh world task (ToMountPlain place flags)

@@ -12,7 +12,8 @@ permits_keep_to_taken before later world task permit fresh more whole plain ungr
     left_renamed renaming fresh world task permit called
     (keeps renaming (λ number named. leaves number (more number named)))
     (permit_left before renaming (λ number named. leaves number (more number named)) permit is)
-    ∙ only_the_first_are_taken before world task permit (λ k. renaming.there (fresh k)) fresh whole plain ungrouped called
+    ∙ only_the_first_are_taken before world task permit
+    (λ k. renaming.there (fresh k)) fresh whole plain ungrouped called
     is (λ k low. leaves (fresh k) (taken k low))
 
 -- what is counted before a count is counted before a later one

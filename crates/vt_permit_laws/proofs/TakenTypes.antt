@@ -39,7 +39,8 @@ no_master (Slave master) e = absurd (true≢false (sym e))
 no_master Private e = refl
 no_master Unbindable e = refl
 
-no_member : (number : ℕ) (kind : Propagation ℕ) → is_ungrouped kind ≡ true → holds_of (nat_eq number) (group_of kind) ≡ false
+no_member : (number : ℕ) (kind : Propagation ℕ) → is_ungrouped kind ≡ true
+    → holds_of (nat_eq number) (group_of kind) ≡ false
 no_member number (Shared group) e = absurd (true≢false (sym e))
 no_member number (Slave master) e = absurd (true≢false (sym e))
 no_member number Private e = refl
@@ -53,14 +54,16 @@ found_is (mount ∷ rest) all number =
     by (nat_eq number mount.number) (found_is rest (λ other among. all other (inr among)) number)
   where
     by : (b : Bool) → Ungrouped (mount_in nat_eq rest number)
-        → Ungrouped (unwrap_or (cond b (Some mount) (find (λ (m : Mount ℕ). nat_eq number m.number) rest)) (no_mount number))
+        → Ungrouped (unwrap_or (cond b (Some mount) (find (λ (m : Mount ℕ). nat_eq number m.number) rest))
+        (no_mount number))
     by true later = all mount (inl refl)
     by false later = later
 
 module _ (mounts : List (Mount ℕ)) (all : (mount : Mount ℕ) → Among mount mounts → Ungrouped mount) where
   pub tree_is : (depth : ℕ) (top : Mount ℕ) → Ungrouped top → (mount : Mount ℕ)
       → Among mount (tree_from nat_eq depth mounts top) → Ungrouped mount
-  tree_is zero top is mount among = ⊎_elim (λ same. ap (λ (m : Mount ℕ). is_ungrouped m.propagation) same ∙ is) (λ none. absurd none) among
+  tree_is zero top is mount among =
+      ⊎_elim (λ same. ap (λ (m : Mount ℕ). is_ungrouped m.propagation) same ∙ is) (λ none. absurd none) among
   tree_is (suc depth) top is mount among =
       ⊎_elim (λ same. ap (λ (m : Mount ℕ). is_ungrouped m.propagation) same ∙ is)
       (λ below.
@@ -119,12 +122,16 @@ module _ (world : World ℕ) (whole : IsWorld nat_eq world) (ungrouped : IsUngro
       left : (group : ℕ → ℕ) (at : ℕ) → with_new_groups nat_eq group world.master named at ≡ None
       left group = none_left group named (named_is number recursive) world.master no_masters
 
-      mount_same : (mount : Mount ℕ) → retyped_mount nat_eq one word named mount ≡ retyped_mount nat_eq other word named mount
+      mount_same : (mount : Mount ℕ)
+          → retyped_mount nat_eq one word named mount ≡ retyped_mount nat_eq other word named mount
       mount_same mount = by _
         where
           by : (b : Bool)
               → cond b (record mount { propagation = type_after (one mount.number) word mount.propagation }) mount
               ≡ cond b (record mount { propagation = type_after (other mount.number) word mount.propagation }) mount
           by true = λ i.
-              record mount { propagation = type_same (one mount.number) (other mount.number) word makes mount.propagation i }
+              record mount {
+                propagation = type_same (one mount.number)
+                    (other mount.number) word makes mount.propagation i;
+              }
           by false = refl

@@ -66,7 +66,8 @@ module _ (fresh : Fresh ℕ) (one other : World ℕ) (same : Alike one other) (c
 
   module _ (name : TaskName) where
     last_alike : (keeps : Bool) (changed others : List ℕ) (under again : Outcome ℕ) → OutcomesAlike under again
-        → OutcomesAlike (finished_by nat_eq keeps one name changed under) (finished_by nat_eq keeps other name others again)
+        → OutcomesAlike (finished_by nat_eq keeps one name changed under)
+        (finished_by nat_eq keeps other name others again)
     last_alike true changed others under again alike = alike
     last_alike false changed others under again alike = record {
       answer = alike.answer;

@@ -60,12 +60,14 @@ module _ (one other : World ℕ) (same : Alike one (with_mounts_of one other)) w
       (filter (λ mount. under_same source mount i) (bindable_children nat_eq one.mounts source.mount))
 
 pub attach_alike : (fresh : Fresh ℕ) (place : Location ℕ) (moves : Bool) (mounts : List (Mount ℕ)) (one other : World ℕ)
-    → Alike one other → Alike (attach nat_eq one fresh place moves mounts) (attach nat_eq other fresh place moves mounts)
+    → Alike one other → Alike (attach nat_eq one fresh place moves mounts)
+    (attach nat_eq other fresh place moves mounts)
 attach_alike fresh place moves mounts =
     of_one (λ world. attach nat_eq world fresh place moves mounts)
     (λ one other same. attached_alike one other same fresh place moves mounts)
 
-pub bind_alike : (fresh : Fresh ℕ) (source place : Location ℕ) (recursive : Bool) (one other : World ℕ) → Alike one other
+pub bind_alike : (fresh : Fresh ℕ) (source place : Location ℕ) (recursive : Bool) (one other : World ℕ)
+    → Alike one other
     → Alike (bound_at nat_eq fresh one source place recursive) (bound_at nat_eq fresh other source place recursive)
 bind_alike fresh source place recursive =
     of_one (λ world. bound_at nat_eq fresh world source place recursive) (λ one other same.

@@ -131,7 +131,8 @@ plain_changed : (fresh : Fresh ℕ) (world : World ℕ) (filesystem : Filesystem
 plain_changed fresh world filesystem change plain =
     ap (λ overlay. filesystem_changed nat_eq fresh world filesystem overlay change) plain
 
-pub change_alike : (one other : World ℕ) → Alike one other → (fresh : Fresh ℕ) (location : Location ℕ) (change : Change ℕ)
+pub change_alike : (one other : World ℕ) → Alike one other
+    → (fresh : Fresh ℕ) (location : Location ℕ) (change : Change ℕ)
     → Alike (with_change nat_eq fresh one location change) (with_change nat_eq fresh other location change)
 change_alike one other same fresh location change =
     let here = here_alike one other same location in
@@ -145,7 +146,8 @@ change_alike one other same fresh location change =
     (with_files_alike first second here _ _ (changed_alike first.files second.files here.files change))))
 
 -- Tasks
-pub with_tasks_alike : (one other : World ℕ) → Alike one other → (tasks again : List (Task ℕ)) → Each SameTask tasks again
+pub with_tasks_alike : (one other : World ℕ) → Alike one other → (tasks again : List (Task ℕ))
+    → Each SameTask tasks again
     → Alike (record one { tasks = tasks }) (record other { tasks = again })
 with_tasks_alike one other same tasks again alike = record {
   mounts = same.mounts;

@@ -36,7 +36,8 @@ module _ (one other : World ℕ) (same : Alike one (with_mounts_of one other)) w
   -- the lines of peers, by the mounts that are attached
   abbrev places_among : List (ℕ × ℕ × Mount ℕ) → (Mount ℕ → Bool) → List (ℕ × ℕ)
   places_among attached test =
-      map (λ (mount : ℕ × ℕ × Mount ℕ). (mount.0, mount.1)) (filter (λ (mount : ℕ × ℕ × Mount ℕ). test mount.2) attached)
+      map (λ (mount : ℕ × ℕ × Mount ℕ). (mount.0, mount.1))
+      (filter (λ (mount : ℕ × ℕ × Mount ℕ). test mount.2) attached)
 
   abbrev seen_among : List (ℕ × ℕ × Mount ℕ) → List ℕ
   seen_among attached = groups_seen nat_eq one (map (λ (mount : ℕ × ℕ × Mount ℕ). mount.2) attached)
@@ -119,7 +120,8 @@ module _ (one other : World ℕ) (same : Alike one (with_mounts_of one other)) (
       all_by_namespace (λ namespace. not (is_own_namespace nat_eq one names namespace)) (outsiders one names)
       ∙ (λ i. list_all (λ namespace. not (own_same i namespace))
       (namespaces_of (outsiders one names) (outsiders second names) outsiders_alike i))
-      ∙ sym (all_by_namespace (λ namespace. not (is_own_namespace nat_eq second names namespace)) (outsiders second names))
+      ∙ sym (all_by_namespace (λ namespace. not (is_own_namespace nat_eq second names namespace))
+      (outsiders second names))
 
   no_link_same : has_no_link nat_eq one names ≡ has_no_link nat_eq second names
   no_link_same = λ i.
@@ -194,7 +196,8 @@ sealed_alike names one other same =
     mounts_of_one (λ world. Alike one world → sealed nat_eq one names ≡ sealed nat_eq world names) one other same
     (λ same. sealed_same one other same names) same
 
-missing_same : (one other : World ℕ) → Alike one other → (name : TaskName) → no_such_task one name ≡ no_such_task other name
+missing_same : (one other : World ℕ) → Alike one other → (name : TaskName)
+    → no_such_task one name ≡ no_such_task other name
 missing_same one other same name = by (task_called one name) (task_called other name) (task_alike one other same name)
   where
     by : (task again : Option (Task ℕ)) → IfAny SameTask task again → not (is_some task) ≡ not (is_some again)

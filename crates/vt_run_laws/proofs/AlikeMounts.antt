@@ -31,13 +31,15 @@ Keeps step = (one other : World ℕ) → Alike one other → Alike (step one) (s
 
 -- it is enough to show it where the mounts are the very ones
 pub of_one : (step : World ℕ → World ℕ)
-    → ((one other : World ℕ) → Alike one (with_mounts_of one other) → Alike (step one) (step (with_mounts_of one other)))
+    → ((one other : World ℕ) → Alike one (with_mounts_of one other)
+    → Alike (step one) (step (with_mounts_of one other)))
     → Keeps step
 of_one step keeps one other same =
     mounts_of_one (λ world. Alike one world → Alike (step one) (step world)) one other same (keeps one other) same
 
 pub regrouped_alike : (one other : World ℕ) → Alike one other → Alike (regrouped nat_eq one) (regrouped nat_eq other)
-regrouped_alike = of_one (regrouped nat_eq) (λ one other same. by one other same (list_any (lost_a_group nat_eq one) one.mounts))
+regrouped_alike = of_one (regrouped nat_eq)
+    (λ one other same. by one other same (list_any (lost_a_group nat_eq one) one.mounts))
   where
     by : (one other : World ℕ) → Alike one (with_mounts_of one other) → (b : Bool)
         → Alike (regrouped_by nat_eq b one) (regrouped_by nat_eq b (with_mounts_of one other))

@@ -88,7 +88,8 @@ unshared_alike fresh task again alike one other same =
     copied : mounts_of nat_eq one task.namespace ≡ mounts_of nat_eq one again.namespace
     copied = λ i. mounts_of nat_eq one (alike i).namespace
 
-pub entered_alike : (namespace : ℕ) (task again : Task ℕ) → SameTask task again → (one other : World ℕ) → Alike one other
+pub entered_alike : (namespace : ℕ) (task again : Task ℕ) → SameTask task again → (one other : World ℕ)
+    → Alike one other
     → Alike (namespace_entered nat_eq one task namespace) (namespace_entered nat_eq other again namespace)
 entered_alike namespace task again alike one other same =
     mounts_of_one

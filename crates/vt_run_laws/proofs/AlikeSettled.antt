@@ -78,7 +78,8 @@ module _ (one other : World ℕ) (same : Alike one other) where
       one.filesystems other.filesystems same.filesystems i))
 
   objects_same : (a b : ℕ)
-      → flat_map (objects_of_overlay nat_eq a) one.filesystems ≡ flat_map (objects_of_overlay nat_eq b) other.filesystems
+      → flat_map (objects_of_overlay nat_eq a) one.filesystems
+      ≡ flat_map (objects_of_overlay nat_eq b) other.filesystems
   objects_same a b =
       each_flat AlikeFilesystem (objects_of_overlay nat_eq a) (objects_of_overlay nat_eq b)
       (λ first second known.
@@ -180,7 +181,8 @@ without_dead_inodes_alike : (one other : World ℕ) → Alike one other
     → Alike (without_dead_inodes nat_eq one) (without_dead_inodes nat_eq other)
 without_dead_inodes_alike one other same =
     without_dead_in_alike (without_dead_in nat_eq is_overlay one) (without_dead_in nat_eq is_overlay other)
-    (without_dead_in_alike one other same is_overlay (λ first second alike. ap is_some (overlay_same first second alike)))
+    (without_dead_in_alike one other same is_overlay
+    (λ first second alike. ap is_some (overlay_same first second alike)))
     (λ filesystem. not (is_overlay filesystem))
     (λ first second alike. ap (λ overlay. not (is_some overlay)) (overlay_same first second alike))
 

@@ -39,7 +39,8 @@ pub record Alike (one other : World ℕ) : Type 0 where
 abbrev pub with_mounts_of : World ℕ → World ℕ → World ℕ
 with_mounts_of one other = record other { mounts = one.mounts; master = one.master }
 
-pub mounts_of_one : (P : World ℕ → Type 0) (one other : World ℕ) → Alike one other → P (with_mounts_of one other) → P other
+pub mounts_of_one : (P : World ℕ → Type 0) (one other : World ℕ) → Alike one other → P (with_mounts_of one other)
+    → P other
 mounts_of_one P one other same holds =
     subst P (λ i. record other { mounts = same.mounts i; master = same.master i }) holds
 

@@ -57,7 +57,8 @@ module _ (grammar : Grammar) (out : (call : Call) → grammar.has call ≡ true 
   lines_plain : (lines : List (List ℕ)) → HasNoOverlays grammar lines
   lines_plain [] = λ k d below. absurd (omega arith)
   lines_plain (line ∷ lines) =
-      All-cons (λ line. asks_for_overlay (request_of grammar line) ≡ false) line lines (line_plain line) (lines_plain lines)
+      All-cons (λ line. asks_for_overlay (request_of grammar line) ≡ false) line lines (line_plain line)
+      (lines_plain lines)
 
 pub grammars_keep_overlays_out : GrammarsKeepOverlaysOut
 grammars_keep_overlays_out grammar out lines = lines_plain grammar out lines

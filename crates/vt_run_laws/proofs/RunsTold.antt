@@ -124,7 +124,8 @@ module _ (grammar : Grammar) (in_hand : ℕ → Bool) where
         tells.2,
         tells.3 ∙ ap (λ first. first ++ tells.2) written,
         told_alike lines refused (suc m) (number + 1) renaming tells.0 _ mine
-            (goes_on_alike renaming _ tells.0 _ _ tells.1 (refused_leads renaming grammar world here refl line) steps.worlds)
+            (goes_on_alike renaming _ tells.0 _ _ tells.1
+            (refused_leads renaming grammar world here refl line) steps.worlds)
             (λ k is. let low = early k is in omega arith) (refused_keeps mine other line keeps)
             (λ k is. let low = mine_early k is in omega arith) (All-tail Asks line lines asks) tells.2 tells.4,
       )
@@ -138,9 +139,11 @@ module _ (grammar : Grammar) (in_hand : ℕ → Bool) where
       let again : Alike here other =
       subst (λ there. Alike there other)
       (sym (next_same m renaming in_hand world early allotment tells.1.serves)) alike in
-      let steps = line_step_alike here other again grammar line (Some (spread (suc m))) (All-head Asks line lines asks) in
+      let steps = line_step_alike here other again grammar line (Some (spread (suc m)))
+      (All-head Asks line lines asks) in
       let written =
-      line_alike joint grammar world here refl line allotment.new (spread (suc m)) supplied number ∙ steps.text number in
+      line_alike joint grammar world here refl line allotment.new (spread (suc m)) supplied number
+      ∙ steps.text number in
       let serves = stage_serves m mine other keeps mine_early in (
         stage m mine mine_early,
         serves,
@@ -180,7 +183,8 @@ first_alike =
 pub runs_have_one_text : RunsHaveOneText
 runs_have_one_text grammar refused script text in_hand fresh leaves opens asks tells =
     whole_machine_has_one_text grammar refused script text
-    (told_alike grammar in_hand (lines_of script) refused 0 1 start.renaming (opening nat_eq fresh) first_world first_four
+    (told_alike grammar in_hand (lines_of script) refused 0 1 start.renaming
+    (opening nat_eq fresh) first_world first_four
     (subst (λ world. Alike world first_world) (sym opened) first_alike)
     (λ k is. let first : row (start.renaming.there k) ≡ 0 = start.early k is in omega arith)
     (opening_keeps_to_four first_four (λ place. place) refl refl refl refl) first_early asks text tells)

@@ -81,7 +81,8 @@ number_seat : (number : ℕ) → number_at (seat number) ≡ number
 unfolding seat
 number_seat number = number_of_row (row number) (col number) ∙ spread-row number
 
--- What is in hand has a front seat, by its own number. Of what is left over each second one has a front seat that is free.
+-- What is in hand has a front seat, by its own number. Of what is left over each second one has a front seat that is
+-- free.
 module _ (in_hand : ℕ → Bool) (leaves : LeavesEndless in_hand) where
   left_seat : Bool → ℕ → Seat
   left_seat true k = Front (leaves.left_over (k / 2))

@@ -47,7 +47,8 @@ module _ (looks : Looks ℕ) (task : Task ℕ) where
   unfolding symlink_permit
   symlink_made_bare text path = refl
 
-  whiteout_bare : (path : List ℕ) → whiteout_permit nat_eq looks (bare_task task) path ≡ whiteout_permit nat_eq looks task path
+  whiteout_bare : (path : List ℕ)
+      → whiteout_permit nat_eq looks (bare_task task) path ≡ whiteout_permit nat_eq looks task path
   unfolding whiteout_permit
   whiteout_bare path = refl
 
@@ -56,7 +57,8 @@ module _ (looks : Looks ℕ) (task : Task ℕ) where
   unfolding write_permit
   write_bare path bytes = refl
 
-  unlink_bare : (path : List ℕ) → unlink_permit nat_eq looks (bare_task task) path ≡ unlink_permit nat_eq looks task path
+  unlink_bare : (path : List ℕ) → unlink_permit nat_eq looks (bare_task task) path
+      ≡ unlink_permit nat_eq looks task path
   unfolding unlink_permit
   unlink_bare path = refl
 
@@ -64,7 +66,8 @@ module _ (looks : Looks ℕ) (task : Task ℕ) where
   unfolding rmdir_permit
   rmdir_bare path = refl
 
-  chmod_bare : (path : List ℕ) (mode : ℕ) → chmod_permit nat_eq looks (bare_task task) path mode ≡ chmod_permit nat_eq looks task path mode
+  chmod_bare : (path : List ℕ) (mode : ℕ)
+      → chmod_permit nat_eq looks (bare_task task) path mode ≡ chmod_permit nat_eq looks task path mode
   unfolding chmod_permit
   chmod_bare path mode = refl
 
@@ -96,7 +99,8 @@ module _ (looks : Looks ℕ) (task : Task ℕ) where
   unfolding chdir_permit
   chdir_bare path = refl
 
-  chroot_bare : (path : List ℕ) → chroot_permit nat_eq looks (bare_task task) path ≡ chroot_permit nat_eq looks task path
+  chroot_bare : (path : List ℕ) → chroot_permit nat_eq looks (bare_task task) path
+      ≡ chroot_permit nat_eq looks task path
   unfolding chroot_permit
   chroot_bare path = refl
 
@@ -112,7 +116,8 @@ module _ (looks : Looks ℕ) (task : Task ℕ) where
   unfolding setns_permit
   setns_bare name = refl
 
-  umount_bare : (path : List ℕ) → umount_permit nat_eq looks (bare_task task) path ≡ umount_permit nat_eq looks task path
+  umount_bare : (path : List ℕ) → umount_permit nat_eq looks (bare_task task) path
+      ≡ umount_permit nat_eq looks task path
   unfolding umount_permit
   umount_bare path = refl
 
@@ -126,11 +131,13 @@ module _ (looks : Looks ℕ) (task : Task ℕ) where
   remount_bare path flags = refl
 
   type_bare : (path : List ℕ) (word : TypeWord) (recursive : Bool)
-      → type_permit nat_eq looks (bare_task task) path word recursive ≡ type_permit nat_eq looks task path word recursive
+      → type_permit nat_eq looks (bare_task task) path word recursive
+      ≡ type_permit nat_eq looks task path word recursive
   unfolding type_permit
   type_bare path word recursive = refl
 
-  pivot_bare : (new : List ℕ) (put : List ℕ) → pivot_permit nat_eq looks (bare_task task) new put ≡ pivot_permit nat_eq looks task new put
+  pivot_bare : (new : List ℕ) (put : List ℕ)
+      → pivot_permit nat_eq looks (bare_task task) new put ≡ pivot_permit nat_eq looks task new put
   unfolding pivot_permit
   pivot_bare new put = refl
 
@@ -164,7 +171,8 @@ module _ (looks : Looks ℕ) (task : Task ℕ) where
       (Ok (ToChange place.parent (linking from.location place))))))
 
   renamed_bare : (same : Bool) (from to : Place ℕ) (old : Location ℕ)
-      → renamed_permit nat_eq same looks (bare_task task) from to old ≡ renamed_permit nat_eq same looks task from to old
+      → renamed_permit nat_eq same looks (bare_task task) from to old
+      ≡ renamed_permit nat_eq same looks task from to old
   renamed_bare true from to old = refl
   renamed_bare false from to old = refl
 
@@ -188,25 +196,29 @@ module _ (looks : Looks ℕ) (task : Task ℕ) where
 
 module _ (fresh : Fresh ℕ) (world : World ℕ) (task : Task ℕ) where
   plain_bare : (path : List ℕ) (flags : MountFlags)
-      → mount_plain_permit nat_eq (looks_of nat_eq world) (overfills nat_eq fresh world (bare_task task)) (bare_task task) path flags
+      → mount_plain_permit nat_eq (looks_of nat_eq world) (overfills nat_eq fresh world (bare_task task))
+      (bare_task task) path flags
       ≡ mount_plain_permit nat_eq (looks_of nat_eq world) (overfills nat_eq fresh world task) task path flags
   unfolding mount_plain_permit
   plain_bare path flags = refl
 
   bind_bare : (source : List ℕ) (path : List ℕ) (recursive : Bool)
-      → bind_permit nat_eq (looks_of nat_eq world) (overfills nat_eq fresh world (bare_task task)) (bare_task task) source path recursive
+      → bind_permit nat_eq (looks_of nat_eq world) (overfills nat_eq fresh world (bare_task task))
+      (bare_task task) source path recursive
       ≡ bind_permit nat_eq (looks_of nat_eq world) (overfills nat_eq fresh world task) task source path recursive
   unfolding bind_permit
   bind_bare source path recursive = refl
 
   move_bare : (source : List ℕ) (path : List ℕ)
-      → move_permit nat_eq (looks_of nat_eq world) (overfills nat_eq fresh world (bare_task task)) (bare_task task) source path
+      → move_permit nat_eq (looks_of nat_eq world) (overfills nat_eq fresh world (bare_task task))
+      (bare_task task) source path
       ≡ move_permit nat_eq (looks_of nat_eq world) (overfills nat_eq fresh world task) task source path
   unfolding move_permit
   move_bare source path = refl
 
   overlay_bare : (path : List ℕ) (options : Option OverlayWords) (flags : MountFlags)
-      → mount_overlay_permit nat_eq (looks_of nat_eq world) (overfills nat_eq fresh world (bare_task task)) (bare_task task)
+      → mount_overlay_permit nat_eq (looks_of nat_eq world) (overfills nat_eq fresh world (bare_task task))
+      (bare_task task)
       path options flags
       ≡ mount_overlay_permit nat_eq (looks_of nat_eq world) (overfills nat_eq fresh world task) task path options flags
   unfolding mount_overlay_permit
@@ -216,7 +228,8 @@ module _ (fresh : Fresh ℕ) (world : World ℕ) (task : Task ℕ) where
   abbrev looks : Looks ℕ
   looks = looks_of nat_eq world
 
-  pub judged_bare : (call : Call) → judge_in nat_eq fresh world (bare_task task) call ≡ judge_in nat_eq fresh world task call
+  pub judged_bare : (call : Call)
+      → judge_in nat_eq fresh world (bare_task task) call ≡ judge_in nat_eq fresh world task call
   judged_bare (Ls path) = list_bare looks task path
   judged_bare (Stat path) = stat_bare looks task path
   judged_bare (Lstat path) = lstat_bare looks task path

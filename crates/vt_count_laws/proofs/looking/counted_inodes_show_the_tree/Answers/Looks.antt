@@ -12,7 +12,8 @@ use Rattle.vt_count_laws.specs.Looking.{CountedTreeIsTheTree, DirectoriesLieAlik
 use Rattle.std.proofs.Math.Bool.{or-false}
 
 pub counted_tree_is_the_tree : CountedTreeIsTheTree
-counted_tree_is_the_tree world filesystem inodes counted = λ i. record { root = counted.root i; node = λ n. counted.node n i }
+counted_tree_is_the_tree world filesystem inodes counted =
+    λ i. record { root = counted.root i; node = λ n. counted.node n i }
 
 -- what is no directory is its own parent
 own_parent : (own : ℕ) (o : Option (Node ℕ)) → is_directory_node o ≡ false → parent_in own o ≡ own
@@ -43,7 +44,8 @@ module _ (tree : Tree ℕ) (is : IsTree tree) (own : HasOwnParents tree) (top : 
   next_of rest d o = elim o [ None ↦ d ∷ [] | Some b ↦ d ∷ rest b ]
 
   -- a directory without a name is its own parent
-  parent_is_own : (d : ℕ) → has_entry_to nat_eq tree (parent_in d (tree.node d)) d ≡ false → parent_in d (tree.node d) ≡ d
+  parent_is_own : (d : ℕ) → has_entry_to nat_eq tree (parent_in d (tree.node d)) d ≡ false
+      → parent_in d (tree.node d) ≡ d
   parent_is_own d unnamed =
       ⊎_elim
       (λ directory. own d directory (λ name.
@@ -61,7 +63,8 @@ module _ (tree : Tree ℕ) (is : IsTree tree) (own : HasOwnParents tree) (top : 
   alike : (most d : ℕ) → among (chain most above d) ≡ among (chain most named d)
   alike zero d = refl
   alike (suc most) d =
-      at (nat_eq d tree.root) refl (has_entry_to nat_eq tree (parent_in d (tree.node d)) d) refl (alike most (parent_in d (tree.node d)))
+      at (nat_eq d tree.root) refl (has_entry_to nat_eq tree (parent_in d (tree.node d)) d) refl
+      (alike most (parent_in d (tree.node d)))
       (λ self. repeats d self most)
     where
       at : (r : Bool) → nat_eq d tree.root ≡ r → (e : Bool) → has_entry_to nat_eq tree (parent_in d (tree.node d)) d ≡ e
@@ -74,7 +77,8 @@ module _ (tree : Tree ℕ) (is : IsTree tree) (own : HasOwnParents tree) (top : 
       at false root false entry later self =
           let same : parent_in d (tree.node d) ≡ d = parent_is_own d entry in
           ap (λ p. nat_eq top d || among (chain most above p)) same
-          ∙ ap (λ b. nat_eq top d || b) (self (ap (λ b. cond b None (Some (parent_in d (tree.node d)))) root ∙ ap Some same))
+          ∙ ap (λ b. nat_eq top d || b) (self
+          (ap (λ b. cond b None (Some (parent_in d (tree.node d)))) root ∙ ap Some same))
           ∙ twice (nat_eq top d) ∙ sym (or-false (nat_eq top d))
 
 pub directories_lie_alike : DirectoriesLieAlike

@@ -44,11 +44,14 @@ use Rattle.vt_later_laws.proofs.WaysLeft.{FitsWays, Known, MountsSeen, ObjectsSt
 use Rattle.vt_later_laws.proofs.WaysPlaces.{EndsThere, directory_named_too, named_place, symlink_missing, symlink_named_too}
 use Rattle.vt_later_laws.proofs.WaysStay.{StandsAs, node_in}
 
-module _ (world : World ℕ) (fresh : Fresh ℕ) (name : TaskName) (old new : List ℕ) (from to : Place ℕ) (is : IsWorld nat_eq world)
-    (plain : IsPlain world) (serves : Serves nat_eq world fresh) (did : IsPermitted world fresh name (Rename old new) Done)
+module _ (world : World ℕ) (fresh : Fresh ℕ) (name : TaskName) (old new : List ℕ) (from to : Place ℕ)
+    (is : IsWorld nat_eq world)
+    (plain : IsPlain world) (serves : Serves nat_eq world fresh)
+    (did : IsPermitted world fresh name (Rename old new) Done)
     (parts : NamesParts (looks_of nat_eq world) did.task old new from to did.permit)
     (to_walked : place_walk nat_eq (looks_of nat_eq world) did.task new ≡ Ok to)
-    (permit_is : did.permit ≡ ToRename from.parent (name_of from.last) to.parent (name_of to.last) (object_there from) None)
+    (permit_is : did.permit ≡ ToRename from.parent (name_of from.last) to.parent (name_of to.last)
+    (object_there from) None)
     (is_dir : is_directory_node ((files_at nat_eq world from.parent).tree.node (object_there from).node) ≡ true)
     (outside : StandsOutside world did.task (object_there from)) where
   abbrev later : World ℕ
@@ -75,58 +78,70 @@ module _ (world : World ℕ) (fresh : Fresh ℕ) (name : TaskName) (old new : Li
 
   abbrev is_left : IsWorld nat_eq later × IsPlain later
   is_left =
-      left_is world fresh name (Rename old new) Done is plain serves refl refl did from.parent (name_of from.last) to.parent
+      left_is world fresh name (Rename old new) Done is plain serves refl refl did from.parent
+      (name_of from.last) to.parent
       (name_of to.last) (object_there from) permit_is parts.uncovered is_dir outside
 
   abbrev Fit : Location ℕ → Type 0
   Fit =
-      Fits world fresh name (Rename old new) Done is plain serves refl refl did from.parent (name_of from.last) to.parent
+      Fits world fresh name (Rename old new) Done is plain serves refl refl did from.parent
+      (name_of from.last) to.parent
       (name_of to.last) (object_there from) permit_is parts.uncovered is_dir outside
 
   mounts_are : (reading : Task ℕ) → reading.root ≡ did.task.root
       → MountsSeen world later is plain is_left.0 is_left.1 did.task reading
   mounts_are =
-      mounts_seen world fresh name (Rename old new) Done is plain serves refl refl did from.parent (name_of from.last) to.parent
+      mounts_seen world fresh name (Rename old new) Done is plain serves refl refl did from.parent
+      (name_of from.last) to.parent
       (name_of to.last) (object_there from) permit_is parts.uncovered is_dir outside
 
   objects_are : ObjectsStay world later Missing
   objects_are =
-      objects_stay world fresh name (Rename old new) Done is plain serves refl refl did from.parent (name_of from.last) to.parent
+      objects_stay world fresh name (Rename old new) Done is plain serves refl refl did from.parent
+      (name_of from.last) to.parent
       (name_of to.last) (object_there from) permit_is parts.uncovered is_dir outside
       Missing refl
 
   ways_are : (reading : Task ℕ) → reading.root ≡ did.task.root
       → FitsWays world later is plain is_left.0 is_left.1 did.task reading Missing Fit
   ways_are reading roots =
-      fits_ways world fresh name (Rename old new) Done is plain serves refl refl did from.parent (name_of from.last) to.parent
+      fits_ways world fresh name (Rename old new) Done is plain serves refl refl did from.parent
+      (name_of from.last) to.parent
       (name_of to.last) (object_there from) permit_is parts.uncovered is_dir outside
       reading roots Missing
 
-  rights_are : (filesystem number : ℕ) → is_some (node_in later filesystem number) ≡ true → is_some (node_in world filesystem number) ≡ true
+  rights_are : (filesystem number : ℕ) → is_some (node_in later filesystem number) ≡ true
+      → is_some (node_in world filesystem number) ≡ true
       → (who : Credentials) (wanted : ℕ)
-      → node_allows who wanted (node_in later filesystem number) ≡ node_allows who wanted (node_in world filesystem number)
+      → node_allows who wanted (node_in later filesystem number)
+      ≡ node_allows who wanted (node_in world filesystem number)
   rights_are =
-      rights_left world fresh name (Rename old new) Done is plain serves refl refl did from.parent (name_of from.last) to.parent
+      rights_left world fresh name (Rename old new) Done is plain serves refl refl did from.parent
+      (name_of from.last) to.parent
       (name_of to.last) (object_there from) permit_is parts.uncovered is_dir outside
 
   to_fs : (mount_at nat_eq world to.parent).filesystem ≡ own_fs
   to_fs =
-      to_shown world fresh name (Rename old new) Done is plain serves refl refl did from.parent (name_of from.last) to.parent
+      to_shown world fresh name (Rename old new) Done is plain serves refl refl did from.parent
+      (name_of from.last) to.parent
       (name_of to.last) (object_there from) None permit_is parts.uncovered
 
   after_fs : (mount_at nat_eq later place_after).filesystem ≡ own_fs
   after_fs =
       ap (λ mounts. (mount_in nat_eq mounts to.parent.mount).filesystem)
-      (mounts_same world fresh name (Rename old new) Done is plain serves refl refl did from.parent (name_of from.last) to.parent
+      (mounts_same world fresh name (Rename old new) Done is plain serves refl refl did from.parent
+      (name_of from.last) to.parent
       (name_of to.last) (object_there from) permit_is parts.uncovered is_dir outside)
       ∙ to_fs
 
   kept : IsKept was (node_at nat_eq later place_after)
   kept =
       subst (λ n. IsKept was (node_in later n object)) (sym after_fs)
-      (object_left world fresh name (Rename old new) Done is plain serves refl refl did from.parent (name_of from.last) to.parent
+      (object_left world fresh name (Rename old new) Done is plain serves refl refl did from.parent
+      (name_of from.last) to.parent
       (name_of to.last) (object_there from) None permit_is parts.uncovered
-      (object_later world fresh name (Rename old new) Done is plain serves refl refl did from.parent (name_of from.last) to.parent
+      (object_later world fresh name (Rename old new) Done is plain serves refl refl did from.parent
+      (name_of from.last) to.parent
       (name_of to.last) (object_there from) permit_is parts.uncovered is_dir outside))
 
   directory_after : is_directory_at nat_eq later place_after ≡ true
@@ -147,7 +162,8 @@ module _ (world : World ℕ) (fresh : Fresh ℕ) (name : TaskName) (old new : Li
         Fit
         (ways_are reading stands.root)
 
-    here_is : (here : Location ℕ) → KnownSo here → node_at nat_eq later here ≡ node_in later (mount_at nat_eq world here).filesystem here.node
+    here_is : (here : Location ℕ) → KnownSo here
+        → node_at nat_eq later here ≡ node_in later (mount_at nat_eq world here).filesystem here.node
     here_is here known =
         node_here world later is plain is_left.0 is_left.1 did.task reading
         own
@@ -158,7 +174,8 @@ module _ (world : World ℕ) (fresh : Fresh ℕ) (name : TaskName) (old new : Li
         (ways_are reading stands.root)
         here known.0
 
-    now_there : (here : Location ℕ) → KnownSo here → is_some (node_in later (mount_at nat_eq world here).filesystem here.node) ≡ true
+    now_there : (here : Location ℕ) → KnownSo here
+        → is_some (node_in later (mount_at nat_eq world here).filesystem here.node) ≡ true
     now_there here known = ap is_some (sym (here_is here known)) ∙ known.0.1.1
 
     searched : (here : Location ℕ) → KnownSo here → is_directory_at nat_eq world here ≡ true
@@ -176,7 +193,8 @@ module _ (world : World ℕ) (fresh : Fresh ℕ) (name : TaskName) (old new : Li
         by (inl same) =
             ap (λ who. node_allows who execute_right (node_at nat_eq later here)) same
             ∙ ap (node_allows did.task.credentials execute_right) (here_is here known)
-            ∙ rights_are (mount_at nat_eq world here).filesystem here.node (now_there here known) known.0.0.1 did.task.credentials execute_right
+            ∙ rights_are (mount_at nat_eq world here).filesystem here.node
+            (now_there here known) known.0.0.1 did.task.credentials execute_right
             ∙ e
 
     leads : LeadsToo (looks_of nat_eq world) (looks_of nat_eq later) did.task reading Missing KnownSo
@@ -189,19 +207,24 @@ module _ (world : World ℕ) (fresh : Fresh ℕ) (name : TaskName) (old new : Li
         Fit
         (ways_are reading stands.root)
         searched
-        (root_fits world fresh name (Rename old new) Done is plain serves refl refl did from.parent (name_of from.last) to.parent
+        (root_fits world fresh name (Rename old new) Done is plain serves refl refl did from.parent
+        (name_of from.last) to.parent
         (name_of to.last) (object_there from) permit_is parts.uncovered is_dir outside)
-        (directory_fits world fresh name (Rename old new) Done is plain serves refl refl did from.parent (name_of from.last) to.parent
+        (directory_fits world fresh name (Rename old new) Done is plain serves refl refl did from.parent
+        (name_of from.last) to.parent
         (name_of to.last) (object_there from) permit_is parts.uncovered is_dir outside)
 
     new_stepped : KnownSo to.parent → stepped nat_eq (looks_of nat_eq later) reading to.parent to.last ≡ Ok place_after
     new_stepped known =
         stepped_by later reading to.parent to.last parts.to_named (Some object)
-        (ap (λ o. entry_named (name_of to.last) (entries_in o)) (here_is to.parent known ∙ ap (λ n. node_in later n to.parent.node) to_fs)
-        ∙ new_left world fresh name (Rename old new) Done is plain serves refl refl did from.parent (name_of from.last) to.parent
+        (ap (λ o. entry_named (name_of to.last) (entries_in o))
+        (here_is to.parent known ∙ ap (λ n. node_in later n to.parent.node) to_fs)
+        ∙ new_left world fresh name (Rename old new) Done is plain serves refl refl did from.parent
+        (name_of from.last) to.parent
         (name_of to.last) (object_there from) None permit_is parts.uncovered
         (ap (λ n. is_some (node_in later n to.parent.node)) (sym to_fs) ∙ now_there to.parent known))
-        ∙ ap Ok (free_left world fresh name (Rename old new) Done is plain serves refl refl did from.parent (name_of from.last) to.parent
+        ∙ ap Ok (free_left world fresh name (Rename old new) Done is plain serves refl refl did from.parent
+        (name_of from.last) to.parent
         (name_of to.last) (object_there from) None permit_is parts.uncovered
         place_after known.0.1.0.0 after_fs refl)
 
@@ -213,18 +236,22 @@ module _ (world : World ℕ) (fresh : Fresh ℕ) (name : TaskName) (old new : Li
         (λ ends. inl (lstat_of later later_fresh reader reading called new _ ends.1
         ∙ ap (λ line. Ok (Told line)) (told_alike was (node_at nat_eq later place_after) kept)))
         (λ stop. inr (lstat_refused later later_fresh reader reading called new stop.0 stop.2 ∙ ap Err stop.1))
-        (symlink_named_too (looks_of nat_eq world) (looks_of nat_eq later) did.task reading Missing KnownSo leads new to parts.to_named
+        (symlink_named_too (looks_of nat_eq world)
+        (looks_of nat_eq later) did.task reading Missing KnownSo leads new to parts.to_named
         (named_place (looks_of nat_eq world) did.task new to to_walked parts.to_named) place_after new_stepped
         (λ slash. (directory_no_link (node_at nat_eq later place_after) directory_after, directory_after)))
 
-    old_missing : (later_fresh : Fresh ℕ) → (policy nat_eq later_fresh later reader (Lstat old)).answer ≡ Err (denial W6)
+    old_missing : (later_fresh : Fresh ℕ)
+        → (policy nat_eq later_fresh later reader (Lstat old)).answer ≡ Err (denial W6)
     old_missing later_fresh =
-        let stop = symlink_missing (looks_of nat_eq world) (looks_of nat_eq later) did.task reading Missing KnownSo leads old from parts.from_named
+        let stop = symlink_missing (looks_of nat_eq world)
+        (looks_of nat_eq later) did.task reading Missing KnownSo leads old from parts.from_named
         (named_place (looks_of nat_eq world) did.task old from parts.from_walked parts.from_named) (denial W6) refl
         (λ known.
         stepped_by later reading from.parent from.last parts.from_named None
         (ap (λ o. entry_named (name_of from.last) (entries_in o)) (here_is from.parent known)
-        ∙ old_left world fresh name (Rename old new) Done is plain serves refl refl did from.parent (name_of from.last) to.parent
+        ∙ old_left world fresh name (Rename old new) Done is plain serves refl refl did from.parent
+        (name_of from.last) to.parent
         (name_of to.last) (object_there from) None permit_is parts.uncovered
         seen.moves.replaced_other (now_there from.parent known))) in
         lstat_refused later later_fresh reader reading called old stop.0 stop.2 ∙ ap Err stop.1
@@ -233,7 +260,8 @@ module _ (world : World ℕ) (fresh : Fresh ℕ) (name : TaskName) (old new : Li
     list_walk : EndsThere Missing (directory_walk nat_eq (looks_of nat_eq later) reading new) place_after
         (named_place (looks_of nat_eq world) did.task new to to_walked parts.to_named).here.left
     list_walk =
-        directory_named_too (looks_of nat_eq world) (looks_of nat_eq later) did.task reading Missing KnownSo leads new to parts.to_named
+        directory_named_too (looks_of nat_eq world)
+        (looks_of nat_eq later) did.task reading Missing KnownSo leads new to parts.to_named
         (named_place (looks_of nat_eq world) did.task new to to_walked parts.to_named) place_after new_stepped
         (directory_no_link (node_at nat_eq later place_after) directory_after) directory_after
 
@@ -259,12 +287,15 @@ module _ (world : World ℕ) (fresh : Fresh ℕ) (name : TaskName) (old new : Li
         by (inl ends) =
             read (node_allows reading.credentials read_right (node_at nat_eq later place_after))
             (list_of later later_fresh reader reading called new is_left.1 _ ends.1)
-        by (inr stop) = inr (inr (list_refused later later_fresh reader reading called new stop.0 stop.2 ∙ ap Err stop.1))
+        by (inr stop) = inr (inr (list_refused later later_fresh reader reading called new stop.0 stop.2
+            ∙ ap Err stop.1))
 
-    all_listed : reads_all reading.credentials ≡ true → (later_fresh : Fresh ℕ) → Listed later_fresh ⊎ RefusedBy later_fresh W6
+    all_listed : reads_all reading.credentials ≡ true → (later_fresh : Fresh ℕ)
+        → Listed later_fresh ⊎ RefusedBy later_fresh W6
     all_listed all later_fresh = by list_walk
       where
-        may_read : (o : Option (Node ℕ)) → is_directory_node o ≡ true → node_allows reading.credentials read_right o ≡ true
+        may_read : (o : Option (Node ℕ)) → is_directory_node o ≡ true
+            → node_allows reading.credentials read_right o ≡ true
         may_read None directory = absurd (true≢false (sym directory))
         may_read (Some node) directory = read_all reading.credentials all node.attr node.content
 
@@ -280,7 +311,8 @@ module _ (world : World ℕ) (fresh : Fresh ℕ) (name : TaskName) (old new : Li
 
 -- what a granted rename of a directory to a free name was permitted, by the task that stands outside
 module _ (old new : List ℕ) (world : World ℕ) (fresh : Fresh ℕ) (name : TaskName) (task : Task ℕ) (from to : Place ℕ)
-    (is : IsWorld nat_eq world) (plain : IsPlain world) (serves : Serves nat_eq world fresh) (called : task_called world name ≡ Some task)
+    (is : IsWorld nat_eq world) (plain : IsPlain world) (serves : Serves nat_eq world fresh)
+    (called : task_called world name ≡ Some task)
     (from_is : old_leaf_walk nat_eq (looks_of nat_eq world) task old ≡ Ok from)
     (to_is : new_walk nat_eq (looks_of nat_eq world) task new ≡ Ok to)
     (directory : is_directory_there nat_eq (looks_of nat_eq world) from ≡ true) (free : to.object ≡ None)
@@ -325,7 +357,8 @@ module _ (old new : List ℕ) (world : World ℕ) (fresh : Fresh ℕ) (name : Ta
   to_walked = new_parts (looks_of nat_eq world) did.task new to to_here
 
   permit_is : did.permit ≡ ToRename from.parent (name_of from.last) to.parent (name_of to.last) (object_there from) None
-  permit_is = parts.permit_is ∙ ap (ToRename from.parent (name_of from.last) to.parent (name_of to.last) (object_there from)) free
+  permit_is = parts.permit_is ∙ ap
+      (ToRename from.parent (name_of from.last) to.parent (name_of to.last) (object_there from)) free
 
   is_dir : is_directory_node ((files_at nat_eq world from.parent).tree.node (object_there from).node) ≡ true
   is_dir = is_directory_before world fresh name old new from to is plain serves did parts directory
@@ -333,14 +366,18 @@ module _ (old new : List ℕ) (world : World ℕ) (fresh : Fresh ℕ) (name : Ta
   outside : StandsOutside world did.task (object_there from)
   outside = subst (λ t. StandsOutside world t (object_there from)) (sym task_is) stands
 
-  caller_here : task_called (policy nat_eq fresh world name (Rename old new)).world name ≡ Some (raised_task name did.task)
+  caller_here : task_called (policy nat_eq fresh world name (Rename old new)).world name
+      ≡ Some (raised_task name did.task)
   caller_here =
-      caller world fresh name (Rename old new) Done is plain serves refl refl did from.parent (name_of from.last) to.parent
+      caller world fresh name (Rename old new) Done is plain serves refl refl did from.parent
+      (name_of from.last) to.parent
       (name_of to.last) (object_there from) permit_is parts.uncovered is_dir outside
 
-  same_stand : (reader : TaskName) (reading : Task ℕ) → LooksFrom (policy nat_eq fresh world name (Rename old new)).world task reader reading
+  same_stand : (reader : TaskName) (reading : Task ℕ)
+      → LooksFrom (policy nat_eq fresh world name (Rename old new)).world task reader reading
       → StandsAs did.task reading
-  same_stand reader reading looks = subst (λ t. StandsAs t reading) (sym task_is) (all_stands _ task reader reading looks)
+  same_stand reader reading looks =
+      subst (λ t. StandsAs t reading) (sym task_is) (all_stands _ task reader reading looks)
 
   moved_told : RenamedTold
   moved_told = (

@@ -1,4 +1,5 @@
--- An object that was renamed, over another one or not, is found where its new name leads, with what it had; the old name is missing.
+-- An object that was renamed, over another one or not, is found where its new name leads, with what it had; the old
+-- name is missing.
 use Rattle.std.proofs.Common.{◌≡◌, refl, sym, ap, subst, ◌∙◌, inl, inr, ◌⊎◌, ⊎_elim, true≢false, ℕ, nat_eq, Bool, true, false, cond, not, ◌&&◌, List, [], ◌∷◌, Option, Some, None, is_some, Ok, Err}
 use Rattle.std.specs.Prelude.{length, map, unwrap_or}
 use Rattle.std.proofs.lemmas.Bool.{or_parts}
@@ -49,13 +50,15 @@ use Rattle.vt_later_laws.proofs.WaysPlaces.{NamedPlace, directory_named_too, fro
 use Rattle.vt_later_laws.proofs.WaysStay.{node_in, tree_in}
 
 -- what a granted rename of two names of two objects was permitted
-pub record NamesParts (looks : Looks ℕ) (task : Task ℕ) (old new : List ℕ) (from to : Place ℕ) (permit : Permit ℕ) : Type 0 where
+pub record NamesParts (looks : Looks ℕ) (task : Task ℕ) (old new : List ℕ) (from to : Place ℕ)
+    (permit : Permit ℕ) : Type 0 where
   pub from_walked : place_walk nat_eq looks task old ≡ Ok from
   pub from_named : is_special from.last ≡ false
   pub from_slash : from.slash ≡ true → is_directory_there nat_eq looks from ≡ true
   pub to_named : is_special to.last ≡ false
   pub uncovered : is_point_anywhere looks (object_there from) ≡ false
-  pub permit_is : permit ≡ ToRename from.parent (name_of from.last) to.parent (name_of to.last) (object_there from) to.object
+  pub permit_is : permit ≡ ToRename from.parent (name_of from.last) to.parent (name_of to.last)
+      (object_there from) to.object
 
 asked : (slash some : Bool) → (slash && not some) ≡ false → slash ≡ true → some ≡ true
 asked true true e f = refl
@@ -71,7 +74,8 @@ names_parts looks task old new from to permit from_is to_is two e =
     let olds = both_gave (walk_end (old_leaf_walk nat_eq looks task old)) _ permit e in
     let same_from : olds.0 ≡ from = same_ok olds.0 from (sym olds.1 ∙ ap walk_end from_is) in
     let first = passing (old_word_rules olds.0) _ permit olds.2 in
-    let news = both_gave (walk_end (rename_new_walk nat_eq looks task new (is_directory_there nat_eq looks olds.0))) _ permit first.1 in
+    let news = both_gave (walk_end
+    (rename_new_walk nat_eq looks task new (is_directory_there nat_eq looks olds.0))) _ permit first.1 in
     let named = passing (old_word_rules news.0) _ permit news.2 in
     let inside = both_walked (new_walk nat_eq looks task new) _ news.0
     (walk_ended (rename_new_walk nat_eq looks task new (is_directory_there nat_eq looks olds.0)) news.0 news.1) in
@@ -91,13 +95,15 @@ names_parts looks task old new from to permit from_is to_is two e =
       from_walked = there.0;
       from_named = ap (λ (p : Place ℕ). is_special p.last) (sym same_from) ∙ first.0.0;
       from_slash = asked from.slash (is_directory_there nat_eq looks from)
-          (ap (λ (p : Place ℕ). p.slash && not (is_directory_there nat_eq looks p)) (sym leaf_slash.1) ∙ leaf_slash.0.0);
+          (ap (λ (p : Place ℕ). p.slash && not (is_directory_there nat_eq looks p)) (sym leaf_slash.1)
+          ∙ leaf_slash.0.0);
       to_named = ap (λ (p : Place ℕ). is_special p.last) (sym same_to) ∙ named.0.0;
       uncovered = ap (λ (p : Place ℕ). is_point_anywhere looks (object_there p)) (sym same_from)
           ∙ (or_parts (is_point_anywhere looks (object_there olds.0)) _ last.0.1.1.1.1.1.1.1.0).0;
       permit_is =
           sym (same_ok _ permit last.1)
-          ∙ (λ i. ToRename (same_from i).parent (name_of (same_from i).last) (same_to i).parent (name_of (same_to i).last)
+          ∙ (λ i. ToRename (same_from i).parent (name_of (same_from i).last) (same_to i).parent
+          (name_of (same_to i).last)
           (object_there (same_from i)) (same_to i).object);
     }
 
@@ -117,8 +123,10 @@ there_is : (test : Location ℕ → Bool) (o : Option (Location ℕ)) (default :
 there_is test None default e = absurd (true≢false (sym e))
 there_is test (Some a) default e = e
 
-module _ (world : World ℕ) (fresh : Fresh ℕ) (name : TaskName) (old new : List ℕ) (from to : Place ℕ) (is : IsWorld nat_eq world)
-    (plain : IsPlain world) (serves : Serves nat_eq world fresh) (did : IsPermitted world fresh name (Rename old new) Done)
+module _ (world : World ℕ) (fresh : Fresh ℕ) (name : TaskName) (old new : List ℕ) (from to : Place ℕ)
+    (is : IsWorld nat_eq world)
+    (plain : IsPlain world) (serves : Serves nat_eq world fresh)
+    (did : IsPermitted world fresh name (Rename old new) Done)
     (parts : NamesParts (looks_of nat_eq world) did.task old new from to did.permit) where
   abbrev object : ℕ
   object = (object_there from).node
@@ -133,18 +141,21 @@ module _ (world : World ℕ) (fresh : Fresh ℕ) (name : TaskName) (old new : Li
   place_before = record { mount = from.parent.mount; node = object }
 
   seen : MayBeRenamed world from.parent (name_of from.last) to.parent (name_of to.last) (object_there from) to.object
-  seen = may world fresh name (Rename old new) Done is plain serves refl refl did from.parent (name_of from.last) to.parent (name_of to.last)
+  seen = may world fresh name (Rename old new) Done is plain serves refl refl did from.parent
+      (name_of from.last) to.parent (name_of to.last)
       (object_there from) to.object parts.permit_is parts.uncovered
 
   object_fs : (mount_at nat_eq world (object_there from)).filesystem ≡ fs
   object_fs =
-      object_shown world fresh name (Rename old new) Done is plain serves refl refl did from.parent (name_of from.last) to.parent (name_of to.last)
+      object_shown world fresh name (Rename old new) Done is plain serves refl refl did from.parent
+      (name_of from.last) to.parent (name_of to.last)
       (object_there from) to.object parts.permit_is parts.uncovered
 
   abbrev pub before : Option (Node ℕ)
   before = (files_at nat_eq world from.parent).tree.node object
 
-  pub is_directory_before : is_directory_there nat_eq (looks_of nat_eq world) from ≡ true → is_directory_node before ≡ true
+  pub is_directory_before : is_directory_there nat_eq (looks_of nat_eq world) from ≡ true
+      → is_directory_node before ≡ true
   is_directory_before e =
       ap (λ n. is_directory_node (node_in world n object)) (sym object_fs)
       ∙ there_is (is_directory_at nat_eq world) from.object from.parent e
@@ -161,10 +172,12 @@ module _ (world : World ℕ) (fresh : Fresh ℕ) (name : TaskName) (old new : Li
       stepped_by world did.task from.parent from.last parts.from_named (Some object) seen.moves.named
       ∙ ap Ok (free_over world is (object_there from) parts.uncovered place_before (sym object_fs) refl)
 
-  pub old_told : (other_fresh : Fresh ℕ) → (policy nat_eq other_fresh world name (Lstat old)).answer ≡ Ok (Told (stat_line before))
+  pub old_told : (other_fresh : Fresh ℕ)
+      → (policy nat_eq other_fresh world name (Lstat old)).answer ≡ Ok (Told (stat_line before))
   old_told other_fresh =
       let walk = surely _ _ _ (symlink_named_too (looks_of nat_eq world) (looks_of nat_eq world) did.task did.task Never
-      (IsFound world is did.task) (itself_leads Never world is plain did.task own) old from parts.from_named at_old place_before
+      (IsFound world is did.task)
+      (itself_leads Never world is plain did.task own) old from parts.from_named at_old place_before
       (λ known. old_stepped)
       (λ slash.
       let directory = is_directory_before (parts.from_slash (sym at_old.slash_is ∙ slash)) in
@@ -176,13 +189,17 @@ module _ (world : World ℕ) (fresh : Fresh ℕ) (name : TaskName) (old new : Li
       ⊎ ((policy nat_eq other_fresh world name (Ls old)).answer ≡ Err (denial C1))
   old_listed directory_there other_fresh =
       let directory = is_directory_before directory_there in
-      let walk = surely _ _ _ (directory_named_too (looks_of nat_eq world) (looks_of nat_eq world) did.task did.task Never
-      (IsFound world is did.task) (itself_leads Never world is plain did.task own) old from parts.from_named at_old place_before
+      let walk = surely _ _ _ (directory_named_too (looks_of nat_eq world)
+      (looks_of nat_eq world) did.task did.task Never
+      (IsFound world is did.task)
+      (itself_leads Never world is plain did.task own) old from parts.from_named at_old place_before
       (λ known. old_stepped) (directory_no_link before directory) directory) in
-      by (node_allows did.task.credentials read_right before) (list_of world other_fresh name did.task did.called old plain _ walk.1)
+      by (node_allows did.task.credentials read_right before)
+      (list_of world other_fresh name did.task did.called old plain _ walk.1)
     where
       by : (b : Bool)
-          → (policy nat_eq other_fresh world name (Ls old)).answer ≡ cond b (Ok (Names (names_in before))) (Err (denial C1))
+          → (policy nat_eq other_fresh world name (Ls old)).answer
+          ≡ cond b (Ok (Names (names_in before))) (Err (denial C1))
           → ((policy nat_eq other_fresh world name (Ls old)).answer ≡ Ok (Names (names_in before)))
           ⊎ ((policy nat_eq other_fresh world name (Ls old)).answer ≡ Err (denial C1))
       by true e = inl e
@@ -191,12 +208,15 @@ module _ (world : World ℕ) (fresh : Fresh ℕ) (name : TaskName) (old new : Li
   -- After it
   left_is : IsWorld nat_eq later × IsPlain later
   left_is =
-      is_left world fresh name (Rename old new) Done is plain serves refl refl did from.parent (name_of from.last) to.parent (name_of to.last)
+      is_left world fresh name (Rename old new) Done is plain serves refl refl did from.parent
+      (name_of from.last) to.parent (name_of to.last)
       (object_there from) to.object parts.permit_is parts.uncovered
 
-  module _ (reader : TaskName) (reading : Task ℕ) (path : List ℕ) (called : task_called later reader ≡ Some reading) where
+  module _ (reader : TaskName) (reading : Task ℕ) (path : List ℕ)
+      (called : task_called later reader ≡ Some reading) where
     module _ (directory : Location ℕ) (last : LastWord) (special : is_special last ≡ false)
-        (directory_fs : (mount_at nat_eq world directory).filesystem ≡ fs) (lead : LeadsToName world later reading path directory last) where
+        (directory_fs : (mount_at nat_eq world directory).filesystem ≡ fs)
+        (lead : LeadsToName world later reading path directory last) where
       named_so : is_special lead.place.last ≡ false
       named_so = ap is_special lead.last_is ∙ special
 
@@ -207,11 +227,15 @@ module _ (world : World ℕ) (fresh : Fresh ℕ) (name : TaskName) (old new : Li
       parent_found : IsFound later left_is.0 reading lead.place.parent
       parent_found =
           ⊎_elim
-          (λ ends. parent_known (looks_of nat_eq later) (looks_of nat_eq later) reading reading Never (IsFound later left_is.0 reading)
-          (itself_leads Never later left_is.0 left_is.1 reading (own_name later reader reading called)) path lead.place named_so at_name ends.1)
+          (λ ends. parent_known (looks_of nat_eq later) (looks_of nat_eq later) reading reading Never
+          (IsFound later left_is.0 reading)
+          (itself_leads Never later left_is.0 left_is.1 reading
+          (own_name later reader reading called)) path lead.place named_so at_name ends.1)
           (λ stop. absurd stop.1)
-          (front_too (looks_of nat_eq later) (looks_of nat_eq later) reading reading Never (IsFound later left_is.0 reading)
-          (itself_leads Never later left_is.0 left_is.1 reading (own_name later reader reading called)) path lead.place named_so at_name)
+          (front_too (looks_of nat_eq later) (looks_of nat_eq later) reading reading Never
+          (IsFound later left_is.0 reading)
+          (itself_leads Never later left_is.0 left_is.1 reading
+          (own_name later reader reading called)) path lead.place named_so at_name)
 
       parent_fs : (mount_at nat_eq later lead.place.parent).filesystem ≡ fs
       parent_fs = lead.filesystem ∙ directory_fs
@@ -228,7 +252,8 @@ module _ (world : World ℕ) (fresh : Fresh ℕ) (name : TaskName) (old new : Li
     module _ (lead : LeadsToName world later reading path to.parent to.last) where
       to_fs : (mount_at nat_eq world to.parent).filesystem ≡ fs
       to_fs =
-          to_shown world fresh name (Rename old new) Done is plain serves refl refl did from.parent (name_of from.last) to.parent (name_of to.last)
+          to_shown world fresh name (Rename old new) Done is plain serves refl refl did from.parent
+          (name_of from.last) to.parent (name_of to.last)
           (object_there from) to.object parts.permit_is parts.uncovered
 
       abbrev place_after : Location ℕ
@@ -236,44 +261,59 @@ module _ (world : World ℕ) (fresh : Fresh ℕ) (name : TaskName) (old new : Li
 
       entry_after : entry_at (tree_in later fs) to.parent.node (name_of to.last) ≡ Some object
       entry_after =
-          new_left world fresh name (Rename old new) Done is plain serves refl refl did from.parent (name_of from.last) to.parent (name_of to.last)
-          (object_there from) to.object parts.permit_is parts.uncovered (there to.parent to.last parts.to_named to_fs lead)
+          new_left world fresh name (Rename old new) Done is plain serves refl refl did from.parent
+          (name_of from.last) to.parent (name_of to.last)
+          (object_there from) to.object parts.permit_is parts.uncovered
+          (there to.parent to.last parts.to_named to_fs lead)
 
-      entry_here : entry_named (name_of lead.place.last) (entries_in (node_at nat_eq later lead.place.parent)) ≡ Some object
+      entry_here : entry_named (name_of lead.place.last) (entries_in (node_at nat_eq later lead.place.parent))
+          ≡ Some object
       entry_here = leads_to to.parent to.last parts.to_named to_fs lead (Some object) entry_after
 
       object_there_still : is_some (node_at nat_eq later place_after) ≡ true
       object_there_still =
           (tree_here later left_is.0 left_is.1 reading lead.place.parent
-          (node_with_entries (name_of lead.place.last) object (node_at nat_eq later lead.place.parent) entry_here)).tree.alive
+          (node_with_entries (name_of lead.place.last) object
+          (node_at nat_eq later lead.place.parent) entry_here)).tree.alive
           lead.place.parent.node (name_of lead.place.last) object entry_here
 
       kept : IsKept before (node_at nat_eq later place_after)
       kept =
-          subst (λ n. IsKept before (node_in later n object)) (sym (parent_fs to.parent to.last parts.to_named to_fs lead))
-          (object_left world fresh name (Rename old new) Done is plain serves refl refl did from.parent (name_of from.last) to.parent (name_of to.last)
+          subst (λ n. IsKept before (node_in later n object))
+          (sym (parent_fs to.parent to.last parts.to_named to_fs lead))
+          (object_left world fresh name (Rename old new) Done is plain serves refl refl did from.parent
+          (name_of from.last) to.parent (name_of to.last)
           (object_there from) to.object parts.permit_is parts.uncovered
-          (ap (λ n. is_some (node_in later n object)) (sym (parent_fs to.parent to.last parts.to_named to_fs lead)) ∙ object_there_still))
+          (ap (λ n. is_some (node_in later n object)) (sym (parent_fs to.parent to.last parts.to_named to_fs lead))
+          ∙ object_there_still))
 
       new_stepped : stepped nat_eq (looks_of nat_eq later) reading lead.place.parent lead.place.last ≡ Ok place_after
       new_stepped =
-          stepped_by later reading lead.place.parent lead.place.last (named_so to.parent to.last parts.to_named to_fs lead) (Some object) entry_here
-          ∙ ap Ok (free_left world fresh name (Rename old new) Done is plain serves refl refl did from.parent (name_of from.last) to.parent
+          stepped_by later reading lead.place.parent lead.place.last
+          (named_so to.parent to.last parts.to_named to_fs lead) (Some object) entry_here
+          ∙ ap Ok (free_left world fresh name (Rename old new) Done is plain serves refl refl did from.parent
+          (name_of from.last) to.parent
           (name_of to.last) (object_there from) to.object parts.permit_is parts.uncovered place_after
-          (parent_found to.parent to.last parts.to_named to_fs lead).0.0 (parent_fs to.parent to.last parts.to_named to_fs lead) refl)
+          (parent_found to.parent to.last parts.to_named to_fs lead).0.0
+          (parent_fs to.parent to.last parts.to_named to_fs lead) refl)
 
-      directory_after : is_directory_there nat_eq (looks_of nat_eq world) from ≡ true → is_directory_at nat_eq later place_after ≡ true
+      directory_after : is_directory_there nat_eq (looks_of nat_eq world) from ≡ true
+          → is_directory_at nat_eq later place_after ≡ true
       directory_after e = directory_kept before (node_at nat_eq later place_after) kept ∙ is_directory_before e
 
-      new_told : (ends_in_slash path ≡ true → is_directory_there nat_eq (looks_of nat_eq world) from ≡ true) → (later_fresh : Fresh ℕ)
+      new_told : (ends_in_slash path ≡ true → is_directory_there nat_eq (looks_of nat_eq world) from ≡ true)
+          → (later_fresh : Fresh ℕ)
           → (policy nat_eq later_fresh later reader (Lstat path)).answer ≡ Ok (Told (stat_line before))
       new_told slashed later_fresh =
-          let walk = surely _ _ _ (symlink_named_too (looks_of nat_eq later) (looks_of nat_eq later) reading reading Never
+          let walk = surely _ _ _ (symlink_named_too (looks_of nat_eq later)
+          (looks_of nat_eq later) reading reading Never
           (IsFound later left_is.0 reading)
           (itself_leads Never later left_is.0 left_is.1 reading (own_name later reader reading called)) path lead.place
-          (named_so to.parent to.last parts.to_named to_fs lead) (at_name to.parent to.last parts.to_named to_fs lead) place_after
+          (named_so to.parent to.last parts.to_named to_fs lead)
+          (at_name to.parent to.last parts.to_named to_fs lead) place_after
           (λ known. new_stepped)
-          (λ slash. let now = directory_after (slashed slash) in (directory_no_link (node_at nat_eq later place_after) now, now))) in
+          (λ slash. let now = directory_after (slashed slash) in
+          (directory_no_link (node_at nat_eq later place_after) now, now))) in
           lstat_of later later_fresh reader reading called path _ walk.1
           ∙ ap (λ line. Ok (Told line)) (told_alike before (node_at nat_eq later place_after) kept)
 
@@ -282,10 +322,12 @@ module _ (world : World ℕ) (fresh : Fresh ℕ) (name : TaskName) (old new : Li
           ⊎ ((policy nat_eq later_fresh later reader (Ls path)).answer ≡ Err (denial C1))
       new_listed directory_there later_fresh =
           let now = directory_after directory_there in
-          let walk = surely _ _ _ (directory_named_too (looks_of nat_eq later) (looks_of nat_eq later) reading reading Never
+          let walk = surely _ _ _ (directory_named_too (looks_of nat_eq later)
+          (looks_of nat_eq later) reading reading Never
           (IsFound later left_is.0 reading)
           (itself_leads Never later left_is.0 left_is.1 reading (own_name later reader reading called)) path lead.place
-          (named_so to.parent to.last parts.to_named to_fs lead) (at_name to.parent to.last parts.to_named to_fs lead) place_after
+          (named_so to.parent to.last parts.to_named to_fs lead)
+          (at_name to.parent to.last parts.to_named to_fs lead) place_after
           (λ known. new_stepped) (directory_no_link (node_at nat_eq later place_after) now) now) in
           by (node_allows reading.credentials read_right (node_at nat_eq later place_after))
           (list_of later later_fresh reader reading called path left_is.1 _ walk.1)
@@ -305,19 +347,22 @@ module _ (world : World ℕ) (fresh : Fresh ℕ) (name : TaskName) (old new : Li
         let named : is_special lead.place.last ≡ false = named_so from.parent from.last parts.from_named refl lead in
         let stop = symlink_missing (looks_of nat_eq later) (looks_of nat_eq later) reading reading Missing
         (IsFound later left_is.0 reading)
-        (itself_leads Missing later left_is.0 left_is.1 reading (own_name later reader reading called)) path lead.place named
+        (itself_leads Missing later left_is.0 left_is.1 reading
+        (own_name later reader reading called)) path lead.place named
         (at_name from.parent from.last parts.from_named refl lead) (denial W6) refl
         (λ known.
         stepped_by later reading lead.place.parent lead.place.last named None
         (leads_to from.parent from.last parts.from_named refl lead None
-        (old_left world fresh name (Rename old new) Done is plain serves refl refl did from.parent (name_of from.last) to.parent (name_of to.last)
+        (old_left world fresh name (Rename old new) Done is plain serves refl refl did from.parent
+        (name_of from.last) to.parent (name_of to.last)
         (object_there from) to.object parts.permit_is parts.uncovered seen.moves.replaced_other
         (there from.parent from.last parts.from_named refl lead)))) in
         lstat_refused later later_fresh reader reading called path stop.0 stop.2 ∙ ap Err stop.1
 
 -- what a granted rename did
 module _ (old new : List ℕ) (world : World ℕ) (fresh : Fresh ℕ) (name : TaskName) (task : Task ℕ) (from to : Place ℕ)
-    (called : task_called world name ≡ Some task) (from_is : old_leaf_walk nat_eq (looks_of nat_eq world) task old ≡ Ok from)
+    (called : task_called world name ≡ Some task)
+    (from_is : old_leaf_walk nat_eq (looks_of nat_eq world) task old ≡ Ok from)
     (to_is : new_walk nat_eq (looks_of nat_eq world) task new ≡ Ok to)
     (two : is_one_object nat_eq (looks_of nat_eq world) (object_there from) to.object ≡ false)
     (granted : (policy nat_eq fresh world name (Rename old new)).answer ≡ Ok Done) where

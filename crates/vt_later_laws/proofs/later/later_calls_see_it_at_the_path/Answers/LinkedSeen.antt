@@ -66,7 +66,8 @@ link_parts looks task old new permit e =
     let olds = both_gave (walk_end (symlink_walk nat_eq looks task old)) _ permit e in
     let news = both_gave (walk_end (new_leaf_walk nat_eq looks task new)) _ permit olds.2 in
     let word = passing ((is_special news.0.last, E1) ∷ []) _ permit news.2 in
-    let rules = passing (hard_link_rules nat_eq looks task olds.0.location news.0 (linking olds.0.location news.0)) _ permit word.1 in
+    let rules = passing (hard_link_rules nat_eq looks task olds.0.location news.0
+    (linking olds.0.location news.0)) _ permit word.1 in
     let leaf = new_leaf_parts looks task new news.0 (walk_ended (new_leaf_walk nat_eq looks task new) news.0 news.1) in
     record {
       from = olds.0;
@@ -81,7 +82,8 @@ link_parts looks task old new permit e =
     }
 
 module _ (world : World ℕ) (fresh : Fresh ℕ) (name : TaskName) (old new : List ℕ) (is : IsWorld nat_eq world)
-    (plain : IsPlain world) (serves : Serves nat_eq world fresh) (did : IsPermitted world fresh name (LinkTo old new) Done)
+    (plain : IsPlain world) (serves : Serves nat_eq world fresh)
+    (did : IsPermitted world fresh name (LinkTo old new) Done)
     (parts : LinkParts (looks_of nat_eq world) did.task old new did.permit) where
   abbrev place : Place ℕ
   place = parts.place
@@ -113,14 +115,17 @@ module _ (world : World ℕ) (fresh : Fresh ℕ) (name : TaskName) (old new : Li
   asks : change_of fresh world did.permit ≡ Some (place.parent, change)
   asks = ap (change_of fresh world) parts.permit_is
 
-  does : spent world fresh name (LinkTo old new) Done is plain serves refl refl did ≡ with_change nat_eq fresh world place.parent change
+  does : spent world fresh name (LinkTo old new) Done is plain serves refl refl did
+      ≡ with_change nat_eq fresh world place.parent change
   does = ap (λ p. (apply nat_eq fresh world did.task p).world) parts.permit_is
 
-  stay : TreeStays (files_at nat_eq world place.parent).tree (changed nat_eq (files_at nat_eq world place.parent) change).tree Never
+  stay : TreeStays (files_at nat_eq world place.parent).tree
+      (changed nat_eq (files_at nat_eq world place.parent) change).tree Never
   stay = ways_named (files_at nat_eq world place.parent) Never place.parent.node
       (name_of place.last) object.node in_directory seen_to.1.name_is_free.free
 
-  rights : RightsStay (files_at nat_eq world place.parent).tree (changed nat_eq (files_at nat_eq world place.parent) change).tree
+  rights : RightsStay (files_at nat_eq world place.parent).tree
+      (changed nat_eq (files_at nat_eq world place.parent) change).tree
   rights = rights_named (files_at nat_eq world place.parent) Never place.parent.node
       (name_of place.last) object.node in_directory seen_to.1.name_is_free.free
 
@@ -133,7 +138,8 @@ module _ (world : World ℕ) (fresh : Fresh ℕ) (name : TaskName) (old new : Li
 
   object_other : object.node ≢ place.parent.node
   object_other same =
-      true≢false (sym in_directory ∙ ap (λ n. is_directory_node ((files_at nat_eq world place.parent).tree.node n)) (sym same)
+      true≢false (sym in_directory ∙ ap (λ n. is_directory_node ((files_at nat_eq world place.parent).tree.node n))
+      (sym same)
       ∙ sym (ap (is_directory_at nat_eq world) same_object) ∙ parts.no_directory)
 
   there : (reader : TaskName) (reading : Task ℕ) → task_called later reader ≡ Some reading
@@ -142,10 +148,12 @@ module _ (world : World ℕ) (fresh : Fresh ℕ) (name : TaskName) (old new : Li
   there reader reading called stands looks later_fresh =
       let own = own_name later reader reading called in
       let at_name = named_place (looks_of nat_eq world) did.task new place parts.walked parts.named in
-      let walk = surely _ _ _ (symlink_named_too (looks_of nat_eq world) (looks_of nat_eq later) did.task reading Never _
+      let walk = surely _ _ _ (symlink_named_too (looks_of nat_eq world)
+      (looks_of nat_eq later) did.task reading Never _
       (leads world fresh name
       (LinkTo old new) Done is plain serves refl refl did place.parent change fresh asks does something tt tree Never stay
-      reading own stands rights looks) new place parts.named at_name (record { mount = place.parent.mount; node = object.node })
+      reading own stands rights looks) new place parts.named at_name
+      (record { mount = place.parent.mount; node = object.node })
       (λ known.
       stepped_by later reading place.parent place.last parts.named (Some object.node)
       (ap (λ o. entry_named (name_of place.last) (entries_in o))
@@ -165,7 +173,8 @@ module _ (world : World ℕ) (fresh : Fresh ℕ) (name : TaskName) (old new : Li
       (seen_at world fresh name
       (LinkTo old new) Done is plain serves refl refl did place.parent change fresh asks does something tt tree Never stay
       reading own stands object.node
-      ∙ all_stays world fresh name (LinkTo old new) Done is plain serves refl refl did place.parent change fresh asks does something tt tree
+      ∙ all_stays world fresh name
+      (LinkTo old new) Done is plain serves refl refl did place.parent change fresh asks does something tt tree
       (ap option_to_list seen_to.1.name_is_free.free) object.node
       ∙ named_other (files_at nat_eq world place.parent) Never place.parent.node
       (name_of place.last) object.node in_directory seen_to.1.name_is_free.free

@@ -49,7 +49,8 @@ record RmdirParts (looks : Looks ℕ) (task : Task ℕ) (path : List ℕ) (place
   named : is_special place.last ≡ false
   permit_is : permit ≡ ToRemoveDirectory place.parent (name_of place.last) (object_there place)
 
-names_an_entry : (last : LastWord) → is_dot_dot last ≡ false → is_dot last ≡ false → is_no_word last ≡ false → is_special last ≡ false
+names_an_entry : (last : LastWord) → is_dot_dot last ≡ false → is_dot last ≡ false → is_no_word last ≡ false
+    → is_special last ≡ false
 names_an_entry NoWord e f g = g
 names_an_entry Dot e f g = f
 names_an_entry DotDot e f g = e
@@ -66,7 +67,8 @@ rmdir_parts looks task path place permit walk e =
     let rules = passing (rmdir_rules nat_eq looks task steps.0 (object_there steps.0)) _ permit word.1 in
     record {
       walked = (old_parts looks task path place walk).0;
-      named = ap (λ (p : Place ℕ). is_special p.last) (sym same) ∙ names_an_entry steps.0.last word.0.0 word.0.1.0 word.0.1.1.0;
+      named = ap (λ (p : Place ℕ). is_special p.last) (sym same)
+          ∙ names_an_entry steps.0.last word.0.0 word.0.1.0 word.0.1.1.0;
       permit_is = sym (same_ok _ permit rules.1)
           ∙ ap (λ (p : Place ℕ). ToRemoveDirectory p.parent (name_of p.last) (object_there p)) same;
     }
@@ -81,25 +83,33 @@ module _ (world : World ℕ) (fresh : Fresh ℕ) (name : TaskName) (path : List 
   word = name_of place.last
 
   module _ (reader : TaskName) (reading : Task ℕ) (called : task_called later reader ≡ Some reading)
-      (stands : StandsAs did.task reading) (looks : MayLook did.task reading) (Refused : Deny → Type 0) (missing : Refused (denial W6)) where
+      (stands : StandsAs did.task reading) (looks : MayLook did.task reading) (Refused : Deny → Type 0)
+      (missing : Refused (denial W6)) where
     abbrev Fit : Location ℕ → Type 0
-    Fit = Fits world fresh name (Rmdir path) Done is plain serves refl refl did place.parent word (object_there place) parts.permit_is
+    Fit = Fits world fresh name (Rmdir path) Done is plain serves refl refl did place.parent word
+        (object_there place) parts.permit_is
         reading stands.root Refused
 
     abbrev KnownSo : Location ℕ → Type 0
     KnownSo =
         Known world later is plain
-        (is_left world fresh name (Rmdir path) Done is plain serves refl refl did place.parent word (object_there place) parts.permit_is).0
-        (is_left world fresh name (Rmdir path) Done is plain serves refl refl did place.parent word (object_there place) parts.permit_is).1
+        (is_left world fresh name (Rmdir path) Done is plain serves refl refl did place.parent word
+        (object_there place) parts.permit_is).0
+        (is_left world fresh name (Rmdir path) Done is plain serves refl refl did place.parent word
+        (object_there place) parts.permit_is).1
         did.task reading
-        (own_task world fresh name (Rmdir path) Done is plain serves refl refl did place.parent word (object_there place) parts.permit_is)
+        (own_task world fresh name (Rmdir path) Done is plain serves refl refl did place.parent word
+        (object_there place) parts.permit_is)
         (own_name later reader reading called) stands Refused
-        (mounts_seen world fresh name (Rmdir path) Done is plain serves refl refl did place.parent word (object_there place) parts.permit_is
+        (mounts_seen world fresh name (Rmdir path) Done is plain serves refl refl did place.parent word
+        (object_there place) parts.permit_is
         reading stands.root)
-        (objects_stay world fresh name (Rmdir path) Done is plain serves refl refl did place.parent word (object_there place) parts.permit_is
+        (objects_stay world fresh name (Rmdir path) Done is plain serves refl refl did place.parent word
+        (object_there place) parts.permit_is
         Refused missing)
         Fit
-        (fits_ways world fresh name (Rmdir path) Done is plain serves refl refl did place.parent word (object_there place) parts.permit_is
+        (fits_ways world fresh name (Rmdir path) Done is plain serves refl refl did place.parent word
+        (object_there place) parts.permit_is
         reading stands.root Refused)
 
     here_is : (here : Location ℕ) → KnownSo here
@@ -107,17 +117,23 @@ module _ (world : World ℕ) (fresh : Fresh ℕ) (name : TaskName) (path : List 
         ≡ node_in later (mount_at nat_eq world here).filesystem here.node
     here_is here known =
         node_here world later is plain
-        (is_left world fresh name (Rmdir path) Done is plain serves refl refl did place.parent word (object_there place) parts.permit_is).0
-        (is_left world fresh name (Rmdir path) Done is plain serves refl refl did place.parent word (object_there place) parts.permit_is).1
+        (is_left world fresh name (Rmdir path) Done is plain serves refl refl did place.parent word
+        (object_there place) parts.permit_is).0
+        (is_left world fresh name (Rmdir path) Done is plain serves refl refl did place.parent word
+        (object_there place) parts.permit_is).1
         did.task reading
-        (own_task world fresh name (Rmdir path) Done is plain serves refl refl did place.parent word (object_there place) parts.permit_is)
+        (own_task world fresh name (Rmdir path) Done is plain serves refl refl did place.parent word
+        (object_there place) parts.permit_is)
         (own_name later reader reading called) stands Refused
-        (mounts_seen world fresh name (Rmdir path) Done is plain serves refl refl did place.parent word (object_there place) parts.permit_is
+        (mounts_seen world fresh name (Rmdir path) Done is plain serves refl refl did place.parent word
+        (object_there place) parts.permit_is
         reading stands.root)
-        (objects_stay world fresh name (Rmdir path) Done is plain serves refl refl did place.parent word (object_there place) parts.permit_is
+        (objects_stay world fresh name (Rmdir path) Done is plain serves refl refl did place.parent word
+        (object_there place) parts.permit_is
         Refused missing)
         Fit
-        (fits_ways world fresh name (Rmdir path) Done is plain serves refl refl did place.parent word (object_there place) parts.permit_is
+        (fits_ways world fresh name (Rmdir path) Done is plain serves refl refl did place.parent word
+        (object_there place) parts.permit_is
         reading stands.root Refused)
         here known.0
 
@@ -135,60 +151,76 @@ module _ (world : World ℕ) (fresh : Fresh ℕ) (name : TaskName) (path : List 
         by (inr all) =
             search_all reading.credentials all (node_at nat_eq later here)
             (ap is_directory_node (here_is here known)
-            ∙ (objects_stay world fresh name (Rmdir path) Done is plain serves refl refl did place.parent word (object_there place)
-            parts.permit_is Refused missing).directory (mount_at nat_eq world here).filesystem here.node known.0.0.1 (now_there here known)
+            ∙ (objects_stay world fresh name (Rmdir path) Done is plain serves refl refl did place.parent word
+            (object_there place)
+            parts.permit_is Refused missing).directory (mount_at nat_eq world here).filesystem here.node known.0.0.1
+            (now_there here known)
             ∙ directory)
         by (inl same) =
             ap (λ who. node_allows who execute_right (node_at nat_eq later here)) same
             ∙ ap (node_allows did.task.credentials execute_right) (here_is here known)
-            ∙ rights_left world fresh name (Rmdir path) Done is plain serves refl refl did place.parent word (object_there place)
-            parts.permit_is (mount_at nat_eq world here).filesystem here.node (now_there here known) known.0.0.1 did.task.credentials execute_right
+            ∙ rights_left world fresh name (Rmdir path) Done is plain serves refl refl did place.parent word
+            (object_there place)
+            parts.permit_is (mount_at nat_eq world here).filesystem here.node
+            (now_there here known) known.0.0.1 did.task.credentials execute_right
             ∙ e
 
     module _ (root_fits : Fit did.task.root) (directory_fits : Fit did.task.directory) where
       leads : LeadsToo (looks_of nat_eq world) (looks_of nat_eq later) did.task reading Refused KnownSo
       leads =
           ways_lead world later is plain
-          (is_left world fresh name (Rmdir path) Done is plain serves refl refl did place.parent word (object_there place) parts.permit_is).0
-          (is_left world fresh name (Rmdir path) Done is plain serves refl refl did place.parent word (object_there place) parts.permit_is).1
+          (is_left world fresh name (Rmdir path) Done is plain serves refl refl did place.parent word
+          (object_there place) parts.permit_is).0
+          (is_left world fresh name (Rmdir path) Done is plain serves refl refl did place.parent word
+          (object_there place) parts.permit_is).1
           did.task reading
-          (own_task world fresh name (Rmdir path) Done is plain serves refl refl did place.parent word (object_there place) parts.permit_is)
+          (own_task world fresh name (Rmdir path) Done is plain serves refl refl did place.parent word
+          (object_there place) parts.permit_is)
           (own_name later reader reading called) stands Refused
-          (mounts_seen world fresh name (Rmdir path) Done is plain serves refl refl did place.parent word (object_there place) parts.permit_is
+          (mounts_seen world fresh name (Rmdir path) Done is plain serves refl refl did place.parent word
+          (object_there place) parts.permit_is
           reading stands.root)
-          (objects_stay world fresh name (Rmdir path) Done is plain serves refl refl did place.parent word (object_there place)
+          (objects_stay world fresh name (Rmdir path) Done is plain serves refl refl did place.parent word
+          (object_there place)
           parts.permit_is Refused missing)
           Fit
-          (fits_ways world fresh name (Rmdir path) Done is plain serves refl refl did place.parent word (object_there place) parts.permit_is
+          (fits_ways world fresh name (Rmdir path) Done is plain serves refl refl did place.parent word
+          (object_there place) parts.permit_is
           reading stands.root Refused)
           searched root_fits directory_fits
 
       gone : (later_fresh : Fresh ℕ)
           → (deny : Deny) × Refused deny × ((policy nat_eq later_fresh later reader (Lstat path)).answer ≡ Err deny)
       gone later_fresh =
-          let stop = symlink_missing (looks_of nat_eq world) (looks_of nat_eq later) did.task reading Refused KnownSo leads path place parts.named
+          let stop = symlink_missing (looks_of nat_eq world)
+          (looks_of nat_eq later) did.task reading Refused KnownSo leads path place parts.named
           (named_place (looks_of nat_eq world) did.task path place parts.walked parts.named) (denial W6) missing
           (λ known.
           stepped_by later reading place.parent place.last parts.named None
           (ap (λ o. entry_named word (entries_in o)) (here_is place.parent known)
-          ∙ name_left world fresh name (Rmdir path) Done is plain serves refl refl did place.parent word (object_there place) parts.permit_is
+          ∙ name_left world fresh name (Rmdir path) Done is plain serves refl refl did place.parent word
+          (object_there place) parts.permit_is
           (now_there place.parent known))) in
           (stop.0.deny, stop.1, lstat_refused later later_fresh reader reading called path stop.0 stop.2)
 
   abbrev OutsideOf : Task ℕ → Location ℕ → Type 0
   OutsideOf reading here =
       (roots : reading.root ≡ did.task.root)
-      → IsOutside world fresh name (Rmdir path) Done is plain serves refl refl did place.parent word (object_there place) parts.permit_is
+      → IsOutside world fresh name (Rmdir path) Done is plain serves refl refl did place.parent word
+      (object_there place) parts.permit_is
       reading roots here
 
   root_outside : (reading : Task ℕ) → OutsideOf reading did.task.root
   root_outside reading roots removed =
-      ap (λ b. b || nat_eq did.task.root.node (mount_at nat_eq world did.task.root).root) (same_location_itself did.task.root)
+      ap (λ b. b || nat_eq did.task.root.node (mount_at nat_eq world did.task.root).root)
+      (same_location_itself did.task.root)
 
   same_mount : (object_there place).mount ≡ place.parent.mount
-  same_mount = (seen_to world fresh name (Rmdir path) Done is plain serves refl refl did place.parent word (object_there place) parts.permit_is).0
+  same_mount = (seen_to world fresh name (Rmdir path) Done is plain serves refl refl did place.parent word
+      (object_there place) parts.permit_is).0
 
-  directory_outside : (IsOneInode world did.task.directory (object_there place) → ⊥) → (reading : Task ℕ) → OutsideOf reading did.task.directory
+  directory_outside : (IsOneInode world did.task.directory (object_there place) → ⊥) → (reading : Task ℕ)
+      → OutsideOf reading did.task.directory
   directory_outside other reading roots removed =
       absurd (other (removed.0 ∙ ap (λ m. (mount_numbered nat_eq world m).filesystem) (sym same_mount), removed.1))
 
@@ -198,10 +230,12 @@ module _ (world : World ℕ) (fresh : Fresh ℕ) (name : TaskName) (path : List 
         → ((policy nat_eq later_fresh later reader (Lstat path)).answer ≡ Err (denial W6))
         ⊎ ((policy nat_eq later_fresh later reader (Lstat path)).answer ≡ Err (denial W8))
     gone_or_lost later_fresh =
-        let refused = gone reader reading called stands looks MissingOrLost (inl refl) (inl (inr refl)) (inl (inr refl)) later_fresh in
+        let refused = gone reader reading called stands looks MissingOrLost (inl refl) (inl (inr refl))
+        (inl (inr refl)) later_fresh in
         by refused.0 refused.1 refused.2
       where
-        by : (deny : Deny) → MissingOrLost deny → (policy nat_eq later_fresh later reader (Lstat path)).answer ≡ Err deny
+        by : (deny : Deny) → MissingOrLost deny
+            → (policy nat_eq later_fresh later reader (Lstat path)).answer ≡ Err deny
             → ((policy nat_eq later_fresh later reader (Lstat path)).answer ≡ Err (denial W6))
             ⊎ ((policy nat_eq later_fresh later reader (Lstat path)).answer ≡ Err (denial W8))
         by deny (inl same) e = inl (e ∙ ap Err same)
@@ -226,7 +260,8 @@ rmdir_then_lstat path world fresh name task place is plain serves called walk gr
         (raised_stands name did.task) (inl (raised_credentials name did.task)) (outside elsewhere),
     λ reader reading looks.
         gone_outside world fresh name path is plain serves did place parts reader reading looks.called
-        (subst (λ t. StandsAs t reading) (sym task_is) (all_stands _ task reader reading looks)) (inr looks.all) (outside elsewhere),
+        (subst (λ t. StandsAs t reading) (sym task_is) (all_stands _ task reader reading looks)) (inr looks.all)
+        (outside elsewhere),
   ),
 )
   where
@@ -236,14 +271,18 @@ rmdir_then_lstat path world fresh name task place is plain serves called walk gr
     task_is : did.task ≡ task
     task_is = same_Some did.task task (sym did.called ∙ called)
 
-    outside : (IsOneInode world task.directory (object_there place) → ⊥) → IsOneInode world did.task.directory (object_there place) → ⊥
-    outside elsewhere one = elsewhere (subst (λ (t : Task ℕ). IsOneInode world t.directory (object_there place)) task_is one)
+    outside : (IsOneInode world task.directory (object_there place) → ⊥)
+        → IsOneInode world did.task.directory (object_there place) → ⊥
+    outside elsewhere one = elsewhere
+        (subst (λ (t : Task ℕ). IsOneInode world t.directory (object_there place)) task_is one)
 
     parts : RmdirParts (looks_of nat_eq world) did.task path place did.permit
     parts =
         rmdir_parts (looks_of nat_eq world) did.task path place did.permit
         (ap (λ t. old_walk nat_eq (looks_of nat_eq world) t path) task_is ∙ walk) did.judged
 
-    caller_here : task_called (policy nat_eq fresh world name (Rmdir path)).world name ≡ Some (raised_task name did.task)
+    caller_here : task_called (policy nat_eq fresh world name (Rmdir path)).world name
+        ≡ Some (raised_task name did.task)
     caller_here =
-        caller world fresh name (Rmdir path) Done is plain serves refl refl did place.parent (name_of place.last) (object_there place) parts.permit_is
+        caller world fresh name (Rmdir path) Done is plain serves refl refl did place.parent (name_of place.last)
+        (object_there place) parts.permit_is

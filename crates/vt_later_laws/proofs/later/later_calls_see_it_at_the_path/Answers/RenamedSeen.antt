@@ -59,7 +59,8 @@ use Rattle.vt_later_laws.proofs.WaysPlaces.{named_place, symlink_missing, symlin
 use Rattle.vt_later_laws.proofs.WaysStay.{StandsAs, node_in}
 
 -- walks of a world lead where they lead
-pub itself_leads : (Refused : Deny → Type 0) (world : World ℕ) (is : IsWorld nat_eq world) → IsPlain world → (task : Task ℕ)
+pub itself_leads : (Refused : Deny → Type 0) (world : World ℕ) (is : IsWorld nat_eq world) → IsPlain world
+    → (task : Task ℕ)
     → task_called world task.name ≡ Some task
     → LeadsToo (looks_of nat_eq world) (looks_of nat_eq world) task task Refused (IsFound world is task)
 itself_leads Refused world is plain task called = record {
@@ -77,7 +78,8 @@ itself_leads Refused world is plain task called = record {
 }
 
 -- what a granted rename of a file to a free name was permitted
-record RenameParts (looks : Looks ℕ) (task : Task ℕ) (old new : List ℕ) (from to : Place ℕ) (permit : Permit ℕ) : Type 0 where
+record RenameParts (looks : Looks ℕ) (task : Task ℕ) (old new : List ℕ) (from to : Place ℕ)
+    (permit : Permit ℕ) : Type 0 where
   from_walked : place_walk nat_eq looks task old ≡ Ok from
   from_named : is_special from.last ≡ false
   from_slash : from.slash ≡ false
@@ -96,7 +98,8 @@ rename_parts looks task old new from to permit from_is to_is file free e =
     let olds = both_gave (walk_end (old_leaf_walk nat_eq looks task old)) _ permit e in
     let same_from : olds.0 ≡ from = same_ok olds.0 from (sym olds.1 ∙ ap walk_end from_is) in
     let first = passing (old_word_rules olds.0) _ permit olds.2 in
-    let news = both_gave (walk_end (rename_new_walk nat_eq looks task new (is_directory_there nat_eq looks olds.0))) _ permit first.1 in
+    let news = both_gave (walk_end
+    (rename_new_walk nat_eq looks task new (is_directory_there nat_eq looks olds.0))) _ permit first.1 in
     let named = passing (old_word_rules news.0) _ permit news.2 in
     let inside = both_walked (new_walk nat_eq looks task new) _ news.0
     (walk_ended (rename_new_walk nat_eq looks task new (is_directory_there nat_eq looks olds.0)) news.0 news.1) in
@@ -116,15 +119,18 @@ rename_parts looks task old new from to permit from_is to_is file free e =
       from_walked = there.0;
       from_named = ap (λ (p : Place ℕ). is_special p.last) (sym same_from) ∙ first.0.0;
       from_slash = no_slash_there from.slash (is_directory_there nat_eq looks from) file
-          (ap (λ (p : Place ℕ). p.slash && not (is_directory_there nat_eq looks p)) (sym leaf_slash.1) ∙ leaf_slash.0.0);
+          (ap (λ (p : Place ℕ). p.slash && not (is_directory_there nat_eq looks p)) (sym leaf_slash.1)
+          ∙ leaf_slash.0.0);
       from_there = there.1;
       to_walked = new_parts looks task new to to_is;
       to_named = ap (λ (p : Place ℕ). is_special p.last) (sym same_to) ∙ named.0.0;
-      to_slash = no_slash_there to.slash (is_directory_there nat_eq looks olds.0) (ap (is_directory_there nat_eq looks) same_from ∙ file)
+      to_slash = no_slash_there to.slash (is_directory_there nat_eq looks olds.0)
+          (ap (is_directory_there nat_eq looks) same_from ∙ file)
           (ap (λ (p : Place ℕ). p.slash && not (is_directory_there nat_eq looks olds.0)) (sym to_same) ∙ slash.0.0);
       permit_is =
           sym (same_ok _ permit last.1)
-          ∙ (λ i. ToRename (same_from i).parent (name_of (same_from i).last) (same_to i).parent (name_of (same_to i).last)
+          ∙ (λ i. ToRename (same_from i).parent (name_of (same_from i).last) (same_to i).parent
+          (name_of (same_to i).last)
           (object_there (same_from i)) (same_to i).object)
           ∙ ap (ToRename from.parent (name_of from.last) to.parent (name_of to.last) (object_there from)) free;
     }
@@ -134,8 +140,10 @@ there_no : (test : Location ℕ → Bool) (o : Option (Location ℕ)) (default :
 there_no test None default there e = absurd (true≢false there)
 there_no test (Some a) default there e = e
 
-module _ (world : World ℕ) (fresh : Fresh ℕ) (name : TaskName) (old new : List ℕ) (from to : Place ℕ) (is : IsWorld nat_eq world)
-    (plain : IsPlain world) (serves : Serves nat_eq world fresh) (did : IsPermitted world fresh name (Rename old new) Done)
+module _ (world : World ℕ) (fresh : Fresh ℕ) (name : TaskName) (old new : List ℕ) (from to : Place ℕ)
+    (is : IsWorld nat_eq world)
+    (plain : IsPlain world) (serves : Serves nat_eq world fresh)
+    (did : IsPermitted world fresh name (Rename old new) Done)
     (file : is_directory_there nat_eq (looks_of nat_eq world) from ≡ false)
     (parts : RenameParts (looks_of nat_eq world) did.task old new from to did.permit) where
   abbrev object : ℕ
@@ -183,7 +191,8 @@ module _ (world : World ℕ) (fresh : Fresh ℕ) (name : TaskName) (old new : Li
       to_mount_place : record { mount = to.parent.mount; node = from.parent.node } ≡ from.parent
       to_mount_place = λ i. record { mount = may.to_mount i; node = from.parent.node }
 
-      none_of : (o : Option ℕ) → option_map {U = Location ℕ} (λ number. record { mount = to.parent.mount; node = number }) o ≡ None
+      none_of : (o : Option ℕ) → option_map {U = Location ℕ}
+          (λ number. record { mount = to.parent.mount; node = number }) o ≡ None
           → o ≡ None
       none_of None e = refl
       none_of (Some x) e = cc
@@ -194,25 +203,32 @@ module _ (world : World ℕ) (fresh : Fresh ℕ) (name : TaskName) (old new : Li
   asks : change_of fresh world did.permit ≡ Some (from.parent, change)
   asks = ap (change_of fresh world) parts.permit_is
 
-  does : spent world fresh name (Rename old new) Done is plain serves refl refl did ≡ with_change nat_eq fresh world from.parent change
+  does : spent world fresh name (Rename old new) Done is plain serves refl refl did
+      ≡ with_change nat_eq fresh world from.parent change
   does = ap (λ p. (apply nat_eq fresh world did.task p).world) parts.permit_is
 
   allowed : IsMoved (files_at nat_eq world from.parent) from.parent.node (name_of from.last) to.parent.node object
   allowed = record { named = may.moves.named; in_directory = may.moves.in_directory }
 
-  stay : TreeStays (files_at nat_eq world from.parent).tree (changed nat_eq (files_at nat_eq world from.parent) change).tree Missing
+  stay : TreeStays (files_at nat_eq world from.parent).tree
+      (changed nat_eq (files_at nat_eq world from.parent) change).tree Missing
   stay =
-      ways_moved (files_at nat_eq world from.parent) Missing from.parent.node (name_of from.last) to.parent.node (name_of to.last) object
+      ways_moved (files_at nat_eq world from.parent) Missing from.parent.node (name_of from.last) to.parent.node
+      (name_of to.last) object
       may.moves.named no_directory in_directory free refl
 
-  rights : RightsStay (files_at nat_eq world from.parent).tree (changed nat_eq (files_at nat_eq world from.parent) change).tree
+  rights : RightsStay (files_at nat_eq world from.parent).tree
+      (changed nat_eq (files_at nat_eq world from.parent) change).tree
   rights =
-      rights_moved (files_at nat_eq world from.parent) Missing from.parent.node (name_of from.last) to.parent.node (name_of to.last) object
+      rights_moved (files_at nat_eq world from.parent) Missing from.parent.node (name_of from.last) to.parent.node
+      (name_of to.last) object
       may.moves.named no_directory in_directory free
 
-  object_apart : (directory : ℕ) → is_directory_node ((files_at nat_eq world from.parent).tree.node directory) ≡ true → object ≢ directory
+  object_apart : (directory : ℕ) → is_directory_node ((files_at nat_eq world from.parent).tree.node directory) ≡ true
+      → object ≢ directory
   object_apart directory is_one same =
-      true≢false (sym is_one ∙ ap (λ n. is_directory_node ((files_at nat_eq world from.parent).tree.node n)) (sym same) ∙ no_directory)
+      true≢false (sym is_one ∙ ap (λ n. is_directory_node ((files_at nat_eq world from.parent).tree.node n)) (sym same)
+      ∙ no_directory)
 
   abbrev line : StatLine
   line = stat_line (node_at nat_eq world (record { mount = from.parent.mount; node = object }))
@@ -224,7 +240,8 @@ module _ (world : World ℕ) (fresh : Fresh ℕ) (name : TaskName) (old new : Li
       let own = called_own world fresh name (Rename old new) Done is plain serves refl refl did in
       let walk = surely _ _ _ (symlink_named_too (looks_of nat_eq world) (looks_of nat_eq world) did.task did.task Never
       (IsFound world is did.task)
-      (itself_leads Never world is plain did.task own) old from parts.from_named at_name (record { mount = from.parent.mount; node = object })
+      (itself_leads Never world is plain did.task own) old from parts.from_named at_name
+      (record { mount = from.parent.mount; node = object })
       (λ known. stepped_by world did.task from.parent from.last parts.from_named (Some object) may.moves.named
       ∙ ap Ok (uncovered world is (record { mount = from.parent.mount; node = object }) no_directory))
       (λ slash. absurd (true≢false (sym slash ∙ at_name.slash_is ∙ parts.from_slash)))) in
@@ -257,7 +274,8 @@ module _ (world : World ℕ) (fresh : Fresh ℕ) (name : TaskName) (old new : Li
         reading own_reader stands to.parent.node
         ∙ node_changed world fresh name
         (Rename old new) Done is plain serves refl refl did from.parent change fresh asks does something allowed tree
-        to.parent.node (ap (λ l. is_some (node_in later (mount_at nat_eq world l).filesystem to.parent.node)) (sym to_place)
+        to.parent.node (ap (λ l. is_some (node_in later (mount_at nat_eq world l).filesystem to.parent.node))
+        (sym to_place)
         ∙ known_there world fresh name
         (Rename old new) Done is plain serves refl refl did from.parent change fresh asks does something allowed tree Missing stay
         reading own_reader stands to.parent known))
@@ -268,7 +286,8 @@ module _ (world : World ℕ) (fresh : Fresh ℕ) (name : TaskName) (old new : Li
     new_stepped : KnownToo world fresh name
         (Rename old new) Done is plain serves refl refl did from.parent change fresh asks does something allowed tree Missing stay
         reading own_reader stands to.parent
-        → stepped nat_eq (looks_of nat_eq later) reading to.parent to.last ≡ Ok (record { mount = from.parent.mount; node = object })
+        → stepped nat_eq (looks_of nat_eq later) reading to.parent to.last
+        ≡ Ok (record { mount = from.parent.mount; node = object })
     new_stepped known =
         stepped_by later reading to.parent to.last parts.to_named (Some object) (to_seen known)
         ∙ ap (λ m. Ok (topmost nat_eq later.mounts (record { mount = m; node = object }))) may.to_mount
@@ -297,13 +316,16 @@ module _ (world : World ℕ) (fresh : Fresh ℕ) (name : TaskName) (old new : Li
     new_told later_fresh =
         let at_name = named_place (looks_of nat_eq world) did.task new to parts.to_walked parts.to_named in
         ⊎_elim
-        (λ ends. inl (lstat_of later later_fresh reader reading called new _ ends.1 ∙ ap (λ o. Ok (Told (stat_line o))) object_seen))
+        (λ ends. inl (lstat_of later later_fresh reader reading called new _ ends.1
+        ∙ ap (λ o. Ok (Told (stat_line o))) object_seen))
         (λ stop. inr (lstat_refused later later_fresh reader reading called new stop.0 stop.2 ∙ ap Err stop.1))
-        (symlink_named_too (looks_of nat_eq world) (looks_of nat_eq later) did.task reading Missing _ leads_so new to parts.to_named at_name
+        (symlink_named_too (looks_of nat_eq world)
+        (looks_of nat_eq later) did.task reading Missing _ leads_so new to parts.to_named at_name
         (record { mount = from.parent.mount; node = object }) new_stepped
         (λ slash. absurd (true≢false (sym slash ∙ at_name.slash_is ∙ parts.to_slash))))
 
-    old_missing : (later_fresh : Fresh ℕ) → (policy nat_eq later_fresh later reader (Lstat old)).answer ≡ Err (denial W6)
+    old_missing : (later_fresh : Fresh ℕ)
+        → (policy nat_eq later_fresh later reader (Lstat old)).answer ≡ Err (denial W6)
     old_missing later_fresh =
         let stop = symlink_missing (looks_of nat_eq world)
         (looks_of nat_eq later) did.task reading Missing _ leads_so old from parts.from_named
@@ -330,7 +352,8 @@ rename_then_lstat old new world fresh name task from to is plain serves called f
   old_told world fresh name old new from to is plain serves did file parts,
   new_told world fresh name old new from to is plain serves did file parts name (raised_task name did.task) caller_here
       (raised_stands name did.task) (inl (raised_credentials name did.task)),
-  old_missing world fresh name old new from to is plain serves did file parts name (raised_task name did.task) caller_here
+  old_missing world fresh name old new from to is plain serves did file parts name
+      (raised_task name did.task) caller_here
       (raised_stands name did.task) (inl (raised_credentials name did.task)),
   λ reader reading looks. (
     new_told world fresh name old new from to is plain serves did file parts reader reading looks.called
@@ -352,5 +375,6 @@ rename_then_lstat old new world fresh name task from to is plain serves called f
         (ap (λ t. old_leaf_walk nat_eq (looks_of nat_eq world) t old) task_is ∙ from_is)
         (ap (λ t. new_walk nat_eq (looks_of nat_eq world) t new) task_is ∙ to_is) file free did.judged
 
-    caller_here : task_called (policy nat_eq fresh world name (Rename old new)).world name ≡ Some (raised_task name did.task)
+    caller_here : task_called (policy nat_eq fresh world name (Rename old new)).world name
+        ≡ Some (raised_task name did.task)
     caller_here = caller_there world fresh name old new from to is plain serves did file parts

@@ -46,7 +46,8 @@ abbrev pub Missing : Deny → Type 0
 Missing deny = deny ≡ denial W6
 
 -- what a walk to an old name found
-pub old_parts : (looks : Looks ℕ) (task : Task ℕ) (path : List ℕ) (place : Place ℕ) → old_walk nat_eq looks task path ≡ Ok place
+pub old_parts : (looks : Looks ℕ) (task : Task ℕ) (path : List ℕ) (place : Place ℕ)
+    → old_walk nat_eq looks task path ≡ Ok place
     → (place_walk nat_eq looks task path ≡ Ok place) × (not (is_some place.object) ≡ false)
 old_parts looks task path place e =
     let walks = both_walked (place_walk nat_eq looks task path) _ place e in
@@ -67,7 +68,8 @@ unlink_parts looks task path permit e =
     let steps = both_gave (walk_end (old_leaf_walk nat_eq looks task path)) _ permit e in
     let leaf = walk_ended (old_leaf_walk nat_eq looks task path) steps.0 steps.1 in
     let olds = both_walked (old_walk nat_eq looks task path) _ steps.0 leaf in
-    let slash = walk_passing olds.0.steps ((olds.0.slash && not (is_directory_there nat_eq looks olds.0), W3) ∷ []) olds.0 steps.0 olds.2 in
+    let slash = walk_passing olds.0.steps
+    ((olds.0.slash && not (is_directory_there nat_eq looks olds.0), W3) ∷ []) olds.0 steps.0 olds.2 in
     let old = old_parts looks task path steps.0 (olds.1 ∙ ap Ok slash.1) in
     let word = passing ((is_special steps.0.last, E2) ∷ []) _ permit steps.2 in
     let rules = passing (unlink_rules looks task steps.0 (object_there steps.0)) _ permit word.1 in
@@ -93,7 +95,8 @@ module _ (world : World ℕ) (fresh : Fresh ℕ) (name : TaskName) (path : List 
 
   in_directory : is_directory_at nat_eq world place.parent ≡ true
   in_directory =
-      node_with_entries (name_of place.last) (object_there place).node ((files_at nat_eq world place.parent).tree.node place.parent.node)
+      node_with_entries (name_of place.last) (object_there place).node
+      ((files_at nat_eq world place.parent).tree.node place.parent.node)
       seen_to.1.named
 
   something : is_some (node_at nat_eq world place.parent) ≡ true
@@ -110,22 +113,27 @@ module _ (world : World ℕ) (fresh : Fresh ℕ) (name : TaskName) (path : List 
       (leads world fresh name (Unlink path) Done is plain serves refl refl did place.parent change fresh
       (ap (change_of fresh world) parts.permit_is)
       (ap (λ p. (apply nat_eq fresh world did.task p).world) parts.permit_is) something tt tree Missing
-      (ways_removed (files_at nat_eq world place.parent) Missing place.parent.node (name_of place.last) (object_there place).node
+      (ways_removed (files_at nat_eq world place.parent) Missing place.parent.node (name_of place.last)
+      (object_there place).node
       seen_to.1.named seen_to.2 refl)
       reading (own_name later reader reading called) stands
-      (rights_removed (files_at nat_eq world place.parent) Missing place.parent.node (name_of place.last) (object_there place).node
+      (rights_removed (files_at nat_eq world place.parent) Missing place.parent.node (name_of place.last)
+      (object_there place).node
       seen_to.1.named seen_to.2) looks)
-      path place parts.named (named_place (looks_of nat_eq world) did.task path place parts.walked parts.named) (denial W6) refl
+      path place parts.named (named_place (looks_of nat_eq world) did.task path place parts.walked parts.named)
+      (denial W6) refl
       (λ known.
       stepped_by later reading place.parent place.last parts.named None
       (ap (λ o. entry_named (name_of place.last) (entries_in o))
       (seen_there world fresh name (Unlink path) Done is plain serves refl refl did place.parent change fresh
       (ap (change_of fresh world) parts.permit_is)
       (ap (λ p. (apply nat_eq fresh world did.task p).world) parts.permit_is) something tt tree Missing
-      (ways_removed (files_at nat_eq world place.parent) Missing place.parent.node (name_of place.last) (object_there place).node
+      (ways_removed (files_at nat_eq world place.parent) Missing place.parent.node (name_of place.last)
+      (object_there place).node
       seen_to.1.named seen_to.2 refl)
       reading (own_name later reader reading called) stands known)
-      ∙ name_missing (files_at nat_eq world place.parent) Missing place.parent.node (name_of place.last) (object_there place).node
+      ∙ name_missing (files_at nat_eq world place.parent) Missing place.parent.node (name_of place.last)
+      (object_there place).node
       seen_to.1.named seen_to.2)) in
       lstat_refused later later_fresh reader reading called path stop.0 stop.2 ∙ ap Err stop.1
 
@@ -134,7 +142,8 @@ module _ (world : World ℕ) (fresh : Fresh ℕ) (name : TaskName) (path : List 
       caller world fresh name (Unlink path) Done is plain serves refl refl did place.parent change fresh
       (ap (change_of fresh world) parts.permit_is)
       (ap (λ p. (apply nat_eq fresh world did.task p).world) parts.permit_is) something tt tree Missing
-      (ways_removed (files_at nat_eq world place.parent) Missing place.parent.node (name_of place.last) (object_there place).node
+      (ways_removed (files_at nat_eq world place.parent) Missing place.parent.node (name_of place.last)
+      (object_there place).node
       seen_to.1.named seen_to.2 refl)
 
 pub unlink_then_lstat : UnlinkThenLstat

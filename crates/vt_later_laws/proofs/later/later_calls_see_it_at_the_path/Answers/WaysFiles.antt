@@ -40,12 +40,14 @@ named_step looks task here DotDot object e bare =
     let both = both_gave (stepped nat_eq looks task here DotDot) _ (Some object) e in
     both.1 ∙ ap Ok (same_Some both.0 object (same_ok (Some both.0) (Some object) both.2))
 named_step looks task here (Named name) object e bare =
-    ap (λ o. ok_or (option_map (topmost looks) o) (denial W6)) (same_ok (entry_location nat_eq looks here name) (Some object) e)
+    ap (λ o. ok_or (option_map (topmost looks) o) (denial W6))
+    (same_ok (entry_location nat_eq looks here name) (Some object) e)
     ∙ ap Ok bare
 
 placed_parts : (looks : Looks ℕ) (task : Task ℕ) (here : Here ℕ) (last : LastWord) (slash : Bool) (place : Place ℕ)
     → stopped_by (steps_at nat_eq looks task here last)
-    (and_then (unless (search_rules nat_eq looks task here.location) (object_named nat_eq looks task here.location last))
+    (and_then (unless (search_rules nat_eq looks task here.location)
+    (object_named nat_eq looks task here.location last))
     (λ object. Ok (record {
       parent = here.location;
       last = last;
@@ -53,11 +55,14 @@ placed_parts : (looks : Looks ℕ) (task : Task ℕ) (here : Here ℕ) (last : L
       slash = slash;
       steps = steps_at nat_eq looks task here last;
     }))) ≡ Ok place
-    → AllPass (search_rules nat_eq looks task here.location) × (object_named nat_eq looks task here.location last ≡ Ok place.object)
+    → AllPass (search_rules nat_eq looks task here.location)
+    × (object_named nat_eq looks task here.location last ≡ Ok place.object)
 placed_parts looks task here last slash place e =
-    let both = both_gave (unless (search_rules nat_eq looks task here.location) (object_named nat_eq looks task here.location last)) _ place
+    let both = both_gave (unless (search_rules nat_eq looks task here.location)
+    (object_named nat_eq looks task here.location last)) _ place
     (not_stopped (steps_at nat_eq looks task here last) _ place e) in
-    let parts = passing (search_rules nat_eq looks task here.location) (object_named nat_eq looks task here.location last) both.0 both.1 in
+    let parts = passing (search_rules nat_eq looks task here.location)
+    (object_named nat_eq looks task here.location last) both.0 both.1 in
     (parts.0, parts.1 ∙ ap (λ (p : Place ℕ). Ok p.object) (same_ok _ place both.2))
 
 -- no word is none
@@ -72,7 +77,8 @@ some_word word e = by _ _ e
 -- what a word was placed at
 placed_any : (looks : Looks ℕ) (task : Task ℕ) (here : Here ℕ) (last : LastWord) (slash : Bool) (place : Place ℕ)
     → (last ≡ NoWord → ⊥) → placed nat_eq looks task here last slash ≡ Ok place
-    → AllPass (search_rules nat_eq looks task here.location) × (object_named nat_eq looks task here.location last ≡ Ok place.object)
+    → AllPass (search_rules nat_eq looks task here.location)
+    × (object_named nat_eq looks task here.location last ≡ Ok place.object)
 placed_any looks task here NoWord slash place some e = absurd (some refl)
 placed_any looks task here Dot slash place some e = placed_parts looks task here Dot slash place e
 placed_any looks task here DotDot slash place some e = placed_parts looks task here DotDot slash place e
@@ -83,22 +89,27 @@ pub record IsFilePlace (looks : Looks ℕ) (task : Task ℕ) (end : Place ℕ) :
   pub directory : is_directory_at looks end.parent ≡ true
   pub object_is : option_map (topmost looks) (entry_location nat_eq looks end.parent (name_of end.last)) ≡ end.object
 
-entry_of : (looks : Looks ℕ) (task : Task ℕ) (here : Location ℕ) (last : LastWord) (o : Option (Location ℕ)) → is_special last ≡ false
+entry_of : (looks : Looks ℕ) (task : Task ℕ) (here : Location ℕ) (last : LastWord) (o : Option (Location ℕ))
+    → is_special last ≡ false
     → object_named nat_eq looks task here last ≡ Ok o → entry_location nat_eq looks here (name_of last) ≡ o
 entry_of looks task here NoWord o special e = absurd (true≢false special)
 entry_of looks task here Dot o special e = absurd (true≢false special)
 entry_of looks task here DotDot o special e = absurd (true≢false special)
 entry_of looks task here (Named name) o special e = same_ok _ o e
 
-pub file_place : (looks : Looks ℕ) (task : Task ℕ) (depth : ℕ) (start : Here ℕ) (text : List ℕ) (slash : Bool) (end : Place ℕ)
-    → file_walked nat_eq depth looks task start text slash ≡ Ok end → is_special end.last ≡ false → IsFilePlace looks task end
+pub file_place : (looks : Looks ℕ) (task : Task ℕ) (depth : ℕ) (start : Here ℕ) (text : List ℕ) (slash : Bool)
+    (end : Place ℕ)
+    → file_walked nat_eq depth looks task start text slash ≡ Ok end → is_special end.last ≡ false
+    → IsFilePlace looks task end
 file_place looks task zero start text slash end e special = cc
 file_place looks task (suc depth) start text slash end e special =
-    let fronts = both_walked (front_walked nat_eq looks task (followed nat_eq looks task) start (reverse (words text))) _ end e in
+    let fronts = both_walked (front_walked nat_eq looks task (followed nat_eq looks task) start
+    (reverse (words text))) _ end e in
     let here = fronts.0 in
     let places = both_walked (placed nat_eq looks task here (final_word (reverse (words text)))
     (slash || ends_in_slash text)) _ end fronts.2 in
-    by here places.0 places.1 (symlink_there nat_eq looks places.0) places.2 (λ next inner g. file_place looks task depth next inner
+    by here places.0 places.1 (symlink_there nat_eq looks places.0) places.2
+    (λ next inner g. file_place looks task depth next inner
     (slash || ends_in_slash text) end g special)
   where
     by : (here : Here ℕ) (place : Place ℕ)
@@ -108,13 +119,15 @@ file_place looks task (suc depth) start text slash end e special =
         then_walk (walk_unless place.steps (follow_rules nat_eq looks (symlink_of here place) inner)
         (symlink_start nat_eq looks task here.location (symlink_of here place) inner))
         (λ next. file_walked nat_eq depth looks task next inner (slash || ends_in_slash text))) ≡ Ok end
-        → ((next : Here ℕ) (inner : List ℕ) → file_walked nat_eq depth looks task next inner (slash || ends_in_slash text) ≡ Ok end
+        → ((next : Here ℕ) (inner : List ℕ)
+        → file_walked nat_eq depth looks task next inner (slash || ends_in_slash text) ≡ Ok end
         → IsFilePlace looks task end)
         → IsFilePlace looks task end
     by here place ends None g rec =
         let same : entered nat_eq looks place ≡ end = same_end (entered nat_eq looks place) end g in
         let named : is_special place.last ≡ false = ap (λ (p : Place ℕ). is_special p.last) same ∙ special in
-        let parts = placed_at looks task here (final_word (reverse (words text))) (slash || ends_in_slash text) place ends named in
+        let parts = placed_at looks task here (final_word (reverse (words text)))
+        (slash || ends_in_slash text) place ends named in
         subst (IsFilePlace looks task) same (record {
           directory = ap (is_directory_at looks) (sym parts.parent_is) ∙ not-false _ parts.searched.0;
           object_is = ap (option_map (topmost looks))
@@ -129,70 +142,85 @@ file_place looks task (suc depth) start text slash end e special =
 
 module _ (looks later : Looks ℕ) (task reader : Task ℕ) (Refused : Deny → Type 0) (Known : Location ℕ → Type 0)
     (leads : LeadsToo looks later task reader Refused Known)
-    (bare : (object : Location ℕ) (text : List ℕ) → symlink_text (looks.node object) ≡ Some text → topmost looks object ≡ object)
+    (bare : (object : Location ℕ) (text : List ℕ) → symlink_text (looks.node object) ≡ Some text
+    → topmost looks object ≡ object)
     (root_directory : is_directory_at looks task.root ≡ true) where
   -- words, of which the last leads to what is there now, which is no link
   named_from : (depth : ℕ) (start here : Here ℕ) (word : List ℕ) (front : List (List ℕ)) (next : Location ℕ)
       → suc start.left ≤ 41 → suc start.left ≤ depth
       → words_walked nat_eq looks task (followed nat_eq looks task) start front ≡ Ok here
       → AllPass (search_rules nat_eq looks task here.location)
-      → (Known here.location → stepped nat_eq later reader here.location (last_word word) ≡ Ok next) → symlink_text (later.node next) ≡ None
+      → (Known here.location → stepped nat_eq later reader here.location (last_word word) ≡ Ok next)
+      → symlink_text (later.node next) ≡ None
       → Known start.location → (steps : List (List ℕ))
-      → EndsThere Refused (words_walked nat_eq later reader (followed_to depth later reader) (at start steps) (word ∷ front)) next here.left
+      → EndsThere Refused (words_walked nat_eq later reader (followed_to depth later reader) (at start steps)
+      (word ∷ front)) next here.left
   named_from depth start here word front next few few_too walked searched found no_link known steps =
       through looks later task reader Refused Known leads (λ r. EndsThere Refused r next here.left)
       (words_walked nat_eq later reader (followed_to depth later reader) (at start steps) front) _ here
       ((words_lead looks later task reader Refused Known leads 41 depth start front here few few_too walked).1 known steps)
       (λ steps_there known_there.
-      by steps_there (last_too looks later task reader Refused Known leads here (last_word word) next steps_there known_there searched
+      by steps_there (last_too looks later task reader Refused Known leads here
+      (last_word word) next steps_there known_there searched
       (found known_there)))
       (λ stop refused. inr (stop, refused, refl))
     where
       by : (steps_there : List (List ℕ))
           → EndsThere Refused (word_walked nat_eq later reader (at here steps_there) (last_word word)) next here.left
-          → EndsThere Refused (then_walk (word_walked nat_eq later reader (at here steps_there) (last_word word)) (λ there.
-          if_symlink there (symlink_text (later.node there.location)) (followed_to depth later reader here.location there))) next here.left
+          → EndsThere Refused (then_walk (word_walked nat_eq later reader (at here steps_there) (last_word word))
+          (λ there.
+          if_symlink there (symlink_text (later.node there.location))
+          (followed_to depth later reader here.location there))) next here.left
       by steps_there (inl e) =
           inl (
             e.0,
             ap (λ r. then_walk r (λ there.
-                if_symlink there (symlink_text (later.node there.location)) (followed_to depth later reader here.location there))) e.1
+                if_symlink there (symlink_text (later.node there.location))
+                (followed_to depth later reader here.location there))) e.1
                 ∙ ap (λ o. if_symlink (record { location = next; left = here.left; steps = e.0 }) o
-                (followed_to depth later reader here.location (record { location = next; left = here.left; steps = e.0 }))) no_link,
+                (followed_to depth later reader here.location
+                (record { location = next; left = here.left; steps = e.0 }))) no_link,
           )
       by steps_there (inr stop) = inr (
         stop.0,
         stop.1,
         ap (λ r. then_walk r (λ there.
-            if_symlink there (symlink_text (later.node there.location)) (followed_to depth later reader here.location there))) stop.2,
+            if_symlink there (symlink_text (later.node there.location))
+            (followed_to depth later reader here.location there))) stop.2,
       )
 
   -- words, of which the last leads to a link whose text leads there
-  linked_from : (depth : ℕ) (start here : Here ℕ) (word : List ℕ) (front : List (List ℕ)) (link : Here ℕ) (inner : List ℕ)
+  linked_from : (depth : ℕ) (start here : Here ℕ) (word : List ℕ) (front : List (List ℕ)) (link : Here ℕ)
+      (inner : List ℕ)
       (next : Location ℕ) (left : ℕ)
       → suc start.left ≤ 41 → suc start.left ≤ suc depth
       → words_walked nat_eq looks task (followed nat_eq looks task) start front ≡ Ok here
       → AllPass (search_rules nat_eq looks task here.location)
       → stepped nat_eq looks task here.location (last_word word) ≡ Ok link.location → link.left ≡ here.left
-      → symlink_text (looks.node link.location) ≡ Some inner → AllPass (follow_rules nat_eq looks link inner) → ends_in_slash inner ≡ false
+      → symlink_text (looks.node link.location) ≡ Some inner → AllPass (follow_rules nat_eq looks link inner)
+      → ends_in_slash inner ≡ false
       → ((steps : List (List ℕ)) → Known here.location
       → EndsThere Refused (words_walked nat_eq later reader (followed_to depth later reader)
       (at (symlink_start nat_eq looks task here.location link inner) steps) (reverse (words inner))) next left)
       → Known start.location → (steps : List (List ℕ))
-      → EndsThere Refused (words_walked nat_eq later reader (followed_to (suc depth) later reader) (at start steps) (word
+      → EndsThere Refused (words_walked nat_eq later reader (followed_to (suc depth) later reader) (at start steps)
+      (word
       ∷ front)) next left
   linked_from depth start here word front link inner next left few few_too walked searched stepping same text follows no_slash ends
       known steps =
       through looks later task reader Refused Known leads (λ r. EndsThere Refused r next left)
       (words_walked nat_eq later reader (followed_to (suc depth) later reader) (at start steps) front) _ here
-      ((words_lead looks later task reader Refused Known leads 41 (suc depth) start front here few few_too walked).1 known steps)
+      ((words_lead looks later task reader Refused Known leads 41
+      (suc depth) start front here few few_too walked).1 known steps)
       (λ steps_there known_there.
       through looks later task reader Refused Known leads (λ r. EndsThere Refused r next left)
       (word_walked nat_eq later reader (at here steps_there) (last_word word)) _ link
-      (word_too looks later task reader Refused Known leads here link (last_word word) steps_there known_there searched same
+      (word_too looks later task reader Refused Known leads here link
+      (last_word word) steps_there known_there searched same
       (leads.step here.location (last_word word) link.location known_there (not-false _ searched.0) stepping))
       (λ steps_link known_link.
-      subst (λ o. EndsThere Refused (if_symlink (at link steps_link) o (followed_to (suc depth) later reader here.location
+      subst (λ o. EndsThere Refused (if_symlink (at link steps_link) o
+      (followed_to (suc depth) later reader here.location
       (at link steps_link))) next left)
       (sym (leads.link link.location known_link ∙ text))
       (by steps_link (walk_passed steps_link (follow_rules nat_eq later (at link steps_link) inner) _
@@ -206,7 +234,8 @@ module _ (looks later : Looks ℕ) (task reader : Task ℕ) (Refused : Deny → 
 
       inside : Result (Here ℕ) (Stop ℕ)
           → Result (Here ℕ) (Stop ℕ)
-      inside r = then_walk r (λ reached. walk_unless reached.steps (slash_rules nat_eq later inner reached.location) reached)
+      inside r = then_walk r (λ reached.
+          walk_unless reached.steps (slash_rules nat_eq later inner reached.location) reached)
 
       finish : (r : Result (Here ℕ) (Stop ℕ)) → EndsThere Refused r next left
           → EndsThere Refused (then_walk r (λ reached. walk_unless reached.steps
@@ -214,14 +243,17 @@ module _ (looks later : Looks ℕ) (task reader : Task ℕ) (Refused : Deny → 
       finish r (inl e) =
           inl (
             e.0,
-            ap (λ r. then_walk r (λ reached. walk_unless reached.steps (slash_rules nat_eq later inner reached.location) reached)) e.1
-                ∙ walk_passed e.0 (slash_rules nat_eq later inner next) (record { location = next; left = left; steps = e.0 })
+            ap (λ r. then_walk r (λ reached.
+                walk_unless reached.steps (slash_rules nat_eq later inner reached.location) reached)) e.1
+                ∙ walk_passed e.0 (slash_rules nat_eq later inner next)
+                (record { location = next; left = left; steps = e.0 })
                 (ap (λ b. cond b (not (is_directory_at later next)) false) no_slash, tt),
           )
       finish r (inr stop) = inr (
         stop.0,
         stop.1,
-        ap (λ r. then_walk r (λ reached. walk_unless reached.steps (slash_rules nat_eq later inner reached.location) reached)) stop.2,
+        ap (λ r. then_walk r (λ reached.
+            walk_unless reached.steps (slash_rules nat_eq later inner reached.location) reached)) stop.2,
       )
 
       by : (steps_link : List (List ℕ))
@@ -229,7 +261,8 @@ module _ (looks later : Looks ℕ) (task reader : Task ℕ) (Refused : Deny → 
           (symlink_start nat_eq later reader here.location (at link steps_link) inner)
           ≡ Ok (symlink_start nat_eq later reader here.location (at link steps_link) inner)
           → EndsThere Refused (words_walked nat_eq later reader (followed_to depth later reader)
-          (at (symlink_start nat_eq looks task here.location link inner) (symlink_start nat_eq later reader here.location
+          (at (symlink_start nat_eq looks task here.location link inner)
+          (symlink_start nat_eq later reader here.location
           (at link steps_link) inner).steps)
           (reverse (words inner))) next left
           → EndsThere Refused (followed_to (suc depth) later reader here.location (at link steps_link) inner) next left
@@ -263,24 +296,29 @@ module _ (looks later : Looks ℕ) (task reader : Task ℕ) (Refused : Deny → 
   front_left : (start here : Here ℕ) (list : List (List ℕ)) → suc start.left ≤ 41
       → front_walked nat_eq looks task (followed nat_eq looks task) start list ≡ Ok here → here.left ≤ start.left
   front_left start here [] few e = subst (λ (h : Here ℕ). h.left ≤ start.left) (same_end start here e) (omega arith)
-  front_left start here (word ∷ front) few e = (words_lead looks later task reader Refused Known leads 41 41 start front here few few e).0
+  front_left start here (word ∷ front) few e =
+      (words_lead looks later task reader Refused Known leads 41 41 start front here few few e).0
 
   -- A file is found by the links that led to its place, also where it was not there.
   pub file_too : (depth : ℕ) (start : Here ℕ) (text : List ℕ) (slash : Bool) (end : Place ℕ) → suc start.left ≤ 41
       → is_directory_at looks start.location ≡ true
       → file_walked nat_eq depth looks task start text slash ≡ Ok end → is_special end.last ≡ false → end.slash ≡ false
       → (other : ℕ) → suc start.left ≤ other → (file : Location ℕ)
-      → (Known end.parent → stepped nat_eq later reader end.parent end.last ≡ Ok file) → symlink_text (later.node file) ≡ None
+      → (Known end.parent → stepped nat_eq later reader end.parent end.last ≡ Ok file)
+      → symlink_text (later.node file) ≡ None
       → FindsFile other file start text slash
   file_too zero start text slash end few is e special no_slash other few_too file found no_text = cc
   file_too (suc depth) start text slash end few is e special no_slash other few_too file found no_text =
-      let fronts = both_walked (front_walked nat_eq looks task (followed nat_eq looks task) start (reverse (words text))) _ end e in
+      let fronts = both_walked (front_walked nat_eq looks task (followed nat_eq looks task) start
+      (reverse (words text))) _ end e in
       let here = fronts.0 in
       let places = both_walked (placed nat_eq looks task here (final_word (reverse (words text)))
       (slash || ends_in_slash text)) _ end fronts.2 in
-      by other few_too (reverse (words text)) here places.0 fronts.1 places.1 (symlink_there nat_eq looks places.0) refl places.2
+      by other few_too (reverse (words text)) here places.0 fronts.1 places.1
+      (symlink_there nat_eq looks places.0) refl places.2
       (λ deep next inner next_few next_is walks less.
-      file_too depth next inner (slash || ends_in_slash text) end next_few next_is walks special no_slash deep less file found no_text)
+      file_too depth next inner (slash
+      || ends_in_slash text) end next_few next_is walks special no_slash deep less file found no_text)
     where
       by : (other : ℕ) → suc start.left ≤ other → (list : List (List ℕ)) (here : Here ℕ) (place : Place ℕ)
           → front_walked nat_eq looks task (followed nat_eq looks task) start list ≡ Ok here
@@ -290,12 +328,14 @@ module _ (looks later : Looks ℕ) (task reader : Task ℕ) (Refused : Deny → 
           then_walk (walk_unless place.steps (follow_rules nat_eq looks (symlink_of here place) inner)
           (symlink_start nat_eq looks task here.location (symlink_of here place) inner))
           (λ next. file_walked nat_eq depth looks task next inner (slash || ends_in_slash text))) ≡ Ok end
-          → ((deep : ℕ) (next : Here ℕ) (inner : List ℕ) → suc next.left ≤ 41 → is_directory_at looks next.location ≡ true
+          → ((deep : ℕ) (next : Here ℕ) (inner : List ℕ) → suc next.left ≤ 41
+          → is_directory_at looks next.location ≡ true
           → file_walked nat_eq depth looks task next inner (slash || ends_in_slash text) ≡ Ok end → suc next.left ≤ deep
           → FindsFile deep file next inner (slash || ends_in_slash text))
           → (slash ≡ false) × (ends_in_slash text ≡ false)
           × (left : ℕ) × (Known start.location → (steps : List (List ℕ))
-          → EndsThere Refused (words_walked nat_eq later reader (followed_to other later reader) (at start steps) list) file left)
+          → EndsThere Refused (words_walked nat_eq later reader (followed_to other later reader)
+          (at start steps) list) file left)
       by other few_too [] here place walked ends None same g rec =
           absurd (true≢false (ap (λ (p : Place ℕ). is_special p.last) (same_end _ place ends)
           ∙ ap (λ (p : Place ℕ). is_special p.last) (same_end (entered nat_eq looks place) end g) ∙ special))
@@ -303,14 +343,16 @@ module _ (looks later : Looks ℕ) (task reader : Task ℕ) (Refused : Deny → 
           let ended : entered nat_eq looks place ≡ end = same_end (entered nat_eq looks place) end g in
           let named : is_special place.last ≡ false = ap (λ (p : Place ℕ). is_special p.last) ended ∙ special in
           let parts = placed_at looks task here (last_word word) (slash || ends_in_slash text) place ends named in
-          let slashes = or_parts slash (ends_in_slash text) (parts.slash_is ∙ ap (λ (p : Place ℕ). p.slash) ended ∙ no_slash) in
+          let slashes = or_parts slash (ends_in_slash text)
+          (parts.slash_is ∙ ap (λ (p : Place ℕ). p.slash) ended ∙ no_slash) in
           let parent_is : here.location ≡ end.parent = parts.parent_is ∙ ap (λ (p : Place ℕ). p.parent) ended in
           let last_is : last_word word ≡ end.last = parts.last_is ∙ ap (λ (p : Place ℕ). p.last) ended in (
             slashes.0,
             slashes.1,
             here.left,
             named_from other start here word front file few few_too walked parts.searched
-                (λ known. (λ i. stepped nat_eq later reader (parent_is i) (last_is i)) ∙ found (subst Known parent_is known)) no_text,
+                (λ known. (λ i. stepped nat_eq later reader (parent_is i) (last_is i))
+                ∙ found (subst Known parent_is known)) no_text,
           )
       by other few_too [] here place walked ends (Some inner) same g rec =
           absurd (no_text_there
@@ -322,7 +364,8 @@ module _ (looks later : Looks ℕ) (task reader : Task ℕ) (Refused : Deny → 
           no_text_there e = cc
       by zero few_too (word ∷ front) here place walked ends (Some inner) same g rec = absurd (omega arith)
       by (suc other) few_too (word ∷ front) here place walked ends (Some inner) same g rec =
-          let parts = placed_any looks task here (last_word word) (slash || ends_in_slash text) place (some_word word) ends in
+          let parts = placed_any looks task here (last_word word) (slash || ends_in_slash text) place
+          (some_word word) ends in
           let link = linked_there looks place.object inner same in
           let link_is : (symlink_of here place).location ≡ link.0 = ap (λ o. unwrap_or o place.parent) link.1 in
           let starts = both_walked (walk_unless place.steps (follow_rules nat_eq looks (symlink_of here place) inner)
@@ -334,18 +377,21 @@ module _ (looks later : Looks ℕ) (task reader : Task ℕ) (Refused : Deny → 
           let left_is : starts.0.left ≡ here.left - 1 = ap (λ (h : Here ℕ). h.left) (sym begins.1) in
           let here_is : is_directory_at looks here.location ≡ true = not-false _ parts.0.0 in
           let rest = rec other starts.0 inner (omega arith)
-          (subst (λ (h : Here ℕ). is_directory_at looks h.location ≡ true) begins.1 (start_directory here.location inner here_is))
+          (subst (λ (h : Here ℕ). is_directory_at looks h.location ≡ true) begins.1
+          (start_directory here.location inner here_is))
           starts.2 (omega arith) in
           let slashes = or_parts slash (ends_in_slash text) rest.0 in (
             slashes.0,
             slashes.1,
             rest.2,
             linked_from other start here word front (symlink_of here place) inner file rest.2 few few_too walked parts.0
-                (named_step looks task here.location (last_word word) link.0 (parts.1 ∙ ap Ok link.1) (bare link.0 inner link.2) ∙ ap Ok
+                (named_step looks task here.location (last_word word) link.0 (parts.1 ∙ ap Ok link.1)
+                (bare link.0 inner link.2) ∙ ap Ok
                 (sym link_is))
                 refl (ap (λ l. symlink_text (looks.node l)) link_is ∙ link.2) begins.0 rest.1
                 (λ steps known.
-                subst (λ (h : Here ℕ). EndsThere Refused (words_walked nat_eq later reader (followed_to other later reader)
+                subst (λ (h : Here ℕ). EndsThere Refused
+                (words_walked nat_eq later reader (followed_to other later reader)
                 (at h steps) (reverse (words inner))) file rest.2) (sym begins.1)
                 (rest.3 (subst (λ (h : Here ℕ). Known h.location) begins.1
                 (start_known looks later task reader Refused Known leads here.location inner known)) steps)),

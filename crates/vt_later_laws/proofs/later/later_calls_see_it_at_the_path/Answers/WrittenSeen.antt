@@ -64,16 +64,19 @@ record FileParts (looks : Looks ℕ) (task : Task ℕ) (path : List ℕ) (place 
   parsed : path_text {N = ℕ} path ≡ Ok path
   walked : file_walked nat_eq 41 looks task (walk_start task path) path false ≡ Ok place
 
-file_parts : (looks : Looks ℕ) (task : Task ℕ) (path : List ℕ) (place : Place ℕ) → file_walk nat_eq looks task path ≡ Ok place
+file_parts : (looks : Looks ℕ) (task : Task ℕ) (path : List ℕ) (place : Place ℕ)
+    → file_walk nat_eq looks task path ≡ Ok place
     → FileParts looks task path place
 file_parts looks task path place e =
     let texts = both_walked (path_text {N = ℕ} path) _ place e in
     let same : path ≡ texts.0 = path_parsed path texts.0 texts.1 in
-    let walks = both_walked (file_walked nat_eq 41 looks task (walk_start task texts.0) texts.0 false) _ place texts.2 in
+    let walks = both_walked (file_walked nat_eq 41 looks task
+    (walk_start task texts.0) texts.0 false) _ place texts.2 in
     let parts = walk_passing walks.0.steps (new_name_rules nat_eq looks walks.0) walks.0 place walks.2 in
     record {
       parsed = texts.1 ∙ ap Ok (sym same);
-      walked = (λ i. file_walked nat_eq 41 looks task (walk_start task (same i)) (same i) false) ∙ walks.1 ∙ ap Ok parts.1;
+      walked = (λ i. file_walked nat_eq 41 looks task (walk_start task (same i)) (same i) false) ∙ walks.1
+          ∙ ap Ok parts.1;
     }
 
 -- a symlink is no mount point
@@ -102,9 +105,11 @@ file_of (Some node) e = by node.content refl e
     by Whiteout same e = cc
 
 -- the walk to an object, where its words are walked
-object_by_words : (later : Looks ℕ) (reader : Task ℕ) (path : List ℕ) (next : Location ℕ) (left : ℕ) → path_text {N = ℕ} path ≡ Ok path
+object_by_words : (later : Looks ℕ) (reader : Task ℕ) (path : List ℕ) (next : Location ℕ) (left : ℕ)
+    → path_text {N = ℕ} path ≡ Ok path
     → ends_in_slash path ≡ false
-    → EndsAt (words_walked nat_eq later reader (followed_to 41 later reader) (walk_start reader path) (reverse (words path))) next left
+    → EndsAt (words_walked nat_eq later reader (followed_to 41 later reader) (walk_start reader path)
+    (reverse (words path))) next left
     → EndsAt (object_walk nat_eq later reader path) next left
 object_by_words later reader path next left parsed no_slash ends = (
   ends.0,
@@ -112,15 +117,18 @@ object_by_words later reader path next left parsed no_slash ends = (
       words_walked nat_eq later reader (followed_to 41 later reader) (walk_start reader text) (reverse (words text))))
       (λ here. walk_unless here.steps (slash_rules nat_eq later path here.location) here)) parsed
       ∙ ap (λ r. then_walk r (λ here. walk_unless here.steps (slash_rules nat_eq later path here.location) here)) ends.1
-      ∙ walk_passed ends.0 (slash_rules nat_eq later path next) (record { location = next; left = left; steps = ends.0 })
+      ∙ walk_passed ends.0 (slash_rules nat_eq later path next)
+      (record { location = next; left = left; steps = ends.0 })
       (ap (λ b. cond b (not (Look.is_directory_at later next)) false) no_slash, tt),
 )
 
 -- A call that found the place of a file, or made it
-module _ (world later : World ℕ) (is : IsWorld nat_eq world) (task : Task ℕ) (called : task_called world task.name ≡ Some task)
+module _ (world later : World ℕ) (is : IsWorld nat_eq world) (task : Task ℕ)
+    (called : task_called world task.name ≡ Some task)
     (path : List ℕ) (place : Place ℕ) (walk : file_walk nat_eq (looks_of nat_eq world) task path ≡ Ok place)
     (named : is_special place.last ≡ false) (no_slash : place.slash ≡ false) (file : Location ℕ) (reader : Task ℕ)
-    (Known : Location ℕ → Type 0) (leads_so : LeadsToo (looks_of nat_eq world) (looks_of nat_eq later) task reader Never Known) where
+    (Known : Location ℕ → Type 0) (leads_so : LeadsToo (looks_of nat_eq world)
+    (looks_of nat_eq later) task reader Never Known) where
   parts : FileParts (looks_of nat_eq world) task path place
   parts = file_parts (looks_of nat_eq world) task path place walk
 
@@ -134,13 +142,15 @@ module _ (world later : World ℕ) (is : IsWorld nat_eq world) (task : Task ℕ)
       by true = (root_found world is task called).1
       by false = (own_directory_found world is task called).1
 
-  pub file_found : (Known place.parent → stepped nat_eq (looks_of nat_eq later) reader place.parent place.last ≡ Ok file)
+  pub file_found : (Known place.parent
+      → stepped nat_eq (looks_of nat_eq later) reader place.parent place.last ≡ Ok file)
       → symlink_text (node_at nat_eq later file) ≡ None
       → (left : ℕ) × EndsAt (object_walk nat_eq (looks_of nat_eq later) reader path) file left
   file_found found no_link =
       let finds = file_too (looks_of nat_eq world) (looks_of nat_eq later) task reader Never Known leads_so
       (λ object text e. uncovered world is object (link_no_directory (node_at nat_eq world object) text e))
-      (root_found world is task called).1 41 (walk_start task path) path false place (omega arith) start_is parts.walked named no_slash
+      (root_found world is task called).1 41 (walk_start task path) path false place
+      (omega arith) start_is parts.walked named no_slash
       41 (omega arith) file found no_link in (
         finds.2,
         object_by_words (looks_of nat_eq later) reader path file finds.2 parts.parsed finds.1
@@ -159,20 +169,23 @@ kept A B C (inl e) = e.0
 kept A B C (inr refused) = absurd refused.1
 
 either_read : (b : Bool) (bytes : List ℕ)
-    → (cond b (Ok (Bytes bytes)) (Err (denial C1)) ≡ Ok (Bytes bytes)) ⊎ (cond b (Ok (Bytes bytes)) (Err (denial C1)) ≡ Err (denial C1))
+    → (cond b (Ok (Bytes bytes)) (Err (denial C1)) ≡ Ok (Bytes bytes))
+    ⊎ (cond b (Ok (Bytes bytes)) (Err (denial C1)) ≡ Err (denial C1))
 either_read true bytes = inl refl
 either_read false bytes = inr refl
 
 -- what each reader is answered: as he may read a file with these attributes
 abbrev ReadsSo : World ℕ → Task ℕ → List ℕ → List ℕ → Attr → Type 0
 ReadsSo later task path bytes attr =
-    (reader : TaskName) (reading : Task ℕ) → task_called later reader ≡ Some reading → StandsAs task reading → MayLook task reading
+    (reader : TaskName) (reading : Task ℕ) → task_called later reader ≡ Some reading → StandsAs task reading
+    → MayLook task reading
     → (later_fresh : Fresh ℕ)
     → (policy nat_eq later_fresh later reader (Read path)).answer
     ≡ cond (allows reading.credentials attr File read_right) (Ok (Bytes bytes)) (Err (denial C1))
 
 module _ (world : World ℕ) (fresh : Fresh ℕ) (name : TaskName) (path bytes : List ℕ) (is : IsWorld nat_eq world)
-    (plain : IsPlain world) (serves : Serves nat_eq world fresh) (did : IsPermitted world fresh name (Write path bytes) Done)
+    (plain : IsPlain world) (serves : Serves nat_eq world fresh)
+    (did : IsPermitted world fresh name (Write path bytes) Done)
     (place : Place ℕ) (walk : file_walk nat_eq (looks_of nat_eq world) did.task path ≡ Ok place)
     (named : is_special place.last ≡ false) (no_slash : place.slash ≡ false) where
   abbrev left : World ℕ
@@ -189,23 +202,29 @@ module _ (world : World ℕ) (fresh : Fresh ℕ) (name : TaskName) (path bytes :
     new_read : ReadsSo left did.task path bytes (new_attr did.task file_mode)
     new_read reader reading called stands looks later_fresh =
         let self = own_name left reader reading called in
-        let seen = node_seen world fresh name (Write path bytes) Done is plain serves refl refl did place.parent (name_of place.last)
+        let seen = node_seen world fresh name (Write path bytes) Done is plain serves refl refl did place.parent
+        (name_of place.last)
         (new_file did.task file_mode bytes) permit reading self stands looks in
         let finds = file_found world left is did.task own path place walk named no_slash
         (record { mount = place.parent.mount; node = fresh 0 }) reading _
-        (made_leads world fresh name (Write path bytes) Done is plain serves refl refl did place.parent (name_of place.last)
+        (made_leads world fresh name (Write path bytes) Done is plain serves refl refl did place.parent
+        (name_of place.last)
         (new_file did.task file_mode bytes) permit reading self stands looks)
-        (new_stepped world fresh name (Write path bytes) Done is plain serves refl refl did place.parent (name_of place.last)
+        (new_stepped world fresh name (Write path bytes) Done is plain serves refl refl did place.parent
+        (name_of place.last)
         (new_file did.task file_mode bytes) permit reading self stands looks place.last named refl)
         (ap symlink_text seen) in
-        read_of left later_fresh reader reading called path left_plain _ finds.1.1 (new_attr did.task file_mode) bytes seen
+        read_of left later_fresh reader reading called path left_plain _ finds.1.1
+        (new_attr did.task file_mode) bytes seen
 
     new_maker : task_called left name ≡ Some (raised_task name did.task)
-    new_maker = maker world fresh name (Write path bytes) Done is plain serves refl refl did place.parent (name_of place.last)
+    new_maker = maker world fresh name (Write path bytes) Done is plain serves refl refl did place.parent
+        (name_of place.last)
         (new_file did.task file_mode bytes) permit
 
   -- a file that got other bytes
-  module _ (file : Location ℕ) (object : place.object ≡ Some file) (no_directory : is_directory_at nat_eq world file ≡ false)
+  module _ (file : Location ℕ) (object : place.object ≡ Some file)
+      (no_directory : is_directory_at nat_eq world file ≡ false)
       (no_whiteout : is_kind_in White (node_at nat_eq world file) ≡ false)
       (permit : did.permit ≡ ToChange file (SetBytes file.node bytes)) where
     abbrev change : Change ℕ
@@ -217,7 +236,8 @@ module _ (world : World ℕ) (fresh : Fresh ℕ) (name : TaskName) (path bytes :
     something : is_some (node_at nat_eq world file) ≡ true
     something = (ends.2 file object).0.1
 
-    old : (attr : Attr) × (bytes_then : List ℕ) × (node_at nat_eq world file ≡ Some (record { attr = attr; content = Regular bytes_then }))
+    old : (attr : Attr) × (bytes_then : List ℕ)
+        × (node_at nat_eq world file ≡ Some (record { attr = attr; content = Regular bytes_then }))
     old = file_of (node_at nat_eq world file) (others_are_files (node_at nat_eq world file) something
         (ends.2 file object).1 no_directory no_whiteout)
 
@@ -227,7 +247,8 @@ module _ (world : World ℕ) (fresh : Fresh ℕ) (name : TaskName) (path bytes :
     asks : change_of fresh world did.permit ≡ Some (file, change)
     asks = ap (change_of fresh world) permit
 
-    does : spent world fresh name (Write path bytes) Done is plain serves refl refl did ≡ with_change nat_eq fresh world file change
+    does : spent world fresh name (Write path bytes) Done is plain serves refl refl did
+        ≡ with_change nat_eq fresh world file change
     does = ap (λ p. (apply nat_eq fresh world did.task p).world) permit
 
     stay : TreeStays (files_at nat_eq world file).tree (changed nat_eq (files_at nat_eq world file) change).tree Never
@@ -255,18 +276,21 @@ module _ (world : World ℕ) (fresh : Fresh ℕ) (name : TaskName) (path bytes :
         ap (stepped nat_eq (looks_of nat_eq world) did.task place.parent) (named_last place.last named)
         ∙ ap (λ o. ok_or o (denial W6)) (at_file.object_is ∙ object) in
         let finds = file_found world left is did.task own path place walk named no_slash file reading _ leads_so
-        (λ known. kept _ _ _ (leads_so.step place.parent place.last file known at_file.directory before)) (ap symlink_text seen) in
+        (λ known. kept _ _ _ (leads_so.step place.parent place.last file known at_file.directory before))
+        (ap symlink_text seen) in
         read_of left later_fresh reader reading called path left_plain _ finds.1.1 old.0 bytes seen
 
 -- what a granted write was permitted
 write_parts : (looks : Looks ℕ) (task : Task ℕ) (path bytes : List ℕ) (permit : Permit ℕ)
     → write_permit nat_eq looks task path bytes ≡ Ok permit
-    → (place : Place ℕ) × (file_walk nat_eq looks task path ≡ Ok place) × ((is_special place.last || place.slash) ≡ false)
+    → (place : Place ℕ) × (file_walk nat_eq looks task path ≡ Ok place)
+    × ((is_special place.last || place.slash) ≡ false)
     × (written_permit nat_eq looks task place bytes place.object ≡ Ok permit)
 unfolding write_permit
 write_parts looks task path bytes permit e =
     let steps = both_gave (walk_end (file_walk nat_eq looks task path)) _ permit e in
-    let parts = passing (file_word_rules steps.0) (written_permit nat_eq looks task steps.0 bytes steps.0.object) permit steps.2 in
+    let parts = passing (file_word_rules steps.0)
+    (written_permit nat_eq looks task steps.0 bytes steps.0.object) permit steps.2 in
     (steps.0, walk_ended (file_walk nat_eq looks task path) steps.0 steps.1, parts.0.0, parts.1)
 
 pub write_then_read : WriteThenRead
@@ -296,9 +320,11 @@ write_then_read path bytes world fresh name task is plain serves called granted 
           (raised_credentials name did.task)) later_fresh))
           (either_read _ bytes),
       λ reader reading looks later_fresh.
-          reads reader reading looks.called (subst (λ t. StandsAs t reading) (sym task_is) (all_stands _ task reader reading looks))
+          reads reader reading looks.called
+          (subst (λ t. StandsAs t reading) (sym task_is) (all_stands _ task reader reading looks))
           (inr looks.all) later_fresh
-          ∙ ap (λ b. cond b (Ok (Bytes bytes)) (Err (denial C1))) (read_all reading.credentials looks.all attr (Regular bytes)),
+          ∙ ap (λ b. cond b (Ok (Bytes bytes)) (Err (denial C1)))
+          (read_all reading.credentials looks.all attr (Regular bytes)),
     )
 
     by : (o : Option (Location ℕ)) → parts.0.object ≡ o

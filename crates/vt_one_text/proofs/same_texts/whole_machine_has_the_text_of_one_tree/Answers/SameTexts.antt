@@ -23,18 +23,23 @@ length-fitted (line ∷ lines) [] = ap suc (length-fitted lines [])
 length-fitted (line ∷ lines) (was ∷ refused) = ap suc (length-fitted lines refused)
 
 -- which says the same
-machine-fitted : (grammar : Script.Grammar) (lines : List (List ℕ)) (refused : List Bool) (number : ℕ) (world : MachineWorld.World ℕ)
-    → Machine.text_from grammar world number lines (fitted lines refused) ≡ Machine.text_from grammar world number lines refused
+machine-fitted : (grammar : Script.Grammar) (lines : List (List ℕ)) (refused : List Bool) (number : ℕ)
+    (world : MachineWorld.World ℕ)
+    → Machine.text_from grammar world number lines (fitted lines refused)
+    ≡ Machine.text_from grammar world number lines refused
 unfolding fitted
 machine-fitted grammar [] refused number world = refl
 machine-fitted grammar (line ∷ lines) [] number world =
-    ap (λ rest. Machine.step_text number (Machine.line_step nat_eq grammar world line (Machine.handed number [])) ++ rest)
+    ap (λ rest. Machine.step_text number (Machine.line_step nat_eq grammar world line (Machine.handed number []))
+    ++ rest)
     (machine-fitted grammar lines [] (number + 1) _)
 machine-fitted grammar (line ∷ lines) (true ∷ refused) number world =
-    ap (λ rest. Machine.step_text number (Machine.line_step nat_eq grammar world line (Machine.handed number (true ∷ refused))) ++ rest)
+    ap (λ rest. Machine.step_text number
+    (Machine.line_step nat_eq grammar world line (Machine.handed number (true ∷ refused))) ++ rest)
     (machine-fitted grammar lines refused (number + 1) _)
 machine-fitted grammar (line ∷ lines) (false ∷ refused) number world =
-    ap (λ rest. Machine.step_text number (Machine.line_step nat_eq grammar world line (Machine.handed number (false ∷ refused))) ++ rest)
+    ap (λ rest. Machine.step_text number
+    (Machine.line_step nat_eq grammar world line (Machine.handed number (false ∷ refused))) ++ rest)
     (machine-fitted grammar lines refused (number + 1) _)
 
 tree-fitted : (lines : List (List ℕ)) (refused : List Bool) (number : ℕ) (world : World ℕ)
@@ -53,11 +58,13 @@ tree-fitted (line ∷ lines) (false ∷ refused) number world =
 
 -- what the whole machine is computed to write, it may write
 text_is_told : (grammar : Script.Grammar) (script : List ℕ) (refused : List Bool)
-    → Machine.Tells nat_eq grammar Machine.first_world 1 (Script.lines_of script) (fitted (Script.lines_of script) refused)
+    → Machine.Tells nat_eq grammar Machine.first_world 1 (Script.lines_of script)
+    (fitted (Script.lines_of script) refused)
     (Machine.text_of grammar (fitted (Script.lines_of script) refused) script)
 text_is_told grammar script refused =
     texts_are_told grammar (fitted (Script.lines_of script) refused) script _
-    (some_text_is_there grammar (fitted (Script.lines_of script) refused) script (length-fitted (Script.lines_of script) refused))
+    (some_text_is_there grammar (fitted (Script.lines_of script) refused) script
+    (length-fitted (Script.lines_of script) refused))
 
 tree_text-fitted : (script : List ℕ) (refused : List Bool)
     → Tree.script_text (fitted (Script.lines_of script) refused) script ≡ Tree.script_text refused script

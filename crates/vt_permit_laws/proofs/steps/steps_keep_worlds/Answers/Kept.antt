@@ -21,7 +21,8 @@ use Rattle.vt_spec.specs.Machine.Permits.Permit.{Allowed, ToBind, ToChange, ToCl
 use Rattle.vt_spec.specs.Machine.Run.{Serves}
 use Rattle.vt_spec.specs.Machine.World.{World}
 
-module _ (next inode : ℕ) (world : World ℕ) (counted : KeepsTo (is_counted_before next) world) (even : inode % 2 ≡ 0) where
+module _ (next inode : ℕ) (world : World ℕ) (counted : KeepsTo (is_counted_before next) world)
+    (even : inode % 2 ≡ 0) where
   serves : (permit : Permit ℕ) → (makes_inode permit ≡ true → is_in_use world inode ≡ false)
       → Serves nat_eq world (handed_to next inode permit)
   serves Allowed unused = counts_serve_worlds next world counted
@@ -76,7 +77,8 @@ pub steps_keep_worlds : StepsKeepWorlds
 steps_keep_worlds next inode later world task permit other step low same =
     let given = steps_are_given next inode world task permit step in
     let left = given_permits_leave_worlds world (handed_to next inode permit) task permit step.whole step.plain given in
-    let after = same_worlds_are_worlds (left_by (handed_to next inode permit) world task permit) other same left.1 left.0 in
+    let after = same_worlds_are_worlds
+    (left_by (handed_to next inode permit) world task permit) other same left.1 left.0 in
     record {
       whole = after.0;
       plain = after.1;

@@ -60,7 +60,8 @@ regrouped_free : (world : World ℕ) → IsUngrouped world → IsUngrouped (regr
 regrouped_free world is = by _
   where
     by : (b : Bool) → IsUngrouped (regrouped_by nat_eq b world)
-    by true = all-map free (inheriting nat_eq world) (λ mount e. inherited_free world mount.propagation e) world.mounts is
+    by true = all-map free (inheriting nat_eq world)
+        (λ mount e. inherited_free world mount.propagation e) world.mounts is
     by false = is
 
 taken_free : (world : World ℕ) (gone : List ℕ) → IsUngrouped world → IsUngrouped (taken_away nat_eq world gone)
@@ -78,7 +79,8 @@ ended_free : (world : World ℕ) → IsUngrouped world → IsUngrouped (namespac
 ended_free world is =
     taken_free world (map (λ (mount : Mount ℕ). mount.number) (filter (is_in_ended nat_eq world) world.mounts)) is
 
-there_free : (world : World ℕ) (mount : Mount ℕ) → IsUngrouped world → IsUngrouped (unmounted_if_there nat_eq world mount)
+there_free : (world : World ℕ) (mount : Mount ℕ) → IsUngrouped world
+    → IsUngrouped (unmounted_if_there nat_eq world mount)
 there_free world mount is = by _
   where
     by : (b : Bool) → IsUngrouped (cond b (unmounted nat_eq world mount.number) world)
@@ -225,7 +227,8 @@ module _ (world : World ℕ) (plain : IsPlain world) (is : IsUngrouped world) (t
   copy_free true file = change_free world plain fresh file (CopyUp file.node) is
   copy_free false file = is
 
-  written_free : (file : Location ℕ) (offset : ℕ) (bytes : List ℕ) → IsUngrouped (pwritten nat_eq fresh world file offset bytes)
+  written_free : (file : Location ℕ) (offset : ℕ) (bytes : List ℕ)
+      → IsUngrouped (pwritten nat_eq fresh world file offset bytes)
   written_free file offset [] = is
   written_free file offset (byte ∷ bytes) =
       change_free world plain fresh file
@@ -247,12 +250,15 @@ module _ (world : World ℕ) (plain : IsPlain world) (is : IsUngrouped world) (t
       group = numbers_by nat_eq fresh named
 
       by : (mount : Mount ℕ) → free mount ≡ true → (b : Bool)
-          → free (cond b (record mount { propagation = type_after (group mount.number) word mount.propagation }) mount) ≡ true
+          → free (cond b (record mount { propagation = type_after (group mount.number) word mount.propagation }) mount)
+          ≡ true
       by mount e true = type_free (group mount.number) word makes mount.propagation e
       by mount e false = e
 
-  pivoted_free : (root new : Mount ℕ) (put : Location ℕ) → AllFree (map (pivoted_mount nat_eq root new put) world.mounts)
-  pivoted_free root new put = all-map free (pivoted_mount nat_eq root new put) (λ mount e. by mount e _ _) world.mounts is
+  pivoted_free : (root new : Mount ℕ) (put : Location ℕ)
+      → AllFree (map (pivoted_mount nat_eq root new put) world.mounts)
+  pivoted_free root new put = all-map free (pivoted_mount nat_eq root new put)
+      (λ mount e. by mount e _ _) world.mounts is
     where
       by : (mount : Mount ℕ) → free mount ≡ true → (a b : Bool)
           → free (cond a (record mount { mount_point = root.mount_point })
