@@ -25,3 +25,6 @@ pub mod RemovalFits
 pub mod AfterRename
 pub mod RenameFits
 pub mod RenameWays
+pub mod UnsharedLeft
+pub mod UnsharedListed
+pub mod UndoneBeneath

@@ -2,3 +2,5 @@ pub mod Later
 pub mod LaterPaths
 pub mod Ends
 pub mod LaterNames
+pub mod Tables
+pub mod Undone

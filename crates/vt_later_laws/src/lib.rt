@@ -1,7 +1,10 @@
-//! What later calls see of earlier ones, and which calls end an inode, in a world without overlays.
+//! What later calls see of earlier ones, and which calls end an inode, in a world without overlays; and what the list
+//! of mounts tells after an unshare, and what an unmount undoes, in every world.
 //!
 //! Each public function is a theorem of the written policy, and does nothing.
 #![tactic(auto)]
 
 pub mod ends;
 pub mod later;
+pub mod tables;
+pub mod undone;

@@ -1,0 +1,9 @@
+mod Undo
+use Rattle.vt_later_laws.proofs.undone.an_unmount_undoes_a_mount_beneath_others.Answers.Undo.{unmount_undoes_bind_beneath, unmount_undoes_new_mount_beneath}
+use Rattle.vt_later_laws.proofs.undone.an_unmount_undoes_a_mount_beneath_others.Goals as goal
+
+pub returns-clause-new_mount : goal.returns-clause-new_mount
+returns-clause-new_mount c = unmount_undoes_new_mount_beneath
+
+pub returns-clause-bind : goal.returns-clause-bind
+returns-clause-bind c = unmount_undoes_bind_beneath

@@ -1,0 +1,98 @@
+-- An unmount undoes a new mount and a bind of one mount, where mounts stood at receivers.
+use Rattle.std.proofs.Common.{◌≡◌, ◌⊎◌, false, inl, refl, subst, true, nat_eq, ℕ, Some}
+use Rattle.vt_spec.proofs.Lists.{Among, contains_from_among}
+use Rattle.vt_spec.specs.Machine.Attach.{bound, takes_part}
+use Rattle.vt_spec.specs.Machine.Invariants.{MountInvariants}
+use Rattle.vt_spec.specs.Machine.Mounts.{Location, Mount, stands_at}
+use Rattle.vt_spec.specs.Machine.Mounts.Propagation.{Shared}
+use Rattle.vt_spec.specs.Machine.Outcome.Mounting.{new_mount, with_new_filesystem}
+use Rattle.vt_spec.specs.Machine.Receives.{receives}
+use Rattle.vt_spec.specs.Machine.World.{Filesystem, World, mount_at}
+use Rattle.vt_spec.specs.Language.Calls.{MountFlags}
+use Rattle.vt_mount_laws.specs.Mounts.Attaching.{is_mount}
+use Rattle.vt_mount_laws.specs.Mounts.Propagation.{world_after}
+use Rattle.vt_mount_laws.proofs.BindsStand.{binds_keep_numbers, binds_keep_places, binds_keep_standing, new_mounts_keep_numbers, new_mounts_keep_places, new_mounts_keep_standing}
+use Rattle.vt_mount_laws.proofs.MountsNumbered.{is_one_of}
+use Rattle.vt_mount_laws.proofs.PropagationPremises.{binds_can, new_mounts_can}
+use Rattle.vt_mount_laws.proofs.Standing.{standing_is_computed}
+use Rattle.vt_mount_laws.proofs.Unsharing.{parent_of}
+use Rattle.vt_later_laws.specs.Undone.{CoveredTakePart, DoesNotHearItself, UnmountUndoesBindBeneath, UnmountUndoesNewMountBeneath}
+use Rattle.vt_later_laws.proofs.UndoneBeneath.{copy_is_gone, has_its_record_back, masters_back, one_of}
+
+on_mounts : (world : World ℕ) → MountInvariants nat_eq world → (mount : Mount ℕ) → Among mount world.mounts
+    → (at : Location ℕ) → mount.mount_point ≡ Some at → is_mount world at.mount ≡ true
+on_mounts world mounts mount m at e =
+    let parent = parent_of world mounts mount m at e in
+    subst (λ n. is_mount world n ≡ true) parent.number (is_one_of world.mounts parent.parent parent.there)
+
+they_take_part : (world : World ℕ) (place : Location ℕ) → CoveredTakePart world place
+    → (group : ℕ) (receiver mount : Mount ℕ) → (mount_at nat_eq world place).propagation ≡ Shared group
+    → Among receiver world.mounts → receives nat_eq world group receiver ≡ true → Among mount world.mounts
+    → stands_at nat_eq (record { mount = receiver.number; node = place.node }) mount ≡ true
+    → takes_part nat_eq world place receiver ≡ true
+they_take_part world place covered group receiver mount e m r n stood =
+    covered group receiver mount e (contains_from_among world.mounts receiver m) r
+    (contains_from_among world.mounts mount n) stood
+
+-- a new mount is private, so it hears nothing
+abbrev Quiet : World ℕ → Location ℕ → Mount ℕ → Type 0
+Quiet world place first =
+    (group : ℕ) (receiver mount : Mount ℕ) → (mount_at nat_eq world place).propagation ≡ Shared group
+    → Among receiver world.mounts → receives nat_eq world group receiver ≡ true → Among mount world.mounts
+    → stands_at nat_eq (record { mount = receiver.number; node = place.node }) mount ≡ true
+    → (receives nat_eq world group first ≡ false) ⊎ (nat_eq first.root place.node ≡ false)
+
+quiet : (world : World ℕ) (place : Location ℕ) (flags : MountFlags) (filesystem : Filesystem ℕ)
+    → Quiet world place (new_mount filesystem.number filesystem.files.tree.root flags)
+quiet world place flags filesystem group receiver mount e m r n stood = inl refl
+
+apart_so : (world : World ℕ) (source place : Location ℕ) → DoesNotHearItself world source place
+    → Quiet world place (bound nat_eq world source)
+apart_so world source place apart group receiver mount e m r n stood =
+    apart group receiver mount e (contains_from_among world.mounts receiver m) r
+    (contains_from_among world.mounts mount n) stood
+
+pub unmount_undoes_new_mount_beneath : UnmountUndoesNewMountBeneath
+unmount_undoes_new_mount_beneath world fresh place filesystem flags serves mounts there free covered =
+    let larger = with_new_filesystem world filesystem in
+    let mount = new_mount filesystem.number filesystem.files.tree.root flags in
+    let can = new_mounts_can world fresh place filesystem flags serves mounts in
+    let on_old = on_mounts world mounts in
+    let takes = they_take_part larger place covered in
+    let after = world_after (one_of larger fresh place mount) in
+    let ends = (standing_is_computed after
+    (new_mounts_keep_numbers world fresh place filesystem flags serves mounts.one_number)).0
+    (new_mounts_keep_standing world fresh place filesystem flags serves mounts.one_number mounts.nowhere mounts.standing
+    there) in
+    let places = new_mounts_keep_places world fresh place filesystem flags serves mounts.one_number mounts.nowhere
+    mounts.standing there free mounts.one_child in
+    record {
+      back = has_its_record_back larger fresh place mount can there on_old takes
+          (quiet larger place flags filesystem) ends places;
+      gone = copy_is_gone larger fresh place mount can there on_old takes
+          (quiet larger place flags filesystem) ends places;
+      masters = masters_back larger fresh place mount can there on_old takes
+          (quiet larger place flags filesystem) ends places;
+    }
+
+pub unmount_undoes_bind_beneath : UnmountUndoesBindBeneath
+unmount_undoes_bind_beneath world fresh source place serves mounts there free covered apart =
+    let mount = bound nat_eq world source in
+    let can = binds_can world fresh source place false serves mounts in
+    let on_old = on_mounts world mounts in
+    let takes = they_take_part world place covered in
+    let after = world_after (one_of world fresh place mount) in
+    let ends = (standing_is_computed after
+    (binds_keep_numbers world fresh source place false serves mounts.one_number mounts.standing)).0
+    (binds_keep_standing world fresh source place false serves mounts.one_number mounts.nowhere mounts.standing
+    there) in
+    let places = binds_keep_places world fresh source place false serves mounts.one_number mounts.nowhere
+    mounts.standing there free mounts.one_child in
+    record {
+      back = has_its_record_back world fresh place mount can there on_old takes
+          (apart_so world source place apart) ends places;
+      gone = copy_is_gone world fresh place mount can there on_old takes
+          (apart_so world source place apart) ends places;
+      masters = masters_back world fresh place mount can there on_old takes
+          (apart_so world source place apart) ends places;
+    }

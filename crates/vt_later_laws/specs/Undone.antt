@@ -1,0 +1,52 @@
+-- An unmount undoes a mount, also where mounts stood at receivers: the copies came beneath them. The kernel's document
+-- sharedsubtree, "Propagation" and "Unmount semantics"; that a copy comes beneath what stood there is the profile's.
+use Rattle.std.specs.Prelude.{Contains, None, false, nat_eq, true, ℕ, ◌≡◌, ◌⊎◌}
+use Rattle.vt_spec.specs.Language.Calls.{MountFlags}
+use Rattle.vt_spec.specs.Lists.{Fresh}
+use Rattle.vt_spec.specs.Machine.Attach.{bound, takes_part}
+use Rattle.vt_spec.specs.Machine.Invariants.{MountInvariants}
+use Rattle.vt_spec.specs.Machine.Mounts.{Location, Mount, child_at, stands_at}
+use Rattle.vt_spec.specs.Machine.Mounts.Propagation.{Shared}
+use Rattle.vt_spec.specs.Machine.Outcome.Mounting.{new_mount, with_new_filesystem}
+use Rattle.vt_spec.specs.Machine.Receives.{receives}
+use Rattle.vt_spec.specs.Machine.Run.{Serves}
+use Rattle.vt_spec.specs.Machine.World.{Filesystem, World, mount_at}
+use Rattle.vt_mount_laws.specs.Mounts.Attaching.{is_mount}
+use Rattle.vt_mount_laws.specs.Mounts.Propagation.{IsUndone, bind_of, new_mount_of}
+
+-- Each receiver with a mount at the node of the place takes part, so that it gets a copy beneath that mount.
+abbrev pub CoveredTakePart : World ℕ → Location ℕ → Type 0
+CoveredTakePart world place =
+    (group : ℕ) (receiver mount : Mount ℕ) → (mount_at nat_eq world place).propagation ≡ Shared group
+    → Contains world.mounts receiver → receives nat_eq world group receiver ≡ true → Contains world.mounts mount
+    → stands_at nat_eq (record { mount = receiver.number; node = place.node }) mount ≡ true
+    → takes_part nat_eq world place receiver ≡ true
+
+-- Then an unmount undoes a new mount at a free place: each mount that was there has its record back, what stood at
+-- receivers too.
+abbrev pub UnmountUndoesNewMountBeneath : Type 0
+UnmountUndoesNewMountBeneath =
+    (world : World ℕ) (fresh : Fresh ℕ) (place : Location ℕ) (filesystem : Filesystem ℕ) (flags : MountFlags)
+    → Serves nat_eq (with_new_filesystem world filesystem) fresh → MountInvariants nat_eq world
+    → is_mount world place.mount ≡ true → child_at nat_eq world.mounts place ≡ None
+    → CoveredTakePart (with_new_filesystem world filesystem) place
+    → IsUndone (new_mount_of fresh world place filesystem flags)
+    (new_mount filesystem.number filesystem.files.tree.root flags)
+
+-- The copies of a source that hears the destination's group hear the unmount too. Where their root is the node of the
+-- place, what a copy came beneath stands at that place of it, and would be unmounted with the copies. So where a mount
+-- stands at a receiver, the source does not hear that group, or its root is another node.
+abbrev pub DoesNotHearItself : World ℕ → Location ℕ → Location ℕ → Type 0
+DoesNotHearItself world source place =
+    (group : ℕ) (receiver mount : Mount ℕ) → (mount_at nat_eq world place).propagation ≡ Shared group
+    → Contains world.mounts receiver → receives nat_eq world group receiver ≡ true → Contains world.mounts mount
+    → stands_at nat_eq (record { mount = receiver.number; node = place.node }) mount ≡ true
+    → (receives nat_eq world group (mount_at nat_eq world source) ≡ false) ⊎ (nat_eq source.node place.node ≡ false)
+
+-- So an unmount undoes a bind of one mount, but of such a source onto itself.
+abbrev pub UnmountUndoesBindBeneath : Type 0
+UnmountUndoesBindBeneath =
+    (world : World ℕ) (fresh : Fresh ℕ) (source place : Location ℕ) → Serves nat_eq world fresh
+    → MountInvariants nat_eq world → is_mount world place.mount ≡ true → child_at nat_eq world.mounts place ≡ None
+    → CoveredTakePart world place → DoesNotHearItself world source place
+    → IsUndone (bind_of fresh world source place false) (bound nat_eq world source)
