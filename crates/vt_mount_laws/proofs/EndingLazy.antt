@@ -63,8 +63,8 @@ module _ (start : World ℕ) (at_first : MountInvariants nat_eq start) (one : �
 
   -- The events that are left, when a part of them is over: each mount stands on one over which it stood, and those of
   -- the tree whose event is over stand nowhere
-  record IsUnderWay (world : World ℕ) (left : List (Mount ℕ)) : Type 0 where
-    kept : MountInvariants nat_eq world
+  pub record IsUnderWay (world : World ℕ) (left : List (Mount ℕ)) : Type 0 where
+    pub kept : MountInvariants nat_eq world
     over : (number : ℕ) (place : Location ℕ) → (mount_numbered nat_eq world number).mount_point ≡ Some place
         → StoodOver place.mount number
     done : (number : ℕ) → LiesIn start one number
@@ -103,7 +103,7 @@ module _ (start : World ℕ) (at_first : MountInvariants nat_eq start) (one : �
       (among_cases number mount.number (numbers_of left) m)
 
   module _ (world : World ℕ) (mount : Mount ℕ) (left : List (Mount ℕ)) (way : IsUnderWay world (mount ∷ left)) where
-    childless : has_child nat_eq world mount.number ≡ false
+    pub childless : has_child nat_eq world mount.number ≡ false
     childless =
         none_from_among (stands_on nat_eq mount.number) world.mounts
         (λ x m. false_from_ne_true _ (λ on. none x m x.mount_point refl on))
@@ -162,7 +162,7 @@ module _ (start : World ℕ) (at_first : MountInvariants nat_eq start) (one : �
         (λ none. inr (stays number none))
         (way.done number lies)
 
-    next : IsUnderWay (unmounted_if_there nat_eq world mount) left
+    pub next : IsUnderWay (unmounted_if_there nat_eq world mount) left
     next = by (is_some (mount_numbered nat_eq world mount.number).namespace) refl
       where
         by : (b : Bool) → is_some (mount_numbered nat_eq world mount.number).namespace ≡ b
@@ -192,7 +192,7 @@ module _ (start : World ℕ) (at_first : MountInvariants nat_eq start) (one : �
   all_events (mount ∷ left) world way =
       all_events left (unmounted_if_there nat_eq world mount) (next world mount left way)
 
-  begun : IsUnderWay start (taken_in_turn start one)
+  pub begun : IsUnderWay start (taken_in_turn start one)
   begun = record {
     kept = at_first;
     over = λ number place e.

@@ -47,7 +47,8 @@ use Rattle.vt_permit_laws.proofs.SeesGiven.{Gives, ends_both, gives_unless, give
 use Rattle.vt_overlay_permit_laws.specs.Asked.{AsksWellIf, change_asked}
 
 -- a word that is no word that stands for a directory is a name
-pub no_special : (last : LastWord) → is_dot_dot last ≡ false → is_dot last ≡ false → is_no_word last ≡ false → is_special last ≡ false
+pub no_special : (last : LastWord) → is_dot_dot last ≡ false → is_dot last ≡ false → is_no_word last ≡ false
+    → is_special last ≡ false
 no_special NoWord a b c = c
 no_special Dot a b c = b
 no_special DotDot a b c = a
@@ -58,27 +59,36 @@ empty_list [] e = refl
 empty_list (entry ∷ entries) e = absurd (true≢false e)
 
 -- who may do something to an inode may do it to one that is there
-pub allowed_there : (who : Credentials) (wanted : ℕ) (node : Option (Node ℕ)) → not (node_allows who wanted node) ≡ false → is_some node ≡ true
+pub allowed_there : (who : Credentials) (wanted : ℕ) (node : Option (Node ℕ))
+    → not (node_allows who wanted node) ≡ false → is_some node ≡ true
 allowed_there who wanted None e = absurd (true≢false e)
 allowed_there who wanted (Some node) e = refl
 
 -- where a directory is, there is a tree
-pub tree_here : (world : World ℕ) → IsWorld nat_eq world → (location : Location ℕ) → is_directory_at nat_eq world location ≡ true
+pub tree_here : (world : World ℕ) → IsWorld nat_eq world → (location : Location ℕ)
+    → is_directory_at nat_eq world location ≡ true
     → IsFileTree (files_at nat_eq world location)
 tree_here world whole location is =
     ⊎_elim
     (λ tree. ⊎_elim
     (λ own. ⊎_elim (λ numbers. record { tree = tree; numbers = numbers; own_parents = own }) missing
-    (numbered_all (λ (f : Filesystem ℕ). ListsNumbers nat_eq f.files) (mount_at nat_eq world location).filesystem world.filesystems whole.files.numbers))
-    missing (numbered_all (λ (f : Filesystem ℕ). HasOwnParents f.files.tree) (mount_at nat_eq world location).filesystem world.filesystems whole.files.own_parents))
-    missing (numbered_all (λ (f : Filesystem ℕ). IsTree f.files.tree) (mount_at nat_eq world location).filesystem world.filesystems whole.files.trees)
+    (numbered_all (λ (f : Filesystem ℕ). ListsNumbers nat_eq f.files)
+    (mount_at nat_eq world location).filesystem world.filesystems whole.files.numbers))
+    missing (numbered_all (λ (f : Filesystem ℕ). HasOwnParents f.files.tree)
+    (mount_at nat_eq world location).filesystem world.filesystems whole.files.own_parents))
+    missing (numbered_all (λ (f : Filesystem ℕ). IsTree f.files.tree)
+    (mount_at nat_eq world location).filesystem world.filesystems whole.files.trees)
   where
-    missing : (filesystem_at nat_eq world location ≡ Rattle.vt_spec.specs.Machine.World.no_filesystem (mount_at nat_eq world location).filesystem)
-        × All (λ (f : Filesystem ℕ). nat_eq (mount_at nat_eq world location).filesystem f.number ≡ false) world.filesystems
+    missing : (filesystem_at nat_eq world location
+        ≡ Rattle.vt_spec.specs.Machine.World.no_filesystem (mount_at nat_eq world location).filesystem)
+        × All (λ (f : Filesystem ℕ). nat_eq (mount_at nat_eq world location).filesystem f.number
+        ≡ false) world.filesystems
         → IsFileTree (files_at nat_eq world location)
-    missing none = absurd (true≢false (sym is ∙ ap (λ (f : Filesystem ℕ). is_directory_node (f.files.tree.node location.node)) none.0))
+    missing none = absurd (true≢false
+        (sym is ∙ ap (λ (f : Filesystem ℕ). is_directory_node (f.files.tree.node location.node)) none.0))
 
-module _ (world : World ℕ) (whole : IsWorld nat_eq world) (task : Task ℕ) (called : task_called world task.name ≡ Some task)
+module _ (world : World ℕ) (whole : IsWorld nat_eq world) (task : Task ℕ)
+    (called : task_called world task.name ≡ Some task)
     (fresh : Fresh ℕ) (serves : Serves nat_eq world fresh) where
   abbrev looks : Looks ℕ
   looks = looks_of nat_eq world
@@ -109,7 +119,8 @@ module _ (world : World ℕ) (whole : IsWorld nat_eq world) (task : Task ℕ) (c
 
   new_ends : (path : List ℕ) → Ends NewPlace (new_walk nat_eq looks task path)
   new_ends path =
-      ends_both (IsNewPlace world task) (HasFitLast world task) (new_walk nat_eq looks task path) (ends_new_walk world task path) (fit_new_walk world task path)
+      ends_both (IsNewPlace world task) (HasFitLast world task) (new_walk nat_eq looks task path)
+      (ends_new_walk world task path) (fit_new_walk world task path)
 
   new_leaf_ends : (path : List ℕ) → Ends NewPlace (new_leaf_walk nat_eq looks task path)
   new_leaf_ends path =
@@ -124,13 +135,18 @@ module _ (world : World ℕ) (whole : IsWorld nat_eq world) (task : Task ℕ) (c
   made_at_new : (place : Place ℕ) (node : Node ℕ) → NewPlace place → is_special place.last ≡ false
       → is_some place.object ≡ false → IsNewIn place.parent.node node
       → MayMake (files_at nat_eq world place.parent).tree place.parent.node (name_of place.last) (evens fresh 0) node
-  made_at_new place node is = may_be_made place node (place_is_file world place.parent place.last place.object is.0.0) is.0.1
+  made_at_new place node is = may_be_made place node
+      (place_is_file world place.parent place.last place.object is.0.0) is.0.1
 
   made_asked : (place : Place ℕ) (node : Node ℕ) → NewPlace place → IsNewIn place.parent.node node
-      → is_kind White (kind_of node.content) ≡ false → is_fit_node node ≡ true → Asked (made_permit nat_eq looks task place node)
+      → is_kind White (kind_of node.content) ≡ false → is_fit_node node ≡ true
+      → Asked (made_permit nat_eq looks task place node)
   made_asked place node is fits white small =
       gives_unless Asks (new_word_rules place ++ make_rules looks task place (unnumbered place node)) _
-      (λ passed. ((made_at_new place node is passed.0 passed.1.0 fits, λ overlay. white), (fit_name_of place.last passed.0 is.1, small)))
+      (λ passed. (
+        (made_at_new place node is passed.0 passed.1.0 fits, λ overlay. white),
+        (fit_name_of place.last passed.0 is.1, small),
+      ))
 
   pub mkdir_asked : (path : List ℕ) (mode : Option ℕ) → Asked (mkdir_permit nat_eq looks task path mode)
   unfolding mkdir_permit
@@ -169,21 +185,28 @@ module _ (world : World ℕ) (whole : IsWorld nat_eq world) (task : Task ℕ) (c
       (link_walk_found world whole task called old) (λ from found.
       gives_walk Asks NewPlace (new_leaf_walk nat_eq looks task new) _ (new_leaf_ends new) (λ place is.
       gives_unless Asks ((is_special place.last, E1) ∷ []) _ (λ named.
-      gives_unless Asks (hard_link_rules nat_eq looks task from.location place (linking from.location place)) _ (λ passed. (
+      gives_unless Asks (hard_link_rules nat_eq looks task from.location place (linking from.location place)) _
+      (λ passed. (
         may_link world task from.location place found.1 is.0 named.0 passed
-            (tree_here world whole place.parent (place_named world place.parent place.last place.object named.0 is.0.0).0),
+            (tree_here world whole place.parent
+            (place_named world place.parent place.last place.object named.0 is.0.0).0),
         fit_name_of place.last named.0 is.1,
       )))))
 
   written_asked : (place : Place ℕ) (bytes : List ℕ) → NewFilePlace place → is_special place.last ≡ false
-      → (object : Option (Location ℕ)) → place.object ≡ object → Asked (written_permit nat_eq looks task place bytes object)
+      → (object : Option (Location ℕ)) → place.object ≡ object
+      → Asked (written_permit nat_eq looks task place bytes object)
   written_asked place bytes is named (Some file) e =
       gives_unless Asks (rewrite_rules looks task file bytes) _
       (λ passed. (allowed_there _ _ _ passed.1.1.1.1.1.1.0, no_longer largest_file bytes passed.1.0))
   written_asked place bytes is named None e =
       gives_unless Asks ((nat_lt largest_file (length bytes), E6) ∷ []) _ (λ small.
       gives_unless Asks (make_rules looks task place (unnumbered place (new_file task file_mode bytes))) _ (λ passed. (
-        (may_be_made place (new_file task file_mode bytes) is.0.0 is.0.1 named (ap is_some e) (inr refl), λ overlay. refl),
+        (
+          may_be_made place (new_file task file_mode bytes) is.0.0 is.0.1 named (ap is_some e) (inr refl),
+          λ overlay.
+              refl,
+        ),
         (fit_name_of place.last named is.1, ap (λ b. b && true && true) (no_longer largest_file bytes small.0)),
       )))
 
@@ -201,11 +224,13 @@ module _ (world : World ℕ) (whole : IsWorld nat_eq world) (task : Task ℕ) (c
       (λ passed. by (is_copied_up nat_eq world file access) (allowed_there _ _ _ passed.1.1.1.1.1.0))
     where
       by : (b : Bool) → is_some (node_at nat_eq world file) ≡ true
-          → AsksWellIf world (Rattle.vt_spec.specs.Lists.when b (file, Rattle.vt_spec.specs.Language.Changes.Change.CopyUp file.node))
+          → AsksWellIf world (Rattle.vt_spec.specs.Lists.when b
+          (file, Rattle.vt_spec.specs.Language.Changes.Change.CopyUp file.node))
       by true there = (there, tt)
       by false there = tt
 
-  created_asked : (place : Place ℕ) (access : Access) (mode : ℕ) → IsFilePlace world place → Passed (new_name_rules nat_eq world place)
+  created_asked : (place : Place ℕ) (access : Access) (mode : ℕ) → IsFilePlace world place
+      → Passed (new_name_rules nat_eq world place)
       → IsFitWord place.last → is_special place.last ≡ false → is_some place.object ≡ false
       → Asked (create_file_permit nat_eq looks task place access mode)
   created_asked place access mode is new last named missing =
@@ -219,38 +244,50 @@ module _ (world : World ℕ) (whole : IsWorld nat_eq world) (task : Task ℕ) (c
       → is_special place.last ≡ false → (object : Option (Location ℕ)) → place.object ≡ object
       → Asked (opened_or_created_permit nat_eq looks task place access mode object)
   opened_or_created_asked place access mode is named (Some file) e = opened_asked file access
-  opened_or_created_asked place access mode is named None e = created_asked place access mode is.0.0 is.0.1 is.1 named (ap is_some e)
+  opened_or_created_asked place access mode is named None e = created_asked place access mode is.0.0 is.0.1 is.1 named
+      (ap is_some e)
 
-  open_by_asked : (path : List ℕ) (access : Access) (creation : Creation) → Asked (open_by_permit nat_eq looks task path access creation)
+  open_by_asked : (path : List ℕ) (access : Access) (creation : Creation)
+      → Asked (open_by_permit nat_eq looks task path access creation)
   open_by_asked path access NoCreation =
-      gives_walk Asks (λ here. ⊤) (object_walk nat_eq looks task path) _ (ends_anyhow (object_walk nat_eq looks task path))
+      gives_walk Asks (λ here. ⊤) (object_walk nat_eq looks task path) _
+      (ends_anyhow (object_walk nat_eq looks task path))
       (λ here any. opened_asked here.location access)
   open_by_asked path access (OrCreate mode) =
       gives_walk Asks NewFilePlace (file_walk nat_eq looks task path) _ (file_ends path) (λ place is.
       gives_unless Asks (file_word_rules place) _ (λ passed.
-      opened_or_created_asked place access mode is (first_false (is_special place.last) place.slash passed.0) place.object refl))
+      opened_or_created_asked place access mode is
+      (first_false (is_special place.last) place.slash passed.0) place.object refl))
   open_by_asked path access (Exclusive mode) =
       gives_walk Asks NewPlace (new_walk nat_eq looks task path) _ (new_ends path) (λ place is.
       gives_unless Asks (exclusive_word_rules place) _ (λ passed.
-      created_asked place access mode (place_is_file world place.parent place.last place.object is.0.0) is.0.1 is.1 passed.0 passed.1.1.0))
+      created_asked place access mode
+      (place_is_file world place.parent place.last place.object is.0.0) is.0.1 is.1 passed.0 passed.1.1.0))
 
-  pub open_asked : (path : List ℕ) (access : Access) (creation : Creation) → Asked (open_permit nat_eq looks task path access creation)
+  pub open_asked : (path : List ℕ) (access : Access) (creation : Creation)
+      → Asked (open_permit nat_eq looks task path access creation)
   unfolding open_permit
-  open_asked path access creation = gives_unless Asks (descriptor_rules task) _ (λ passed. open_by_asked path access creation)
+  open_asked path access creation = gives_unless Asks (descriptor_rules task) _
+      (λ passed. open_by_asked path access creation)
 
   -- Calls that remove
   pub unlink_asked : (path : List ℕ) → Asked (unlink_permit nat_eq looks task path)
   unfolding unlink_permit
   unlink_asked path =
-      gives_walk Asks (IsOldPlace world task) (old_leaf_walk nat_eq looks task path) _ (ends_old_leaf_walk world task path) (λ place is.
+      gives_walk Asks (IsOldPlace world task) (old_leaf_walk nat_eq looks task path) _
+      (ends_old_leaf_walk world task path) (λ place is.
       gives_unless Asks ((is_special place.last, E2) ∷ []) _ (λ named.
-      gives_unless Asks (unlink_rules looks task place (object_there place)) _ (λ passed.
-      (old_removable world place named.0 is.0 is.1 (no_directory_empty (node_at nat_eq world (object_there place)) passed.0), tt))))
+      gives_unless Asks (unlink_rules looks task place (object_there place)) _ (λ passed. (
+        old_removable world place named.0 is.0 is.1
+            (no_directory_empty (node_at nat_eq world (object_there place)) passed.0),
+        tt,
+      ))))
 
   pub rmdir_asked : (path : List ℕ) → Asked (rmdir_permit nat_eq looks task path)
   unfolding rmdir_permit
   rmdir_asked path =
-      gives_walk Asks (IsOldPlace world task) (old_walk nat_eq looks task path) _ (ends_old_walk world task path) (λ place is.
+      gives_walk Asks (IsOldPlace world task) (old_walk nat_eq looks task path) _ (ends_old_walk world task path)
+      (λ place is.
       gives_unless Asks (rmdir_word_rules place) _ (λ word.
       gives_unless Asks (rmdir_rules nat_eq looks task place (object_there place)) _ (λ passed. (
         old_removable world place (no_special place.last word.0 word.1.0 word.1.1.0) is.0 is.1
@@ -259,13 +296,16 @@ module _ (world : World ℕ) (whole : IsWorld nat_eq world) (task : Task ℕ) (c
       ))))
 
   -- rename(2)
-  rename_ends : (path : List ℕ) (old_is_directory : Bool) → Ends NewPlace (rename_new_walk nat_eq looks task path old_is_directory)
+  rename_ends : (path : List ℕ) (old_is_directory : Bool)
+      → Ends NewPlace (rename_new_walk nat_eq looks task path old_is_directory)
   rename_ends path old_is_directory =
       ends_then NewPlace NewPlace (new_walk nat_eq looks task path) _ (new_ends path)
-      (λ place is. ends_unless NewPlace place.steps ((place.slash && not old_is_directory, W3) ∷ []) place (λ passed. is))
+      (λ place is. ends_unless NewPlace place.steps ((place.slash && not old_is_directory, W3) ∷ []) place
+      (λ passed. is))
 
   -- the object of an old place is seen through its directory's mount
-  pub through : (place : Place ℕ) → is_special place.last ≡ false → IsOldPlace world task place → (object_there place).mount ≡ place.parent.mount
+  pub through : (place : Place ℕ) → is_special place.last ≡ false → IsOldPlace world task place
+      → (object_there place).mount ≡ place.parent.mount
   through place plain is =
       by place.object is.1 (entry_named (name_of place.last) (entries_in (node_at nat_eq world place.parent)))
       (place_named world place.parent place.last place.object plain is.0).1
@@ -277,7 +317,8 @@ module _ (world : World ℕ) (whole : IsWorld nat_eq world) (task : Task ℕ) (c
       by object there (Some number) e = ap (λ x. (unwrap_or x place.parent).mount) e
 
   pub seen_in : (place : Place ℕ) (plain : is_special place.last ≡ false) (is : IsOldPlace world task place)
-      → node_at nat_eq world (object_there place) ≡ (files_at nat_eq world place.parent).tree.node (object_there place).node
+      → node_at nat_eq world (object_there place)
+      ≡ (files_at nat_eq world place.parent).tree.node (object_there place).node
   seen_in place plain is =
       ap (λ m. node_at nat_eq world (record { mount = m; node = (object_there place).node })) (through place plain is)
 
@@ -291,7 +332,8 @@ module _ (world : World ℕ) (whole : IsWorld nat_eq world) (task : Task ℕ) (c
       gives_unless Asks (rename_rules nat_eq looks task from to (object_there from)) _ (λ passed. (
         (
           may_move world task from to from_named from_is.0 from_is.1 to_named to_is.0.0 to_is.0.1 another passed
-              (tree_here world whole from.parent (place_named world from.parent from.last from.object from_named from_is.0).0),
+              (tree_here world whole from.parent
+              (place_named world from.parent from.last from.object from_named from_is.0).0),
           λ is. sym (ap (λ b. b && looks.has_lower_directory from.parent (name_of from.last))
               (ap is_directory_node (seen_in from from_named from_is) ∙ is))
               ∙ passed.1.1.1.1.1.1.1.1.1.1.1.1.0,
@@ -302,9 +344,11 @@ module _ (world : World ℕ) (whole : IsWorld nat_eq world) (task : Task ℕ) (c
   pub rename_asked : (old new : List ℕ) → Asked (rename_permit nat_eq looks task old new)
   unfolding rename_permit
   rename_asked old new =
-      gives_walk Asks (IsOldPlace world task) (old_leaf_walk nat_eq looks task old) _ (ends_old_leaf_walk world task old) (λ from from_is.
+      gives_walk Asks (IsOldPlace world task) (old_leaf_walk nat_eq looks task old) _
+      (ends_old_leaf_walk world task old) (λ from from_is.
       gives_unless Asks (old_word_rules from) _ (λ from_named.
       gives_walk Asks NewPlace (rename_new_walk nat_eq looks task new (is_directory_there nat_eq looks from)) _
       (rename_ends new (is_directory_there nat_eq looks from)) (λ to to_is.
       gives_unless Asks (old_word_rules to) _ (λ to_named.
-      renamed_asked (is_one_object nat_eq looks (object_there from) to.object) from to from_is to_is from_named.0 to_named.0 refl))))
+      renamed_asked (is_one_object nat_eq looks
+      (object_there from) to.object) from to from_is to_is from_named.0 to_named.0 refl))))

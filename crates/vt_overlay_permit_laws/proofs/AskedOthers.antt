@@ -47,7 +47,8 @@ use Rattle.vt_spec.specs.Tree.{Content, Node, bytes_in}
 use Rattle.vt_tree_laws.proofs.TreesWalked.{ends_anyhow}
 use Rattle.vt_world_laws.proofs.ReachedWalks.{End, FoundDirectory, directory_walk_end, found_among, object_end, task_among}
 
-module _ (world : World ℕ) (whole : IsWorld nat_eq world) (task : Task ℕ) (called : task_called world task.name ≡ Some task)
+module _ (world : World ℕ) (whole : IsWorld nat_eq world) (task : Task ℕ)
+    (called : task_called world task.name ≡ Some task)
     (fresh : Fresh ℕ) (serves : Serves nat_eq world fresh) where
   abbrev looks : Looks ℕ
   looks = looks_of nat_eq world
@@ -107,19 +108,22 @@ module _ (world : World ℕ) (whole : IsWorld nat_eq world) (task : Task ℕ) (c
 
   attr_asked : (object : Location ℕ) (allowed : Bool) (attr : Attr) → is_some (node_at nat_eq world object) ≡ true
       → Asked (attr_permit nat_eq looks object allowed attr)
-  attr_asked object allowed attr there = gives_unless Asks (attr_rules looks object allowed attr) _ (λ passed. (there, tt))
+  attr_asked object allowed attr there = gives_unless Asks (attr_rules looks object allowed attr) _
+      (λ passed. (there, tt))
 
   chmod_asked : (path : List ℕ) (mode : ℕ) → Asked (chmod_permit nat_eq looks task path mode)
   unfolding chmod_permit
   chmod_asked path mode =
-      gives_walk Asks EndHere (object_walk nat_eq looks task path) _ (object_end world whole task called path) (λ here is.
+      gives_walk Asks EndHere (object_walk nat_eq looks task path) _ (object_end world whole task called path)
+      (λ here is.
       attr_asked here.location (owns task.credentials (attr_at looks here.location))
       (attr_with_mode (attr_at looks here.location) mode) is.0.1)
 
   chown_asked : (path : List ℕ) (uid gid : Option ℕ) → Asked (chown_permit nat_eq looks task path uid gid)
   unfolding chown_permit
   chown_asked path uid gid =
-      gives_walk Asks EndHere (object_walk nat_eq looks task path) _ (object_end world whole task called path) (λ here is.
+      gives_walk Asks EndHere (object_walk nat_eq looks task path) _ (object_end world whole task called path)
+      (λ here is.
       attr_asked here.location
       (may_chown task.credentials (attr_at looks here.location) (attr_with_owner (attr_at looks here.location) uid gid))
       (attr_with_owner (attr_at looks here.location) uid gid) is.0.1)
@@ -152,11 +156,13 @@ module _ (world : World ℕ) (whole : IsWorld nat_eq world) (task : Task ℕ) (c
   regular_there (Some node) e = refl
 
   -- whose bytes are within the limit
-  bytes_small : (o : Option (Node ℕ)) → is_kind_in File o ≡ true → fits o ≡ true → nat_le (length (bytes_in o)) largest_file ≡ true
+  bytes_small : (o : Option (Node ℕ)) → is_kind_in File o ≡ true → fits o ≡ true
+      → nat_le (length (bytes_in o)) largest_file ≡ true
   bytes_small None e k = absurd (true≢false (sym e))
   bytes_small (Some node) e k = by node.attr node.content e k
     where
-      by : (attr : Attr) (content : Content ℕ) → is_kind_in File (Some (record { attr = attr; content = content })) ≡ true
+      by : (attr : Attr) (content : Content ℕ)
+          → is_kind_in File (Some (record { attr = attr; content = content })) ≡ true
           → fits (Some (record { attr = attr; content = content })) ≡ true
           → nat_le (length (bytes_in (Some (record { attr = attr; content = content })))) largest_file ≡ true
       by attr (Directory parent entries opaque) f g = absurd (true≢false (sym f))
@@ -171,26 +177,31 @@ module _ (world : World ℕ) (whole : IsWorld nat_eq world) (task : Task ℕ) (c
   file_fits : (file : Location ℕ) → is_some (node_at nat_eq world file) ≡ true → fits (node_at nat_eq world file) ≡ true
   file_fits file there =
       fits_here (files_at nat_eq world file)
-      (numbered_anyhow (λ (f : Filesystem ℕ). ListsNumbers nat_eq f.files) (mount_at nat_eq world file).filesystem world.filesystems
+      (numbered_anyhow (λ (f : Filesystem ℕ). ListsNumbers nat_eq f.files)
+      (mount_at nat_eq world file).filesystem world.filesystems
       whole.files.numbers (λ k. refl))
-      (numbered_anyhow (λ (f : Filesystem ℕ). is_fit_filesystem f ≡ true) (mount_at nat_eq world file).filesystem world.filesystems
+      (numbered_anyhow (λ (f : Filesystem ℕ). is_fit_filesystem f ≡ true)
+      (mount_at nat_eq world file).filesystem world.filesystems
       (all_from_among (λ (f : Filesystem ℕ). is_fit_filesystem f ≡ true) world.filesystems
       (λ f m. among_from_list_all is_fit_filesystem world.filesystems whole.files.fit_filesystems f m)) refl)
       file.node there
 
   written_asked : (file : Location ℕ) (offset : ℕ) (bytes : List ℕ) → is_kind_in File (node_at nat_eq world file) ≡ true
-      → (not (is_empty bytes) && nat_lt largest_file (offset + length bytes)) ≡ false → AsksWellIf world (written_if_some world file offset bytes)
+      → (not (is_empty bytes) && nat_lt largest_file (offset + length bytes)) ≡ false
+      → AsksWellIf world (written_if_some world file offset bytes)
   written_asked file offset [] kind short = tt
   written_asked file offset (byte ∷ bytes) kind short =
       let old = bytes_in (node_at nat_eq world file) in
       let there = regular_there (node_at nat_eq world file) kind in
-      let small = leb-true (length old) largest_file (bytes_small (node_at nat_eq world file) kind (file_fits file there)) in
+      let small = leb-true (length old) largest_file
+      (bytes_small (node_at nat_eq world file) kind (file_fits file there)) in
       let room = ltb-false largest_file (offset + length (byte ∷ bytes)) short in (
         there,
         le-leb (length (overwritten offset (byte ∷ bytes) old)) largest_file
             (omega (
               arith,
-              length-append (take offset (padded offset old) ++ (byte ∷ bytes)) (drop (offset + length (byte ∷ bytes)) old),
+              length-append (take offset (padded offset old) ++ (byte ∷ bytes))
+                  (drop (offset + length (byte ∷ bytes)) old),
               length-append (take offset (padded offset old)) (byte ∷ bytes),
               length-drop (offset + length (byte ∷ bytes)) old,
               length-take offset (padded offset old),
@@ -205,7 +216,8 @@ module _ (world : World ℕ) (whole : IsWorld nat_eq world) (task : Task ℕ) (c
       gives_then Asks (descriptor_at task number (λ descriptor. descriptor.writes)) _ (λ descriptor e.
       gives_unless Asks (pwrite_rules looks descriptor.location offset bytes) _ (λ passed.
       written_asked descriptor.location offset bytes (open_file_is number descriptor
-      (found_there (descriptor_numbered task number) (λ descriptor. descriptor.writes) (denial S4) descriptor e).0) passed.0))
+      (found_there (descriptor_numbered task number) (λ descriptor. descriptor.writes)
+      (denial S4) descriptor e).0) passed.0))
 
   close_asked : (number : ℕ) → Asked (close_permit task number)
   unfolding close_permit
@@ -289,13 +301,15 @@ module _ (world : World ℕ) (whole : IsWorld nat_eq world) (task : Task ℕ) (c
       gives_walk Asks (λ here. ⊤) (destination_walk nat_eq looks task path) _
       (ends_anyhow (destination_walk nat_eq looks task path)) (λ here any. by here.location options))
     where
-      by : (place : Location ℕ) (o : Option OverlayWords) → Asked (overlay_permit_by nat_eq looks too_many task place o flags)
+      by : (place : Location ℕ) (o : Option OverlayWords)
+          → Asked (overlay_permit_by nat_eq looks too_many task place o flags)
       by place None = tt
       by place (Some words) =
           gives_then Asks (layers_walked nat_eq looks task words) _ (λ places e.
           gives_unless Asks (layer_rules nat_eq looks places (overlay_at looks task places)) _ (λ passed.
           gives_unless Asks
-          (new_mount_rules nat_eq looks task place (too_many (ToMountOverlay place (overlay_at looks task places) flags))) _
+          (new_mount_rules nat_eq looks task place
+          (too_many (ToMountOverlay place (overlay_at looks task places) flags))) _
           (λ last. tt)))
 
   umount_asked : (path : List ℕ) → Asked (umount_permit nat_eq looks task path)

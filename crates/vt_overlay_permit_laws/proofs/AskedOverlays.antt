@@ -18,7 +18,8 @@ use Rattle.vt_overlay_permit_laws.proofs.AskedOthers.{call_asked}
 
 pub permits_ask_well : PermitsAskWell
 permits_ask_well world fresh task call permit whole serves called judged =
-    given_is (AskedNames.Asks world whole task called fresh serves) (judge_in nat_eq fresh world task call) permit judged
+    given_is (AskedNames.Asks world whole task called fresh serves)
+    (judge_in nat_eq fresh world task call) permit judged
     (call_asked world whole task called fresh serves call)
 
 proper : (world : World ℕ) (location : Location ℕ) (change : Change ℕ) → AsksWell world location change
@@ -34,7 +35,8 @@ proper world location (CopyUp object) asked = tt
 
 pub permits_ask_properly : PermitsAskProperly
 permits_ask_properly world fresh task call permit location change whole serves called judged asks =
-    let asked = subst (AsksWellIf world) asks (permits_ask_well world fresh task call permit whole serves called judged) in
+    let asked = subst (AsksWellIf world) asks
+    (permits_ask_well world fresh task call permit whole serves called judged) in
     (proper world location change asked.0, asked.1)
 
 -- An overlay with an upper layer
@@ -44,16 +46,21 @@ module _ (world : World ℕ) (location : Location ℕ) (overlay : Overlay ℕ) (
   an_overlay = ap is_some is
 
   -- O1, in the words of a change of an overlay
-  below_by : (o : Option (Overlay ℕ)) (u : Option (Layer ℕ)) (path : List (List ℕ)) → (overlay.upper ≡ u) → (o ≡ Some overlay)
+  below_by : (o : Option (Overlay ℕ)) (u : Option (Layer ℕ)) (path : List (List ℕ)) → (overlay.upper ≡ u)
+      → (o ≡ Some overlay)
       → u ≡ Some upper
-      → overlay_or false (λ (v : Overlay ℕ). has_lower_directory (map (open_layer nat_eq world) (option_to_list v.upper)) (map (open_layer nat_eq world) v.lowers) path) o
+      → overlay_or false (λ (v : Overlay ℕ). has_lower_directory
+      (map (open_layer nat_eq world) (option_to_list v.upper)) (map (open_layer nat_eq world) v.lowers) path) o
       ≡ has_lower_directory (open_layer nat_eq world upper ∷ []) (map (open_layer nat_eq world) overlay.lowers) path
   below_by o u path e f g =
-      ap (overlay_or false (λ (v : Overlay ℕ). has_lower_directory (map (open_layer nat_eq world) (option_to_list v.upper)) (map (open_layer nat_eq world) v.lowers) path)) f
-      ∙ ap (λ x. has_lower_directory (map (open_layer nat_eq world) (option_to_list x)) (map (open_layer nat_eq world) overlay.lowers) path) (e ∙ g)
+      ap (overlay_or false (λ (v : Overlay ℕ). has_lower_directory
+      (map (open_layer nat_eq world) (option_to_list v.upper)) (map (open_layer nat_eq world) v.lowers) path)) f
+      ∙ ap (λ x. has_lower_directory (map (open_layer nat_eq world) (option_to_list x))
+      (map (open_layer nat_eq world) overlay.lowers) path) (e ∙ g)
 
   asked_well : (change : Change ℕ) → AsksWell world location change
-      → IsAskedWell (stack_of nat_eq world overlay upper) (merge_of nat_eq world (filesystem_at nat_eq world location) overlay upper) change
+      → IsAskedWell (stack_of nat_eq world overlay upper)
+      (merge_of nat_eq world (filesystem_at nat_eq world location) overlay upper) change
   asked_well (Make d w number node) asked = (asked.0, asked.1 an_overlay)
   asked_well (AddName d w object) asked = asked
   asked_well (Remove d w object) asked = asked

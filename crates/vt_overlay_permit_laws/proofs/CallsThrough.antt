@@ -41,7 +41,8 @@ use Rattle.vt_overlay_permit_laws.proofs.KeptOverlays.{permits_make_their_change
 use Rattle.vt_overlay_permit_laws.proofs.UnlockedOthers.{permits_spare_what_is_locked}
 
 -- A change of a filesystem goes through it
-goes_by_change : (fresh : Fresh ℕ) (world later : World ℕ) → IsWorld nat_eq world → (change : IsChanged world fresh later.filesystems)
+goes_by_change : (fresh : Fresh ℕ) (world later : World ℕ) → IsWorld nat_eq world
+    → (change : IsChanged world fresh later.filesystems)
     → GoesThrough fresh world later change.mounted
 goes_by_change fresh world later conditions change = record {
   elsewhere = λ number differ upper.
@@ -50,7 +51,8 @@ goes_by_change fresh world later conditions change = record {
       (λ e. differ (e ∙ number_of_filesystem world change.mounted)) upper;
   others = λ number overlay layer inode differ is contains lies new.
       let m : Among layer (upper_and_work overlay) = among_from_contains (upper_and_work overlay) layer contains in
-      let in_layers : Among layer (layers_of overlay) = among-append_left (upper_and_work overlay) overlay.lowers layer m in
+      let in_layers : Among layer (layers_of overlay) = among-append_left
+      (upper_and_work overlay) overlay.lowers layer m in
       changed_stays world fresh conditions layer.filesystem inode
       (any_from_among (lies_or_counts_under nat_eq world layer.filesystem inode) (live_layers world) layer
       (layer_among world conditions layers_of number overlay is layer in_layers) lies)
@@ -94,7 +96,8 @@ module _ (world : World ℕ) (fresh : Fresh ℕ) (task : Task ℕ) (call : Call)
   opens true file = tt
   opens false file = tt
 
-  changes : (location : Location ℕ) (change : Change ℕ) → IsFor (looks_of nat_eq world) task call (ToChange location change) → MakesNew fresh change
+  changes : (location : Location ℕ) (change : Change ℕ)
+      → IsFor (looks_of nat_eq world) task call (ToChange location change) → MakesNew fresh change
   changes location (Make directory name number node) for = absurd for
   changes location (AddName directory name object) for = tt
   changes location (Remove directory name object) for = tt
@@ -186,7 +189,8 @@ module _ (world : World ℕ) (fresh : Fresh ℕ) (task : Task ℕ) (call : Call)
   leaves_them ToListMounts for c e = refl
 
 -- What spares what is locked changes no inode that is
-unlocked : (fresh : Fresh ℕ) (files : FileTree ℕ) (change : Change ℕ) (inode : ℕ) → SparesInode files change inode → MakesNew fresh change
+unlocked : (fresh : Fresh ℕ) (files : FileTree ℕ) (change : Change ℕ) (inode : ℕ) → SparesInode files change inode
+    → MakesNew fresh change
     → ((k : ℕ) → inode ≢ fresh k) → is_among nat_eq inode (inodes_changed change) ≡ false
 unlocked fresh files (Make directory name number node) inode spares made new =
     both_fail (nat_eq inode number) _ (ne_eqb inode number (λ e. new 0 (e ∙ made)))
@@ -198,14 +202,17 @@ unlocked fresh files (Remove directory name object) inode spares made new =
 unlocked fresh files (Move from old to name object) inode spares made new =
     both_fail (nat_eq inode from) _ (ne_eqb inode from spares.0)
     (both_fail (nat_eq inode to) false (ne_eqb inode to spares.1) refl)
-unlocked fresh files (SetBytes file bytes) inode spares made new = both_fail (nat_eq inode file) false (ne_eqb inode file spares) refl
-unlocked fresh files (SetAttr object attr) inode spares made new = both_fail (nat_eq inode object) false (ne_eqb inode object spares) refl
+unlocked fresh files (SetBytes file bytes) inode spares made new = both_fail (nat_eq inode file) false
+    (ne_eqb inode file spares) refl
+unlocked fresh files (SetAttr object attr) inode spares made new = both_fail (nat_eq inode object) false
+    (ne_eqb inode object spares) refl
 unlocked fresh files (SetMark directory opaque) inode spares made new =
     both_fail (nat_eq inode directory) false (ne_eqb inode directory spares) refl
 unlocked fresh files (CopyUp object) inode spares made new = refl
 
 -- What is asked of an overlay is of what is there
-speaks : (world : World ℕ) (location : Location ℕ) (change : Change ℕ) → is_overlay (filesystem_at nat_eq world location) ≡ true
+speaks : (world : World ℕ) (location : Location ℕ) (change : Change ℕ)
+    → is_overlay (filesystem_at nat_eq world location) ≡ true
     → AsksWell world location change → SpeaksOfWhatIsThere (files_at nat_eq world location) change
 speaks world location (Make directory name number node) over asked =
     directory_used (files_at nat_eq world location).tree directory asked.0.name_is_free.in_directory
@@ -224,10 +231,12 @@ speaks world location (CopyUp object) over asked = asked
 -- A granted call leaves the filesystems that its permit leaves
 pub as_permitted : (world : World ℕ) (fresh : Fresh ℕ) (task : Task ℕ) (call : Call) (permit : Permit ℕ)
     → judge_in nat_eq fresh world task call ≡ Ok permit
-    → (call_outcome nat_eq fresh world task call).world.filesystems ≡ (apply nat_eq fresh world task permit).world.filesystems
+    → (call_outcome nat_eq fresh world task call).world.filesystems
+    ≡ (apply nat_eq fresh world task permit).world.filesystems
 as_permitted world fresh task call permit granted =
     ap (λ (o : Outcome ℕ). o.world.filesystems)
-    (call_is_judged_then_applied fresh world task call ∙ ap (λ j. after world j (apply nat_eq fresh world task)) granted)
+    (call_is_judged_then_applied fresh world task call
+    ∙ ap (λ j. after world j (apply nat_eq fresh world task)) granted)
 
 pub calls_go_through_their_location : CallsGoThroughTheirLocation
 calls_go_through_their_location world fresh task call permit location change is serves called granted asks =
@@ -238,10 +247,12 @@ calls_go_through_their_location world fresh task call permit location change is 
       change = change;
       granted = record {
         part = drawn.0;
-        unlocked = λ inode locked new. unlocked fresh (files_at nat_eq world location) change inode (spared.spares inode locked) made new;
+        unlocked = λ inode locked new. unlocked fresh (files_at nat_eq world location) change inode
+            (spared.spares inode locked) made new;
         there = λ overlay over. speaks world location change (ap is_some over) asked.0;
       };
-      so = as_permitted world fresh task call permit granted ∙ permits_make_their_change world fresh task permit location change asks;
+      so = as_permitted world fresh task call permit granted
+          ∙ permits_make_their_change world fresh task permit location change asks;
     })
   where
     drawn : Draws world fresh task call permit
@@ -251,7 +262,8 @@ calls_go_through_their_location world fresh task call permit location change is 
     made = subst (MakesNewIf fresh) asks drawn.1
 
     spared : SparesLocked world location change
-    spared = subst (SparesLockedIf world) asks (permits_spare_what_is_locked world fresh task call permit is serves called granted)
+    spared = subst (SparesLockedIf world) asks
+        (permits_spare_what_is_locked world fresh task call permit is serves called granted)
 
     asked : AsksWellIf world (Some (location, change))
     asked = subst (AsksWellIf world) asks (permits_ask_well world fresh task call permit is serves called granted)
@@ -259,4 +271,5 @@ calls_go_through_their_location world fresh task call permit location change is 
 pub other_calls_leave_filesystems : OtherCallsLeaveFilesystems
 other_calls_leave_filesystems world fresh task call permit granted asks files =
     as_permitted world fresh task call permit granted
-    ∙ leaves_them world fresh task call permit (permits_are_for_their_calls fresh world task call permit granted) files asks
+    ∙ leaves_them world fresh task call permit
+    (permits_are_for_their_calls fresh world task call permit granted) files asks

@@ -23,7 +23,8 @@ use Rattle.vt_world_laws.proofs.CallsKept.{new_numbers}
 use Rattle.vt_overlay_permit_laws.specs.Changed.{AskedChangesCanBeMade, PermitsCanChange, numbers_left}
 use Rattle.vt_overlay_permit_laws.proofs.AskedOverlays.{permits_ask_overlays_well}
 
-may_change : (stack : Stack ℕ) (merge : Merge ℕ) (change : Change ℕ) → IsAskedWell stack merge change → MayChange merge.files change
+may_change : (stack : Stack ℕ) (merge : Merge ℕ) (change : Change ℕ) → IsAskedWell stack merge change
+    → MayChange merge.files change
 may_change stack merge (Make d w number node) asked = record { in_directory = asked.0.name_is_free.in_directory; is_new = asked.0.number_is_new }
 may_change stack merge (AddName d w object) asked = tt
 may_change stack merge (Remove d w object) asked = tt
@@ -33,7 +34,8 @@ may_change stack merge (SetAttr object attr) asked = tt
 may_change stack merge (SetMark d opaque) asked = tt
 may_change stack merge (CopyUp object) asked = tt
 
-name_there : (stack : Stack ℕ) (merge : Merge ℕ) (change : Change ℕ) → IsAskedWell stack merge change → NameIsThere merge.files change
+name_there : (stack : Stack ℕ) (merge : Merge ℕ) (change : Change ℕ) → IsAskedWell stack merge change
+    → NameIsThere merge.files change
 name_there stack merge (Make d w number node) asked = tt
 name_there stack merge (AddName d w object) asked = tt
 name_there stack merge (Remove d w object) asked = asked.named
@@ -47,7 +49,8 @@ pub asked_changes_can_be_made : AskedChangesCanBeMade
 asked_changes_can_be_made fresh world location change overlay upper conditions is has distinct unused asked =
     let number = (mount_at nat_eq world location).filesystem in
     let stack = stack_of nat_eq world overlay upper in
-    let merge = merge_of nat_eq world (Rattle.vt_spec.specs.Machine.World.filesystem_at nat_eq world location) overlay upper in
+    let merge = merge_of nat_eq world
+    (Rattle.vt_spec.specs.Machine.World.filesystem_at nat_eq world location) overlay upper in
     let whole = overlays_are_whole world number overlay upper conditions is has in
     let goes = change_goes fresh stack merge whole (record { distinct = distinct; unused = unused }) change asked in
     record {
@@ -58,18 +61,21 @@ asked_changes_can_be_made fresh world location change overlay upper conditions i
       may = may_change stack merge change asked;
       named = name_there stack merge change asked;
       tree = record {
-        tree = changes_keep_trees merge.files change (overlay_tree world conditions number overlay is) (proper stack merge change asked);
+        tree = changes_keep_trees merge.files change (overlay_tree world conditions number overlay is)
+            (proper stack merge change asked);
         numbers = changes_keep_numbers merge.files change (overlay_numbers world conditions number overlay is);
       };
       upper_tree = record {
         tree = goes.good.tree;
-        numbers = goes.numbers (numbered_anyhow (λ (f : Filesystem ℕ). ListsNumbers nat_eq f.files) upper.filesystem world.filesystems
+        numbers = goes.numbers (numbered_anyhow
+            (λ (f : Filesystem ℕ). ListsNumbers nat_eq f.files) upper.filesystem world.filesystems
             conditions.files.numbers (λ n. refl));
       };
     }
 
 -- The numbers that are left
-module _ (world : World ℕ) (fresh : Fresh ℕ) (conditions : IsWorld nat_eq world) (serves : Serves nat_eq world fresh) where
+module _ (world : World ℕ) (fresh : Fresh ℕ) (conditions : IsWorld nat_eq world)
+    (serves : Serves nat_eq world fresh) where
   distinct : (j k : ℕ) → fresh j ≡ fresh k → j ≡ k
   distinct j k e = serves.apart j k (eq-eqb (fresh j) (fresh k) e)
 
@@ -79,13 +85,18 @@ module _ (world : World ℕ) (fresh : Fresh ℕ) (conditions : IsWorld nat_eq wo
       (new_numbers world fresh conditions serves) (λ j. refl) k
 
   abbrev AreLeft : Fresh ℕ → Type 0
-  AreLeft supply = ((j k : ℕ) → supply j ≡ supply k → j ≡ k) × ((filesystem k : ℕ) → inode_in world filesystem (supply k) ≡ None)
+  AreLeft supply = ((j k : ℕ) → supply j ≡ supply k → j ≡ k)
+      × ((filesystem k : ℕ) → inode_in world filesystem (supply k) ≡ None)
 
   all : AreLeft fresh
   all = (distinct, unused)
 
   every_second : AreLeft (odds fresh)
-  every_second = (λ j k e. let same = distinct _ _ e in omega (arith, same), λ filesystem k. unused filesystem (2 * k + 1))
+  every_second = (
+    λ j k e. let same = distinct _ _ e in omega (arith, same),
+    λ filesystem k. unused filesystem
+        (2 * k + 1),
+  )
 
   pub are_left : (permit : Permit ℕ) → AreLeft (numbers_left fresh permit)
   are_left Allowed = all

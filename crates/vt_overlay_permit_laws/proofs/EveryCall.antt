@@ -54,7 +54,8 @@ use Rattle.vt_overlay_permit_laws.proofs.SweptWorlds.{settled_is_a_world}
 use Rattle.vt_overlay_permit_laws.proofs.UnlockedOthers.{permits_spare_what_is_locked}
 
 -- what is made in an overlay is made in its upper layer
-writes : (world : World ℕ) (fresh : Fresh ℕ) (permit : Permit ℕ) → SparesLockedIf world (change_asked fresh world permit) → HasLayerToWrite world permit
+writes : (world : World ℕ) (fresh : Fresh ℕ) (permit : Permit ℕ)
+    → SparesLockedIf world (change_asked fresh world permit) → HasLayerToWrite world permit
 writes world fresh Allowed spares = tt
 writes world fresh (ToList directory) spares = tt
 writes world fresh (ToStat object) spares = tt
@@ -87,17 +88,22 @@ writes world fresh (ToSetType mount word recursive) spares = tt
 writes world fresh (ToPivot new put) spares = tt
 writes world fresh ToListMounts spares = tt
 
--- What a permit leaves of filesystems that asks for no change: they are as they were, or there is one more, which is an overlay
+-- What a permit leaves of filesystems that asks for no change: they are as they were, or there is one more, which is an
+-- overlay
 -- just where the permit is for the mount of one.
 pub data LeavesFilesystems (world : World ℕ) (fresh : Fresh ℕ) (task : Task ℕ) (permit : Permit ℕ) : Type 0 where
-  as_they_were : (apply nat_eq fresh world task permit).world.filesystems ≡ world.filesystems → LeavesFilesystems world fresh task permit
-  with_plain : (apply nat_eq fresh world task permit).world.filesystems ≡ world.filesystems ++ (plain_filesystem nat_eq fresh ∷ [])
+  as_they_were : (apply nat_eq fresh world task permit).world.filesystems ≡ world.filesystems
+      → LeavesFilesystems world fresh task permit
+  with_plain : (apply nat_eq fresh world task permit).world.filesystems ≡ world.filesystems
+      ++ (plain_filesystem nat_eq fresh ∷ [])
       → LeavesFilesystems world fresh task permit
   with_overlay : (NamesWhatIsThere world task permit → ⊥) → (new : Filesystem ℕ)
-      → (apply nat_eq fresh world task permit).world.filesystems ≡ world.filesystems ++ (new ∷ []) → LeavesFilesystems world fresh task permit
+      → (apply nat_eq fresh world task permit).world.filesystems ≡ world.filesystems ++ (new ∷ [])
+      → LeavesFilesystems world fresh task permit
 
 module _ (world : World ℕ) (fresh : Fresh ℕ) (task : Task ℕ) where
-  pub unchanged : (permit : Permit ℕ) → change_asked fresh world permit ≡ None → LeavesFilesystems world fresh task permit
+  pub unchanged : (permit : Permit ℕ) → change_asked fresh world permit ≡ None
+      → LeavesFilesystems world fresh task permit
   unchanged Allowed e = as_they_were refl
   unchanged (ToList directory) e = as_they_were refl
   unchanged (ToStat object) e = as_they_were refl
@@ -109,7 +115,8 @@ module _ (world : World ℕ) (fresh : Fresh ℕ) (task : Task ℕ) where
   unchanged (ToRename from old to new object replaced) e = none_is_some _ (sym e)
   unchanged (ToOpen file access) e = as_they_were (opens (is_copied_up nat_eq world file access) e)
     where
-      opens : (b : Bool) → when {A = Location ℕ × Change ℕ} b (file, CopyUp file.node) ≡ None → (with_copy nat_eq b fresh world file).filesystems ≡ world.filesystems
+      opens : (b : Bool) → when {A = Location ℕ × Change ℕ} b (file, CopyUp file.node) ≡ None
+          → (with_copy nat_eq b fresh world file).filesystems ≡ world.filesystems
       opens true h = none_is_some _ (sym h)
       opens false h = refl
   unchanged (ToOpenNew directory name node access) e = none_is_some _ (sym e)
@@ -123,15 +130,19 @@ module _ (world : World ℕ) (fresh : Fresh ℕ) (task : Task ℕ) where
   unchanged (ToFork credentials) e = as_they_were refl
   unchanged ToExit e = as_they_were (taken_filesystems (without_task world task.name) _)
   unchanged ToUnshare e = as_they_were (taken_filesystems (unshared nat_eq world fresh task) _)
-  unchanged (ToEnterNamespace namespace) e = as_they_were (taken_filesystems (namespace_entered nat_eq world task namespace) _)
+  unchanged (ToEnterNamespace namespace) e = as_they_were
+      (taken_filesystems (namespace_entered nat_eq world task namespace) _)
   unchanged (ToMountPlain place flags) e = with_plain refl
-  unchanged (ToMountOverlay place overlay flags) e = with_overlay (λ names. names) (overlay_filesystem nat_eq (evens fresh) world overlay) refl
+  unchanged (ToMountOverlay place overlay flags) e = with_overlay (λ names. names)
+      (overlay_filesystem nat_eq (evens fresh) world overlay) refl
   unchanged (ToBind source place recursive) e = as_they_were refl
   unchanged (ToMove mount place) e = as_they_were refl
-  unchanged (ToUnmount mount) e = as_they_were (taken_filesystems world (going nat_eq world (mount_numbered nat_eq world mount)))
+  unchanged (ToUnmount mount) e = as_they_were
+      (taken_filesystems world (going nat_eq world (mount_numbered nat_eq world mount)))
   unchanged (ToUnmountLazily mount) e = as_they_were (lazy_is_of_mounts world mount).filesystems
   unchanged (ToSetFlags mount flags) e = as_they_were refl
-  unchanged (ToSetType mount word recursive) e = as_they_were (types_are_of_mounts world fresh mount word recursive).filesystems
+  unchanged (ToSetType mount word recursive) e = as_they_were
+      (types_are_of_mounts world fresh mount word recursive).filesystems
   unchanged (ToPivot new put) e = as_they_were refl
   unchanged ToListMounts e = as_they_were refl
 
@@ -166,18 +177,23 @@ module _ (world : World ℕ) (fresh : Fresh ℕ) (task : Task ℕ) (call : Call)
   files_in : (a b : World ℕ) → a.filesystems ≡ b.filesystems → Files b → Files a
   files_in a b same h = (trees_in a b same h.0, overlays_in a b same h.1)
 
-  with_a_change : (location : Location ℕ) (change : Change ℕ) → change_asked fresh world permit ≡ Some (location, change) → Files after_permit
+  with_a_change : (location : Location ℕ) (change : Change ℕ)
+      → change_asked fresh world permit ≡ Some (location, change) → Files after_permit
   with_a_change location change e = by (filesystem_at nat_eq world location).overlay refl
     where
-      same : after_permit.filesystems ≡ (with_change nat_eq (numbers_left fresh permit) world location change).filesystems
+      same : after_permit.filesystems
+          ≡ (with_change nat_eq (numbers_left fresh permit) world location change).filesystems
       same = permits_make_their_change world fresh task permit location change e
 
-      over : (overlay : Overlay ℕ) → (filesystem_at nat_eq world location).overlay ≡ Some overlay → (upper : Option (Layer ℕ)) → overlay.upper ≡ upper
+      over : (overlay : Overlay ℕ) → (filesystem_at nat_eq world location).overlay ≡ Some overlay
+          → (upper : Option (Layer ℕ)) → overlay.upper ≡ upper
           → Files after_permit
       over overlay p None u =
           files_in after_permit world
-          (same ∙ ap (λ o. (filesystem_changed nat_eq (numbers_left fresh permit) world (filesystem_at nat_eq world location) o change).filesystems) p
-          ∙ ap (λ o. (overlay_changed nat_eq (numbers_left fresh permit) world (filesystem_at nat_eq world location) overlay o change).filesystems) u)
+          (same ∙ ap (λ o. (filesystem_changed nat_eq (numbers_left fresh permit) world
+          (filesystem_at nat_eq world location) o change).filesystems) p
+          ∙ ap (λ o. (overlay_changed nat_eq (numbers_left fresh permit) world
+          (filesystem_at nat_eq world location) overlay o change).filesystems) u)
           (is.files, is.overlays)
       over overlay p (Some upper) u =
           let kept = permits_keep_overlay_invariants world fresh task call permit location change overlay upper is serves found granted e p u in
@@ -217,11 +233,13 @@ module _ (world : World ℕ) (fresh : Fresh ℕ) (task : Task ℕ) (call : Call)
   under = record {
     files = kept_by_call (TreeInvariants nat_eq) files_kept.0;
     mounts = kept_by_call (MountInvariants nat_eq) (all_mounts_kept world fresh task permit is serves found fits);
-    namespaces = kept_by_call (NamespaceInvariants nat_eq) (all_namespaces_kept world fresh task permit is serves found fits);
+    namespaces = kept_by_call (NamespaceInvariants nat_eq)
+        (all_namespaces_kept world fresh task permit is serves found fits);
     tasks = record {
       one_task = kept_by_call OneTaskAName (all_permits_keep_names world fresh task permit is serves found fits);
       small_tasks = outcome_small fresh world task is.tasks.small_tasks within call few;
-      forks_counted = kept_by_call ForksAreCounted (all_permits_keep_counting_forks world fresh task permit is serves found fits);
+      forks_counted = kept_by_call ForksAreCounted
+          (all_permits_keep_counting_forks world fresh task permit is serves found fits);
       locations_live = kept_by_call LocationsAreThere
           (locations_stay world fresh task permit is serves found fits (writes world fresh permit spared));
       directories = kept_by_call TasksStandOnDirectories
@@ -242,7 +260,8 @@ module _ (world : World ℕ) (fresh : Fresh ℕ) (task : Task ℕ) (call : Call)
       raising_keeps_worlds world name changed (settled nat_eq after_call)
       (settled_is_a_world after_call under overlays_kept)
 
-module _ (world : World ℕ) (fresh : Fresh ℕ) (name : TaskName) (is : IsWorld nat_eq world) (serves : Serves nat_eq world fresh) where
+module _ (world : World ℕ) (fresh : Fresh ℕ) (name : TaskName) (is : IsWorld nat_eq world)
+    (serves : Serves nat_eq world fresh) where
   overlay_call : (call : Call) → mounts_overlay call ≡ true → IsWorld nat_eq (policy nat_eq fresh world name call).world
   overlay_call (Ls path) e = absurd (true≢false (sym e))
   overlay_call (Stat path) e = absurd (true≢false (sym e))
@@ -284,7 +303,8 @@ module _ (world : World ℕ) (fresh : Fresh ℕ) (name : TaskName) (is : IsWorld
   overlay_call (PivotRoot new put) e = absurd (true≢false (sym e))
   overlay_call ListMounts e = absurd (true≢false (sym e))
 
-  not_mounting : (call : Call) → mounts_overlay call ≡ false → names_few_groups call ≡ true → IsWorld nat_eq (policy nat_eq fresh world name call).world
+  not_mounting : (call : Call) → mounts_overlay call ≡ false → names_few_groups call ≡ true
+      → IsWorld nat_eq (policy nat_eq fresh world name call).world
   not_mounting call other few =
       policy_leads (IsWorld nat_eq) world fresh name call is (λ task permit changed found granted.
       finished_keeps world fresh task call permit is serves found other few granted name changed)

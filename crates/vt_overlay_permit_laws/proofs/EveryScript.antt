@@ -19,11 +19,13 @@ request_keeps : (world : World ℕ) (fresh : Fresh ℕ) → IsWorld nat_eq world
     → (request : Option Request) → request_names_few request ≡ true
     → IsWorld nat_eq (requested nat_eq world request fresh).world
 request_keeps world fresh is serves None few = is
-request_keeps world fresh is serves (Some (Calling name call)) few = every_call_keeps_worlds world fresh name call is serves few
+request_keeps world fresh is serves
+    (Some (Calling name call)) few = every_call_keeps_worlds world fresh name call is serves few
 request_keeps world fresh is serves (Some (Asking directive)) few =
     subst (IsWorld nat_eq) (sym (directive_changes_nothing world directive)) is
 
-pub line_keeps : (long silent : Bool) (grammar : Grammar) (world : World ℕ) (line : List ℕ) (fresh : Fresh ℕ) → IsWorld nat_eq world
+pub line_keeps : (long silent : Bool) (grammar : Grammar) (world : World ℕ) (line : List ℕ) (fresh : Fresh ℕ)
+    → IsWorld nat_eq world
     → Serves nat_eq world fresh
     → IsWorld nat_eq (step_world world (line_step_by nat_eq long silent grammar world line (Some fresh)))
 line_keeps true silent grammar world line fresh is serves = is

@@ -25,16 +25,19 @@ use Rattle.vt_overlay_permit_laws.proofs.ChangedOverlays.{are_left}
 module _ (fresh : Fresh ℕ) (change : Change ℕ) where
   after_in : World ℕ → ℕ → List (Filesystem ℕ)
   after_in w n =
-      (filesystem_changed nat_eq fresh w (filesystem_numbered nat_eq w n) (filesystem_numbered nat_eq w n).overlay change).filesystems
+      (filesystem_changed nat_eq fresh w (filesystem_numbered nat_eq w n)
+      (filesystem_numbered nat_eq w n).overlay change).filesystems
 
   -- worlds that differ elsewhere
   by_overlay : (a b : World ℕ) (f : Filesystem ℕ) (o : Option (Overlay ℕ))
-      → (filesystem_changed nat_eq fresh (record a { filesystems = b.filesystems }) f o change).filesystems ≡ (filesystem_changed nat_eq fresh b f o change).filesystems
+      → (filesystem_changed nat_eq fresh (record a { filesystems = b.filesystems }) f o change).filesystems
+      ≡ (filesystem_changed nat_eq fresh b f o change).filesystems
   by_overlay a b f None = refl
   by_overlay a b f (Some v) = by v.upper
     where
       by : (u : Option (Layer ℕ))
-          → (Rattle.vt_spec.specs.Machine.Filesystems.overlay_changed nat_eq fresh (record a { filesystems = b.filesystems }) f v u change).filesystems
+          → (Rattle.vt_spec.specs.Machine.Filesystems.overlay_changed nat_eq fresh
+          (record a { filesystems = b.filesystems }) f v u change).filesystems
           ≡ (Rattle.vt_spec.specs.Machine.Filesystems.overlay_changed nat_eq fresh b f v u change).filesystems
       by None = refl
       by (Some u) = refl
@@ -42,13 +45,15 @@ module _ (fresh : Fresh ℕ) (change : Change ℕ) where
   after_same : (a b : World ℕ) → a.filesystems ≡ b.filesystems → (n : ℕ) → after_in a n ≡ after_in b n
   unfolding after_in
   after_same a b same n =
-      ap (λ fs. (filesystem_changed nat_eq fresh (record a { filesystems = fs }) (filesystem_numbered nat_eq (record a { filesystems = fs }) n)
+      ap (λ fs. (filesystem_changed nat_eq fresh (record a { filesystems = fs })
+      (filesystem_numbered nat_eq (record a { filesystems = fs }) n)
       (filesystem_numbered nat_eq (record a { filesystems = fs }) n).overlay change).filesystems) same
       ∙ by_overlay a b (filesystem_numbered nat_eq b n) (filesystem_numbered nat_eq b n).overlay
 
   pub changed_same : (a b : World ℕ) (location : Location ℕ) → a.filesystems ≡ b.filesystems
       → (mount_at nat_eq a location).filesystem ≡ (mount_at nat_eq b location).filesystem
-      → (with_change nat_eq fresh a location change).filesystems ≡ (with_change nat_eq fresh b location change).filesystems
+      → (with_change nat_eq fresh a location change).filesystems
+      ≡ (with_change nat_eq fresh b location change).filesystems
   unfolding after_in
   changed_same a b location same mounted =
       ap (after_in a) mounted ∙ after_same a b same (mount_at nat_eq b location).filesystem
@@ -57,7 +62,8 @@ module _ (fresh : Fresh ℕ) (change : Change ℕ) where
 abbrev Makes : World ℕ → Fresh ℕ → Task ℕ → Permit ℕ → Option (Location ℕ × Change ℕ) → Type 0
 Makes world fresh task permit None = ⊤
 Makes world fresh task permit (Some made) =
-    (apply nat_eq fresh world task permit).world.filesystems ≡ (with_change nat_eq (numbers_left fresh permit) world made.0 made.1).filesystems
+    (apply nat_eq fresh world task permit).world.filesystems
+    ≡ (with_change nat_eq (numbers_left fresh permit) world made.0 made.1).filesystems
 
 -- open(2), with a copy or without one
 abbrev Opens : World ℕ → Fresh ℕ → Location ℕ → Bool → Option (Location ℕ × Change ℕ) → Type 0
@@ -70,7 +76,8 @@ opens : (world : World ℕ) (fresh : Fresh ℕ) (file : Location ℕ) (copies : 
 opens world fresh file true = refl
 opens world fresh file false = tt
 
-makes : (world : World ℕ) (fresh : Fresh ℕ) (task : Task ℕ) (permit : Permit ℕ) → Makes world fresh task permit (change_asked fresh world permit)
+makes : (world : World ℕ) (fresh : Fresh ℕ) (task : Task ℕ) (permit : Permit ℕ)
+    → Makes world fresh task permit (change_asked fresh world permit)
 makes world fresh task Allowed = tt
 makes world fresh task (ToList directory) = tt
 makes world fresh task (ToStat object) = tt
@@ -86,7 +93,8 @@ makes world fresh task (ToRename from old to new object (Some replaced)) =
     changed_same fresh (Move from.node old to.node new object.node) (without_mounts_on nat_eq world replaced) world from
     (same_filesystems_without world replaced) (same_mounted_without world replaced from)
 makes world fresh task (ToOpen file access) =
-    as_made (when (is_copied_up nat_eq world file access) (file, CopyUp file.node)) (opens world fresh file (is_copied_up nat_eq world file access))
+    as_made (when (is_copied_up nat_eq world file access) (file, CopyUp file.node))
+    (opens world fresh file (is_copied_up nat_eq world file access))
   where
     as_made : (o : Option (Location ℕ × Change ℕ)) → Opens world fresh file (is_copied_up nat_eq world file access) o
         → Makes world fresh task (ToOpen file access) o
@@ -116,10 +124,12 @@ makes world fresh task (ToPivot new put) = tt
 makes world fresh task ToListMounts = tt
 
 pub permits_make_their_change : PermitsMakeTheirChange
-permits_make_their_change world fresh task permit location change asks = subst (Makes world fresh task permit) asks (makes world fresh task permit)
+permits_make_their_change world fresh task permit location change asks = subst (Makes world fresh task permit) asks
+    (makes world fresh task permit)
 
 -- Invariants of overlays depend on filesystems alone
-merged_in : (a b : World ℕ) (f : Filesystem ℕ) (o : Overlay ℕ) → IsMerged nat_eq b f o → IsMerged nat_eq (record a { filesystems = b.filesystems }) f o
+merged_in : (a b : World ℕ) (f : Filesystem ℕ) (o : Overlay ℕ) → IsMerged nat_eq b f o
+    → IsMerged nat_eq (record a { filesystems = b.filesystems }) f o
 merged_in a b f o is = record {
   shows = is.shows;
   names = is.names;
@@ -131,7 +141,8 @@ merged_in a b f o is = record {
   one_to_one = is.one_to_one;
 }
 
-pub overlays_in : (a b : World ℕ) → a.filesystems ≡ b.filesystems → OverlayInvariants nat_eq b → OverlayInvariants nat_eq a
+pub overlays_in : (a b : World ℕ) → a.filesystems ≡ b.filesystems → OverlayInvariants nat_eq b
+    → OverlayInvariants nat_eq a
 overlays_in a b same is =
     subst (λ fs. OverlayInvariants nat_eq (record a { filesystems = fs })) (sym same)
     (record {

@@ -45,7 +45,8 @@ use Rattle.vt_overlay_permit_laws.proofs.SweptOverlays.{leads_same, living_goes}
 use Rattle.vt_overlay_permit_laws.proofs.SweptWorlds.{files_living, mounted_overlays, one_living, overlays_first, overlays_living}
 
 -- An overlay that goes on has its layers
-layers_before : (world later : World ℕ) (number : ℕ) (after : Overlay ℕ) (on : GoesOn world later number after) → layers_of after ≡ layers_of on.before
+layers_before : (world later : World ℕ) (number : ℕ) (after : Overlay ℕ) (on : GoesOn world later number after)
+    → layers_of after ≡ layers_of on.before
 layers_before world later number after on =
     λ i. option_to_list (on.upper i) ++ option_to_list (on.work i) ++ on.lowers i
 
@@ -82,9 +83,11 @@ module _ (world : World ℕ) (way : IsUnderWay world) (are : OverlayInvariants n
 
 -- A granted call, before what nothing uses is gone, and after
 module _ (world : World ℕ) (is : IsWorld nat_eq world) (number : ℕ) (overlay : Overlay ℕ)
-    (was : (filesystem_numbered nat_eq world number).overlay ≡ Some overlay) (layer : Layer ℕ) (contains : Contains (layers_of overlay) layer)
+    (was : (filesystem_numbered nat_eq world number).overlay ≡ Some overlay) (layer : Layer ℕ)
+    (contains : Contains (layers_of overlay) layer)
     (fresh : Fresh ℕ) (serves : Serves nat_eq world fresh) (task : Task ℕ) (call : Call) (permit : Permit ℕ)
-    (called : task_called world task.name ≡ Some task) (granted : judge_in nat_eq fresh world task call ≡ Ok permit) where
+    (called : task_called world task.name ≡ Some task)
+    (granted : judge_in nat_eq fresh world task call ≡ Ok permit) where
   abbrev left : World ℕ
   left = (call_outcome nat_eq fresh world task call).world
 
@@ -94,14 +97,16 @@ module _ (world : World ℕ) (is : IsWorld nat_eq world) (number : ℕ) (overlay
   m : Among layer (layers_of overlay)
   m = among_from_contains (layers_of overlay) layer contains
 
-  grown_leads : (new : Filesystem ℕ) → left.filesystems ≡ world.filesystems ++ (new ∷ []) → LeadsAsBefore world left layer
+  grown_leads : (new : Filesystem ℕ) → left.filesystems ≡ world.filesystems ++ (new ∷ [])
+      → LeadsAsBefore world left layer
   grown_leads new more =
       leads_same world left layer
       (shown_still world left new more layer.filesystem layer.directory
       (directory_used (filesystem_numbered nat_eq world layer.filesystem).files.tree layer.directory
-      (and_second (not (is_overlay (filesystem_numbered nat_eq world layer.filesystem))) _ (layer_plain world is number overlay was layer m))))
+      (and_second (not (is_overlay (filesystem_numbered nat_eq world layer.filesystem))) _
+      (layer_plain world is number overlay was layer m))))
 
-  left_leads : ((location : Location ℕ) (change : Change ℕ) → change_asked fresh world permit ≡ Some (location, change)
+  pub left_leads : ((location : Location ℕ) (change : Change ℕ) → change_asked fresh world permit ≡ Some (location, change)
       → number ≢ (mount_at nat_eq world location).filesystem)
       → LeadsAsBefore world left layer
   left_leads elsewhere = by (change_asked fresh world permit) refl
@@ -110,7 +115,8 @@ module _ (world : World ℕ) (is : IsWorld nat_eq world) (number : ℕ) (overlay
       permitted = as_permitted world fresh task call permit granted
 
       as_left : LeavesFilesystems world fresh task permit → LeadsAsBefore world left layer
-      as_left (as_they_were same) = leads_same world left layer (same_filesystem world left layer.filesystem (permitted ∙ same))
+      as_left (as_they_were same) = leads_same world left layer
+          (same_filesystem world left layer.filesystem (permitted ∙ same))
       as_left (with_plain more) = grown_leads (plain_filesystem nat_eq fresh) (permitted ∙ more)
       as_left (with_overlay not_named new more) = grown_leads new (permitted ∙ more)
 
@@ -120,12 +126,14 @@ module _ (world : World ℕ) (is : IsWorld nat_eq world) (number : ℕ) (overlay
           (calls_leave_other_layers world fresh task call permit made.0 made.1 number overlay layer is serves called granted e
           (elsewhere made.0 made.1 e) was contains).paths
 
-  swept_granted : names_few_groups call ≡ true → (mounts : Bool) → mounts_overlay call ≡ mounts → (now : Overlay ℕ)
-      → (filesystem_numbered nat_eq (settled nat_eq left) number).overlay ≡ Some now → LeadsAsBefore left (settled nat_eq left) layer
+  pub swept_granted : names_few_groups call ≡ true → (mounts : Bool) → mounts_overlay call ≡ mounts → (now : Overlay ℕ)
+      → (filesystem_numbered nat_eq (settled nat_eq left) number).overlay ≡ Some now
+      → LeadsAsBefore left (settled nat_eq left) layer
   swept_granted few false other now e =
       swept_leads left (under world fresh task call permit is serves called other few granted)
       (overlays_kept world fresh task call permit is serves called other few granted) number now e stays.after stays.is layer
-      (subst (Among layer) (λ i. option_to_list (sym stays.upper i) ++ option_to_list (sym stays.work i) ++ sym stays.lowers i)
+      (subst (Among layer) (λ i. option_to_list (sym stays.upper i) ++ option_to_list (sym stays.work i)
+      ++ sym stays.lowers i)
       m)
     where
       stays : OverlayStays world left number overlay
@@ -134,24 +142,29 @@ module _ (world : World ℕ) (is : IsWorld nat_eq world) (number : ℕ) (overlay
       subst (λ w. LeadsAsBefore left w layer) (sym (mounted call mounts)) (leads_by_files left left layer refl)
     where
       mounted : (c : Call) → mounts_overlay c ≡ true
-          → settled nat_eq (call_outcome nat_eq fresh world task c).world ≡ (call_outcome nat_eq fresh world task c).world
+          → settled nat_eq (call_outcome nat_eq fresh world task c).world
+          ≡ (call_outcome nat_eq fresh world task c).world
       mounted (MountOverlay path options flags) f =
           (mounting_leaves_a_world fresh world task path options flags is serves called).nothing_unused
       mounted c f = cc
 
-  finished_leads : ((location : Location ℕ) (change : Change ℕ) → change_asked fresh world permit ≡ Some (location, change)
+  finished_leads : ((location : Location ℕ) (change : Change ℕ)
+      → change_asked fresh world permit ≡ Some (location, change)
       → number ≢ (mount_at nat_eq world location).filesystem)
       → names_few_groups call ≡ true → (name : TaskName) (changed : List ℕ)
       → is_live (last name changed) number ≡ true
       → LeadsAsBefore world (last name changed) layer
-  finished_leads elsewhere few name changed live = by (filesystem_numbered nat_eq (settled nat_eq left) number).overlay refl
+  finished_leads elsewhere few name changed live = by
+      (filesystem_numbered nat_eq (settled nat_eq left) number).overlay refl
     where
       by : (o : Option (Overlay ℕ)) → (filesystem_numbered nat_eq (settled nat_eq left) number).overlay ≡ o
           → LeadsAsBefore world (last name changed) layer
-      by None e = absurd (true≢false (sym live ∙ ap is_some (raised_overlay world name changed (settled nat_eq left) number ∙ e)))
+      by None e = absurd (true≢false
+          (sym live ∙ ap is_some (raised_overlay world name changed (settled nat_eq left) number ∙ e)))
       by (Some now) e =
           leads_both world left (last name changed) layer (left_leads elsewhere)
-          (leads_both left (settled nat_eq left) (last name changed) layer (swept_granted few (mounts_overlay call) refl now e)
+          (leads_both left (settled nat_eq left) (last name changed) layer
+          (swept_granted few (mounts_overlay call) refl now e)
           (leads_by_files (settled nat_eq left) (last name changed) layer
           (files_raised changed layer.filesystem (settled nat_eq left).filesystems)))
 

@@ -17,7 +17,8 @@ use Rattle.vt_overlay_permit_laws.proofs.LowersAfterCalls.{on_files}
 
 -- Where each inode is kept that is there and lies or counts under a layer, the layer stays
 module _ (world : World ℕ) (is : IsWorld nat_eq world) (number : ℕ) (overlay : Overlay ℕ)
-    (was : (filesystem_numbered nat_eq world number).overlay ≡ Some overlay) (layer : Layer ℕ) (m : Among layer (layers_of overlay))
+    (was : (filesystem_numbered nat_eq world number).overlay ≡ Some overlay) (layer : Layer ℕ)
+    (m : Among layer (layers_of overlay))
     (later : World ℕ) where
   layer_stays : ((inode : ℕ) → lies_or_counts_under nat_eq world layer.filesystem inode layer ≡ true
       → is_some (inode_in world layer.filesystem inode) ≡ true
@@ -34,14 +35,16 @@ calls_leave_other_layers world fresh task call permit location change number ove
     layer_stays world is number overlay was layer m (call_outcome nat_eq fresh world task call).world
     (λ inode lies there.
     let new : (k : ℕ) → inode ≢ fresh k =
-    no_new fresh world layer.filesystem inode (λ k. unused_inode world fresh serves is.files.numbers k layer.filesystem) there in
+    no_new fresh world layer.filesystem inode
+    (λ k. unused_inode world fresh serves is.files.numbers k layer.filesystem) there in
     ⊎_elim
     (λ (up : Among layer (upper_and_work overlay)).
     (calls_go_through_their_location world fresh task call permit location change is serves called granted asks).others
     number overlay layer inode differ was (contains_from_among (upper_and_work overlay) layer up) lies new)
     (λ (low : Among layer overlay.lowers).
     lower_layers_stay_locked fresh world task call number overlay layer inode is called
-    (on_files fresh world task call permit (location, change) (permits_are_for_their_calls fresh world task call permit granted) asks)
+    (on_files fresh world task call permit (location, change)
+    (permits_are_for_their_calls fresh world task call permit granted) asks)
     was (contains_from_among overlay.lowers layer low) lies new)
     (among-append (upper_and_work overlay) overlay.lowers layer m))
 

@@ -23,3 +23,4 @@ pub mod CallsThrough
 pub mod LayersThrough
 pub mod LayersLater
 pub mod LayersOverScripts
+pub mod HiddenLater

@@ -63,10 +63,13 @@ makes_files (SymlinkAt text path) e = refl
 makes_files (MakeWhiteout path) e = refl
 makes_files call e = cc
 
-pub on_files : (fresh : Fresh ℕ) (world : World ℕ) (task : Task ℕ) (call : Call) (permit : Permit ℕ) (made : Location ℕ × Change ℕ)
-    → IsFor (looks_of nat_eq world) task call permit → change_asked fresh world permit ≡ Some made → changes_no_mount call ≡ true
+pub on_files : (fresh : Fresh ℕ) (world : World ℕ) (task : Task ℕ) (call : Call) (permit : Permit ℕ)
+    (made : Location ℕ × Change ℕ)
+    → IsFor (looks_of nat_eq world) task call permit → change_asked fresh world permit ≡ Some made
+    → changes_no_mount call ≡ true
 on_files fresh world task call (ToChange location (Make directory name number node)) made for e = absurd for
-on_files fresh world task call (ToChange location (AddName directory name object)) made for e = ap changes_no_mount for.2
+on_files fresh world task call
+    (ToChange location (AddName directory name object)) made for e = ap changes_no_mount for.2
 on_files fresh world task call (ToChange location (Remove directory name object)) made for e = ap changes_no_mount for.1
 on_files fresh world task call (ToChange location (Move from old to new object)) made for e = absurd for
 on_files fresh world task call (ToChange location (SetBytes file bytes)) made for e = ap changes_no_mount for.1
@@ -83,7 +86,8 @@ on_files fresh world task call (ToWritePart file offset bytes) made for e = ap c
 on_files fresh world task call permit made for e = cc
 
 -- A filesystem that is there is there beside a new one
-module _ (world later : World ℕ) (new : Filesystem ℕ) (grows : later.filesystems ≡ world.filesystems ++ (new ∷ [])) where
+module _ (world later : World ℕ) (new : Filesystem ℕ)
+    (grows : later.filesystems ≡ world.filesystems ++ (new ∷ [])) where
   abbrev looked_up : ℕ → Option (Filesystem ℕ)
   looked_up number = find (λ (f : Filesystem ℕ). nat_eq number f.number) world.filesystems
 
@@ -97,8 +101,10 @@ module _ (world later : World ℕ) (new : Filesystem ℕ) (grows : later.filesys
       → filesystem_numbered nat_eq later number ≡ filesystem_numbered nat_eq world number
   shown_still number inode there = by (looked_up number) refl
     where
-      by : (o : Option (Filesystem ℕ)) → looked_up number ≡ o → filesystem_numbered nat_eq later number ≡ filesystem_numbered nat_eq world number
-      by None e = absurd (true≢false (sym there ∙ ap (λ o. is_some ((unwrap_or o (no_filesystem number)).files.tree.node inode)) e))
+      by : (o : Option (Filesystem ℕ)) → looked_up number ≡ o
+          → filesystem_numbered nat_eq later number ≡ filesystem_numbered nat_eq world number
+      by None e = absurd (true≢false
+          (sym there ∙ ap (λ o. is_some ((unwrap_or o (no_filesystem number)).files.tree.node inode)) e))
       by (Some f) e = found_still number f e
 
 lower_in_layers : (overlay : Overlay ℕ) (lower : Layer ℕ) → Among lower overlay.lowers → Among lower (layers_of overlay)
@@ -119,10 +125,12 @@ module _ (world : World ℕ) (is : IsWorld nat_eq world) (number : ℕ) (overlay
   grown_stays later new grows =
       stays_over world later number overlay was
       (ap (λ (f : Filesystem ℕ). option_map layers f.overlay)
-      (found_still world later new grows number (filesystem_numbered nat_eq world number) (overlay_found world number overlay was)))
+      (found_still world later new grows number (filesystem_numbered nat_eq world number)
+      (overlay_found world number overlay was)))
       (λ lower m. leads_same world later lower
       (shown_still world later new grows lower.filesystem lower.directory
-      (directory_used (filesystem_numbered nat_eq world lower.filesystem).files.tree lower.directory (layer_directory lower m))))
+      (directory_used (filesystem_numbered nat_eq world lower.filesystem).files.tree lower.directory
+      (layer_directory lower m))))
 
   same_stays : (later : World ℕ) → later.filesystems ≡ world.filesystems → OverlayStays world later number overlay
   same_stays later same =
@@ -132,19 +140,23 @@ module _ (world : World ℕ) (is : IsWorld nat_eq world) (number : ℕ) (overlay
 
   -- A granted call, before what nothing uses is gone
   module _ (fresh : Fresh ℕ) (serves : Serves nat_eq world fresh) (task : Task ℕ) (call : Call) (permit : Permit ℕ)
-      (called : task_called world task.name ≡ Some task) (granted : judge_in nat_eq fresh world task call ≡ Ok permit) where
+      (called : task_called world task.name ≡ Some task)
+      (granted : judge_in nat_eq fresh world task call ≡ Ok permit) where
     abbrev left : World ℕ
     left = (call_outcome nat_eq fresh world task call).world
 
     as_permitted : left.filesystems ≡ (apply nat_eq fresh world task permit).world.filesystems
     as_permitted =
         ap (λ (o : Outcome ℕ). o.world.filesystems)
-        (call_is_judged_then_applied fresh world task call ∙ ap (λ j. after world j (apply nat_eq fresh world task)) granted)
+        (call_is_judged_then_applied fresh world task call
+        ∙ ap (λ j. after world j (apply nat_eq fresh world task)) granted)
 
-    locked_leads : changes_no_mount call ≡ true → (lower : Layer ℕ) → Among lower overlay.lowers → LeadsAsBefore world left lower
+    locked_leads : changes_no_mount call ≡ true → (lower : Layer ℕ) → Among lower overlay.lowers
+        → LeadsAsBefore world left lower
     locked_leads files lower m =
         lower_paths_are_locked fresh world task call number overlay lower is called files was
-        (contains_from_among overlay.lowers lower m) (λ k. unused_inode world fresh serves is.files.numbers k lower.filesystem)
+        (contains_from_among overlay.lowers lower m)
+        (λ k. unused_inode world fresh serves is.files.numbers k lower.filesystem)
 
     pub call_stays : OverlayStays world left number overlay
     call_stays = by (change_asked fresh world permit) refl
@@ -154,7 +166,8 @@ module _ (world : World ℕ) (is : IsWorld nat_eq world) (number : ℕ) (overlay
         as_left (with_plain more) = grown_stays left (plain_filesystem nat_eq fresh) (as_permitted ∙ more)
         as_left (with_overlay not_named new more) = grown_stays left new (as_permitted ∙ more)
 
-        by : (o : Option (Location ℕ × Change ℕ)) → change_asked fresh world permit ≡ o → OverlayStays world left number overlay
+        by : (o : Option (Location ℕ × Change ℕ)) → change_asked fresh world permit ≡ o
+            → OverlayStays world left number overlay
         by None e = as_left (unchanged world fresh task permit e)
         by (Some made) e =
             stays_over world left number overlay was
@@ -162,12 +175,15 @@ module _ (world : World ℕ) (is : IsWorld nat_eq world) (number : ℕ) (overlay
             (same_filesystem (with_change nat_eq (numbers_left fresh permit) world made.0 made.1) left number
             (as_permitted ∙ permits_make_their_change world fresh task permit made.0 made.1 e))
             ∙ changed_layers (numbers_left fresh permit) world made.0 made.1 number)
-            (locked_leads (on_files fresh world task call permit made (permits_are_for_their_calls fresh world task call permit granted) e))
+            (locked_leads (on_files fresh world task call permit made
+            (permits_are_for_their_calls fresh world task call permit granted) e))
 
     -- and after
     finished_stays : names_few_groups call ≡ true → (name : TaskName) (changed : List ℕ)
-        → is_live (finished_by nat_eq false world name changed (call_outcome nat_eq fresh world task call)).world number ≡ true
-        → OverlayStays world (finished_by nat_eq false world name changed (call_outcome nat_eq fresh world task call)).world number overlay
+        → is_live (finished_by nat_eq false world name changed (call_outcome nat_eq fresh world task call)).world number
+        ≡ true
+        → OverlayStays world (finished_by nat_eq false world name changed
+        (call_outcome nat_eq fresh world task call)).world number overlay
     finished_stays few name changed live =
         by (filesystem_numbered nat_eq (settled nat_eq left) number).overlay refl
       where
@@ -183,13 +199,15 @@ module _ (world : World ℕ) (is : IsWorld nat_eq world) (number : ℕ) (overlay
             (stays_itself left number call_stays.after call_stays.is)
           where
             mounted : (c : Call) → mounts_overlay c ≡ true → judge_in nat_eq fresh world task c ≡ Ok permit
-                → settled nat_eq (call_outcome nat_eq fresh world task c).world ≡ (call_outcome nat_eq fresh world task c).world
+                → settled nat_eq (call_outcome nat_eq fresh world task c).world
+                ≡ (call_outcome nat_eq fresh world task c).world
             mounted (MountOverlay path options flags) m g =
                 (mounting_leaves_a_world fresh world task path options flags is serves called).nothing_unused
             mounted c m g = cc
 
         by : (o : Option (Overlay ℕ)) → (filesystem_numbered nat_eq (settled nat_eq left) number).overlay ≡ o
-            → OverlayStays world (finished_by nat_eq false world name changed (call_outcome nat_eq fresh world task call)).world number overlay
+            → OverlayStays world (finished_by nat_eq false world name changed
+            (call_outcome nat_eq fresh world task call)).world number overlay
         by None e =
             absurd (true≢false (sym live
             ∙ ap is_some (raised_overlay world name changed (settled nat_eq left) number ∙ e)))
@@ -200,14 +218,16 @@ module _ (world : World ℕ) (is : IsWorld nat_eq world) (number : ℕ) (overlay
             (raised_stays world name changed (settled nat_eq left) number sweeps.after sweeps.is))
 
   -- What lies or counts under a lower layer is led to from it
-  upper_of_real : (o : Option (Real ℕ)) (object : ℕ) → holds_of (nat_eq object) (upper_object o) ≡ true → o ≡ Some (Upper object)
+  upper_of_real : (o : Option (Real ℕ)) (object : ℕ) → holds_of (nat_eq object) (upper_object o) ≡ true
+      → o ≡ Some (Upper object)
   upper_of_real None object e = absurd (true≢false (sym e))
   upper_of_real (Some (Upper other)) object e = ap (λ n. Some (Upper n)) (sym (eqb-true object other e))
   upper_of_real (Some (Below depth path)) object e = absurd (true≢false (sym e))
 
   module _ (lower : Layer ℕ) (m : Among lower overlay.lowers) (inode : ℕ) where
     abbrev Led : Type 0
-    Led = (path : List (List ℕ)) × (led (filesystem_numbered nat_eq world lower.filesystem).files.tree lower.directory path ≡ Some inode)
+    Led = (path : List (List ℕ)) ×
+        (led (filesystem_numbered nat_eq world lower.filesystem).files.tree lower.directory path ≡ Some inode)
 
     live_lower : Among lower (live_lowers nat_eq world)
     live_lower = layer_among world is (λ (o : Overlay ℕ). o.lowers) number overlay was lower m
@@ -215,7 +235,8 @@ module _ (world : World ℕ) (is : IsWorld nat_eq world) (number : ℕ) (overlay
     lies_led : lies_in_layer nat_eq world lower.filesystem inode lower ≡ true → Led
     lies_led e =
         under_led (filesystem_numbered nat_eq world lower.filesystem).files
-        (layer_tree world is lower (layer_plain world is number overlay was lower (lower_in_layers overlay lower m))) lower.directory inode
+        (layer_tree world is lower (layer_plain world is number overlay was lower
+        (lower_in_layers overlay lower m))) lower.directory inode
         (and_second (nat_eq lower.filesystem lower.filesystem) _ e)
 
     -- no upper object counts under it
@@ -224,22 +245,28 @@ module _ (world : World ℕ) (is : IsWorld nat_eq world) (number : ℕ) (overlay
     counts_never lies h =
         let found = any_among (counts_in_layer nat_eq world lower.filesystem inode lower) (overlays world) h in
         by found.0
-        (found_filesystem world.filesystems is.files.one_filesystem found.0 (among-from_filter is_overlay world.filesystems found.0 found.1).0)
+        (found_filesystem world.filesystems is.files.one_filesystem found.0
+        (among-from_filter is_overlay world.filesystems found.0 found.1).0)
         found.0.overlay refl found.2
       where
-        at : (f : Filesystem ℕ) (v : Overlay ℕ) → (filesystem_numbered nat_eq world f.number).overlay ≡ Some v → (upper : Option (Layer ℕ))
+        at : (f : Filesystem ℕ) (v : Overlay ℕ) → (filesystem_numbered nat_eq world f.number).overlay ≡ Some v
+            → (upper : Option (Layer ℕ))
             → v.upper ≡ upper
             → (holds_of (λ u. lies_in_layer nat_eq world u.filesystem u.directory lower) upper
-            && (holds_of (λ u. nat_eq lower.filesystem u.filesystem) upper && list_any (is_real_upper nat_eq v inode) f.files.numbers)) ≡ true → ⊥
+            && (holds_of (λ u. nat_eq lower.filesystem u.filesystem) upper
+            && list_any (is_real_upper nat_eq v inode) f.files.numbers)) ≡ true → ⊥
         at f v of None g h = true≢false (sym h)
         at f v of (Some top) g h =
             let rest = and_second (lies_in_layer nat_eq world top.filesystem top.directory lower) _ h in
-            let found = any_among (is_real_upper nat_eq v inode) f.files.numbers (and_second (nat_eq lower.filesystem top.filesystem) _ rest) in
-            no_lower world is f.number v of top g inode (found.0, upper_of_real (v.real found.0) inode found.2) lower live_lower
+            let found = any_among (is_real_upper nat_eq v inode) f.files.numbers
+            (and_second (nat_eq lower.filesystem top.filesystem) _ rest) in
+            no_lower world is f.number v of top g inode
+            (found.0, upper_of_real (v.real found.0) inode found.2) lower live_lower
             (subst (λ n. lies_or_counts_under nat_eq world n inode lower ≡ true)
             (eqb-true lower.filesystem top.filesystem (and_first (nat_eq lower.filesystem top.filesystem) _ rest)) lies)
 
-        by : (f : Filesystem ℕ) → filesystem_numbered nat_eq world f.number ≡ f → (o : Option (Overlay ℕ)) → f.overlay ≡ o
+        by : (f : Filesystem ℕ) → filesystem_numbered nat_eq world f.number ≡ f → (o : Option (Overlay ℕ))
+            → f.overlay ≡ o
             → overlay_or false (λ v. holds_of (λ u. lies_in_layer nat_eq world u.filesystem u.directory lower) v.upper
             && is_object_of nat_eq lower.filesystem inode f v) o ≡ true → ⊥
         by f itself None g h = true≢false (sym h)
@@ -251,7 +278,8 @@ module _ (world : World ℕ) (is : IsWorld nat_eq world) (number : ℕ) (overlay
         (or_cases (lies_in_layer nat_eq world lower.filesystem inode lower) _ lies)
 
   -- so all of it stays
-  pub lowers_stay : (later : World ℕ) → IsWorld nat_eq later → OverlayStays world later number overlay → LowersStay world later number overlay
+  pub lowers_stay : (later : World ℕ) → IsWorld nat_eq later → OverlayStays world later number overlay
+      → LowersStay world later number overlay
   lowers_stay later is_later stays = record {
     after = stays.after;
     is = stays.is;
@@ -263,9 +291,12 @@ module _ (world : World ℕ) (is : IsWorld nat_eq world) (number : ℕ) (overlay
         let m = among_from_contains overlay.lowers lower c in
         let way = is_led lower m inode lies in
         let leads = (stays.leads lower m way.0).0 ∙ way.1 in (
-          subst (λ o. IsKept (then_some o (λ object. inode_in world lower.filesystem object)) (inode_in later lower.filesystem inode)) way.1
-              (subst (λ o. IsKept (then_some (led (filesystem_numbered nat_eq world lower.filesystem).files.tree lower.directory way.0)
-              (λ object. inode_in world lower.filesystem object)) (then_some o (λ object. inode_in later lower.filesystem object))) leads
+          subst (λ o. IsKept (then_some o (λ object. inode_in world lower.filesystem object))
+              (inode_in later lower.filesystem inode)) way.1
+              (subst (λ o. IsKept (then_some
+              (led (filesystem_numbered nat_eq world lower.filesystem).files.tree lower.directory way.0)
+              (λ object. inode_in world lower.filesystem object))
+              (then_some o (λ object. inode_in later lower.filesystem object))) leads
               (stays.leads lower m way.0).1),
           led_lies later is_later lower
               (layer_plain later is_later number stays.after stays.is lower

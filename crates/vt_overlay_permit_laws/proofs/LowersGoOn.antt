@@ -37,20 +37,23 @@ pub record OverlayStays (world later : World ℕ) (number : ℕ) (overlay : Over
   pub lowers : after.lowers ≡ overlay.lowers
   pub leads : (lower : Layer ℕ) → Among lower overlay.lowers → LeadsAsBefore world later lower
 
-pub leads_both : (a b c : World ℕ) (layer : Layer ℕ) → LeadsAsBefore a b layer → LeadsAsBefore b c layer → LeadsAsBefore a c layer
+pub leads_both : (a b c : World ℕ) (layer : Layer ℕ) → LeadsAsBefore a b layer → LeadsAsBefore b c layer
+    → LeadsAsBefore a c layer
 leads_both a b c layer first second path =
     ((second path).0 ∙ (first path).0, kept_both _ _ _ (first path).1 (second path).1)
 
 -- paths are seen on trees alone
 pub leads_by_files : (world later : World ℕ) (layer : Layer ℕ)
-    → (filesystem_numbered nat_eq later layer.filesystem).files ≡ (filesystem_numbered nat_eq world layer.filesystem).files
+    → (filesystem_numbered nat_eq later layer.filesystem).files
+    ≡ (filesystem_numbered nat_eq world layer.filesystem).files
     → LeadsAsBefore world later layer
 leads_by_files world later layer same path = (
   ap (λ files. led files.tree layer.directory path) same,
   kept_same _ _ (ap (λ files. then_some (led files.tree layer.directory path) files.tree.node) same),
 )
 
-pub stays_itself : (world : World ℕ) (number : ℕ) (overlay : Overlay ℕ) → (filesystem_numbered nat_eq world number).overlay ≡ Some overlay
+pub stays_itself : (world : World ℕ) (number : ℕ) (overlay : Overlay ℕ)
+    → (filesystem_numbered nat_eq world number).overlay ≡ Some overlay
     → OverlayStays world world number overlay
 stays_itself world number overlay is = record {
   after = overlay;
@@ -86,11 +89,13 @@ layers_at world number = option_map layers (filesystem_numbered nat_eq world num
 
 pub stays_over : (world later : World ℕ) (number : ℕ) (overlay : Overlay ℕ)
     → (filesystem_numbered nat_eq world number).overlay ≡ Some overlay → layers_at later number ≡ layers_at world number
-    → ((lower : Layer ℕ) → Among lower overlay.lowers → LeadsAsBefore world later lower) → OverlayStays world later number overlay
+    → ((lower : Layer ℕ) → Among lower overlay.lowers → LeadsAsBefore world later lower)
+    → OverlayStays world later number overlay
 stays_over world later number overlay is same leads =
     by (filesystem_numbered nat_eq later number).overlay refl (same ∙ ap (option_map layers) is)
   where
-    by : (o : Option (Overlay ℕ)) → (filesystem_numbered nat_eq later number).overlay ≡ o → option_map layers o ≡ Some (layers overlay)
+    by : (o : Option (Overlay ℕ)) → (filesystem_numbered nat_eq later number).overlay ≡ o
+        → option_map layers o ≡ Some (layers overlay)
         → OverlayStays world later number overlay
     by None e f = absurd (true≢false (sym (ap is_some f)))
     by (Some after) e f =
@@ -119,30 +124,41 @@ pub changed_layers : (fresh : Fresh ℕ) (world : World ℕ) (location : Locatio
     → layers_at (with_change nat_eq fresh world location change) number ≡ layers_at world number
 changed_layers fresh world location change number = by (filesystem_at nat_eq world location).overlay refl
   where
-    own_layers : option_map layers (filesystem_at nat_eq world location).overlay ≡ layers_at world (filesystem_at nat_eq world location).number
+    own_layers : option_map layers (filesystem_at nat_eq world location).overlay
+        ≡ layers_at world (filesystem_at nat_eq world location).number
     own_layers =
         ap (λ (f : Filesystem ℕ). option_map layers f.overlay)
-        (sym (ap (filesystem_numbered nat_eq world) (number_of_filesystem world (mount_at nat_eq world location).filesystem)))
+        (sym (ap (filesystem_numbered nat_eq world)
+        (number_of_filesystem world (mount_at nat_eq world location).filesystem)))
 
-    over : (overlay : Overlay ℕ) → (filesystem_at nat_eq world location).overlay ≡ Some overlay → (upper : Option (Layer ℕ))
-        → layers_at (overlay_changed nat_eq fresh world (filesystem_at nat_eq world location) overlay upper change) number
+    over : (overlay : Overlay ℕ) → (filesystem_at nat_eq world location).overlay ≡ Some overlay
+        → (upper : Option (Layer ℕ))
+        → layers_at (overlay_changed nat_eq fresh world
+        (filesystem_at nat_eq world location) overlay upper change) number
         ≡ layers_at world number
     over overlay e None = refl
     over overlay e (Some upper) =
         let merge : Merge ℕ =
-        merge_changed nat_eq fresh (stack_of nat_eq world overlay upper) (merge_of nat_eq world (filesystem_at nat_eq world location) overlay upper) change in
+        merge_changed nat_eq fresh (stack_of nat_eq world overlay upper)
+        (merge_of nat_eq world (filesystem_at nat_eq world location) overlay upper) change in
         let first : Filesystem ℕ =
-        record (filesystem_at nat_eq world location) { files = merge.files; overlay = Some (record overlay { real = merge.real }) } in
+        record (filesystem_at nat_eq world location) {
+          files = merge.files;
+          overlay = Some
+              (record overlay { real = merge.real });
+        } in
         let first_layers : option_map layers first.overlay ≡ layers_at world first.number =
         ap (option_map layers) (sym e) ∙ own_layers in
         let under : Filesystem ℕ = filesystem_numbered nat_eq world upper.filesystem in
         replaced_layers (with_filesystem nat_eq world first) (with_files under merge.upper)
-        (ap (layers_at world) (sym (number_of_filesystem world upper.filesystem)) ∙ sym (replaced_layers world first first_layers under.number))
+        (ap (layers_at world) (sym (number_of_filesystem world upper.filesystem))
+        ∙ sym (replaced_layers world first first_layers under.number))
         number
         ∙ replaced_layers world first first_layers number
 
     by : (o : Option (Overlay ℕ)) → (filesystem_at nat_eq world location).overlay ≡ o
-        → layers_at (filesystem_changed nat_eq fresh world (filesystem_at nat_eq world location) o change) number ≡ layers_at world number
+        → layers_at (filesystem_changed nat_eq fresh world (filesystem_at nat_eq world location) o change) number
+        ≡ layers_at world number
     by None e =
         replaced_layers world
         (with_files (filesystem_at nat_eq world location)
@@ -151,10 +167,12 @@ changed_layers fresh world location change number = by (filesystem_at nat_eq wor
 
 -- Raised change numbers are of no overlay
 raised_layers : (changed : List ℕ) (number : ℕ) (list : List (Filesystem ℕ))
-    → (unwrap_or (find (λ (f : Filesystem ℕ). nat_eq number f.number) (map (raised_if_changed nat_eq changed) list)) (no_filesystem number)).overlay
+    → (unwrap_or (find (λ (f : Filesystem ℕ). nat_eq number f.number) (map (raised_if_changed nat_eq changed) list))
+    (no_filesystem number)).overlay
     ≡ (unwrap_or (find (λ (f : Filesystem ℕ). nat_eq number f.number) list) (no_filesystem number)).overlay
 raised_layers changed number [] = refl
-raised_layers changed number (first ∷ rest) = by (list_any (λ n. nat_eq n first.number) changed) (raised_layers changed number rest)
+raised_layers changed number (first ∷ rest) = by (list_any (λ n. nat_eq n first.number) changed)
+    (raised_layers changed number rest)
   where
     pick : (one : Filesystem ℕ) → one.overlay ≡ first.overlay → (b : Bool) (others were : Option (Filesystem ℕ))
         → (unwrap_or others (no_filesystem number)).overlay ≡ (unwrap_or were (no_filesystem number)).overlay
@@ -164,11 +182,14 @@ raised_layers changed number (first ∷ rest) = by (list_any (λ n. nat_eq n fir
     pick one same false others were on = on
 
     by : (b : Bool)
-        → (unwrap_or (find (λ (f : Filesystem ℕ). nat_eq number f.number) (map (raised_if_changed nat_eq changed) rest)) (no_filesystem number)).overlay
+        → (unwrap_or (find (λ (f : Filesystem ℕ). nat_eq number f.number) (map (raised_if_changed nat_eq changed) rest))
+        (no_filesystem number)).overlay
         ≡ (unwrap_or (find (λ (f : Filesystem ℕ). nat_eq number f.number) rest) (no_filesystem number)).overlay
         → (unwrap_or (find (λ (f : Filesystem ℕ). nat_eq number f.number)
-        (cond b (record first { change = raised first.change }) first ∷ map (raised_if_changed nat_eq changed) rest)) (no_filesystem number)).overlay
-        ≡ (unwrap_or (find (λ (f : Filesystem ℕ). nat_eq number f.number) (first ∷ rest)) (no_filesystem number)).overlay
+        (cond b (record first { change = raised first.change }) first ∷ map (raised_if_changed nat_eq changed) rest))
+        (no_filesystem number)).overlay
+        ≡ (unwrap_or (find (λ (f : Filesystem ℕ). nat_eq number f.number) (first ∷ rest))
+        (no_filesystem number)).overlay
     by true on =
         pick (record first { change = raised first.change }) refl (nat_eq number first.number)
         (find (λ (f : Filesystem ℕ). nat_eq number f.number) (map (raised_if_changed nat_eq changed) rest))
@@ -186,12 +207,14 @@ module _ (before : World ℕ) (name : TaskName) (changed : List ℕ) (world : Wo
   pub raised_stays : (overlay : Overlay ℕ) → (filesystem_numbered nat_eq world number).overlay ≡ Some overlay
       → OverlayStays world (numbers_raised nat_eq before name changed world) number overlay
   raised_stays overlay is =
-      stays_over world (numbers_raised nat_eq before name changed world) number overlay is (ap (option_map layers) raised_overlay)
+      stays_over world (numbers_raised nat_eq before name changed world) number overlay is
+      (ap (option_map layers) raised_overlay)
       (λ lower m. leads_by_files world (numbers_raised nat_eq before name changed world) lower
       (files_raised changed lower.filesystem world.filesystems))
 
 -- In the sweep it is one that was there
-lowers_of_layers : (overlay : Overlay ℕ) (lower : Layer ℕ) → Among lower overlay.lowers → Among lower (layers_of overlay)
+lowers_of_layers : (overlay : Overlay ℕ) (lower : Layer ℕ) → Among lower overlay.lowers
+    → Among lower (layers_of overlay)
 lowers_of_layers overlay lower m = among-append_right (upper_and_work overlay) overlay.lowers lower m
 
 module _ (world : World ℕ) (under : IsUnderWay world) (are : OverlayInvariants nat_eq world) (number : ℕ) where
@@ -204,7 +227,8 @@ module _ (world : World ℕ) (under : IsUnderWay world) (are : OverlayInvariants
   abbrev first : World ℕ
   first = without_dead_in nat_eq is_overlay living
 
-  from_mounted : (after : Overlay ℕ) (on : GoesOn mounted living number after) → (filesystem_numbered nat_eq living number).overlay ≡ Some after
+  from_mounted : (after : Overlay ℕ) (on : GoesOn mounted living number after)
+      → (filesystem_numbered nat_eq living number).overlay ≡ Some after
       → OverlayStays world living number on.before
   from_mounted after on is = record {
     after = after;
@@ -215,7 +239,8 @@ module _ (world : World ℕ) (under : IsUnderWay world) (are : OverlayInvariants
     leads = λ lower m. on.leads lower (lowers_of_layers on.before lower m);
   }
 
-  from_living : (after : Overlay ℕ) (on : GoesOn living first number after) → (filesystem_numbered nat_eq first number).overlay ≡ Some after
+  from_living : (after : Overlay ℕ) (on : GoesOn living first number after)
+      → (filesystem_numbered nat_eq first number).overlay ≡ Some after
       → OverlayStays living first number on.before
   from_living after on is = record {
     after = after;
@@ -226,7 +251,8 @@ module _ (world : World ℕ) (under : IsUnderWay world) (are : OverlayInvariants
     leads = λ lower m. on.leads lower (lowers_of_layers on.before lower m);
   }
 
-  from_first : (after : Overlay ℕ) (on : GoesOn first (without_dead_in nat_eq (λ f. not (is_overlay f)) first) number after)
+  from_first : (after : Overlay ℕ)
+      (on : GoesOn first (without_dead_in nat_eq (λ f. not (is_overlay f)) first) number after)
       → (filesystem_numbered nat_eq (settled nat_eq world) number).overlay ≡ Some after
       → OverlayStays first (settled nat_eq world) number on.before
   from_first after on is = record {
@@ -238,7 +264,8 @@ module _ (world : World ℕ) (under : IsUnderWay world) (are : OverlayInvariants
     leads = λ lower m. on.leads lower (lowers_of_layers on.before lower m);
   }
 
-  pub swept_stays : (after : Overlay ℕ) → (filesystem_numbered nat_eq (settled nat_eq world) number).overlay ≡ Some after
+  pub swept_stays : (after : Overlay ℕ)
+      → (filesystem_numbered nat_eq (settled nat_eq world) number).overlay ≡ Some after
       → (overlay : Overlay ℕ) → (filesystem_numbered nat_eq world number).overlay ≡ Some overlay
       → OverlayStays world (settled nat_eq world) number overlay
   unfolding from_living from_mounted

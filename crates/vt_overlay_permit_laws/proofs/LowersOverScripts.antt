@@ -19,7 +19,8 @@ use Rattle.vt_overlay_permit_laws.proofs.LowersGoOn.{stays_itself}
 
 stay_there : (world : World ℕ) → IsWorld nat_eq world → (number : ℕ) (overlay : Overlay ℕ)
     → (filesystem_numbered nat_eq world number).overlay ≡ Some overlay → LowersStay world world number overlay
-stay_there world is number overlay was = lowers_stay world is number overlay was world is (stays_itself world number overlay was)
+stay_there world is number overlay was = lowers_stay world is number overlay was world is
+    (stays_itself world number overlay was)
 
 stay_both : (a b c : World ℕ) (number : ℕ) (overlay : Overlay ℕ) (first : LowersStay a b number overlay)
     → LowersStay b c number first.after → LowersStay a c number overlay
@@ -45,24 +46,28 @@ stay_both a b c number overlay first second = record {
 -- A line that leaves the overlay live
 module _ (world : World ℕ) (is : IsWorld nat_eq world) (number : ℕ) (overlay : Overlay ℕ)
     (was : (filesystem_numbered nat_eq world number).overlay ≡ Some overlay) where
-  request_stays : (fresh : Fresh ℕ) → Serves nat_eq world fresh → (request : Option Request) → request_names_few request ≡ true
+  request_stays : (fresh : Fresh ℕ) → Serves nat_eq world fresh → (request : Option Request)
+      → request_names_few request ≡ true
       → is_live (requested nat_eq world request fresh).world number ≡ true
       → LowersStay world (requested nat_eq world request fresh).world number overlay
   request_stays fresh serves None few live = stay_there world is number overlay was
   request_stays fresh serves (Some (Calling name call)) few live =
       every_call_leaves_lowers world fresh name call number overlay is serves few was live
   request_stays fresh serves (Some (Asking directive)) few live =
-      subst (λ w. LowersStay world w number overlay) (sym (directive_changes_nothing world directive)) (stay_there world is number overlay was)
+      subst (λ w. LowersStay world w number overlay) (sym (directive_changes_nothing world directive))
+      (stay_there world is number overlay was)
 
-  line_stays : (long silent : Bool) (grammar : Grammar) (line : List ℕ) (fresh : Fresh ℕ) → Serves nat_eq world fresh
+  pub line_stays : (long silent : Bool) (grammar : Grammar) (line : List ℕ) (fresh : Fresh ℕ) → Serves nat_eq world fresh
       → is_live (step_world world (line_step_by nat_eq long silent grammar world line (Some fresh))) number ≡ true
-      → LowersStay world (step_world world (line_step_by nat_eq long silent grammar world line (Some fresh))) number overlay
+      → LowersStay world (step_world world
+      (line_step_by nat_eq long silent grammar world line (Some fresh))) number overlay
   line_stays true silent grammar line fresh serves live = stay_there world is number overlay was
   line_stays false true grammar line fresh serves live = stay_there world is number overlay was
   line_stays false false grammar line fresh serves live =
       request_stays fresh serves (request_of grammar line) (lines_name_few grammar line) live
 
-lines_stay : (grammar : Grammar) (number : ℕ) (world : World ℕ) (lines : List (List ℕ)) (refused : List Bool) (left : World ℕ)
+lines_stay : (grammar : Grammar) (number : ℕ) (world : World ℕ) (lines : List (List ℕ)) (refused : List Bool)
+    (left : World ℕ)
     (overlay : Overlay ℕ) → IsWorld nat_eq world → (filesystem_numbered nat_eq world number).overlay ≡ Some overlay
     → LeadsLive grammar number world lines refused left → LowersStay world left number overlay
 lines_stay grammar number world [] refused left overlay is was leads =
@@ -75,10 +80,12 @@ lines_stay grammar number world (line ∷ lines) (true ∷ refused) left overlay
 lines_stay grammar number world (line ∷ lines) (false ∷ refused) left overlay is was leads =
     let next = step_world world (line_step nat_eq grammar world line (Some leads.0)) in
     let first : LowersStay world next number overlay =
-    line_stays world is number overlay was (nat_lt longest_line (length line)) (is_silent line) grammar line leads.0 leads.1 leads.2 in
+    line_stays world is number overlay was (nat_lt longest_line (length line))
+    (is_silent line) grammar line leads.0 leads.1 leads.2 in
     stay_both world next left number overlay first
     (lines_stay grammar number next lines refused left first.after
-    (line_keeps (nat_lt longest_line (length line)) (is_silent line) grammar world line leads.0 is leads.1) first.is leads.3)
+    (line_keeps (nat_lt longest_line (length line))
+    (is_silent line) grammar world line leads.0 is leads.1) first.is leads.3)
 
 pub lowers_stay_over_scripts : LowersStayOverScripts
 lowers_stay_over_scripts grammar first next refused refused_next fresh mounted left number overlay apart leads was live =

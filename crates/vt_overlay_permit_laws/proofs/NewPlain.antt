@@ -41,7 +41,8 @@ found_first number last (first ∷ rest) f e = by (nat_eq number first.number) e
     by true e on = e
     by false e on = on e
 
-module _ (world : World ℕ) (fresh : Fresh ℕ) (conditions : IsWorld nat_eq world) (serves : Serves nat_eq world fresh) where
+module _ (world : World ℕ) (fresh : Fresh ℕ) (conditions : IsWorld nat_eq world)
+    (serves : Serves nat_eq world fresh) where
   abbrev new : Filesystem ℕ
   new = plain_filesystem nat_eq fresh
 
@@ -51,7 +52,8 @@ module _ (world : World ℕ) (fresh : Fresh ℕ) (conditions : IsWorld nat_eq wo
   new_fits : is_fit_filesystem new ≡ true
   new_fits =
       both (fits ((new_plain nat_eq (evens fresh 0) (evens fresh 1)).files.tree.node (evens fresh 1))) true
-      (ap (λ b. fits (cond b (Some (record { attr = root_attr; content = new_directory (evens fresh 1) })) None)) (eq-eqb (evens fresh 1) (evens fresh 1) refl)) refl
+      (ap (λ b. fits (cond b (Some (record { attr = root_attr; content = new_directory (evens fresh 1) })) None))
+      (eq-eqb (evens fresh 1) (evens fresh 1) refl)) refl
 
   pub new_plain_trees : TreeInvariants nat_eq later
   new_plain_trees =
@@ -61,7 +63,8 @@ module _ (world : World ℕ) (fresh : Fresh ℕ) (conditions : IsWorld nat_eq wo
         own_parents = All-push (λ (f : Filesystem ℕ). HasOwnParents f.files.tree) world.filesystems new conditions.files.own_parents is.own_parents;
         numbers = All-push (λ (f : Filesystem ℕ). ListsNumbers nat_eq f.files) world.filesystems new conditions.files.numbers is.numbers;
         one_filesystem = appended_apart world.filesystems new conditions.files.one_filesystem
-            (λ old m. apart (evens fresh 0) old.number (unused_by_filesystem world fresh serves 0 old m old.number (inl refl)));
+            (λ old m. apart (evens fresh 0) old.number
+            (unused_by_filesystem world fresh serves 0 old m old.number (inl refl)));
         fit_filesystems = all_appended is_fit_filesystem world.filesystems new conditions.files.fit_filesystems new_fits;
       }
 
@@ -69,7 +72,8 @@ module _ (world : World ℕ) (fresh : Fresh ℕ) (conditions : IsWorld nat_eq wo
   abbrev looked_up : ℕ → List (Filesystem ℕ) → Option (Filesystem ℕ)
   looked_up number list = find (λ (f : Filesystem ℕ). nat_eq number f.number) list
 
-  not_first : (number : ℕ) (list : List (Filesystem ℕ)) → looked_up number list ≡ None → looked_up number (list ++ new ∷ []) ≡ looked_up number (new ∷ [])
+  not_first : (number : ℕ) (list : List (Filesystem ℕ)) → looked_up number list ≡ None
+      → looked_up number (list ++ new ∷ []) ≡ looked_up number (new ∷ [])
   not_first number [] e = refl
   not_first number (first ∷ rest) e = by (nat_eq number first.number) e (not_first number rest)
     where
@@ -89,8 +93,10 @@ module _ (world : World ℕ) (fresh : Fresh ℕ) (conditions : IsWorld nat_eq wo
       → filesystem_numbered nat_eq later number ≡ filesystem_numbered nat_eq world number
   inode_stays number inode there = by (looked_up number world.filesystems) refl
     where
-      by : (o : Option (Filesystem ℕ)) → looked_up number world.filesystems ≡ o → filesystem_numbered nat_eq later number ≡ filesystem_numbered nat_eq world number
-      by None e = absurd (true≢false (sym there ∙ ap (λ o. is_some ((unwrap_or o (no_filesystem number)).files.tree.node inode)) e))
+      by : (o : Option (Filesystem ℕ)) → looked_up number world.filesystems ≡ o
+          → filesystem_numbered nat_eq later number ≡ filesystem_numbered nat_eq world number
+      by None e = absurd (true≢false
+          (sym there ∙ ap (λ o. is_some ((unwrap_or o (no_filesystem number)).files.tree.node inode)) e))
       by (Some f) e = stays_found number f e
 
   overlay_stays : (number : ℕ) (after : Overlay ℕ) → (filesystem_numbered nat_eq later number).overlay ≡ Some after
@@ -101,7 +107,8 @@ module _ (world : World ℕ) (fresh : Fresh ℕ) (conditions : IsWorld nat_eq wo
       plain_alone true = refl
       plain_alone false = refl
 
-      by : (o : Option (Filesystem ℕ)) → looked_up number world.filesystems ≡ o → filesystem_numbered nat_eq later number ≡ filesystem_numbered nat_eq world number
+      by : (o : Option (Filesystem ℕ)) → looked_up number world.filesystems ≡ o
+          → filesystem_numbered nat_eq later number ≡ filesystem_numbered nat_eq world number
       by None e =
           none_is_some after (sym (plain_alone (nat_eq number new.number))
           ∙ sym (ap (λ o. (unwrap_or o (no_filesystem number)).overlay) (not_first number world.filesystems e)) ∙ is)
@@ -111,7 +118,8 @@ module _ (world : World ℕ) (fresh : Fresh ℕ) (conditions : IsWorld nat_eq wo
     was : (filesystem_numbered nat_eq world number).overlay ≡ Some after
     was = sym (ap (λ (f : Filesystem ℕ). f.overlay) (overlay_stays number after is)) ∙ is
 
-    layer_stays : (layer : Layer ℕ) → Among layer (layers_of after) → filesystem_numbered nat_eq later layer.filesystem ≡ filesystem_numbered nat_eq world layer.filesystem
+    layer_stays : (layer : Layer ℕ) → Among layer (layers_of after)
+        → filesystem_numbered nat_eq later layer.filesystem ≡ filesystem_numbered nat_eq world layer.filesystem
     layer_stays layer m =
         inode_stays layer.filesystem layer.directory
         (directory_used (filesystem_numbered nat_eq world layer.filesystem).files.tree layer.directory
@@ -128,16 +136,19 @@ module _ (world : World ℕ) (fresh : Fresh ℕ) (conditions : IsWorld nat_eq wo
       merged = subst (λ f. IsMerged nat_eq later f after) (sym (overlay_stays number after is))
           (stays_merged world later (filesystem_numbered nat_eq world number) after
           (λ layer m. leads_same world later layer (layer_stays layer (shown_among after layer m)))
-          (λ layer object e of. kept_same _ _ (ap (λ (f : Filesystem ℕ). f.files.tree.node object) (layer_stays layer (upper_among after layer e))))
+          (λ layer object e of. kept_same _ _
+          (ap (λ (f : Filesystem ℕ). f.files.tree.node object) (layer_stays layer (upper_among after layer e))))
           (conditions.overlays.overlays_merge number after was));
       objects = λ inode object e. e;
       leads = λ layer m. leads_same world later layer (layer_stays layer m);
-      reached = λ top e. subst (λ (f : Filesystem ℕ). IsReached f.files.tree top.directory) (sym (layer_stays top (upper_among after top e)))
+      reached = λ top e. subst (λ (f : Filesystem ℕ). IsReached f.files.tree top.directory)
+          (sym (layer_stays top (upper_among after top e)))
           (conditions.overlays.uppers_reached number after top was e);
     }
 
   pub new_plain_overlays : OverlayInvariants nat_eq later
   new_plain_overlays =
-      overlays_go_on world later (are_trees world conditions.files) conditions.overlays (are_trees later new_plain_trees) goes
+      overlays_go_on world later (are_trees world conditions.files) conditions.overlays
+      (are_trees later new_plain_trees) goes
       (λ test e. ap (λ l. any_pair test (flat_map (of_overlay [] upper_and_work) l))
       (filter-append is_overlay world.filesystems (new ∷ []) ∙ append-nil (overlays world)) ∙ e)

@@ -36,23 +36,29 @@ use Rattle.vt_overlay_permit_laws.specs.Unlocked.{SparesInode, SparesLocked}
 use Rattle.vt_overlay_permit_laws.proofs.OverlaysGoOn.{GoesOn, are_trees, overlays_go_on}
 
 -- an inode that a change spares is none of those that it writes to
-none_written : (files : FileTree ℕ) (change : Change ℕ) → IsProper files.tree change → (inode : ℕ) → is_some (files.tree.node inode) ≡ true
+none_written : (files : FileTree ℕ) (change : Change ℕ) → IsProper files.tree change → (inode : ℕ)
+    → is_some (files.tree.node inode) ≡ true
     → SparesInode files change inode → is_among nat_eq inode (inodes_changed change) ≡ false
 none_written files (Make directory name number node) may inode there spares =
     ap (λ b. b || (nat_eq inode directory || false)) (ne_eqb inode number (λ same.
     true≢false (sym there ∙ ap (λ n. is_some (files.tree.node n)) same ∙ ap is_some may.number_is_new)))
     ∙ ap (λ b. b || false) (ne_eqb inode directory spares)
-none_written files (AddName directory name object) may inode there spares = ap (λ b. b || false) (ne_eqb inode directory spares)
-none_written files (Remove directory name object) may inode there spares = ap (λ b. b || false) (ne_eqb inode directory spares.0)
+none_written files (AddName directory name object) may inode there spares = ap (λ b. b || false)
+    (ne_eqb inode directory spares)
+none_written files (Remove directory name object) may inode there spares = ap (λ b. b || false)
+    (ne_eqb inode directory spares.0)
 none_written files (Move from old to new object) may inode there spares =
-    ap (λ b. b || (nat_eq inode to || false)) (ne_eqb inode from spares.0) ∙ ap (λ b. b || false) (ne_eqb inode to spares.1)
+    ap (λ b. b || (nat_eq inode to || false)) (ne_eqb inode from spares.0)
+    ∙ ap (λ b. b || false) (ne_eqb inode to spares.1)
 none_written files (SetBytes file bytes) may inode there spares = ap (λ b. b || false) (ne_eqb inode file spares)
 none_written files (SetAttr object attr) may inode there spares = ap (λ b. b || false) (ne_eqb inode object spares)
-none_written files (SetMark directory opaque) may inode there spares = ap (λ b. b || false) (ne_eqb inode directory spares)
+none_written files (SetMark directory opaque) may inode there spares = ap (λ b. b || false)
+    (ne_eqb inode directory spares)
 none_written files (CopyUp object) may inode there spares = refl
 
 -- nor loses it a name
-name_spared : (files : FileTree ℕ) (change : Change ℕ) (inode : ℕ) → SparesInode files change inode → Spares inode files change
+name_spared : (files : FileTree ℕ) (change : Change ℕ) (inode : ℕ) → SparesInode files change inode
+    → Spares inode files change
 name_spared files (Make directory name number node) inode spares = tt
 name_spared files (AddName directory name object) inode spares = tt
 name_spared files (Remove directory name object) inode spares = spares.1
@@ -62,8 +68,10 @@ name_spared files (SetAttr object attr) inode spares = tt
 name_spared files (SetMark directory opaque) inode spares = tt
 name_spared files (CopyUp object) inode spares = tt
 
-module _ (fresh : Fresh ℕ) (world : World ℕ) (location : Location ℕ) (change : Change ℕ) (conditions : IsWorld nat_eq world)
-    (plain : (filesystem_at nat_eq world location).overlay ≡ None) (may : IsProper (files_at nat_eq world location).tree change)
+module _ (fresh : Fresh ℕ) (world : World ℕ) (location : Location ℕ) (change : Change ℕ)
+    (conditions : IsWorld nat_eq world)
+    (plain : (filesystem_at nat_eq world location).overlay ≡ None)
+    (may : IsProper (files_at nat_eq world location).tree change)
     (fits : IsFitChange change) (locks : SparesLocked world location change) where
   abbrev place : ℕ
   place = (mount_at nat_eq world location).filesystem
@@ -92,7 +100,8 @@ module _ (fresh : Fresh ℕ) (world : World ℕ) (location : Location ℕ) (chan
     record {
       tree = among_from_all (λ (g : Filesystem ℕ). IsTree g.files.tree) world.filesystems conditions.files.trees f m;
       numbers = among_from_all (λ (g : Filesystem ℕ). ListsNumbers nat_eq g.files) world.filesystems conditions.files.numbers f m;
-      own_parents = among_from_all (λ (g : Filesystem ℕ). HasOwnParents g.files.tree) world.filesystems conditions.files.own_parents f m;
+      own_parents = among_from_all (λ
+          (g : Filesystem ℕ). HasOwnParents g.files.tree) world.filesystems conditions.files.own_parents f m;
     },
     among_from_list_all is_fit_filesystem world.filesystems conditions.files.fit_filesystems f m,
   ))
@@ -109,7 +118,8 @@ module _ (fresh : Fresh ℕ) (world : World ℕ) (location : Location ℕ) (chan
         },
         changes_keep_sizes old.files change is.1 fits,
       ))
-      (λ none. inr (subst (λ n. All (λ (f : Filesystem ℕ). nat_eq n f.number ≡ false) world.filesystems) (sym new_number) none.1))
+      (λ none. inr (subst (λ n. All (λ (f : Filesystem ℕ). nat_eq n f.number ≡ false) world.filesystems)
+      (sym new_number) none.1))
       (numbered_all Fits place world.filesystems all_fit))
 
   number_same : (f : Filesystem ℕ) → (replaced_if_numbered nat_eq new f).number ≡ f.number
@@ -122,23 +132,29 @@ module _ (fresh : Fresh ℕ) (world : World ℕ) (location : Location ℕ) (chan
   pub trees_later : TreeInvariants nat_eq later
   trees_later = record {
     trees = All-weaker Fits (λ f. IsTree f.files.tree) (λ f is. is.0.tree) later.filesystems all_fit_later;
-    own_parents = All-weaker Fits (λ f. HasOwnParents f.files.tree) (λ f is. is.0.own_parents) later.filesystems all_fit_later;
+    own_parents = All-weaker Fits (λ f. HasOwnParents f.files.tree)
+        (λ f is. is.0.own_parents) later.filesystems all_fit_later;
     numbers = All-weaker Fits (λ f. ListsNumbers nat_eq f.files) (λ f is. is.0.numbers) later.filesystems all_fit_later;
-    one_filesystem = pair_same (replaced_if_numbered nat_eq new) world.filesystems number_same ∙ conditions.files.one_filesystem;
-    fit_filesystems = list_all_from_among is_fit_filesystem later.filesystems (λ f m. (among_from_all Fits later.filesystems all_fit_later f m).1);
+    one_filesystem = pair_same (replaced_if_numbered nat_eq new) world.filesystems number_same
+        ∙ conditions.files.one_filesystem;
+    fit_filesystems = list_all_from_among is_fit_filesystem later.filesystems
+        (λ f m. (among_from_all Fits later.filesystems all_fit_later f m).1);
   }
 
   -- The overlays are those that were there
-  kind_same : (f : Filesystem ℕ) → Among f world.filesystems → (is_overlay (replaced_if_numbered nat_eq new f) ≡ is_overlay f)
+  kind_same : (f : Filesystem ℕ) → Among f world.filesystems
+      → (is_overlay (replaced_if_numbered nat_eq new f) ≡ is_overlay f)
       × (is_overlay f ≡ true → replaced_if_numbered nat_eq new f ≡ f)
   kind_same f m = by (nat_eq new.number f.number) refl
     where
       plain_there : nat_eq new.number f.number ≡ true → is_overlay f ≡ false
       plain_there e =
           ap is_overlay (sym (found_filesystem world.filesystems conditions.files.one_filesystem f m))
-          ∙ ap (λ n. is_overlay (filesystem_numbered nat_eq world n)) (sym (eqb-true new.number f.number e) ∙ new_number) ∙ ap is_some plain
+          ∙ ap (λ n. is_overlay (filesystem_numbered nat_eq world n))
+          (sym (eqb-true new.number f.number e) ∙ new_number) ∙ ap is_some plain
 
-      by : (b : Bool) → nat_eq new.number f.number ≡ b → (is_overlay (cond b new f) ≡ is_overlay f) × (is_overlay f ≡ true → cond b new f ≡ f)
+      by : (b : Bool) → nat_eq new.number f.number ≡ b
+          → (is_overlay (cond b new f) ≡ is_overlay f) × (is_overlay f ≡ true → cond b new f ≡ f)
       by true e = (ap is_some plain ∙ sym (plain_there e), λ over. absurd (true≢false (sym over ∙ plain_there e)))
       by false e = (refl, λ over. refl)
 
@@ -150,14 +166,18 @@ module _ (fresh : Fresh ℕ) (world : World ℕ) (location : Location ℕ) (chan
       by [] all = refl
       by (first ∷ rest) all =
           let same = kind_same first (all first (inl refl)) in
-          ap (λ b. cond b (replaced_if_numbered nat_eq new first ∷ filter is_overlay (map (replaced_if_numbered nat_eq new) rest))
+          ap (λ b. cond b (replaced_if_numbered nat_eq new first
+          ∷ filter is_overlay (map (replaced_if_numbered nat_eq new) rest))
           (filter is_overlay (map (replaced_if_numbered nat_eq new) rest))) same.0
           ∙ one (is_overlay first) refl same.1 (by rest (λ f m. all f (inr m)))
         where
-          one : (b : Bool) → is_overlay first ≡ b → (is_overlay first ≡ true → replaced_if_numbered nat_eq new first ≡ first)
+          one : (b : Bool) → is_overlay first ≡ b
+              → (is_overlay first ≡ true → replaced_if_numbered nat_eq new first ≡ first)
               → filter is_overlay (map (replaced_if_numbered nat_eq new) rest) ≡ filter is_overlay rest
-              → cond b (replaced_if_numbered nat_eq new first ∷ filter is_overlay (map (replaced_if_numbered nat_eq new) rest))
-              (filter is_overlay (map (replaced_if_numbered nat_eq new) rest)) ≡ cond b (first ∷ filter is_overlay rest) (filter is_overlay rest)
+              → cond b (replaced_if_numbered nat_eq new first
+              ∷ filter is_overlay (map (replaced_if_numbered nat_eq new) rest))
+              (filter is_overlay (map (replaced_if_numbered nat_eq new) rest))
+              ≡ cond b (first ∷ filter is_overlay rest) (filter is_overlay rest)
           one true e same later_same = (λ i. same e i ∷ later_same i)
           one false e same later_same = later_same
 
@@ -165,7 +185,8 @@ module _ (fresh : Fresh ℕ) (world : World ℕ) (location : Location ℕ) (chan
   elsewhere n differ = filesystem_elsewhere world new n (λ same. differ (same ∙ new_number))
 
   -- what is there of the one that changes
-  at_place : (P : Filesystem ℕ → Type 0) → P new → (inode : ℕ) → is_some (inode_in world place inode) ≡ true → P (filesystem_numbered nat_eq later place)
+  at_place : (P : Filesystem ℕ → Type 0) → P new → (inode : ℕ) → is_some (inode_in world place inode) ≡ true
+      → P (filesystem_numbered nat_eq later place)
   at_place P is inode there =
       filesystem_there P world new place (sym new_number) is
       (λ none. absurd (true≢false (sym there ∙ ap (λ (f : Filesystem ℕ). is_some (f.files.tree.node inode)) none)))
@@ -187,10 +208,13 @@ module _ (fresh : Fresh ℕ) (world : World ℕ) (location : Location ℕ) (chan
 
       other : (nat_eq n place ≡ false) × (n ≢ place) → IsKept (inode_in world n inode) (inode_in later n inode)
       other t =
-          kept_same (inode_in world n inode) (inode_in later n inode) (ap (λ (f : Filesystem ℕ). f.files.tree.node inode) (elsewhere n t.1))
+          kept_same (inode_in world n inode) (inode_in later n inode)
+          (ap (λ (f : Filesystem ℕ). f.files.tree.node inode) (elsewhere n t.1))
 
-  module _ (number : ℕ) (overlay : Overlay ℕ) (is : (filesystem_numbered nat_eq world number).overlay ≡ Some overlay) where
-    locked_in : (layer : Layer ℕ) → Among layer (layers_of overlay) → (inode : ℕ) → lies_or_counts_under nat_eq world layer.filesystem inode layer ≡ true
+  module _ (number : ℕ) (overlay : Overlay ℕ)
+      (is : (filesystem_numbered nat_eq world number).overlay ≡ Some overlay) where
+    locked_in : (layer : Layer ℕ) → Among layer (layers_of overlay) → (inode : ℕ)
+        → lies_or_counts_under nat_eq world layer.filesystem inode layer ≡ true
         → is_locked nat_eq world layer.filesystem inode ≡ true
     locked_in layer m inode lies =
         any_from_among (lies_or_counts_under nat_eq world layer.filesystem inode) (live_layers world) layer
@@ -211,12 +235,14 @@ module _ (fresh : Fresh ℕ) (world : World ℕ) (location : Location ℕ) (chan
         → IsKept (inode_in world layer.filesystem object) (inode_in later layer.filesystem object)
     own layer object e of =
         kept layer.filesystem object
-        (locked_in layer (upper_in_layers world conditions number overlay is layer e) object (object_counts world conditions number overlay is layer e object of))
+        (locked_in layer (upper_in_layers world conditions number overlay is layer e) object
+        (object_counts world conditions number overlay is layer e object of))
         (ap (holds_of (λ l. is_there nat_eq world l.filesystem object)) (sym e)
         ∙ (conditions.overlays.overlays_merge number overlay is).upper_there of.0 object of.1)
 
     -- names lead to the upper directory still
-    reached : (top : Layer ℕ) → overlay.upper ≡ Some top → IsReached (filesystem_numbered nat_eq later top.filesystem).files.tree top.directory
+    reached : (top : Layer ℕ) → overlay.upper ≡ Some top
+        → IsReached (filesystem_numbered nat_eq later top.filesystem).files.tree top.directory
     reached top e = ⊎_elim here other (eqb_tells top.filesystem place)
       where
         among : Among top (layers_of overlay)
@@ -234,27 +260,37 @@ module _ (fresh : Fresh ℕ) (world : World ℕ) (location : Location ℕ) (chan
         directory : Rattle.vt_spec.specs.Tree.is_directory_node (inode_in world top.filesystem top.directory) ≡ true
         directory = and_second (not (is_overlay (filesystem_numbered nat_eq world top.filesystem))) _ top_plain
 
-        here : (nat_eq top.filesystem place ≡ true) × (top.filesystem ≡ place) → IsReached (filesystem_numbered nat_eq later top.filesystem).files.tree top.directory
+        here : (nat_eq top.filesystem place ≡ true) × (top.filesystem ≡ place)
+            → IsReached (filesystem_numbered nat_eq later top.filesystem).files.tree top.directory
         here t =
             subst (λ k. IsReached (filesystem_numbered nat_eq later k).files.tree top.directory) (sym t.1)
             (at_place (λ f. IsReached f.files.tree top.directory)
-            (change_reaches old.files change (subst (λ k. IsTree (filesystem_numbered nat_eq world k).files.tree) t.1 (layer_tree world conditions top top_plain)) may top.directory
-            (name_spared old.files change top.directory (locks.spares top.directory (subst (λ k. is_locked nat_eq world k top.directory ≡ true) t.1 locked)))
-            (subst (λ k. Rattle.vt_spec.specs.Tree.is_directory_node (inode_in world k top.directory) ≡ true) t.1 directory)
+            (change_reaches old.files change
+            (subst (λ k. IsTree (filesystem_numbered nat_eq world k).files.tree) t.1
+            (layer_tree world conditions top top_plain)) may top.directory
+            (name_spared old.files change top.directory
+            (locks.spares top.directory (subst (λ k. is_locked nat_eq world k top.directory ≡ true) t.1 locked)))
+            (subst (λ k. Rattle.vt_spec.specs.Tree.is_directory_node (inode_in world k top.directory)
+            ≡ true) t.1 directory)
             (subst (λ k. IsReached (filesystem_numbered nat_eq world k).files.tree top.directory) t.1 was)).1
             top.directory
             (Rattle.vt_spec.proofs.Nodes.directory_used old.files.tree top.directory
-            (subst (λ k. Rattle.vt_spec.specs.Tree.is_directory_node (inode_in world k top.directory) ≡ true) t.1 directory)))
+            (subst (λ k. Rattle.vt_spec.specs.Tree.is_directory_node (inode_in world k top.directory)
+            ≡ true) t.1 directory)))
 
-        other : (nat_eq top.filesystem place ≡ false) × (top.filesystem ≢ place) → IsReached (filesystem_numbered nat_eq later top.filesystem).files.tree top.directory
-        other t = subst (λ (f : Filesystem ℕ). IsReached f.files.tree top.directory) (sym (elsewhere top.filesystem t.1)) was
+        other : (nat_eq top.filesystem place ≡ false) × (top.filesystem ≢ place)
+            → IsReached (filesystem_numbered nat_eq later top.filesystem).files.tree top.directory
+        other t = subst (λ (f : Filesystem ℕ). IsReached f.files.tree top.directory)
+            (sym (elsewhere top.filesystem t.1)) was
 
-  goes_on : (number : ℕ) (after : Overlay ℕ) → (filesystem_numbered nat_eq later number).overlay ≡ Some after → GoesOn world later number after
+  goes_on : (number : ℕ) (after : Overlay ℕ) → (filesystem_numbered nat_eq later number).overlay ≡ Some after
+      → GoesOn world later number after
   goes_on number after e = ⊎_elim here other (eqb_tells number place)
     where
       here : (nat_eq number place ≡ true) × (number ≡ place) → GoesOn world later number after
       here t =
-          none_is_some after (sym (filesystem_there (λ f. f.overlay ≡ None) world new place (sym new_number) plain (λ none. refl))
+          none_is_some after (sym (filesystem_there (λ f. f.overlay ≡ None) world new place (sym new_number) plain
+          (λ none. refl))
           ∙ ap (λ k. (filesystem_numbered nat_eq later k).overlay) (sym t.1) ∙ e)
 
       other : (nat_eq number place ≡ false) × (number ≢ place) → GoesOn world later number after
@@ -278,7 +314,8 @@ module _ (fresh : Fresh ℕ) (world : World ℕ) (location : Location ℕ) (chan
 
   pub overlays_later : OverlayInvariants nat_eq later
   overlays_later =
-      overlays_go_on world later (are_trees world conditions.files) conditions.overlays (are_trees later trees_later) goes_on
+      overlays_go_on world later (are_trees world conditions.files) conditions.overlays
+      (are_trees later trees_later) goes_on
       (λ test e. ap (λ l. any_pair test (flat_map (of_overlay [] upper_and_work) l)) overlays_same ∙ e)
 
   pub plain_change_keeps_trees : TreeInvariants nat_eq (with_change nat_eq fresh world location change)

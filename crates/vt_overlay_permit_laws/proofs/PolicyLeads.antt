@@ -1,4 +1,5 @@
--- What holds of a world, and of what each granted call leaves when what nothing uses is gone and numbers are raised, holds of what
+-- What holds of a world, and of what each granted call leaves when what nothing uses is gone and numbers are raised,
+-- holds of what
 -- the policy leaves.
 use Rattle.std.proofs.Common.{◌≡◌, refl, sym, ap, subst, ◌∙◌, ℕ, nat_eq, Bool, true, false, List, ◌||◌, not, Option, Some, None, Result, Ok, Err, is_ok, ok_or, true≢false}
 use Rattle.std.proofs.lemmas.Bool.{or_parts}
@@ -19,14 +20,16 @@ use Rattle.vt_laws.proofs.OwnRules.{denial_changes_nothing}
 use Rattle.vt_laws.proofs.Unchanged.{look_changes_nothing}
 use Rattle.vt_world_laws.proofs.CallsKept.{name_found}
 
-module _ (Holds : World ℕ → Type 0) (world : World ℕ) (fresh : Fresh ℕ) (name : TaskName) (call : Call) (is : Holds world) where
+module _ (Holds : World ℕ → Type 0) (world : World ℕ) (fresh : Fresh ℕ) (name : TaskName) (call : Call)
+    (is : Holds world) where
   abbrev Left : Type 0
   Left = Holds (policy nat_eq fresh world name call).world
 
   stays : (policy nat_eq fresh world name call).world ≡ world → Left
   stays same = subst Holds (sym same) is
 
-  refused : (answer : Result Answer Deny) → (policy nat_eq fresh world name call).answer ≡ answer → is_ok answer ≡ false → Left
+  refused : (answer : Result Answer Deny) → (policy nat_eq fresh world name call).answer ≡ answer → is_ok answer ≡ false
+      → Left
   refused (Ok a) e denied = absurd (true≢false denied)
   refused (Err deny) e denied = stays (denial_changes_nothing fresh world name call deny e)
 

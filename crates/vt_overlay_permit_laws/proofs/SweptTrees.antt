@@ -25,11 +25,13 @@ module _ (used : List ℕ) (files : FileTree ℕ) (holds : HoldsTree used files)
   entry_same : (directory : ℕ) (name : List ℕ) → entry_at left directory name ≡ entry_at files.tree directory name
   entry_same directory name = by (is_among nat_eq directory used) refl
     where
-      unused : is_among nat_eq directory used ≡ false → (o : Option ℕ) → entry_at files.tree directory name ≡ o → o ≡ None
+      unused : is_among nat_eq directory used ≡ false → (o : Option ℕ) → entry_at files.tree directory name ≡ o
+          → o ≡ None
       unused e None f = refl
       unused e (Some number) f = absurd (true≢false (sym (entry_used used files holds is directory name number f) ∙ e))
 
-      by : (b : Bool) → is_among nat_eq directory used ≡ b → entry_at left directory name ≡ entry_at files.tree directory name
+      by : (b : Bool) → is_among nat_eq directory used ≡ b
+          → entry_at left directory name ≡ entry_at files.tree directory name
       by true e = ap (λ o. entry_named name (entries_in o)) (used_node directory e)
       by false e =
           ap (λ b. entry_named name (entries_in (cond b (files.tree.node directory) None))) e
@@ -37,14 +39,16 @@ module _ (used : List ℕ) (files : FileTree ℕ) (holds : HoldsTree used files)
 
   pub led_same : (path : List (List ℕ)) (from : ℕ) → led left from path ≡ led files.tree from path
   led_same [] from = refl
-  led_same (name ∷ path) from = ap (option_and_then (λ next. led left next path)) (entry_same from name) ∙ by (entry_at files.tree from name) (led_same path)
+  led_same (name ∷ path) from = ap (option_and_then (λ next. led left next path)) (entry_same from name)
+      ∙ by (entry_at files.tree from name) (led_same path)
     where
       by : (o : Option ℕ) → ((next : ℕ) → led left next path ≡ led files.tree next path)
           → option_and_then (λ next. led left next path) o ≡ option_and_then (λ next. led files.tree next path) o
       by None same = refl
       by (Some next) same = same next
 
-  pub led_used : (path : List (List ℕ)) (from number : ℕ) → IsUsed from → led files.tree from path ≡ Some number → IsUsed number
+  pub led_used : (path : List (List ℕ)) (from number : ℕ) → IsUsed from → led files.tree from path ≡ Some number
+      → IsUsed number
   led_used [] from number e f = subst IsUsed (some_is_one from number f) e
   led_used (name ∷ path) from number e f =
       let step = found (λ next. led files.tree next path) (entry_at files.tree from name) number f in

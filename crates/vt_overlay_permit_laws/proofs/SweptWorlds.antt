@@ -46,7 +46,8 @@ module _ (world : World ℕ) (under : IsUnderWay world) (are : OverlayInvariants
   mounted_overlays = overlays_in mounted world refl are
 
   pub files_living : HasFileTrees living
-  files_living = All-filter (filesystem_lives nat_eq mounted) (λ (f : Filesystem ℕ). IsFileTree f.files) world.filesystems files
+  files_living = All-filter (filesystem_lives nat_eq mounted)
+      (λ (f : Filesystem ℕ). IsFileTree f.files) world.filesystems files
 
   pub one_living : any_pair (λ (a b : Filesystem ℕ). nat_eq a.number b.number) living.filesystems ≡ false
   one_living = (living_files mounted (file_trees_are mounted files one) mounted_overlays).one_filesystem
@@ -59,7 +60,8 @@ module _ (world : World ℕ) (under : IsUnderWay world) (are : OverlayInvariants
 
   overlays_second : OverlayInvariants nat_eq second
   overlays_second =
-      second_overlays first (files_later is_overlay living files_living one_living) (one_later is_overlay living files_living one_living) overlays_first
+      second_overlays first (files_later is_overlay living files_living one_living)
+      (one_later is_overlay living files_living one_living) overlays_first
 
   pub overlays_settled : OverlayInvariants nat_eq (settled nat_eq world)
   overlays_settled = overlays_in (settled nat_eq world) second refl overlays_second
@@ -67,12 +69,16 @@ module _ (world : World ℕ) (under : IsUnderWay world) (are : OverlayInvariants
   -- no upper layer is in an overlay
   uppers_plain : UppersArePlain world
   uppers_plain =
-      all_from_among (λ (f : Filesystem ℕ). is_overlay f ≡ true → All (λ (merged : Filesystem ℕ). has_upper_in f.number merged ≡ false) world.filesystems) world.filesystems (λ f m over.
+      all_from_among (λ (f : Filesystem ℕ). is_overlay f ≡ true
+      → All (λ (merged : Filesystem ℕ). has_upper_in f.number merged ≡ false) world.filesystems) world.filesystems
+      (λ f m over.
       all_from_among (λ (merged : Filesystem ℕ). has_upper_in f.number merged ≡ false) world.filesystems (λ merged n.
       by f m over merged (found_filesystem world.filesystems one merged n) merged.overlay refl))
     where
-      in_it : (f : Filesystem ℕ) → Among f world.filesystems → is_overlay f ≡ true → (merged : Filesystem ℕ) (v : Overlay ℕ)
-          → (filesystem_numbered nat_eq world merged.number).overlay ≡ Some v → (upper : Option (Layer ℕ)) → v.upper ≡ upper
+      in_it : (f : Filesystem ℕ) → Among f world.filesystems → is_overlay f ≡ true
+          → (merged : Filesystem ℕ) (v : Overlay ℕ)
+          → (filesystem_numbered nat_eq world merged.number).overlay ≡ Some v → (upper : Option (Layer ℕ))
+          → v.upper ≡ upper
           → holds_of (λ layer. nat_eq f.number layer.filesystem) upper ≡ false
       in_it f m over merged v is None u = refl
       in_it f m over merged v is (Some top) u = tested (nat_eq f.number top.filesystem) refl
@@ -84,14 +90,17 @@ module _ (world : World ℕ) (under : IsUnderWay world) (are : OverlayInvariants
               (sym (and_first (not (is_overlay (filesystem_numbered nat_eq world top.filesystem))) _
               (plain_layer world (are_trees world under.files) are merged.number v is top
               (subst (λ o. Among top (option_to_list o ++ option_to_list v.work ++ v.lowers)) (sym u) (inl refl))))
-              ∙ ap (λ k. not (is_overlay (filesystem_numbered nat_eq world k))) (sym (eqb-true f.number top.filesystem e))
-              ∙ ap (λ (g : Filesystem ℕ). not (is_overlay g)) (found_filesystem world.filesystems one f m) ∙ ap not over))
+              ∙ ap (λ k. not (is_overlay (filesystem_numbered nat_eq world k)))
+              (sym (eqb-true f.number top.filesystem e))
+              ∙ ap (λ (g : Filesystem ℕ). not (is_overlay g)) (found_filesystem world.filesystems one f m)
+              ∙ ap not over))
 
       by : (f : Filesystem ℕ) → Among f world.filesystems → is_overlay f ≡ true → (merged : Filesystem ℕ)
           → filesystem_numbered nat_eq world merged.number ≡ merged → (o : Option (Overlay ℕ)) → merged.overlay ≡ o
           → overlay_or false (λ v. holds_of (λ layer. nat_eq f.number layer.filesystem) v.upper) o ≡ false
       by f m over merged itself None e = refl
-      by f m over merged itself (Some v) e = in_it f m over merged v (ap (λ (g : Filesystem ℕ). g.overlay) itself ∙ e) v.upper refl
+      by f m over merged itself (Some v) e = in_it f m over merged v
+          (ap (λ (g : Filesystem ℕ). g.overlay) itself ∙ e) v.upper refl
 
   pub settled_is_a_world : IsWorld nat_eq (settled nat_eq world)
   settled_is_a_world = record {

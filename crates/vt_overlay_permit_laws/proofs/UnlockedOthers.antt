@@ -37,7 +37,8 @@ use Rattle.vt_spec.specs.Rights.{cap_sys_admin, cap_sys_chroot, owns}
 use Rattle.vt_tree_laws.proofs.TreesWalked.{ends_anyhow}
 use Rattle.vt_world_laws.proofs.ReachedWalks.{End, FoundDirectory, directory_walk_end, object_end}
 
-module _ (world : World ℕ) (whole : IsWorld nat_eq world) (task : Task ℕ) (called : task_called world task.name ≡ Some task)
+module _ (world : World ℕ) (whole : IsWorld nat_eq world) (task : Task ℕ)
+    (called : task_called world task.name ≡ Some task)
     (fresh : Fresh ℕ) (serves : Serves nat_eq world fresh) where
   abbrev looks : Looks ℕ
   looks = looks_of nat_eq world
@@ -95,7 +96,8 @@ module _ (world : World ℕ) (whole : IsWorld nat_eq world) (task : Task ℕ) (c
   abbrev EndHere : Here ℕ → Type 0
   EndHere here = End world whole task called here.location
 
-  attr_spared : (object : Location ℕ) (allowed : Bool) (attr : Attr) → Spared (attr_permit nat_eq looks object allowed attr)
+  attr_spared : (object : Location ℕ) (allowed : Bool) (attr : Attr)
+      → Spared (attr_permit nat_eq looks object allowed attr)
   attr_spared object allowed attr =
       gives_unless Spares (attr_rules looks object allowed attr) _
       (λ passed. record { spares = λ inode locked. differs world whole task called fresh serves object passed.1.1.0 _ refl inode locked; layer = tt })
@@ -103,14 +105,16 @@ module _ (world : World ℕ) (whole : IsWorld nat_eq world) (task : Task ℕ) (c
   chmod_spared : (path : List ℕ) (mode : ℕ) → Spared (chmod_permit nat_eq looks task path mode)
   unfolding chmod_permit
   chmod_spared path mode =
-      gives_walk Spares EndHere (object_walk nat_eq looks task path) _ (object_end world whole task called path) (λ here is.
+      gives_walk Spares EndHere (object_walk nat_eq looks task path) _ (object_end world whole task called path)
+      (λ here is.
       attr_spared here.location (owns task.credentials (attr_at looks here.location))
       (attr_with_mode (attr_at looks here.location) mode))
 
   chown_spared : (path : List ℕ) (uid gid : Option ℕ) → Spared (chown_permit nat_eq looks task path uid gid)
   unfolding chown_permit
   chown_spared path uid gid =
-      gives_walk Spares EndHere (object_walk nat_eq looks task path) _ (object_end world whole task called path) (λ here is.
+      gives_walk Spares EndHere (object_walk nat_eq looks task path) _ (object_end world whole task called path)
+      (λ here is.
       attr_spared here.location
       (may_chown task.credentials (attr_at looks here.location) (attr_with_owner (attr_at looks here.location) uid gid))
       (attr_with_owner (attr_at looks here.location) uid gid))
@@ -182,7 +186,8 @@ module _ (world : World ℕ) (whole : IsWorld nat_eq world) (task : Task ℕ) (c
   abbrev too_many : Permit ℕ → Bool
   too_many = overfills nat_eq fresh world task
 
-  mount_spared : (path : List ℕ) (flags : MountFlags) → Spared (mount_plain_permit nat_eq looks too_many task path flags)
+  mount_spared : (path : List ℕ) (flags : MountFlags)
+      → Spared (mount_plain_permit nat_eq looks too_many task path flags)
   unfolding mount_plain_permit
   mount_spared path flags =
       gives_unless Spares (admin_rules task) _ (λ admin.
@@ -225,13 +230,15 @@ module _ (world : World ℕ) (whole : IsWorld nat_eq world) (task : Task ℕ) (c
       gives_walk Spares (λ here. ⊤) (destination_walk nat_eq looks task path) _
       (ends_anyhow (destination_walk nat_eq looks task path)) (λ here any. by here.location options))
     where
-      by : (place : Location ℕ) (o : Option OverlayWords) → Spared (overlay_permit_by nat_eq looks too_many task place o flags)
+      by : (place : Location ℕ) (o : Option OverlayWords)
+          → Spared (overlay_permit_by nat_eq looks too_many task place o flags)
       by place None = tt
       by place (Some words) =
           gives_then Spares (layers_walked nat_eq looks task words) _ (λ places e.
           gives_unless Spares (layer_rules nat_eq looks places (overlay_at looks task places)) _ (λ passed.
           gives_unless Spares
-          (new_mount_rules nat_eq looks task place (too_many (ToMountOverlay place (overlay_at looks task places) flags))) _
+          (new_mount_rules nat_eq looks task place
+          (too_many (ToMountOverlay place (overlay_at looks task places) flags))) _
           (λ last. tt)))
 
   umount_spared : (path : List ℕ) → Spared (umount_permit nat_eq looks task path)
@@ -321,5 +328,6 @@ module _ (world : World ℕ) (whole : IsWorld nat_eq world) (task : Task ℕ) (c
 
 pub permits_spare_what_is_locked : PermitsSpareWhatIsLocked
 permits_spare_what_is_locked world fresh task call permit whole serves called judged =
-    given_is (λ p. SparesLockedIf world (change_asked fresh world p)) (judge_in nat_eq fresh world task call) permit judged
+    given_is (λ p. SparesLockedIf world (change_asked fresh world p))
+    (judge_in nat_eq fresh world task call) permit judged
     (call_spared world whole task called fresh serves call)

@@ -6,3 +6,4 @@ pub mod EveryWorld
 pub mod LockedOverScripts
 pub mod MountedOverScripts
 pub mod Through
+pub mod HiddenOverScripts

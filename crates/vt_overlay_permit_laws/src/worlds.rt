@@ -1,4 +1,5 @@
 //! Every world that a script leads to has the invariants of a world, with overlays too.
+ghost use Rattle.vt_overlay_permit_laws.specs.HiddenOverScripts.{EveryCallUncoversNothing, HiddenOverScripts};
 ghost use Rattle.vt_overlay_permit_laws.specs.LockedOverScripts.{EveryCallLeavesLowers, LowersStayOverScripts};
 ghost use Rattle.vt_overlay_permit_laws.specs.MountedOverScripts.{MountedAnewOverScripts, SameLayersOverScripts};
 ghost use Rattle.vt_overlay_permit_laws.specs.EveryWorld.{EveryCallKeepsWorlds, EveryScriptLeadsToWorlds, SettlingLeavesEveryWorld};
@@ -28,6 +29,13 @@ pub fn the_sweep_leaves_a_world()
 pub fn lower_layers_are_locked_over_scripts()
     ensures calls { EveryCallLeavesLowers }
     ensures scripts { LowersStayOverScripts }
+{}
+
+/// What a lower layer of an overlay shows at a path after a call, or after any lines of a script, it showed there before:
+/// what a change hid by a whiteout, an opaque mark or an upper object does not show again while the overlay is live.
+pub fn what_is_hidden_stays_hidden()
+    ensures calls { EveryCallUncoversNothing }
+    ensures scripts { HiddenOverScripts }
 {}
 
 /// An overlay that is mounted anew, in a world that a script leads to, over layers that lead everywhere to what the
