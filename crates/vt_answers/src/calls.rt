@@ -1,18 +1,20 @@
 //! The trait `Calls`.
-ghost use Rattle.std.specs.Prelude.{◌≡◌, IfErr, IfOk, true, ℕ};
+ghost use Rattle.std.specs.Prelude.{◌≡◌, IfErr, IfOk, Ok, nat_eq, true, ℕ};
 ghost use Rattle.vt_spec.specs.declared.errors.Rule.TheVariants.{S5};
 ghost use Rattle.vt_spec.specs.Errors.{denial};
-ghost use Rattle.vt_spec.specs.Language.Script.{namespaces};
+ghost use Rattle.vt_spec.specs.Language.Script.{propagation};
+ghost use Rattle.vt_spec.specs.Machine.Sealed.{directed};
 ghost use Rattle.vt_spec.specs.Machine.World.{World};
-ghost use Rattle.vt_request.specs.Requests.{call_of};
+ghost use Rattle.vt_request.specs.Answers.{answer_of};
+ghost use Rattle.vt_request.specs.Requests.{call_of, directive_of};
 ghost use Rattle.vt_answers.specs.Ends.{Ends};
 ghost use Rattle.vt_answers.specs.Numbers.{HasNumbers, IsOpened};
 
 use std::alloc::Global;
-use vt_request::{Answer, Call, TaskName};
+use vt_request::{Answer, Call, Directive, TaskName};
 use vt_spec::errors::Deny;
 
-/// A world whose tasks make calls.
+/// A world whose tasks make calls, and of which directives ask.
 pub trait Calls {
     // the world that the definitions see
     ghost world: { Self → World ℕ };
@@ -29,8 +31,16 @@ pub trait Calls {
     /// S2 (ESRCH): there is no such task. S5 (ENOMEM): an allocation failed, or a count of uses is full. The other
     /// rules are those of the call, in its order.
     fn call(&mut self, name: &TaskName, call: Call) -> Result<Answer, Deny>
-        requires { namespaces.has (call_of call) ≡ true }
+        requires { propagation.has (call_of call) ≡ true }
         ensures { Ends world self.old name.now (call_of call) result self.new };
+
+    /// What a directive tells. It is nobody's call, and changes nothing.
+    ///
+    /// S5 (ENOMEM): an allocation failed.
+    fn direct(&self, directive: Directive) -> Result<Answer, Deny>
+        ensures ok { IfOk result (λ answer. (directed nat_eq (world self.now) (directive_of directive)).answer
+            ≡ Ok (answer_of answer)) }
+        ensures memory { IfErr result (λ deny. deny ≡ denial S5) };
 
     /// A theorem about every such world, which does nothing: there are numbers for what a line may make.
     fn has_numbers(&self)

@@ -1,5 +1,5 @@
-//! What answers the calls of tasks as the policy does, as a trait: scripts are answered alike however the world is
-//! kept.
+//! What answers the calls of tasks, and directives, as the policy does, as a trait: scripts are answered alike however
+//! the world is kept.
 #![tactic(auto)]
 
 mod calls;

@@ -1,4 +1,5 @@
--- Mounts were added and tasks went from locations to others of the same inodes, and mounts are to be detached: what code counts
+-- Mounts were added and tasks went from locations to others of the same inodes, and mounts are to be detached: what
+-- code counts
 -- before it detaches them. So does unshare(2), where a namespace ends with it.
 use Rattle.std.proofs.Common.{◌≡◌, refl, sym, ap, subst, ◌∙◌, ◌⊎◌, ⊎_elim, inl, inr, ℕ, ◌+◌, nat_eq, eqb-true, eq-eqb, Bool, true, false, true≢false, cond, not, ◌&&◌, ◌||◌, List, [], ◌∷◌, ◌++◌, map, flat_map, Option, Some, None, is_some, arith}
 use Rattle.std.specs.Prelude.{option_to_list}
@@ -28,7 +29,7 @@ use Rattle.vt_mount.specs.MountsValue.{MountEntry, mounts_in}
 use Rattle.vt_tasks.specs.TasksValue.{Tasks}
 use Rattle.vt_world_laws.proofs.RaisedInUse.{worlds_are_in_use}
 use Rattle.vt_letting_go.proofs.UpperUses.{times_append}
-use Rattle.vt_detach.specs.Held.{CountsItsMounts, IsHeld, is_ungrouped, writes_of}
+use Rattle.vt_detach.specs.Held.{CountsItsMounts, IsHeld, writes_of}
 use Rattle.vt_detach.specs.Uses.{Kept, is_unused}
 use Rattle.vt_detach.specs.WorldValue.{WorldValue, world_of}
 use Rattle.vt_detach.proofs.LostUses.{OneNumber}
@@ -37,7 +38,8 @@ use Rattle.vt_detach.proofs.MidwayBegins as Begins
 use Rattle.vt_detach.proofs.Moving.{Moves}
 use Rattle.vt_detach.proofs.Staying.{world_is_plain}
 
-flat_alike : {A B : Type 0} (f g : A → List B) (xs : List A) → ((x : A) → Among x xs → f x ≡ g x) → flat_map f xs ≡ flat_map g xs
+flat_alike : {A B : Type 0} (f g : A → List B) (xs : List A) → ((x : A) → Among x xs → f x ≡ g x)
+    → flat_map f xs ≡ flat_map g xs
 flat_alike f g [] same = refl
 flat_alike f g (x ∷ xs) same = λ i. same x (inl refl) i ++ flat_alike f g xs (λ y m. same y (inr m)) i
 
@@ -56,30 +58,36 @@ nothing_moves value = record {
 abbrev pub with_added : WorldValue → List (Mount ℕ) → Tasks → World ℕ
 with_added value added tasks = record (world_of value) { mounts = (world_of value).mounts ++ added; tasks = tasks }
 
-pub record IsAdded (value : WorldValue) (added : List (Mount ℕ)) (tasks : Tasks) (more less : List (Location ℕ)) (goes : Mount ℕ → Bool) : Type 0 where
+pub record IsAdded (value : WorldValue) (added : List (Mount ℕ)) (tasks : Tasks) (more less : List (Location ℕ))
+    (goes : Mount ℕ → Bool) : Type 0 where
   pub front : List (Location ℕ)
   pub back : List (Location ℕ)
   pub was : all_locations (world_of value) ≡ front ++ (less ++ back)
   pub is : all_locations (with_added value added tasks) ≡ front ++ (more ++ back)
-  pub same_inodes : map (inode_at (with_added value added tasks)) more ≡ map (inode_at (with_added value added tasks)) less
-  pub there : list_all (λ location. is_among nat_eq location.mount (map (λ mount. mount.number) (with_added value added tasks).mounts)) more ≡ true
+  pub same_inodes : map (inode_at (with_added value added tasks)) more
+      ≡ map (inode_at (with_added value added tasks)) less
+  pub there : list_all (λ location.
+      is_among nat_eq location.mount (map (λ mount. mount.number) (with_added value added tasks).mounts)) more ≡ true
   pub writes : (mount : ℕ) → writes_of mount tasks ≡ writes_of mount value.tasks
   pub one_number : OneNumber (with_added value added tasks).mounts
   pub attached : (mount : Mount ℕ) → Among mount added → is_some mount.namespace ≡ true
-  pub ungrouped : (mount : Mount ℕ) → Among mount added → is_ungrouped mount.propagation ≡ true
   pub stays : (mount : Mount ℕ) → Among mount added → goes mount ≡ false
   -- a mount point of theirs is on a mount that stays
   pub parent : (mount : Mount ℕ) → Among mount added → (place : Location ℕ) → mount.mount_point ≡ Some place
-      → (is_some (mount_at nat_eq (with_added value added tasks) place).namespace ≡ true) × (goes (mount_at nat_eq (with_added value added tasks) place) ≡ false)
+      → (is_some (mount_at nat_eq (with_added value added tasks) place).namespace ≡ true)
+      × (goes (mount_at nat_eq (with_added value added tasks) place) ≡ false)
   -- a location that was left was on an attached mount, or is one still
-  pub left : (location : Location ℕ) → Among location less → (is_some (mount_at nat_eq (world_of value) location).namespace ≡ true) ⊎ Among location more
+  pub left : (location : Location ℕ) → Among location less
+      → (is_some (mount_at nat_eq (world_of value) location).namespace ≡ true) ⊎ Among location more
 
 -- what code counts then
-pub record KeepsAdded (value : WorldValue) (added : List (Mount ℕ)) (more less : List (Location ℕ)) (gained : List Inode) (k : Kept) : Type 0 where
+pub record KeepsAdded (value : WorldValue) (added : List (Mount ℕ)) (more less : List (Location ℕ))
+    (gained : List Inode) (k : Kept) : Type 0 where
   pub mounts : mounts_in k.mounts ≡ (world_of value).mounts ++ added
   pub uses : (entry : MountEntry) → Among entry k.mounts
       → entry.uses + times (λ location. nat_eq entry.mount.number location.mount) less
-      ≡ mount_uses (world_of value) entry.mount.number + times (λ location. nat_eq entry.mount.number location.mount) more
+      ≡ mount_uses (world_of value) entry.mount.number + times
+      (λ location. nat_eq entry.mount.number location.mount) more
   pub writers : (entry : MountEntry) → Among entry k.mounts → entry.writers ≡ writes_of entry.mount.number value.tasks
   pub filesystems : k.filesystems
       ≡ map (λ (one : Shown). record one {
@@ -87,11 +95,15 @@ pub record KeepsAdded (value : WorldValue) (added : List (Mount ℕ)) (more less
         mounts = one.mounts + times (λ (mount : Mount ℕ). nat_eq (counted one.count) mount.filesystem) added;
       }) (shown value.filesystems)
 
-module _ (value : WorldValue) (whole : IsHeld value) (added : List (Mount ℕ)) (tasks : Tasks) (more less : List (Location ℕ))
+module _ (value : WorldValue) (whole : IsHeld value) (added : List (Mount ℕ)) (tasks : Tasks)
+    (more less : List (Location ℕ))
     (inside : Option ℕ → Bool) (nowhere_stays : inside None ≡ false) (namespaces : List (Namespace ℕ))
-    (is : IsAdded value added tasks more less (λ mount. inside mount.namespace)) (gained : List Inode) (k : Kept) (keeps : KeepsAdded value added more less gained k)
-    (uses_gained : (test : Inode → Bool) → times test (map (inode_at (with_added value added tasks)) (places_of added)) ≡ times test gained)
-    (gained_there : (was : FilesystemEntry) → Among was value.filesystems → AreThere (counted was.count) (inodes_seen was) gained) where
+    (is : IsAdded value added tasks more less (λ mount. inside mount.namespace)) (gained : List Inode) (k : Kept)
+    (keeps : KeepsAdded value added more less gained k)
+    (uses_gained : (test : Inode → Bool)
+    → times test (map (inode_at (with_added value added tasks)) (places_of added)) ≡ times test gained)
+    (gained_there : (was : FilesystemEntry) → Among was value.filesystems
+    → AreThere (counted was.count) (inodes_seen was) gained) where
   abbrev world : World ℕ
   world = world_of value
 
@@ -102,7 +114,8 @@ module _ (value : WorldValue) (whole : IsHeld value) (added : List (Mount ℕ)) 
   goes mount = inside mount.namespace
 
   goes_attached : (mount : Mount ℕ) → goes mount ≡ true → is_some mount.namespace ≡ true
-  goes_attached = Begins.goes_attached value whole value.tasks [] [] (nothing_moves value) inside nowhere_stays namespaces
+  goes_attached = Begins.goes_attached value whole value.tasks [] []
+      (nothing_moves value) inside nowhere_stays namespaces
 
   abbrev pub ended : World ℕ
   ended = record base { mounts = map (gone_if goes) base.mounts; namespaces = namespaces }
@@ -126,23 +139,27 @@ module _ (value : WorldValue) (whole : IsHeld value) (added : List (Mount ℕ)) 
       passes (is_on world.mounts) (all_locations world ++ places_of world.mounts) places place
       (among-append_right (all_locations world) (places_of world.mounts) place
       (among-append_right (map Rattle.vt_spec.specs.Machine.Mounts.root_of world.mounts) _ place
-      (Rattle.vt_letting_go.proofs.Lists.among-filter_map (λ (x : Mount ℕ). x.mount_point) world.mounts mount place m e)))
+      (Rattle.vt_letting_go.proofs.Lists.among-filter_map
+      (λ (x : Mount ℕ). x.mount_point) world.mounts mount place m e)))
 
   same_parent : (mount : Mount ℕ) → Among mount world.mounts → (place : Location ℕ) → mount.mount_point ≡ Some place
       → mount_at nat_eq base place ≡ mount_at nat_eq world place
   same_parent mount m place e = found_before world.mounts added place.mount (point_on mount m place e)
 
   -- what mounts stand on is attached, and stays with them
-  pub parent_is : (mount : Mount ℕ) → Among mount base.mounts → goes mount ≡ false → (place : Location ℕ) → mount.mount_point ≡ Some place
+  pub parent_is : (mount : Mount ℕ) → Among mount base.mounts → goes mount ≡ false → (place : Location ℕ)
+      → mount.mount_point ≡ Some place
       → (is_some (mount_at nat_eq base place).namespace ≡ true) × (goes (mount_at nat_eq base place) ≡ false)
   parent_is mount m stays place e =
       ⊎_elim
       (λ old. (
         ap (λ (x : Mount ℕ). is_some x.namespace) (same_parent mount old place e)
             ∙ (and_parts (is_some (mount_at nat_eq world place).namespace) true
-            (sym (ap (λ o. list_all (λ at. is_some (mount_at nat_eq world at).namespace) (option_to_list o)) e) ∙ passes (stands_on_attached world) world.mounts stand.on_attached mount old)).0,
+            (sym (ap (λ o. list_all (λ at. is_some (mount_at nat_eq world at).namespace) (option_to_list o)) e)
+            ∙ passes (stands_on_attached world) world.mounts stand.on_attached mount old)).0,
         ap goes (same_parent mount old place e)
-            ∙ Begins.parent_stays value whole value.tasks [] [] (nothing_moves value) inside nowhere_stays namespaces mount old stays place e,
+            ∙ Begins.parent_stays value whole value.tasks [] []
+            (nothing_moves value) inside nowhere_stays namespaces mount old stays place e,
       ))
       (λ new. is.parent mount new place e)
       (among-append world.mounts added mount m)
@@ -150,22 +167,31 @@ module _ (value : WorldValue) (whole : IsHeld value) (added : List (Mount ℕ)) 
   stand_ended : MountsStand ended
   stand_ended = record {
     one_number = numbers base.mounts ∙ is.one_number;
-    nowhere = all_pass is_nowhere_or_attached ended.mounts (λ x m. let from = among-from_map (gone_if goes) base.mounts x m in
+    nowhere = all_pass is_nowhere_or_attached ended.mounts
+        (λ x m. let from = among-from_map (gone_if goes) base.mounts x m in
         ap is_nowhere_or_attached from.2 ∙ outside from.0 (goes from.0)
-        (⊎_elim (λ old. passes is_nowhere_or_attached world.mounts stand.nowhere from.0 old) (λ new. or_first (is_some from.0.namespace) (not (is_some from.0.mount_point) && is_private from.0.propagation) (is.attached from.0 new)) (among-append world.mounts added from.0 from.1)));
-    on_attached = all_pass (stands_on_attached ended) ended.mounts (λ x m. let from = among-from_map (gone_if goes) base.mounts x m in
+        (⊎_elim (λ old. passes is_nowhere_or_attached world.mounts stand.nowhere from.0 old)
+        (λ new. or_first (is_some from.0.namespace) (not (is_some from.0.mount_point) && is_private from.0.propagation)
+        (is.attached from.0 new)) (among-append world.mounts added from.0 from.1)));
+    on_attached = all_pass (stands_on_attached ended) ended.mounts
+        (λ x m. let from = among-from_map (gone_if goes) base.mounts x m in
         ap (stands_on_attached ended) from.2 ∙ on from.0 from.1 (goes from.0) refl);
   }
     where
-      numbers_one : (x : Mount ℕ) (xs : List (Mount ℕ)) → list_any (λ b. nat_eq (gone_if goes x).number b.number) (map (gone_if goes) xs) ≡ list_any (λ b. nat_eq x.number b.number) xs
+      numbers_one : (x : Mount ℕ) (xs : List (Mount ℕ))
+          → list_any (λ b. nat_eq (gone_if goes x).number b.number) (map (gone_if goes) xs)
+          ≡ list_any (λ b. nat_eq x.number b.number) xs
       numbers_one x [] = refl
       numbers_one x (y ∷ ys) = λ i. nat_eq (gone_number goes x i) (gone_number goes y i) || numbers_one x ys i
 
-      numbers : (xs : List (Mount ℕ)) → any_pair (λ (a b : Mount ℕ). nat_eq a.number b.number) (map (gone_if goes) xs) ≡ any_pair (λ (a b : Mount ℕ). nat_eq a.number b.number) xs
+      numbers : (xs : List (Mount ℕ))
+          → any_pair (λ (a b : Mount ℕ). nat_eq a.number b.number) (map (gone_if goes) xs)
+          ≡ any_pair (λ (a b : Mount ℕ). nat_eq a.number b.number) xs
       numbers [] = refl
       numbers (x ∷ xs) = λ i. numbers_one x xs i || numbers xs i
 
-      outside : (x : Mount ℕ) (b : Bool) → is_nowhere_or_attached x ≡ true → is_nowhere_or_attached (cond b (detached x) x) ≡ true
+      outside : (x : Mount ℕ) (b : Bool) → is_nowhere_or_attached x ≡ true
+          → is_nowhere_or_attached (cond b (detached x) x) ≡ true
       outside x true e = refl
       outside x false e = e
 
@@ -178,21 +204,25 @@ module _ (value : WorldValue) (whole : IsHeld value) (added : List (Mount ℕ)) 
           ∙ ap (λ b. cond b (detached (mount_at nat_eq base place)) (mount_at nat_eq base place)) parent.1)
           ∙ ap (λ b. b && true) parent.0
 
-      on : (x : Mount ℕ) → Among x base.mounts → (b : Bool) → goes x ≡ b → stands_on_attached ended (cond b (detached x) x) ≡ true
+      on : (x : Mount ℕ) → Among x base.mounts → (b : Bool) → goes x ≡ b
+          → stands_on_attached ended (cond b (detached x) x) ≡ true
       on x m true e = refl
       on x m false e = still x m e x.mount_point refl
 
   same_numbers : map (λ (x : Mount ℕ). x.number) ended.mounts ≡ map (λ (x : Mount ℕ). x.number) base.mounts
   same_numbers =
       map_twice (λ (x : Mount ℕ). x.number) (gone_if goes) base.mounts
-      ∙ map_alike (λ (x : Mount ℕ). (gone_if goes x).number) (λ (x : Mount ℕ). x.number) base.mounts (λ x m. gone_number goes x)
+      ∙ map_alike (λ (x : Mount ℕ). (gone_if goes x).number) (λ (x : Mount ℕ). x.number) base.mounts
+      (λ x m. gone_number goes x)
 
   located_ended : LocationsStand ended
   located_ended =
-      all_pass (λ location. is_among nat_eq location.mount (map (λ x. x.number) ended.mounts)) (all_locations base) (λ location m.
+      all_pass (λ location. is_among nat_eq location.mount (map (λ x. x.number) ended.mounts)) (all_locations base)
+      (λ location m.
       ap (is_among nat_eq location.mount) same_numbers
       ∙ ⊎_elim
-      (λ f. old location (subst (λ all. Among location all) (sym is.was) (among-append_left is.front (less ++ is.back) location f)))
+      (λ f. old location (subst (λ all. Among location all) (sym is.was)
+      (among-append_left is.front (less ++ is.back) location f)))
       (λ rest. ⊎_elim
       (λ come. passes (λ one. is_among nat_eq one.mount (map (λ x. x.number) base.mounts)) more is.there location come)
       (λ b. old location (subst (λ all. Among location all) (sym is.was)
@@ -200,16 +230,21 @@ module _ (value : WorldValue) (whole : IsHeld value) (added : List (Mount ℕ)) 
       (among-append more is.back location rest))
       (among-append is.front (more ++ is.back) location (subst (λ all. Among location all) is.is m)))
     where
-      old : (location : Location ℕ) → Among location (all_locations world) → is_among nat_eq location.mount (map (λ x. x.number) base.mounts) ≡ true
+      old : (location : Location ℕ) → Among location (all_locations world)
+          → is_among nat_eq location.mount (map (λ x. x.number) base.mounts) ≡ true
       old location m =
-          let there = passes (λ location. is_among nat_eq location.mount (map (λ x. x.number) world.mounts)) (all_locations world)
+          let there = passes (λ location. is_among nat_eq location.mount (map (λ x. x.number) world.mounts))
+          (all_locations world)
           (Roots.locations_of_worlds_stand world whole.in_world) location m in
           ap (is_among nat_eq location.mount) (map-append (λ (x : Mount ℕ). x.number) world.mounts added)
-          ∙ Rattle.vt_letting_go.proofs.Lists.is_among_left location.mount (map (λ (x : Mount ℕ). x.number) world.mounts) (map (λ (x : Mount ℕ). x.number) added) there
+          ∙ Rattle.vt_letting_go.proofs.Lists.is_among_left location.mount
+          (map (λ (x : Mount ℕ). x.number) world.mounts) (map (λ (x : Mount ℕ). x.number) added) there
 
   -- Filesystems
 
-  shows_still : (c : ℕ) (mounts : List (Mount ℕ)) → times (λ (x : Mount ℕ). nat_eq c x.filesystem) (map (gone_if goes) mounts) ≡ times (λ (x : Mount ℕ). nat_eq c x.filesystem) mounts
+  shows_still : (c : ℕ) (mounts : List (Mount ℕ))
+      → times (λ (x : Mount ℕ). nat_eq c x.filesystem) (map (gone_if goes) mounts)
+      ≡ times (λ (x : Mount ℕ). nat_eq c x.filesystem) mounts
   shows_still c [] = refl
   shows_still c (x ∷ xs) = λ i. cond (nat_eq c ((Begins.gone_shows goes goes_attached x).0 i)) 1 0 + shows_still c xs i
 
@@ -219,13 +254,16 @@ module _ (value : WorldValue) (whole : IsHeld value) (added : List (Mount ℕ)) 
     mounts = one.mounts + times (λ (mount : Mount ℕ). nat_eq (counted one.count) mount.filesystem) added;
   }
 
-  shown_was : (one : Shown) → Among one k.filesystems → (was : FilesystemEntry) × Among was value.filesystems × (one ≡ shown_so (shown_entry was))
+  shown_was : (one : Shown) → Among one k.filesystems
+      → (was : FilesystemEntry) × Among was value.filesystems × (one ≡ shown_so (shown_entry was))
   shown_was one m =
-      let from = among-from_map shown_so (shown value.filesystems) one (subst (λ all. Among one all) keeps.filesystems m) in
+      let from = among-from_map shown_so (shown value.filesystems) one
+      (subst (λ all. Among one all) keeps.filesystems m) in
       let first = among-from_map shown_entry value.filesystems from.0 from.1 in
       (first.0, first.1, from.2 ∙ ap shown_so first.2)
 
-  shown_is : (was : FilesystemEntry) → Among was value.filesystems → IsShown value ended gained [] (shown_so (shown_entry was))
+  shown_is : (was : FilesystemEntry) → Among was value.filesystems
+      → IsShown value ended gained [] (shown_so (shown_entry was))
   shown_is was m =
       let counts = (among_from_all (CountsItsMounts world) value.filesystems whole.filesystems was m).mounts in
       let all = times_append (λ (x : Mount ℕ). nat_eq (counted was.count) x.filesystem) world.mounts added in
@@ -238,7 +276,9 @@ module _ (value : WorldValue) (whole : IsHeld value) (added : List (Mount ℕ)) 
         inodes = refl;
         mounts = omega (arith, counts, all, gone);
         mounted = some (was.mounts) (times (λ (mount : Mount ℕ). nat_eq (counted was.count) mount.filesystem) added)
-            ((Begins.begins value whole value.tasks [] [] (nothing_moves value) inside nowhere_stays namespaces).midway.shown (shown_entry was) (among-map shown_entry value.filesystems was m)).mounted;
+            ((Begins.begins value whole value.tasks [] []
+            (nothing_moves value) inside nowhere_stays namespaces).midway.shown (shown_entry was)
+            (among-map shown_entry value.filesystems was m)).mounted;
       }
     where
       some : (a b : ℕ) → nat_eq a 0 ≡ false → nat_eq (a + b) 0 ≡ false
@@ -246,7 +286,8 @@ module _ (value : WorldValue) (whole : IsHeld value) (added : List (Mount ℕ)) 
         where
           by : (t : Bool) → nat_eq (a + b) 0 ≡ t → t ≡ false
           by false f = refl
-          by true f = let none = eqb-true (a + b) 0 f in let zero : a ≡ 0 = omega (arith, none) in absurd (true≢false (sym (eq-eqb a 0 zero) ∙ e))
+          by true f = let none = eqb-true (a + b) 0 f in let zero : a
+              ≡ 0 = omega (arith, none) in absurd (true≢false (sym (eq-eqb a 0 zero) ∙ e))
 
   -- Inodes
 
@@ -260,7 +301,8 @@ module _ (value : WorldValue) (whole : IsHeld value) (added : List (Mount ℕ)) 
       same_inode x m None e = refl
       same_inode x m (Some place) e = λ i. ((same_parent x m place e i).filesystem, place.node) ∷ []
 
-      by : (x : Mount ℕ) → Among x base.mounts → (b : Bool) → goes x ≡ b → cond b (inodes_of_point base x) [] ≡ cond b (inodes_of_point world x) []
+      by : (x : Mount ℕ) → Among x base.mounts → (b : Bool) → goes x ≡ b
+          → cond b (inodes_of_point base x) [] ≡ cond b (inodes_of_point world x) []
       by x m false e = refl
       by x m true e =
           ⊎_elim
@@ -276,7 +318,8 @@ module _ (value : WorldValue) (whole : IsHeld value) (added : List (Mount ℕ)) 
       let moved_so = locations_are_uses one base more less is.front is.back refl refl is.was is.is c in
       let points = Begins.points_are_left goes goes_attached base c in
       let come = map (inode_at base) (places_of added) in
-      let all = exchanges_follow world base ended (come ++ map (inode_at base) more) ([] ++ map (inode_at base) less) [] (flat_map (point_left base goes) base.mounts) c
+      let all = exchanges_follow world base ended (come ++ map (inode_at base) more) ([] ++ map (inode_at base) less) []
+      (flat_map (point_left base goes) base.mounts) c
       (exchanges_follow world one base come [] (map (inode_at base) more) (map (inode_at base) less) c
       (record { same = added_so.same; uses = added_so.uses }) (record { same = moved_so.same; uses = moved_so.uses }))
       (record { same = points.same; uses = points.uses }) in
@@ -306,17 +349,15 @@ module _ (value : WorldValue) (whole : IsHeld value) (added : List (Mount ℕ)) 
   begins_midway = record {
     mounts = ap (map (gone_if goes)) (sym keeps.mounts);
     uses = uses_are;
-    writers = λ entry m. let counts = keeps.writers entry m in let same = is.writes entry.mount.number in omega (arith, counts, same);
+    writers = λ entry m. let counts = keeps.writers entry m in let same = is.writes entry.mount.number in omega
+        (arith, counts, same);
     well = λ entry m going. ⊎_elim
-        (λ old. Begins.point_is_located value whole value.tasks [] [] (nothing_moves value) inside nowhere_stays namespaces entry.mount old entry.mount.mount_point refl)
+        (λ old. Begins.point_is_located value whole value.tasks [] []
+        (nothing_moves value) inside nowhere_stays namespaces entry.mount old entry.mount.mount_point refl)
         (λ new. absurd (true≢false (sym going ∙ is.stays entry.mount new)))
         (entry_mount entry m);
-    ungrouped = λ entry m. ⊎_elim
-        (λ old. let from = among-from_map (λ (e : MountEntry). e.mount) value.mounts entry.mount old in
-        ap (λ (x : Mount ℕ). is_ungrouped x.propagation) from.2 ∙ passes (λ one. is_ungrouped one.mount.propagation) value.mounts whole.ungrouped from.0 from.1)
-        (λ new. is.ungrouped entry.mount new)
-        (entry_mount entry m);
-    shown = λ one m. let from = shown_was one m in subst (IsShown value ended gained []) (sym from.2) (shown_is from.0 from.1);
+    shown = λ one m. let from = shown_was one m in subst (IsShown value ended gained []) (sym from.2)
+        (shown_is from.0 from.1);
     exchanges = λ one m. exchanges_are (counted one.count);
     numbers = map_twice (λ (f : Filesystem ℕ). f.number) filesystem_seen value.filesystems
         ∙ sym (map_twice (λ (one : Shown). counted one.count) shown_entry value.filesystems)
@@ -336,22 +377,29 @@ module _ (value : WorldValue) (whole : IsHeld value) (added : List (Mount ℕ)) 
       (λ new. ap (λ b. not b && nat_eq entry.uses 0) (is.attached entry.mount new))
       (entry_mount entry m)
     where
-      still : is_some entry.mount.namespace ≡ false → Among entry.mount world.mounts → is_located nat_eq base entry.mount.number ≡ true
+      still : is_some entry.mount.namespace ≡ false → Among entry.mount world.mounts
+          → is_located nat_eq base entry.mount.number ≡ true
       still none old =
-          let lives = passes (mount_lives nat_eq world) world.mounts (worlds_are_in_use world whole.in_world).mounts entry.mount old in
+          let lives = passes (mount_lives nat_eq world) world.mounts
+          (worlds_are_in_use world whole.in_world).mounts entry.mount old in
           let t = one_passes (λ (l : Location ℕ). nat_eq entry.mount.number l.mount) (all_locations world)
           (sym (ap (λ b. b || is_located nat_eq world entry.mount.number) none) ∙ lives) in
-          let there = λ (n : Among t.0 (all_locations base)). any_passes (λ (l : Location ℕ). nat_eq entry.mount.number l.mount) (all_locations base) t.0 n t.2 in
+          let there = λ (n : Among t.0 (all_locations base)). any_passes
+          (λ (l : Location ℕ). nat_eq entry.mount.number l.mount) (all_locations base) t.0 n t.2 in
           ⊎_elim
           (λ f. there (subst (λ all. Among t.0 all) (sym is.is) (among-append_left is.front (more ++ is.back) t.0 f)))
           (λ rest. ⊎_elim
           (λ gone. ⊎_elim
           (λ attached. absurd (true≢false (sym attached
-          ∙ ap (λ n. is_some (mount_in nat_eq world.mounts n).namespace) (sym (eqb-true entry.mount.number t.0.mount t.2))
-          ∙ ap (λ (x : Mount ℕ). is_some x.namespace) (Rattle.vt_letting_go.proofs.PlacesLeft.found_itself world.mounts stand.one_number entry.mount old) ∙ none)))
-          (λ come. there (subst (λ all. Among t.0 all) (sym is.is) (among-append_right is.front (more ++ is.back) t.0 (among-append_left more is.back t.0 come))))
+          ∙ ap (λ n. is_some (mount_in nat_eq world.mounts n).namespace)
+          (sym (eqb-true entry.mount.number t.0.mount t.2))
+          ∙ ap (λ (x : Mount ℕ). is_some x.namespace)
+          (Rattle.vt_letting_go.proofs.PlacesLeft.found_itself world.mounts stand.one_number entry.mount old) ∙ none)))
+          (λ come. there (subst (λ all. Among t.0 all) (sym is.is)
+          (among-append_right is.front (more ++ is.back) t.0 (among-append_left more is.back t.0 come))))
           (is.left t.0 gone))
-          (λ b. there (subst (λ all. Among t.0 all) (sym is.is) (among-append_right is.front (more ++ is.back) t.0 (among-append_right more is.back t.0 b))))
+          (λ b. there (subst (λ all. Among t.0 all) (sym is.is)
+          (among-append_right is.front (more ++ is.back) t.0 (among-append_right more is.back t.0 b))))
           (among-append less is.back t.0 rest))
           (among-append is.front (less ++ is.back) t.0 (subst (λ all. Among t.0 all) is.was t.1))
 
@@ -365,7 +413,8 @@ module _ (value : WorldValue) (whole : IsHeld value) (added : List (Mount ℕ)) 
               let none = eqb-true entry.uses 0 f in
               let counts = uses_are entry m in
               let zero : mount_uses base entry.mount.number ≡ 0 = omega (arith, none, counts) in
-              sym (sym (ap (Rattle.std.specs.Prelude.nat_lt 0) zero) ∙ sym (located_while_counted base entry.mount.number) ∙ still e old)
+              sym (sym (ap (Rattle.std.specs.Prelude.nat_lt 0) zero)
+              ∙ sym (located_while_counted base entry.mount.number) ∙ still e old)
 
   pub added_begins : Reached value ended gained goes [] k
   added_begins = record { now = ended; lost = []; midway = begins_midway; none = none_begins }

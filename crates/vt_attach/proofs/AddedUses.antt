@@ -55,7 +55,8 @@ abbrev pinned_one : Inode → Shown → Shown
 pinned_one inode one = record one { inodes = pinned_if (counted one.count) one.inodes inode }
 
 mounted_one : (count : ℕ) (one : Shown)
-    → mounted_if (counted count) one ≡ record one { mounts = one.mounts + (if nat_eq (counted one.count) (counted count) then 1 else 0) }
+    → mounted_if (counted count) one
+    ≡ record one { mounts = one.mounts + (if nat_eq (counted one.count) (counted count) then 1 else 0) }
 mounted_one count one =
     by (nat_eq (counted count) (counted one.count))
     ∙ (λ i. record one { mounts = one.mounts + (if turned i then 1 else 0) })
@@ -66,7 +67,8 @@ mounted_one count one =
     none : one.mounts ≡ one.mounts + 0
     none = omega arith
 
-    by : (b : Bool) → cond b (record one { mounts = one.mounts + 1 }) one ≡ record one { mounts = one.mounts + (if b then 1 else 0) }
+    by : (b : Bool) → cond b (record one { mounts = one.mounts + 1 }) one
+        ≡ record one { mounts = one.mounts + (if b then 1 else 0) }
     by true = refl
     by false = λ i. record one { mounts = none i }
 
@@ -78,15 +80,22 @@ by_one mount all =
     (λ one m. mounted_one mount.root.filesystem.count (pinned_so one))
   where
     pinned_so : Shown → Shown
-    pinned_so one = record one { inodes = folded (pinned_if (counted one.count)) one.inodes (inode_of mount.root ∷ point_inodes mount.mount_point) }
+    pinned_so one = record one {
+      inodes = folded (pinned_if (counted one.count)) one.inodes
+          (inode_of mount.root ∷ point_inodes mount.mount_point);
+    }
 
     pinned_both : (point : Option Location) → pinned_at point (pinned_in (inode_of mount.root) all)
-        ≡ map (λ (one : Shown). record one { inodes = folded (pinned_if (counted one.count)) one.inodes (inode_of mount.root ∷ point_inodes point) }) all
+        ≡ map (λ (one : Shown). record one {
+          inodes = folded (pinned_if (counted one.count)) one.inodes
+              (inode_of mount.root ∷ point_inodes point);
+        }) all
     pinned_both None = refl
     pinned_both (Some point) = map_twice (pinned_one (inode_of point.node)) (pinned_one (inode_of mount.root)) all
 
 folded_after : (test : ℕ) (front back : List Inode) (inodes : Inodes ℕ)
-    → folded (pinned_if test) (folded (pinned_if test) inodes front) back ≡ folded (pinned_if test) inodes (front ++ back)
+    → folded (pinned_if test) (folded (pinned_if test) inodes front) back
+    ≡ folded (pinned_if test) inodes (front ++ back)
 folded_after test [] back inodes = refl
 folded_after test (inode ∷ front) back inodes = folded_after test front back (pinned_if test inodes inode)
 
@@ -103,14 +112,16 @@ shown_by_all (mount ∷ new) all =
     shown_by_all new (shown_by all mount)
     ∙ ap (map (with_mounts_on new)) (by_one mount all)
     ∙ map_twice (with_mounts_on new) (with_mount_on mount) all
-    ∙ map_alike (λ one. with_mounts_on new (with_mount_on mount one)) (with_mounts_on (mount ∷ new)) all (λ one m. both one)
+    ∙ map_alike (λ one. with_mounts_on new (with_mount_on mount one)) (with_mounts_on (mount ∷ new)) all
+    (λ one m. both one)
   where
     both : (one : Shown) → with_mounts_on new (with_mount_on mount one) ≡ with_mounts_on (mount ∷ new) one
     both one =
         let b = if nat_eq (counted one.count) (counted mount.root.filesystem.count) then 1 else 0 in
         let sum : one.mounts + b + showing one.count new ≡ one.mounts + (b + showing one.count new) = omega arith in
         λ i. record one {
-          inodes = folded_after (counted one.count) (inode_of mount.root ∷ point_inodes mount.mount_point) (gained_by new) one.inodes i;
+          inodes = folded_after (counted one.count) (inode_of mount.root ∷ point_inodes mount.mount_point)
+              (gained_by new) one.inodes i;
           mounts = sum i;
         }
 
@@ -120,29 +131,36 @@ module _ (after : World ℕ) where
   -- the inodes of its root and of its mount point are those that the world finds
   pub record IsFoundIn (mount : Mount) : Type 0 where
     pub root : inode_at after (root_of (mount_of mount)) ≡ inode_of mount.root
-    pub point : (point : Location) → mount.mount_point ≡ Some point → inode_at after (location_of point) ≡ inode_of point.node
+    pub point : (point : Location) → mount.mount_point ≡ Some point
+        → inode_at after (location_of point) ≡ inode_of point.node
 
   abbrev points_of : List Mount → List (meant.Location ℕ)
   points_of new = filter_map (λ (mount : meant.Mount ℕ). mount.mount_point) (map mount_of new)
 
   times_places : (test : Inode → Bool) (new : List Mount) → ((mount : Mount) → Among mount new → IsFoundIn mount)
-      → times test (map (inode_at after) (map root_of (map mount_of new))) + times test (map (inode_at after) (points_of new))
+      → times test (map (inode_at after) (map root_of (map mount_of new))) + times test
+      (map (inode_at after) (points_of new))
       ≡ times test (gained_by new)
   times_places test [] found = refl
-  times_places test (mount ∷ new) found = by mount.mount_point refl (times_places test new (λ other m. found other (inr m)))
+  times_places test (mount ∷ new) found = by mount.mount_point refl
+      (times_places test new (λ other m. found other (inr m)))
     where
-      root_same : ◌≡◌ {A = ℕ} (if test (inode_at after (root_of (mount_of mount))) then 1 else 0) (if test (inode_of mount.root) then 1 else 0)
+      root_same : ◌≡◌ {A = ℕ} (if test (inode_at after (root_of (mount_of mount))) then 1 else 0)
+          (if test (inode_of mount.root) then 1 else 0)
       root_same = ap (λ inode. if test inode then 1 else 0) (found mount (inl refl)).root
 
       by : (o : Option Location) → mount.mount_point ≡ o
-          → times test (map (inode_at after) (map root_of (map mount_of new))) + times test (map (inode_at after) (points_of new))
+          → times test (map (inode_at after) (map root_of (map mount_of new))) + times test
+          (map (inode_at after) (points_of new))
           ≡ times test (gained_by new)
-          → (if test (inode_at after (root_of (mount_of mount))) then 1 else 0) + times test (map (inode_at after) (map root_of (map mount_of new)))
+          → (if test (inode_at after (root_of (mount_of mount))) then 1 else 0) + times test
+          (map (inode_at after) (map root_of (map mount_of new)))
           + times test (map (inode_at after) (cons_option (option_map location_of o) (points_of new)))
           ≡ (if test (inode_of mount.root) then 1 else 0) + times test (point_inodes o ++ gained_by new)
       by None e rest = omega (arith, rest, root_same)
       by (Some point) e rest =
-          let point_same : ◌≡◌ {A = ℕ} (if test (inode_at after (location_of point)) then 1 else 0) (if test (inode_of point.node) then 1 else 0) =
+          let point_same : ◌≡◌ {A = ℕ} (if test (inode_at after (location_of point)) then 1 else 0)
+          (if test (inode_of point.node) then 1 else 0) =
           ap (λ inode. if test inode then 1 else 0) ((found mount (inl refl)).point point e) in
           omega (arith, rest, root_same, point_same)
 
@@ -160,9 +178,11 @@ module _ (after : World ℕ) where
       → list_all (is_on world.mounts) (all_locations world ++ places_of world.mounts) ≡ true
       → (filesystem : ℕ) → Exchanges (gained_by new) [] filesystem world after
   mounts_are_gained world new found files locations mounts once stand filesystem =
-      let exchange = mounts_are_uses world after world.mounts (map mount_of new) [] files locations (sym (append-nil world.mounts))
+      let exchange = mounts_are_uses world after world.mounts (map mount_of new) [] files locations
+      (sym (append-nil world.mounts))
       (mounts ∙ ap (λ added. world.mounts ++ added) (sym (append-nil (map mount_of new)))) once stand filesystem in
       record {
         same = exchange.same;
-        uses = λ number. let uses = exchange.uses number in let same = gained_uses (is_inode filesystem number) new found in omega (arith, uses, same);
+        uses = λ number. let uses = exchange.uses number in let same = gained_uses
+            (is_inode filesystem number) new found in omega (arith, uses, same);
       }

@@ -6,7 +6,7 @@ use Rattle.std.proofs.lemmas.Bool.{and_parts, ltb-true}
 use Rattle.vt_spec.specs.Machine.Mounts as meant
 use Rattle.vt_spec.specs.Machine.Mounts.{mount_in, root_of}
 use Rattle.vt_spec.specs.Machine.World.{Filesystem, World, filesystem_numbered, is_directory_at, mount_at, no_filesystem, node_at}
-use Rattle.vt_spec.specs.Machine.Invariants.{IsWorld, has_its_root}
+use Rattle.vt_spec.specs.Machine.Invariants.{has_its_root}
 use Rattle.vt_spec.specs.Inodes.{Inode as Counted, node_in}
 use Rattle.vt_spec.specs.Tree.{is_directory_node}
 use Rattle.vt_count_laws.specs.Using.{AreThere}
@@ -21,6 +21,7 @@ use Rattle.vt_location.specs.Locations.{location_of, number_of}
 use Rattle.vt_location.specs.MountValue.{mount_of}
 use Rattle.vt_location.specs.Numbers.{counted}
 use Rattle.vt_location.proofs.NumberLemmas.{inode_same, slot_of}
+use Rattle.vt_world_laws.specs.Worlds.Kept.{IsUnderWay}
 use Rattle.vt_world_laws.proofs.Roots.{directory_there}
 use Rattle.vt_detach.specs.Held.{HasOwnInodes}
 use Rattle.vt_attach.specs.Room.{has_small_slots, point_is_small}
@@ -34,32 +35,42 @@ inode_is_there None e = e
 inode_is_there (Some inode) e = refl
 
 -- Mounts that were attached in a world, with these filesystems
-module _ (after : World ℕ) (is_world : IsWorld nat_eq after) (front : List (meant.Mount ℕ)) (new : List Mount)
+module _ (after : World ℕ) (is_world : IsUnderWay after) (front : List (meant.Mount ℕ)) (new : List Mount)
     (after_mounts : after.mounts ≡ front ++ map mount_of new) (slots : list_all has_small_slots new ≡ true)
     (base : Filesystems) (after_files : after.filesystems ≡ filesystems_seen base) (own : All HasOwnInodes base) where
   new_there : (mount : Mount) → Among mount new → Among (mount_of mount) after.mounts
   new_there mount m =
-      subst (Among (mount_of mount)) (sym after_mounts) (among-append_right front (map mount_of new) (mount_of mount) (among-map mount_of new mount m))
+      subst (Among (mount_of mount)) (sym after_mounts)
+      (among-append_right front (map mount_of new) (mount_of mount) (among-map mount_of new mount m))
 
-  roots : (mount : Mount) → Among mount new → (is_directory_node ((filesystem_numbered nat_eq after (counted mount.root.filesystem.count)).files.tree.node (number_of mount.root)) ≡ true)
+  roots : (mount : Mount) → Among mount new
+      → (is_directory_node ((filesystem_numbered nat_eq after (counted mount.root.filesystem.count)).files.tree.node
+      (number_of mount.root)) ≡ true)
       × (list_all (is_directory_at nat_eq after) (option_to_list (option_map location_of mount.mount_point)) ≡ true)
   roots mount m =
-      and_parts _ _ (passes (has_its_root nat_eq after) after.mounts is_world.roots (mount_of mount) (new_there mount m))
+      and_parts _ _ (passes (has_its_root nat_eq after) after.mounts is_world.roots (mount_of mount)
+      (new_there mount m))
 
   -- a mount point is in the filesystem that its mount shows
   point_shown : (mount : Mount) → Among mount new → (point : Location) → mount.mount_point ≡ Some point
       → (mount_at nat_eq after (location_of point)).filesystem ≡ counted point.node.filesystem.count
   point_shown mount m point is =
       let directory : is_directory_at nat_eq after (location_of point) ≡ true =
-      (and_parts _ _ (subst (λ o. list_all (is_directory_at nat_eq after) (option_to_list (option_map location_of o)) ≡ true) is (roots mount m).1)).0 in
+      (and_parts _ _ (subst (λ o. list_all (is_directory_at nat_eq after) (option_to_list (option_map location_of o))
+      ≡ true) is (roots mount m).1)).0 in
       let seen = seen_in base own (mount_at nat_eq after (location_of point)).filesystem (number_of point.node)
-      (subst (λ files. is_some ((unwrap_or (find (λ (f : Filesystem ℕ). nat_eq (mount_at nat_eq after (location_of point)).filesystem f.number) files) (no_filesystem (mount_at nat_eq after (location_of point)).filesystem)).files.tree.node (number_of point.node)) ≡ true)
+      (subst (λ files. is_some ((unwrap_or
+      (find (λ (f : Filesystem ℕ). nat_eq (mount_at nat_eq after (location_of point)).filesystem f.number) files)
+      (no_filesystem (mount_at nat_eq after (location_of point)).filesystem)).files.tree.node (number_of point.node))
+      ≡ true)
       after_files (directory_there (node_at nat_eq after (location_of point)) directory)) in
       let slot = slot_of seen.entry.count (number_of point.node) seen.own in
       let small : point.node.slot < 18446744073709551616 =
       ltb-true point.node.slot 18446744073709551616
-      (subst (λ o. point_is_small o ≡ true) is (and_parts (nat_lt mount.root.slot 18446744073709551616) _ (passes has_small_slots new slots mount m)).1) in
-      seen.number_is ∙ ap counted (sym (inode_same point.node.filesystem.count seen.entry.count point.node.slot slot.0 small slot.1 slot.2).0)
+      (subst (λ o. point_is_small o ≡ true) is
+      (and_parts (nat_lt mount.root.slot 18446744073709551616) _ (passes has_small_slots new slots mount m)).1) in
+      seen.number_is ∙ ap counted (sym
+      (inode_same point.node.filesystem.count seen.entry.count point.node.slot slot.0 small slot.1 slot.2).0)
 
   pub new_found : (mount : Mount) → Among mount new → IsFoundIn after mount
   new_found mount m = record {
@@ -69,8 +80,10 @@ module _ (after : World ℕ) (is_world : IsWorld nat_eq after) (front : List (me
   }
 
   pub there_in : (entry : FilesystemEntry) → Among entry base → (node : NodeRef)
-      → is_directory_node ((filesystem_numbered nat_eq after (counted node.filesystem.count)).files.tree.node (number_of node)) ≡ true
-      → (not (nat_eq (counted entry.count) (counted node.filesystem.count)) || is_some ((inodes_seen entry).inode (number_of node))) ≡ true
+      → is_directory_node ((filesystem_numbered nat_eq after (counted node.filesystem.count)).files.tree.node
+      (number_of node)) ≡ true
+      → (not (nat_eq (counted entry.count) (counted node.filesystem.count))
+      || is_some ((inodes_seen entry).inode (number_of node))) ≡ true
   there_in entry m node directory = by (nat_eq (counted entry.count) (counted node.filesystem.count)) refl
     where
       found : filesystem_numbered nat_eq after (counted entry.count) ≡ filesystem_seen entry
@@ -86,27 +99,36 @@ module _ (after : World ℕ) (is_world : IsWorld nat_eq after) (front : List (me
           (ap (λ (f : Filesystem ℕ). is_directory_node (f.files.tree.node (number_of node)))
           (sym found ∙ ap (filesystem_numbered nat_eq after) (eqb-true _ _ e)) ∙ directory))
 
-  pub new_uses_there : (entry : FilesystemEntry) → Among entry base → AreThere (counted entry.count) (inodes_seen entry) (gained_by new)
+  pub new_uses_there : (entry : FilesystemEntry) → Among entry base
+      → AreThere (counted entry.count) (inodes_seen entry) (gained_by new)
   new_uses_there entry m = each new (λ mount n. n)
     where
       point_there : (mount : Mount) → Among mount new → (o : Option Location) → mount.mount_point ≡ o
-          → list_all (λ (inode : Inode). not (nat_eq (counted entry.count) inode.0) || is_some ((inodes_seen entry).inode inode.1)) (point_inodes o) ≡ true
+          → list_all (λ (inode : Inode). not (nat_eq (counted entry.count) inode.0)
+          || is_some ((inodes_seen entry).inode inode.1)) (point_inodes o) ≡ true
       point_there mount n None is = refl
       point_there mount n (Some point) is =
           let directory : is_directory_at nat_eq after (location_of point) ≡ true =
-          (and_parts _ _ (subst (λ o. list_all (is_directory_at nat_eq after) (option_to_list (option_map location_of o)) ≡ true) is (roots mount n).1)).0 in
+          (and_parts _ _ (subst (λ o. list_all (is_directory_at nat_eq after)
+          (option_to_list (option_map location_of o)) ≡ true) is (roots mount n).1)).0 in
           λ i. there_in entry m point.node
-          (ap (λ number. is_directory_node ((filesystem_numbered nat_eq after number).files.tree.node (number_of point.node))) (sym (point_shown mount n point is)) ∙ directory) i && true
+          (ap (λ number. is_directory_node
+          ((filesystem_numbered nat_eq after number).files.tree.node (number_of point.node)))
+          (sym (point_shown mount n point is)) ∙ directory) i && true
 
-      both : (test : Inode → Bool) (xs ys : List Inode) → list_all test xs ≡ true → list_all test ys ≡ true → list_all test (xs ++ ys) ≡ true
+      both : (test : Inode → Bool) (xs ys : List Inode) → list_all test xs ≡ true → list_all test ys ≡ true
+          → list_all test (xs ++ ys) ≡ true
       both test [] ys a b = b
-      both test (x ∷ xs) ys a b = let parts = and_parts (test x) (list_all test xs) a in λ i. parts.0 i && both test xs ys parts.1 b i
+      both test (x ∷ xs) ys a b = let parts = and_parts (test x) (list_all test xs) a in λ i. parts.0 i
+          && both test xs ys parts.1 b i
 
       each : (some : List Mount) → ((mount : Mount) → Among mount some → Among mount new)
           → AreThere (counted entry.count) (inodes_seen entry) (gained_by some)
       each [] within = refl
       each (mount ∷ rest) within = λ i.
           there_in entry m mount.root (roots mount (within mount (inl refl))).0 i
-          && both (λ (inode : Inode). not (nat_eq (counted entry.count) inode.0) || is_some ((inodes_seen entry).inode inode.1))
+          && both (λ (inode : Inode). not (nat_eq (counted entry.count) inode.0)
+          || is_some ((inodes_seen entry).inode inode.1))
           (point_inodes mount.mount_point) (gained_by rest)
-          (point_there mount (within mount (inl refl)) mount.mount_point refl) (each rest (λ other n. within other (inr n))) i
+          (point_there mount (within mount (inl refl)) mount.mount_point refl)
+          (each rest (λ other n. within other (inr n))) i

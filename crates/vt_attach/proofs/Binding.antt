@@ -19,7 +19,7 @@ use Rattle.vt_group.specs.Grouping.{Grouping, HasGroup}
 use Rattle.vt_group.specs.Together.{new_group}
 use Rattle.vt_laws.specs.Numbers.{KeepsTo}
 use Rattle.vt_letting_go.proofs.AttachedSwept.{binds_keep_all}
-use Rattle.vt_letting_go.proofs.Lists.{Among, all_pass, among-map, among_from_all, any_passes, passes}
+use Rattle.vt_letting_go.proofs.Lists.{Among, among-map, among_from_all, any_passes}
 use Rattle.vt_letting_go.proofs.OfWorlds.{mounts_of_worlds_stand, worlds_have_trees}
 use Rattle.vt_letting_go.proofs.PlacesLeft.{found_is_there}
 use Rattle.vt_location.specs.declared.locations.Location.{Location}
@@ -41,7 +41,7 @@ use Rattle.vt_spec.proofs.Lists.{among_from_contains}
 use Rattle.vt_world_laws.proofs.RaisedInUse.{worlds_are_in_use}
 use Rattle.vt_world_laws.specs.Worlds.Permits.{NamesWhatIsThere}
 use Rattle.vt_detach.specs.Events.{Permits, left_by}
-use Rattle.vt_detach.specs.Held.{CountsItsMounts, IsHeld, is_ungrouped}
+use Rattle.vt_detach.specs.Held.{CountsItsMounts, IsHeld}
 use Rattle.vt_detach.specs.Uses.{kept}
 use Rattle.vt_detach.specs.WorldValue.{WorldValue, world_of}
 use Rattle.vt_detach.proofs.FileEvents.{permit_fits}
@@ -55,7 +55,6 @@ use Rattle.vt_attach.specs.PlannedUses.{point_seen}
 use Rattle.vt_attach.proofs.AttachedCounts.{lower_numbers}
 use Rattle.vt_attach.proofs.CopiesAscend.{planned_ascend}
 use Rattle.vt_attach.proofs.GraftedDone.{IsBase, graft_is_done, grafted_value, plan_attaches}
-use Rattle.vt_attach.proofs.Grafting.{all_ungrouped, copies_free, found_ungrouped}
 use Rattle.vt_attach.proofs.NumbersByParts.{bind_some, binds_keep_to_numbers}
 use Rattle.vt_attach.proofs.TakingNumbers.{TakesNumbers}
 
@@ -68,9 +67,11 @@ same_base value whole = record {
   roots = whole.in_world.roots;
   inodes = λ entry m.
       subst (λ f. IsCounted (world_of value) f (inodes_seen entry))
-      (sym (found_filesystem (world_of value).filesystems whole.in_world.files.one_filesystem (filesystem_seen entry) (among-map filesystem_seen value.filesystems entry m)))
+      (sym (found_filesystem (world_of value).filesystems whole.in_world.files.one_filesystem (filesystem_seen entry)
+      (among-map filesystem_seen value.filesystems entry m)))
       (among_from_all (CountsItsMounts (world_of value)) value.filesystems whole.filesystems entry m).inodes;
-  mounts = λ entry m. (among_from_all (CountsItsMounts (world_of value)) value.filesystems whole.filesystems entry m).mounts;
+  mounts = λ entry m. (among_from_all
+      (CountsItsMounts (world_of value)) value.filesystems whole.filesystems entry m).mounts;
 }
 
 -- the code's world has its mounts and groups
@@ -83,9 +84,11 @@ pub group_there : (mounts : List (meant.Mount ℕ)) (mount : meant.Mount ℕ) �
 group_there mounts mount m group e =
     any_passes (is_member_of nat_eq group) mounts mount m (ap (holds_of (nat_eq group)) e ∙ eq-eqb group group refl)
 
-module _ (value : WorldValue) (whole : IsHeld value) (name : TaskName) (source : Location) (recursive : Bool) (graft : Graft) (counts : Counts)
+module _ (value : WorldValue) (whole : IsHeld value) (name : TaskName) (source : Location) (recursive : Bool)
+    (graft : Graft) (counts : Counts)
     (permits : Permits value name (ToBind (location_of source) (location_of graft.place) recursive))
-    (tree_is : map mount_of graft.tree.now ≡ bind_tree nat_eq (world_of value) (location_of source) recursive) (binds : graft.moves ≡ false)
+    (tree_is : map mount_of graft.tree.now ≡ bind_tree nat_eq (world_of value) (location_of source) recursive)
+    (binds : graft.moves ≡ false)
     (parts_are : map mount_of graft.parts.now ≡ parts_of nat_eq (world_of value) (location_of graft.place))
     (first : counts.first ≡ value.next) (step : counts.step ≡ 1) where
   abbrev permit : Permit ℕ
@@ -100,7 +103,8 @@ module _ (value : WorldValue) (whole : IsHeld value) (name : TaskName) (source :
   takes : TakesNumbers value name permit permits.task
   takes = record { called = permits.called; given = permits.given; inode = 0; even = refl; supply = refl }
 
-  names : NamesWhatIsThere (world_of value) permits.task (ToBind (location_of source) (location_of graft.place) recursive)
+  names : NamesWhatIsThere (world_of value) permits.task
+      (ToBind (location_of source) (location_of graft.place) recursive)
   names = (permit_fits value whole name permit permits).names
 
   same_counts : (k : ℕ) → planned.counts_from counts k ≡ counts_from value.next k
@@ -114,34 +118,41 @@ module _ (value : WorldValue) (whole : IsHeld value) (name : TaskName) (source :
   tree_some : 0 < length graft.tree.now
   tree_some =
       subst (λ n. 0 < n) (length-map graft.tree.now mount_of)
-      (subst (λ (list : List (meant.Mount ℕ)). 0 < length list) (sym tree_is) (bind_some world (location_of source) recursive))
+      (subst (λ (list : List (meant.Mount ℕ)). 0 < length list) (sym tree_is)
+      (bind_some world (location_of source) recursive))
 
-  rising_then : are_ascending (mounts_in value.mounts) ≡ true → list_all (λ mount. mount.number % 4 == 1) (mounts_in value.mounts) ≡ true
+  rising_then : are_ascending (mounts_in value.mounts) ≡ true
+      → list_all (λ mount. mount.number % 4 == 1) (mounts_in value.mounts) ≡ true
       → are_ascending (mounts_in value.mounts ++ planned_copies world graft counts) ≡ true
   rising_then ascending odd =
-      planned_ascend counts (subst (λ n. 0 < n) (sym step) (omega arith)) world graft binds whole.in_world.mounts.one_number tree_once tree_some
+      planned_ascend counts (subst (λ n. 0 < n) (sym step)
+      (omega arith)) world graft binds whole.in_world.mounts.one_number tree_once tree_some
       (mounts_in value.mounts) ascending
       (λ mount m. subst (λ n. mount.number < counted n) (sym first) (lower_numbers value whole odd mount m))
 
-  pub may_bind : are_ascending (mounts_in value.mounts) ≡ true → list_all (λ mount. mount.number % 4 == 1) (mounts_in value.mounts) ≡ true
+  pub may_bind : are_ascending (mounts_in value.mounts) ≡ true
+      → list_all (λ mount. mount.number % 4 == 1) (mounts_in value.mounts) ≡ true
       → MayGraft value.mounts value.groups graft counts
   may_bind ascending odd = record {
     world = world;
     seen = is_seen value whole;
     one_child = whole.in_world.mounts.one_child;
     parts_are = parts_are;
-    apart = subst EachOnce (sym parts_are) (parts_apart world (location_of graft.place) whole.in_world.mounts.one_number);
+    apart = subst EachOnce (sym parts_are)
+        (parts_apart world (location_of graft.place) whole.in_world.mounts.one_number);
     ascending = rising_then ascending odd;
   }
 
   -- each mount of the tree is there, or is that of the source from another directory on
   tree_mount : (P : meant.Mount ℕ → Type 0) → ((mount : meant.Mount ℕ) → Among mount (mounts_in value.mounts) → P mount)
-      → ((mount : meant.Mount ℕ) (root : ℕ) → P mount → P (record mount { root = root })) → (mount : meant.Mount ℕ) → Among mount tree → P mount
+      → ((mount : meant.Mount ℕ) (root : ℕ) → P mount → P (record mount { root = root })) → (mount : meant.Mount ℕ)
+      → Among mount tree → P mount
   tree_mount P each other mount m =
       ⊎_elim
       (λ same. subst P (sym same)
       (other (mount_at nat_eq world (location_of source)) (location_of source).node
-      (each (mount_at nat_eq world (location_of source)) (found_is_there (mounts_in value.mounts) (counted source.mount.count) (ap is_some names.1)))))
+      (each (mount_at nat_eq world (location_of source))
+      (found_is_there (mounts_in value.mounts) (counted source.mount.count) (ap is_some names.1)))))
       (λ old. each mount old)
       (bind_there_or_source world (location_of source) recursive mount (subst (Among mount) tree_is m))
 
@@ -150,47 +161,51 @@ module _ (value : WorldValue) (whole : IsHeld value) (name : TaskName) (source :
       tree_mount (λ (x : meant.Mount ℕ). (group : ℕ) → group_of x.propagation ≡ Some group → HasGroup world group)
       (group_there (mounts_in value.mounts)) (λ mount root has. has) mount (among_from_contains tree mount contained)
 
-  tree_free : list_all (λ (mount : meant.Mount ℕ). is_ungrouped mount.propagation) tree ≡ true
-  tree_free =
-      all_pass (λ (mount : meant.Mount ℕ). is_ungrouped mount.propagation) tree
-      (tree_mount (λ (mount : meant.Mount ℕ). is_ungrouped mount.propagation ≡ true)
-      (passes (λ (mount : meant.Mount ℕ). is_ungrouped mount.propagation) (mounts_in value.mounts) (all_ungrouped value whole))
-      (λ mount root free. free))
-
-  named : KeepsTo (is_counted_before (value.next + numbers_of_parts world (location_of graft.place) (bind_tree nat_eq world (location_of source) recursive)))
+  named : KeepsTo (is_counted_before
+      (value.next + numbers_of_parts world (location_of graft.place)
+      (bind_tree nat_eq world (location_of source) recursive)))
       (left_by value permits.task permit)
   named =
-      binds_keep_to_numbers value.next world permits.task (location_of source) (location_of graft.place) recursive permits.given.called whole.given
+      binds_keep_to_numbers value.next world permits.task (location_of source)
+      (location_of graft.place) recursive permits.given.called whole.given
       (λ i. located_is_named value whole (location_of source) names.0.reached.there i
       && located_is_named value whole (location_of graft.place) names.2.directory.reached.there i)
 
   pub bind_is_done : (mounts : List MountEntry) (groups : Grouping) (filesystems : Filesystems) (next : ℕ)
       → IsGrafted graft counts (kept value.mounts value.filesystems) value.groups (kept mounts filesystems) groups
-      → are_ascending (mounts_in value.mounts) ≡ true → list_all (λ mount. mount.number % 4 == 1) (mounts_in value.mounts) ≡ true
+      → are_ascending (mounts_in value.mounts) ≡ true
+      → list_all (λ mount. mount.number % 4 == 1) (mounts_in value.mounts) ≡ true
       → next ≡ value.next + 2 * (length graft.parts.now * length graft.tree.now)
       → IsDone value name permit (grafted_value value mounts groups filesystems next)
   bind_is_done mounts groups filesystems next is ascending odd grows =
       let attaches = is.plan world (is_seen value whole) whole.in_world.mounts.one_child parts_are in
-      let attach_is = plan_attaches world graft counts (map mount_of is.copies) (map new_group is.groups) (map point_seen is.points) attaches binds
+      let attach_is = plan_attaches world graft counts (map mount_of is.copies) (map new_group is.groups)
+      (map point_seen is.points) attaches binds
       (counts_from value.next) same_counts in
-      let rising = ap (λ list. are_ascending (mounts_in value.mounts ++ list)) attaches.copies_are ∙ rising_then ascending odd in
-      let free = copies_free world (location_of graft.place) tree (counts_from value.next) (map mount_of is.copies) is.points attach_is
-      (found_ungrouped (mounts_in value.mounts) (all_ungrouped value whole) (counted graft.place.mount.count)) (all_ungrouped value whole) tree_free in
-      let left_is = binds_keep_all (counts_from value.next) world permits.task (location_of source) (location_of graft.place) recursive
-      (worlds_are_in_use world whole.in_world) (mounts_of_worlds_stand world whole.in_world) (Roots.locations_of_worlds_stand world whole.in_world)
+      let rising = ap (λ list. are_ascending (mounts_in value.mounts ++ list)) attaches.copies_are
+      ∙ rising_then ascending odd in
+      let left_is = binds_keep_all (counts_from value.next) world permits.task (location_of source)
+      (location_of graft.place) recursive
+      (worlds_are_in_use world whole.in_world) (mounts_of_worlds_stand world whole.in_world)
+      (Roots.locations_of_worlds_stand world whole.in_world)
       (ap is_some names.2.own)
-      ∙ ap (λ list. attach nat_eq world (counts_from value.next) (location_of graft.place) false list) (sym tree_is) ∙ attach_is in
-      let sizes : numbers_of_parts world (location_of graft.place) (bind_tree nat_eq world (location_of source) recursive)
+      ∙ ap (λ list. attach nat_eq world (counts_from value.next) (location_of graft.place) false list) (sym tree_is)
+      ∙ attach_is in
+      let sizes : numbers_of_parts world (location_of graft.place)
+      (bind_tree nat_eq world (location_of source) recursive)
       ≡ 2 * (length graft.parts.now * length graft.tree.now) =
       (λ i. 2 * (length (sym parts_are i) * length (sym tree_is i)))
       ∙ (λ i. 2 * (length-map graft.parts.now mount_of i * length-map graft.tree.now mount_of i)) in
-      graft_is_done value whole value.filesystems (same_base value whole) graft counts mounts groups filesystems next is attaches there rising free
+      graft_is_done value whole value.filesystems
+      (same_base value whole) graft counts mounts groups filesystems next is attaches there rising
       name permit permits takes left_is
-      (subst (λ n. KeepsTo (is_counted_before n) (left_by value permits.task permit)) (ap (λ n. value.next + n) sizes ∙ sym grows) named)
+      (subst (λ n. KeepsTo (is_counted_before n) (left_by value permits.task permit))
+      (ap (λ n. value.next + n) sizes ∙ sym grows) named)
 
 -- Mounts that are looked up
 
-pub found_some : (number : ℕ) (mounts : List (meant.Mount ℕ)) → is_among nat_eq number (map (λ (mount : meant.Mount ℕ). mount.number) mounts) ≡ true
+pub found_some : (number : ℕ) (mounts : List (meant.Mount ℕ))
+    → is_among nat_eq number (map (λ (mount : meant.Mount ℕ). mount.number) mounts) ≡ true
     → is_some (find (λ (mount : meant.Mount ℕ). nat_eq number mount.number) mounts) ≡ true
 found_some number [] there = absurd (true≢false (sym there))
 found_some number (first ∷ rest) there = by (nat_eq number first.number) there (found_some number rest)
@@ -205,4 +220,5 @@ found_some number (first ∷ rest) there = by (nat_eq number first.number) there
 module _ (value : WorldValue) (whole : IsHeld value) (name : TaskName) (source place : Location) (recursive : Bool)
     (permits : Permits value name (ToBind (location_of source) (location_of place) recursive)) where
   pub source_there : is_located_well nat_eq (world_of value) (location_of source) ≡ true
-  source_there = (permit_fits value whole name (ToBind (location_of source) (location_of place) recursive) permits).names.0.reached.there
+  source_there = (permit_fits value whole name
+      (ToBind (location_of source) (location_of place) recursive) permits).names.0.reached.there

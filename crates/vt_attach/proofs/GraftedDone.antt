@@ -1,5 +1,6 @@
--- Attachments with copies at all receivers are done: the code's world is what the policy leaves, and counts what is in it.
-use Rattle.std.proofs.Common.{◌≡◌, refl, sym, ap, subst, ◌∙◌, ⊎_elim, inl, inr, ℕ, ◌+◌, nat_eq, Bool, true, false, ◌&&◌, List, ◌++◌, map, Option, is_some}
+-- Attachments with copies at all receivers are done: the code's world is what the policy leaves, and counts what is in
+-- it.
+use Rattle.std.proofs.Common.{◌≡◌, refl, sym, ap, subst, ◌∙◌, ⊎_elim, inl, inr, ℕ, ◌+◌, nat_eq, Bool, true, false, cond, ◌&&◌, List, [], ◌∷◌, ◌++◌, map, Option, is_some}
 use Rattle.std.specs.Prelude.{All}
 use Rattle.std.specs.List.{list_all}
 use Rattle.std.proofs.lemmas.List.Folds.{list_all-append}
@@ -15,6 +16,8 @@ use Rattle.vt_letting_go.specs.InUse.{HasTrees, InodesInUse}
 use Rattle.vt_letting_go.specs.OneByOne.{Inode}
 use Rattle.vt_letting_go.proofs.Lists.{Among, all_from_among, all_pass, among-append, among-from_map, among-map, among_from_all, map_twice, passes}
 use Rattle.vt_letting_go.proofs.UpperUses.{times_append}
+use Rattle.vt_location.specs.declared.locations.Location.{Location}
+use Rattle.vt_location.specs.declared.mounts.Mount.{Mount}
 use Rattle.vt_location.specs.Locations.{location_of}
 use Rattle.vt_location.specs.MountValue.{mount_of}
 use Rattle.vt_location.specs.Numbers.{counted}
@@ -25,39 +28,45 @@ use Rattle.vt_propagate.specs.Attaching.{AttachesBy}
 use Rattle.vt_propagate.specs.Copying as planned
 use Rattle.vt_propagate.specs.Falling.{moved_by}
 use Rattle.vt_propagate.specs.Planned.{numbers_at}
+use Rattle.vt_propagate.specs.Pushing.{MovesOnce}
+use Rattle.vt_propagate.specs.Retyping.{with_kind, with_type_in}
 use Rattle.vt_run_laws.specs.Handed.{is_counted_before}
 use Rattle.vt_spec.specs.Language.Calls.{TaskName}
 use Rattle.vt_spec.specs.Lists.{Fresh, folded, is_among}
 use Rattle.vt_spec.specs.Machine.Attach.{Copies, attach, attached_by, copies_from, masters_with, parts_of}
 use Rattle.vt_spec.specs.Machine.Mounts as meant
+use Rattle.vt_spec.specs.Machine.Mounts.{Propagation}
 use Rattle.vt_spec.specs.Machine.Permits.{Permit}
 use Rattle.vt_spec.specs.Machine.Receives.{has_members}
 use Rattle.vt_spec.specs.Machine.World.{Filesystem, World, filesystem_numbered}
 use Rattle.vt_spec.specs.Machine.Invariants.{IsWorld, has_its_root}
+use Rattle.vt_world_laws.specs.Worlds.Kept.{IsUnderWay}
 use Rattle.vt_detach.specs.Events.{Permits, left_by}
-use Rattle.vt_detach.specs.Held.{CountsItsUses, CountsWhatIsInIt, HasOwnInodes, IsHeld, is_ungrouped}
+use Rattle.vt_detach.specs.Held.{CountsItsUses, CountsWhatIsInIt, HasOwnInodes, IsHeld}
 use Rattle.vt_detach.specs.Uses.{kept, unused_entry}
 use Rattle.vt_detach.specs.WorldValue.{WorldValue, world_of}
 use Rattle.vt_detach.proofs.FilesSeen.{files_are_plain}
 use Rattle.vt_detach.proofs.Finishing.{CountsBeside, own_exchanged}
-use Rattle.vt_detach.proofs.Grouped.{mounts_free}
+use Rattle.vt_detach.proofs.MountsChanged.{times_map}
 use Rattle.vt_detach.proofs.OwnInodesKept.{IsOwn}
 use Rattle.vt_detach.proofs.Showing.{ShowsAs}
 use Rattle.vt_detach.proofs.Staying.{IsDone}
 use Rattle.vt_attach.specs.AttachedGroups.{HasGroupsOf, all_copies, groups_formed, type_of}
 use Rattle.vt_attach.specs.Grafted.{IsGrafted}
-use Rattle.vt_attach.specs.Planned.{points_taken, with_points}
+use Rattle.vt_attach.specs.Moved.{typed_all, with_types}
+use Rattle.vt_attach.specs.Planned.{Point, is_small, points_left, points_taken, with_planned, with_points}
 use Rattle.vt_attach.specs.PlannedUses.{point_seen}
+use Rattle.vt_attach.specs.Room.{has_small_slots}
 use Rattle.vt_attach.proofs.AddedUses.{gained_by, showing}
 use Rattle.vt_attach.proofs.AttachedCounts.{unused_counts}
 use Rattle.vt_attach.proofs.EnteringLemmas.{mounts_entered}
 use Rattle.vt_attach.proofs.FormedGroups.{formed_groups_begin, groups_of_copies_are_named}
-use Rattle.vt_attach.proofs.GraftedUses.{after, exchanged_then, gained_there, nothing_goes}
+use Rattle.vt_attach.proofs.GraftedUses.{after, changed_at, exchanged_then, gained_there, nothing_goes}
 use Rattle.vt_attach.proofs.GrownGroups.{ascending_rises, attached_worlds_grow}
 use Rattle.vt_attach.proofs.MovedPoints.{points_are_moved}
 use Rattle.vt_attach.proofs.PlannedCounts.{exchanged_on, inodes_of_points, planned_shown}
 use Rattle.vt_attach.proofs.PlannedPoints.{moved_at}
-use Rattle.vt_attach.proofs.PointsCounted.{points_count, points_show}
+use Rattle.vt_attach.proofs.PointsCounted.{points_count}
 use Rattle.vt_attach.proofs.TakingNumbers.{TakesNumbers, left_is_world, numbers_are_kept}
 
 -- the world with these filesystems
@@ -71,15 +80,18 @@ pub record IsBase (value : WorldValue) (base : Filesystems) : Type 0 where
   pub in_use : InodesInUse (with_base value base)
   pub roots : list_all (has_its_root nat_eq (with_base value base)) (mounts_in value.mounts) ≡ true
   pub inodes : (entry : FilesystemEntry) → Among entry base
-      → IsCounted (with_base value base) (filesystem_numbered nat_eq (with_base value base) (counted entry.count)) (inodes_seen entry)
-  pub mounts : (entry : FilesystemEntry) → Among entry base → entry.mounts ≡ mounts_showing (world_of value) (counted entry.count)
+      → IsCounted (with_base value base) (filesystem_numbered nat_eq (with_base value base) (counted entry.count))
+      (inodes_seen entry)
+  pub mounts : (entry : FilesystemEntry) → Among entry base
+      → entry.mounts ≡ mounts_showing (world_of value) (counted entry.count)
 
 -- the code's world with mounts that were attached
 abbrev pub grafted_value : WorldValue → List MountEntry → Grouping → Filesystems → ℕ → WorldValue
 grafted_value value mounts groups filesystems next = record value { mounts = mounts; groups = groups; filesystems = filesystems; next = next }
 
 -- where a tree is copied, its plan is what the policy attaches
-pub plan_attaches : (world : World ℕ) (graft : Graft) (counts : Counts) (copies : List (meant.Mount ℕ)) (new : List (ℕ × Option ℕ))
+pub plan_attaches : (world : World ℕ) (graft : Graft) (counts : Counts) (copies : List (meant.Mount ℕ))
+    (new : List (ℕ × Option ℕ))
     (points : List (ℕ × meant.Location ℕ)) → AttachesBy world graft counts copies new points → graft.moves ≡ false
     → (fresh : Fresh ℕ) → ((k : ℕ) → planned.counts_from counts k ≡ fresh k)
     → attach nat_eq world fresh (location_of graft.place) false (map mount_of graft.tree.now)
@@ -89,31 +101,210 @@ pub plan_attaches : (world : World ℕ) (graft : Graft) (counts : Counts) (copie
     }
 plan_attaches world graft counts copies new points attaches binds fresh same =
     (λ i. attached_by nat_eq world
-    (copies_from nat_eq (λ k. sym (same k) i) (parts_of nat_eq world (location_of graft.place)) (map mount_of graft.tree.now))
+    (copies_from nat_eq (λ k. sym (same k) i) (parts_of nat_eq world (location_of graft.place))
+    (map mount_of graft.tree.now))
     (location_of graft.place) (sym binds i) (map mount_of graft.tree.now))
     ∙ attaches.bind binds
 
+-- a world has its invariants, whatever else may be left
+under : {world : World ℕ} → IsWorld nat_eq world → IsUnderWay world
+under is = record {
+  files = is.files;
+  mounts = is.mounts;
+  namespaces = is.namespaces;
+  tasks = is.tasks;
+  roots = is.roots;
+}
+
+-- Mounts moved and got types, and others came, while the uses of inodes were counted.
+pub record IsEntered (value : WorldValue) (base : Filesystems) (copies : List Mount) (points : List Point)
+    (kinds : List (ℕ × Propagation ℕ)) (left : List Location) (mounts : List MountEntry)
+    (filesystems : Filesystems) : Type 0 where
+  pub types : List (ℕ × Propagation ℕ)
+  pub once : MovesOnce (mounts_in value.mounts) (map point_seen points)
+  pub left_are : map location_of left ≡ points_left points value.mounts
+  pub left_small : list_all is_small left ≡ true
+  pub done : kept mounts filesystems ≡ with_types types (with_planned copies points left (kept value.mounts base))
+  pub seen : mounts_in mounts ≡ map (changed_at points kinds) (mounts_in value.mounts) ++ map mount_of copies
+  pub slots : list_all has_small_slots copies ≡ true
+  pub taken_small : list_all is_small (points_taken points value.mounts) ≡ true
+
+-- a mount that gets a type counts its uses as before
+typed_counts : (world : World ℕ) (types : List (ℕ × Propagation ℕ)) (entries : List MountEntry)
+    → ((entry : MountEntry) → Among entry entries → CountsItsUses world entry)
+    → (entry : MountEntry) → Among entry (typed_all types entries) → CountsItsUses world entry
+typed_counts world [] entries counts entry m = counts entry m
+typed_counts world (new ∷ types) entries counts entry m =
+    typed_counts world types (with_type_in entries new) (λ one n.
+    let from = among-from_map (λ (was : MountEntry). cond (nat_eq new.0 was.mount.number) (with_kind new.1 was) was)
+    entries one n in
+    subst (CountsItsUses world) (sym from.2)
+    (by from.0 (nat_eq new.0 from.0.mount.number) (counts from.0 from.1))) entry m
+  where
+    by : (was : MountEntry) (b : Bool) → CountsItsUses world was
+        → CountsItsUses world (cond b (with_kind new.1 was) was)
+    by was true counted_so = record { uses = counted_so.uses; writers = counted_so.writers }
+    by was false counted_so = counted_so
+
 module _ (value : WorldValue) (whole : IsHeld value) (base : Filesystems) (is_base : IsBase value base)
-    (graft : Graft) (counts : Counts) (mounts : List MountEntry) (groups : Grouping) (filesystems : Filesystems) (next : ℕ)
-    (is : IsGrafted graft counts (kept value.mounts base) value.groups (kept mounts filesystems) groups)
-    (attaches : AttachesBy (with_base value base) graft counts (map mount_of is.copies) (map new_group is.groups) (map point_seen is.points))
-    (there : HasGroupsOf (with_base value base) (map mount_of graft.tree.now))
-    (ascending : are_ascending (mounts_in value.mounts ++ map mount_of is.copies) ≡ true)
-    (free : list_all (λ (mount : meant.Mount ℕ). is_ungrouped mount.propagation) (map mount_of is.copies) ≡ true) where
+    (copies : List Mount) (points : List Point) (kinds : List (ℕ × Propagation ℕ)) (left : List Location)
+    (formed : List (ℕ × Option ℕ)) (mounts : List MountEntry) (groups : Grouping) (filesystems : Filesystems)
+    (next : ℕ)
+    (is : IsEntered value base copies points kinds left mounts filesystems)
+    (ascending : are_ascending (mounts_in value.mounts ++ map mount_of copies) ≡ true) where
   abbrev new : WorldValue
   new = grafted_value value mounts groups filesystems next
 
-  abbrev copies : List (meant.Mount ℕ)
-  copies = map mount_of is.copies
-
-  abbrev formed : List (ℕ × Option ℕ)
-  formed = map new_group is.groups
-
   abbrev master : ℕ → Option ℕ
-  master = folded (masters_with nat_eq) (master_in value.groups) (map new_group is.groups)
+  master = folded (masters_with nat_eq) (master_in value.groups) formed
 
+  abbrev pub entered_world : World ℕ
+  entered_world = after value base (folded (masters_with nat_eq) (master_in value.groups) formed) copies points kinds
+
+  -- Filesystems
+
+  abbrev gains : List Inode
+  gains = inodes_of_points (points_taken points value.mounts) ++ gained_by copies
+
+  abbrev losses : List Inode
+  losses = inodes_of_points left
+
+  shown_then : shown filesystems
+      ≡ map (λ (one : Shown). exchanged_on gains losses (showing one.count copies) one) (shown base)
+  shown_then = ap (λ k. k.filesystems) is.done
+      ∙ planned_shown (points_taken points value.mounts) left copies (shown base)
+
+  abbrev IsOf : FilesystemEntry → FilesystemEntry → Type 0
+  IsOf was entry = shown_entry entry ≡ exchanged_on gains losses (showing was.count copies) (shown_entry was)
+
+  pub from_base : (entry : FilesystemEntry) → Among entry filesystems
+      → (was : FilesystemEntry) × Among was base × IsOf was entry
+  from_base entry m =
+      let from = among-from_map (λ (one : Shown). exchanged_on gains losses (showing one.count copies) one)
+      (shown base) (shown_entry entry)
+      (subst (Among (shown_entry entry)) shown_then (among-map shown_entry filesystems entry m)) in
+      let first = among-from_map shown_entry base from.0 from.1 in (
+        first.0,
+        first.1,
+        from.2 ∙ ap
+            (λ (one : Shown). exchanged_on gains losses (showing one.count copies) one) first.2,
+      )
+
+  pub same_numbers : map (λ (f : Filesystem ℕ). f.number) (filesystems_seen base)
+      ≡ map (λ (entry : FilesystemEntry). counted entry.count) filesystems
+  same_numbers =
+      map_twice (λ (f : Filesystem ℕ). f.number) filesystem_seen base
+      ∙ sym (map_twice (λ (one : Shown). counted one.count) shown_entry base)
+      ∙ sym (map_twice (λ (one : Shown). counted one.count)
+      (λ (one : Shown). exchanged_on gains losses (showing one.count copies) one) (shown base))
+      ∙ sym (ap (map (λ (one : Shown). counted one.count)) shown_then)
+      ∙ map_twice (λ (one : Shown). counted one.count) shown_entry filesystems
+
+  pub own_then : (entry : FilesystemEntry) → Among entry filesystems → IsOwn entry.count (inodes_seen entry)
+  own_then entry m =
+      let from = from_base entry m in
+      subst (λ count. IsOwn count (inodes_seen entry)) (sym (ap (λ (one : Shown). one.count) from.2))
+      (subst (IsOwn from.0.count) (sym (ap (λ (one : Shown). one.inodes) from.2))
+      (own_exchanged from.0.count gains losses (inodes_seen from.0)
+      (among_from_all HasOwnInodes base is_base.own from.0 from.1)))
+
+  counted_then : IsWorld nat_eq entered_world → (entry : FilesystemEntry) → Among entry filesystems
+      → IsCounted entered_world (filesystem_numbered nat_eq entered_world (counted entry.count)) (inodes_seen entry)
+  counted_then is_world entry m =
+      let from = from_base entry m in
+      subst (λ count. IsCounted entered_world (filesystem_numbered nat_eq entered_world (counted count))
+      (inodes_seen entry)) (sym (ap (λ (one : Shown). one.count) from.2))
+      (subst (IsCounted entered_world (filesystem_numbered nat_eq entered_world (counted from.0.count)))
+      (sym (ap (λ (one : Shown). one.inodes) from.2))
+      (subst (λ (world : World ℕ). IsCounted world (filesystem_numbered nat_eq world (counted from.0.count))
+      (exchanged (counted from.0.count) gains losses (inodes_seen from.0)))
+      (nothing_goes value base master copies points kinds whole is_base.own
+      (under is_world) is_base.roots is.once left is.left_are is.left_small is.taken_small is.slots ascending
+      is_world)
+      (uses_are_exchanged (with_base value base) entered_world gains losses (counted from.0.count)
+      (inodes_seen from.0) is_base.trees is_base.in_use (files_are_plain base)
+      (exchanged_then value base master copies points kinds whole is_base.own
+      (under is_world) is_base.roots is.once left is.left_are is.left_small is.taken_small is.slots ascending
+      (counted from.0.count))
+      (is_base.inodes from.0 from.1)
+      (gained_there value base master copies points kinds whole is_base.own
+      (under is_world) is_base.roots is.once left is.left_are is.left_small is.taken_small is.slots ascending
+      from.0 from.1))))
+
+  shows : Has entered_world groups → IsWorld nat_eq entered_world → ShowsAs entered_world new
+  shows has is_world = record {
+    plain = files_are_plain base;
+    mounts = sym is.seen;
+    groups = has;
+    numbers = same_numbers;
+    inodes = counted_then is_world;
+    namespaces = refl;
+    tasks = refl;
+  }
+
+  -- What is counted beside inodes
+
+  showing_then : (count : ℕ) → mounts_showing (world_of new) (counted count)
+      ≡ mounts_showing (world_of value) (counted count) + showing count copies
+  showing_then count =
+      ap (times shows_it) is.seen
+      ∙ times_append shows_it (map (changed_at points kinds) (mounts_in value.mounts)) (map mount_of copies)
+      ∙ ap (λ n. n + showing count copies) (times_map shows_it (changed_at points kinds) (mounts_in value.mounts))
+    where
+      shows_it : meant.Mount ℕ → Bool
+      shows_it mount = nat_eq (counted count) mount.filesystem
+
+  counted_so : (entry : MountEntry) → Among entry (with_points points value.mounts ++ map unused_entry copies)
+      → CountsItsUses (world_of new) entry
+  counted_so entry m =
+      ⊎_elim
+      (λ old. let was = among_from_all (CountsItsUses (world_of value)) (with_points points value.mounts)
+      (points_count (world_of value) points value.mounts whole.mounts) entry old in
+      record { uses = was.uses; writers = was.writers })
+      (λ added. let from = among-from_map unused_entry copies entry added in
+      let was = unused_counts value whole copies ascending from.0 from.1 in
+      subst (CountsItsUses (world_of new)) (sym from.2) (record { uses = was.uses; writers = was.writers }))
+      (among-append (with_points points value.mounts) (map unused_entry copies) entry m)
+
+  pub counts_then : CountsBeside new
+  counts_then = record {
+    uses = all_from_among (CountsItsUses (world_of new)) mounts (λ entry m.
+        typed_counts (world_of new) is.types (with_points points value.mounts ++ map unused_entry copies) counted_so
+        entry (subst (Among entry) (ap (λ k. k.mounts) is.done) m));
+    mounts = λ entry m. let from = from_base entry m in
+        ap (λ (one : Shown). one.mounts) from.2
+        ∙ ap (λ n. n + showing from.0.count copies) (is_base.mounts from.0 from.1)
+        ∙ sym (showing_then from.0.count)
+        ∙ ap (λ count. mounts_showing (world_of new) (counted count)) (sym (ap (λ (one : Shown). one.count) from.2));
+    namespaces = all_from_among (CountsWhatIsInIt (world_of new)) value.namespaces (λ entry m.
+        let was = among_from_all (CountsWhatIsInIt (world_of value)) value.namespaces whole.namespaces entry m in
+        record { tasks = was.tasks });
+  }
+
+  -- so the event is done, where nothing goes
+  pub entered_is_done : Has entered_world groups → (name : TaskName) (permit : Permit ℕ)
+      (permits : Permits value name permit)
+      → TakesNumbers value name permit permits.task
+      → left_by value permits.task permit ≡ entered_world
+      → KeepsTo (is_counted_before next) (left_by value permits.task permit)
+      → IsDone value name permit new
+  entered_is_done has name permit permits takes left_is keeps =
+      let is_world = subst (IsWorld nat_eq) left_is (left_is_world value whole name permit permits.task takes).0 in
+      numbers_are_kept value whole name permit permits.task takes new
+      (subst (λ (left : World ℕ). ShowsAs left new) (sym left_is) (shows has is_world)) counts_then own_then keeps
+
+-- Copies that were attached
+module _ (value : WorldValue) (whole : IsHeld value) (base : Filesystems) (is_base : IsBase value base)
+    (graft : Graft) (counts : Counts) (mounts : List MountEntry) (groups : Grouping) (filesystems : Filesystems)
+    (next : ℕ)
+    (is : IsGrafted graft counts (kept value.mounts base) value.groups (kept mounts filesystems) groups)
+    (attaches : AttachesBy (with_base value base) graft counts (map mount_of is.copies) (map new_group is.groups)
+    (map point_seen is.points))
+    (there : HasGroupsOf (with_base value base) (map mount_of graft.tree.now))
+    (ascending : are_ascending (mounts_in value.mounts ++ map mount_of is.copies) ≡ true) where
   abbrev pub attached_world : World ℕ
-  attached_world = after value base (folded (masters_with nat_eq) (master_in value.groups) (map new_group is.groups)) is.copies is.points
+  attached_world = after value base
+      (folded (masters_with nat_eq) (master_in value.groups) (map new_group is.groups)) is.copies is.points []
 
   -- Mounts
 
@@ -134,142 +325,53 @@ module _ (value : WorldValue) (whole : IsHeld value) (base : Filesystems) (is_ba
   groups_then =
       is.grows (world_of value) attached_world whole.groups
       (subst (λ types. Grows (world_of value) attached_world types (map new_group is.groups)) types_are
-      (attached_worlds_grow (world_of value) attached_world (moved_at is.points) (map mount_of is.copies) (map new_group is.groups) (record {
+      (attached_worlds_grow (world_of value) attached_world (moved_at is.points) (map mount_of is.copies)
+      (map new_group is.groups) (record {
         mounts = refl;
         number = λ mount. refl;
         kind = λ mount. refl;
         order = sym (ascending_rises (mounts_in value.mounts ++ map mount_of is.copies)) ∙ ascending;
         master = λ group. refl;
-        begin = all_from_among (λ (entry : ℕ × Option ℕ). is_some entry.1 ≡ true → has_members nat_eq (map mount_of is.copies) entry.0 ≡ true) (map new_group is.groups) (λ entry m some.
+        begin = all_from_among (λ (entry : ℕ × Option ℕ). is_some entry.1 ≡ true
+            → has_members nat_eq (map mount_of is.copies) entry.0 ≡ true) (map new_group is.groups) (λ entry m some.
             ap (λ list. has_members nat_eq list entry.0) attaches.copies_are
-            ∙ among_from_all (λ (other : ℕ × Option ℕ). has_members nat_eq (all_copies (with_base value base) numbers (location_of graft.place) graft.moves (map mount_of graft.tree.now)) other.0 ≡ true)
-            (groups_formed (with_base value base) numbers (location_of graft.place) graft.moves (map mount_of graft.tree.now))
-            (formed_groups_begin (with_base value base) numbers (location_of graft.place) graft.moves (map mount_of graft.tree.now))
+            ∙ among_from_all (λ (other : ℕ × Option ℕ). has_members nat_eq
+            (all_copies (with_base value base) numbers (location_of graft.place) graft.moves
+            (map mount_of graft.tree.now)) other.0 ≡ true)
+            (groups_formed (with_base value base) numbers (location_of graft.place) graft.moves
+            (map mount_of graft.tree.now))
+            (formed_groups_begin (with_base value base) numbers (location_of graft.place) graft.moves
+            (map mount_of graft.tree.now))
             entry (subst (Among entry) attaches.groups_are m));
         named = λ group has.
             ⊎_elim inl
-            (λ among. inr (ap (λ list. is_among nat_eq group (map (λ (entry : ℕ × Option ℕ). entry.0) list)) attaches.groups_are ∙ among))
-            (groups_of_copies_are_named (with_base value base) numbers (location_of graft.place) graft.moves (map mount_of graft.tree.now) there group
+            (λ among. inr (ap (λ list. is_among nat_eq group
+            (map (λ (entry : ℕ × Option ℕ). entry.0) list)) attaches.groups_are ∙ among))
+            (groups_of_copies_are_named (with_base value base) numbers (location_of graft.place) graft.moves
+            (map mount_of graft.tree.now) there group
             (ap (λ list. has_members nat_eq list group) (sym attaches.copies_are) ∙ has));
       })))
     where
       numbers : Copies ℕ
       numbers = numbers_at (with_base value base) graft counts
 
-  -- Filesystems
-
-  abbrev gains : List Inode
-  gains = inodes_of_points (points_taken is.points value.mounts) ++ gained_by is.copies
-
-  abbrev losses : List Inode
-  losses = inodes_of_points is.left
-
-  shown_then : shown filesystems ≡ map (λ (one : Shown). exchanged_on gains losses (showing one.count is.copies) one) (shown base)
-  shown_then = ap (λ k. k.filesystems) is.done ∙ planned_shown (points_taken is.points value.mounts) is.left is.copies (shown base)
-
-  abbrev IsOf : FilesystemEntry → FilesystemEntry → Type 0
-  IsOf was entry = shown_entry entry ≡ exchanged_on gains losses (showing was.count is.copies) (shown_entry was)
-
-  from_base : (entry : FilesystemEntry) → Among entry filesystems → (was : FilesystemEntry) × Among was base × IsOf was entry
-  from_base entry m =
-      let from = among-from_map (λ (one : Shown). exchanged_on gains losses (showing one.count is.copies) one) (shown base) (shown_entry entry)
-      (subst (Among (shown_entry entry)) shown_then (among-map shown_entry filesystems entry m)) in
-      let first = among-from_map shown_entry base from.0 from.1 in
-      (first.0, first.1, from.2 ∙ ap (λ (one : Shown). exchanged_on gains losses (showing one.count is.copies) one) first.2)
-
-  same_numbers : map (λ (f : Filesystem ℕ). f.number) (filesystems_seen base) ≡ map (λ (entry : FilesystemEntry). counted entry.count) filesystems
-  same_numbers =
-      map_twice (λ (f : Filesystem ℕ). f.number) filesystem_seen base
-      ∙ sym (map_twice (λ (one : Shown). counted one.count) shown_entry base)
-      ∙ sym (map_twice (λ (one : Shown). counted one.count) (λ (one : Shown). exchanged_on gains losses (showing one.count is.copies) one) (shown base))
-      ∙ sym (ap (map (λ (one : Shown). counted one.count)) shown_then)
-      ∙ map_twice (λ (one : Shown). counted one.count) shown_entry filesystems
-
-  own_then : (entry : FilesystemEntry) → Among entry filesystems → IsOwn entry.count (inodes_seen entry)
-  own_then entry m =
-      let from = from_base entry m in
-      subst (λ count. IsOwn count (inodes_seen entry)) (sym (ap (λ (one : Shown). one.count) from.2))
-      (subst (IsOwn from.0.count) (sym (ap (λ (one : Shown). one.inodes) from.2))
-      (own_exchanged from.0.count gains losses (inodes_seen from.0) (among_from_all HasOwnInodes base is_base.own from.0 from.1)))
-
-  counted_then : IsWorld nat_eq attached_world → (entry : FilesystemEntry) → Among entry filesystems
-      → IsCounted attached_world (filesystem_numbered nat_eq attached_world (counted entry.count)) (inodes_seen entry)
-  counted_then is_world entry m =
-      let from = from_base entry m in
-      subst (λ count. IsCounted attached_world (filesystem_numbered nat_eq attached_world (counted count)) (inodes_seen entry)) (sym (ap (λ (one : Shown). one.count) from.2))
-      (subst (IsCounted attached_world (filesystem_numbered nat_eq attached_world (counted from.0.count))) (sym (ap (λ (one : Shown). one.inodes) from.2))
-      (subst (λ (world : World ℕ). IsCounted world (filesystem_numbered nat_eq world (counted from.0.count)) (exchanged (counted from.0.count) gains losses (inodes_seen from.0)))
-      (nothing_goes value base master is.copies is.points whole is_base.own is_world is_base.roots is.once is.left is.left_are is.left_small is.taken_small is.slots ascending)
-      (uses_are_exchanged (with_base value base) attached_world gains losses (counted from.0.count) (inodes_seen from.0) is_base.trees is_base.in_use (files_are_plain base)
-      (exchanged_then value base master is.copies is.points whole is_base.own is_world is_base.roots is.once is.left is.left_are is.left_small is.taken_small is.slots ascending
-      (counted from.0.count))
-      (is_base.inodes from.0 from.1)
-      (gained_there value base master is.copies is.points whole is_base.own is_world is_base.roots is.once is.left is.left_are is.left_small is.taken_small is.slots ascending
-      from.0 from.1))))
-
-  shows : IsWorld nat_eq attached_world → ShowsAs attached_world new
-  shows is_world = record {
-    plain = files_are_plain base;
-    mounts = sym mounts_seen;
-    groups = groups_then;
-    numbers = same_numbers;
-    inodes = counted_then is_world;
-    namespaces = refl;
-    tasks = refl;
+  entered : IsEntered value base is.copies is.points [] is.left mounts filesystems
+  entered = record {
+    types = [];
+    once = is.once;
+    left_are = is.left_are;
+    left_small = is.left_small;
+    done = is.done;
+    seen = mounts_seen;
+    slots = is.slots;
+    taken_small = is.taken_small;
   }
 
-  -- What is counted beside inodes
-
-  free_then : list_all (λ (entry : MountEntry). is_ungrouped entry.mount.propagation) mounts ≡ true
-  free_then =
-      sym (mounts_free mounts) ∙ ap (list_all (λ (mount : meant.Mount ℕ). is_ungrouped mount.propagation)) mounts_seen
-      ∙ list_all-append (λ (mount : meant.Mount ℕ). is_ungrouped mount.propagation) (map (moved_at is.points) (mounts_in value.mounts)) (map mount_of is.copies)
-      ∙ (λ i. front i && free i)
-    where
-      front : list_all (λ (mount : meant.Mount ℕ). is_ungrouped mount.propagation) (map (moved_at is.points) (mounts_in value.mounts)) ≡ true
-      front =
-          all_pass (λ (mount : meant.Mount ℕ). is_ungrouped mount.propagation) (map (moved_at is.points) (mounts_in value.mounts)) (λ mount m.
-          let from = among-from_map (moved_at is.points) (mounts_in value.mounts) mount m in
-          ap (λ (x : meant.Mount ℕ). is_ungrouped x.propagation) from.2
-          ∙ passes (λ (x : meant.Mount ℕ). is_ungrouped x.propagation) (mounts_in value.mounts) (mounts_free value.mounts ∙ whole.ungrouped) from.0 from.1)
-
-  showing_then : (count : ℕ) → mounts_showing (world_of new) (counted count) ≡ mounts_showing (world_of value) (counted count) + showing count is.copies
-  showing_then count =
-      ap (times shows_it) (ap mounts_in mounts_are ∙ mounts_entered (with_points is.points value.mounts) is.copies)
-      ∙ times_append shows_it (mounts_in (with_points is.points value.mounts)) (map mount_of is.copies)
-      ∙ ap (λ n. n + showing count is.copies) (points_show (counted count) is.points value.mounts)
-    where
-      shows_it : meant.Mount ℕ → Bool
-      shows_it mount = nat_eq (counted count) mount.filesystem
-
-  counts_then : CountsBeside new
-  counts_then = record {
-    ungrouped = free_then;
-    uses = all_from_among (CountsItsUses (world_of new)) mounts (λ entry m.
-        ⊎_elim
-        (λ old. let was = among_from_all (CountsItsUses (world_of value)) (with_points is.points value.mounts)
-        (points_count (world_of value) is.points value.mounts whole.mounts) entry old in
-        record { uses = was.uses; writers = was.writers })
-        (λ added. let from = among-from_map unused_entry is.copies entry added in
-        let was = unused_counts value whole is.copies ascending from.0 from.1 in
-        subst (CountsItsUses (world_of new)) (sym from.2) (record { uses = was.uses; writers = was.writers }))
-        (among-append (with_points is.points value.mounts) (map unused_entry is.copies) entry (subst (Among entry) mounts_are m)));
-    mounts = λ entry m. let from = from_base entry m in
-        ap (λ (one : Shown). one.mounts) from.2
-        ∙ ap (λ n. n + showing from.0.count is.copies) (is_base.mounts from.0 from.1)
-        ∙ sym (showing_then from.0.count)
-        ∙ ap (λ count. mounts_showing (world_of new) (counted count)) (sym (ap (λ (one : Shown). one.count) from.2));
-    namespaces = all_from_among (CountsWhatIsInIt (world_of new)) value.namespaces (λ entry m.
-        let was = among_from_all (CountsWhatIsInIt (world_of value)) value.namespaces whole.namespaces entry m in
-        record { tasks = was.tasks });
-  }
-
-  -- so the event is done
-
-  pub graft_is_done : (name : TaskName) (permit : Permit ℕ) (permits : Permits value name permit) → TakesNumbers value name permit permits.task
-      → left_by value permits.task permit ≡ attached_world → KeepsTo (is_counted_before next) (left_by value permits.task permit)
-      → IsDone value name permit new
-  graft_is_done name permit permits takes left_is keeps =
-      let is_world = subst (IsWorld nat_eq) left_is (left_is_world value whole name permit permits.task takes).0 in
-      numbers_are_kept value whole name permit permits.task takes new
-      (subst (λ (left : World ℕ). ShowsAs left new) (sym left_is) (shows is_world)) counts_then own_then keeps
+  pub graft_is_done : (name : TaskName) (permit : Permit ℕ) (permits : Permits value name permit)
+      → TakesNumbers value name permit permits.task
+      → left_by value permits.task permit ≡ attached_world
+      → KeepsTo (is_counted_before next) (left_by value permits.task permit)
+      → IsDone value name permit (grafted_value value mounts groups filesystems next)
+  graft_is_done =
+      entered_is_done value whole base is_base is.copies is.points [] is.left (map new_group is.groups) mounts groups
+      filesystems next entered ascending groups_then

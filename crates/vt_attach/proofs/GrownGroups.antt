@@ -20,7 +20,8 @@ use Rattle.vt_attach.specs.AttachedGroups.{AttachedWorldsGrow, type_of}
 
 -- One that comes last
 
-insert_last : (number : ℕ) (kind : Propagation ℕ) (front : List (Mount ℕ)) → list_all (λ other. nat_lt other number) (numbers_of front) ≡ true
+insert_last : (number : ℕ) (kind : Propagation ℕ) (front : List (Mount ℕ))
+    → list_all (λ other. nat_lt other number) (numbers_of front) ≡ true
     → insert_entry nat_cmp (peers_of front) number kind ≡ peers_of front ++ (number, kind) ∷ []
 insert_last number kind [] all = refl
 insert_last number kind (mount ∷ rest) all = by (source_of mount.propagation) (insert_last number kind rest parts.1)
@@ -29,25 +30,32 @@ insert_last number kind (mount ∷ rest) all = by (source_of mount.propagation) 
     parts = and_parts (nat_lt mount.number number) _ all
 
     by : (o : Option ℕ) → insert_entry nat_cmp (peers_of rest) number kind ≡ peers_of rest ++ (number, kind) ∷ []
-        → insert_entry nat_cmp (cons_option (option_map (λ source. (mount.number, mount.propagation)) o) (peers_of rest)) number kind
-        ≡ cons_option (option_map (λ source. (mount.number, mount.propagation)) o) (peers_of rest) ++ (number, kind) ∷ []
+        → insert_entry nat_cmp (cons_option (option_map (λ source. (mount.number, mount.propagation)) o)
+        (peers_of rest)) number kind
+        ≡ cons_option (option_map (λ source. (mount.number, mount.propagation)) o) (peers_of rest)
+        ++ (number, kind) ∷ []
     by None later = later
     by (Some source) later =
         ap (λ o. match_ordering o ((number, kind) ∷ (mount.number, mount.propagation) ∷ peers_of rest)
-        ((mount.number, kind) ∷ peers_of rest) ((mount.number, mount.propagation) ∷ insert_entry nat_cmp (peers_of rest) number kind))
+        ((mount.number, kind) ∷ peers_of rest)
+        ((mount.number, mount.propagation) ∷ insert_entry nat_cmp (peers_of rest) number kind))
         (cmp_greater number mount.number parts.0)
         ∙ ap (λ list. (mount.number, mount.propagation) ∷ list) later
 
-one_more : (front : List (Mount ℕ)) (copy : Mount ℕ) → peers_of (front ++ copy ∷ []) ≡ peers_of front ++ cons_option (peer_of copy) []
+one_more : (front : List (Mount ℕ)) (copy : Mount ℕ)
+    → peers_of (front ++ copy ∷ []) ≡ peers_of front ++ cons_option (peer_of copy) []
 one_more [] copy = refl
 one_more (mount ∷ front) copy = by (peer_of mount) (one_more front copy)
   where
-    by : (o : Option (ℕ × Propagation ℕ)) → peers_of (front ++ copy ∷ []) ≡ peers_of front ++ cons_option (peer_of copy) []
-        → cons_option o (peers_of (front ++ copy ∷ [])) ≡ cons_option o (peers_of front) ++ cons_option (peer_of copy) []
+    by : (o : Option (ℕ × Propagation ℕ))
+        → peers_of (front ++ copy ∷ []) ≡ peers_of front ++ cons_option (peer_of copy) []
+        → cons_option o (peers_of (front ++ copy ∷ [])) ≡ cons_option o (peers_of front)
+        ++ cons_option (peer_of copy) []
     by None later = later
     by (Some peer) later = ap (λ list. peer ∷ list) later
 
-typed_last : (front : List (Mount ℕ)) (copy : Mount ℕ) → list_all (λ other. nat_lt other copy.number) (numbers_of front) ≡ true
+typed_last : (front : List (Mount ℕ)) (copy : Mount ℕ)
+    → list_all (λ other. nat_lt other copy.number) (numbers_of front) ≡ true
     → with_type_of (peers_of front) (type_of copy) ≡ peers_of (front ++ copy ∷ [])
 typed_last front copy all = by copy.propagation ∙ sym (one_more front copy)
   where
@@ -63,7 +71,8 @@ at_copy : (test : ℕ → Bool) (front : List (Mount ℕ)) (copy : Mount ℕ) (r
 at_copy test [] copy rest all = (and_parts (test copy.number) _ all).0
 at_copy test (mount ∷ front) copy rest all = at_copy test front copy rest (and_parts (test mount.number) _ all).1
 
-lower : (front : List (Mount ℕ)) (copy : Mount ℕ) (rest : List (Mount ℕ)) → are_rising (numbers_of (front ++ copy ∷ rest)) ≡ true
+lower : (front : List (Mount ℕ)) (copy : Mount ℕ) (rest : List (Mount ℕ))
+    → are_rising (numbers_of (front ++ copy ∷ rest)) ≡ true
     → list_all (λ other. nat_lt other copy.number) (numbers_of front) ≡ true
 lower [] copy rest rising = refl
 lower (mount ∷ front) copy rest rising =
@@ -72,7 +81,7 @@ lower (mount ∷ front) copy rest rising =
 
 -- All that come
 
-all_entered : (front copies : List (Mount ℕ)) → are_rising (numbers_of (front ++ copies)) ≡ true
+pub all_entered : (front copies : List (Mount ℕ)) → are_rising (numbers_of (front ++ copies)) ≡ true
     → folded with_type_of (peers_of front) (map type_of copies) ≡ peers_of (front ++ copies)
 all_entered front [] rising = ap peers_of (sym (append-nil front))
 all_entered front (copy ∷ rest) rising =
@@ -89,16 +98,18 @@ module _ (change : Mount ℕ → Mount ℕ) (number : (mount : Mount ℕ) → (c
   numbers_stay [] = refl
   numbers_stay (mount ∷ rest) = λ i. number mount i ∷ numbers_stay rest i
 
-  peers_stay : (mounts : List (Mount ℕ)) → peers_of (map change mounts ++ copies) ≡ peers_of (mounts ++ copies)
+  pub peers_stay : (mounts : List (Mount ℕ)) → peers_of (map change mounts ++ copies) ≡ peers_of (mounts ++ copies)
   peers_stay [] = refl
   peers_stay (mount ∷ rest) = λ i.
       cons_option (option_map (λ source. (number mount i, kind mount i)) (source_of (kind mount i))) (peers_stay rest i)
 
-  members_stay : (group : ℕ) (mounts : List (Mount ℕ)) → has_members nat_eq (map change mounts) group ≡ has_members nat_eq mounts group
+  members_stay : (group : ℕ) (mounts : List (Mount ℕ))
+      → has_members nat_eq (map change mounts) group ≡ has_members nat_eq mounts group
   members_stay group [] = refl
-  members_stay group (mount ∷ rest) = λ i. holds_of (nat_eq group) (group_of (kind mount i)) || members_stay group rest i
+  members_stay group (mount ∷ rest) = λ i. holds_of (nat_eq group) (group_of (kind mount i))
+      || members_stay group rest i
 
-or_right : (a : Bool) {b : Bool} → b ≡ true → (a || b) ≡ true
+pub or_right : (a : Bool) {b : Bool} → b ≡ true → (a || b) ≡ true
 or_right true e = refl
 or_right false e = e
 
@@ -110,20 +121,24 @@ attached_worlds_grow world after change copies new come = record {
       ∙ sym (all_entered world.mounts copies come.order);
   master = come.master;
   stay = λ group has. members group ∙ (λ i. has i || has_members nat_eq copies group);
-  begin = all_from_among (λ (entry : ℕ × Option ℕ). is_some entry.1 ≡ true → HasGroup after entry.0) new (λ entry m some.
+  begin = all_from_among (λ (entry : ℕ × Option ℕ). is_some entry.1 ≡ true → HasGroup after entry.0) new
+      (λ entry m some.
       members entry.0
       ∙ or_right (has_members nat_eq world.mounts entry.0)
-      (among_from_all (λ (other : ℕ × Option ℕ). is_some other.1 ≡ true → has_members nat_eq copies other.0 ≡ true) new come.begin entry m some));
+      (among_from_all (λ (other : ℕ × Option ℕ). is_some other.1 ≡ true
+      → has_members nat_eq copies other.0 ≡ true) new come.begin entry m some));
   named = λ group lacks has.
       ⊎_elim (λ there. absurd (true≢false (sym there ∙ lacks))) (λ named. named)
       (come.named group ((λ i. sym lacks i || has_members nat_eq copies group) ∙ sym (members group) ∙ has));
 }
   where
-    members : (group : ℕ) → has_members nat_eq after.mounts group ≡ (has_members nat_eq world.mounts group || has_members nat_eq copies group)
+    members : (group : ℕ) → has_members nat_eq after.mounts group
+        ≡ (has_members nat_eq world.mounts group || has_members nat_eq copies group)
     members group =
         ap (λ mounts. has_members nat_eq mounts group) come.mounts
         ∙ list_any-append (is_member_of nat_eq group) (map change world.mounts) copies
-        ∙ ap (λ b. b || has_members nat_eq copies group) (members_stay change come.number come.kind copies group world.mounts)
+        ∙ ap (λ b. b || has_members nat_eq copies group)
+        (members_stay change come.number come.kind copies group world.mounts)
 
 -- Mounts in the order of their numbers
 

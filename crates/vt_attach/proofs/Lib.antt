@@ -4,7 +4,6 @@ pub mod EnteringLemmas
 pub mod AddedUses
 pub mod AttachedWorlds
 pub mod AttachedCounts
-pub mod Grafting
 pub mod Binding
 pub mod TreeBinding
 pub mod NewFilesystems
@@ -16,7 +15,7 @@ pub mod AddedBegins
 pub mod UnsharedTasks
 pub mod UnsharedWorlds
 pub mod MovedUses
-pub mod UnsharedLeft
+pub mod UnsharedGroups
 pub mod UnsharedDone
 pub mod UnsharedInodes
 pub mod TasksUnshared
@@ -31,5 +30,11 @@ pub mod PlannedPoints
 pub mod PlannedCounts
 pub mod PointsCounted
 pub mod CopiesAscend
+pub mod TypedMounts
+pub mod TypesGrown
+pub mod MovedTrees
+pub mod MovesAscend
+pub mod MovedLives
+pub mod MovedDone
 pub mod GraftedUses
 pub mod GraftedDone

@@ -17,14 +17,16 @@ abbrev at_point : List (ℕ × meant.Location ℕ) → Mount ℕ → Mount ℕ
 at_point points mount = record mount { mount_point = or_else (lookup (nat_eq mount.number) points) mount.mount_point }
 
 abbrev placed_if : ℕ → Location → Mount ℕ → Mount ℕ
-placed_if number place mount = cond (nat_eq number mount.number) (record mount { mount_point = Some (location_of place) }) mount
+placed_if number place mount = cond (nat_eq number mount.number)
+    (record mount { mount_point = Some (location_of place) }) mount
 
 one_placed : (number : ℕ) (place : Location) (entries : List MountEntry)
     → mounts_in (changed number (placed_entry place) entries) ≡ map (placed_if number place) (mounts_in entries)
 one_placed number place [] = refl
 one_placed number place (entry ∷ rest) = λ i. by (nat_eq number entry.mount.number) i ∷ one_placed number place rest i
   where
-    by : (b : Bool) → (cond b (placed_entry place entry) entry).mount ≡ cond b (record entry.mount { mount_point = Some (location_of place) }) entry.mount
+    by : (b : Bool) → (cond b (placed_entry place entry) entry).mount
+        ≡ cond b (record entry.mount { mount_point = Some (location_of place) }) entry.mount
     by true = refl
     by false = refl
 
@@ -39,15 +41,21 @@ points_are_moved entries (point ∷ rest) =
     one_placed (counted point.mount.count) point.place (with_points rest entries)
     ∙ ap (map (placed_if (counted point.mount.count) point.place)) (points_are_moved entries rest)
     ∙ map_twice (placed_if (counted point.mount.count) point.place) (at_point (map point_seen rest)) (mounts_in entries)
-    ∙ map_alike (λ mount. placed_if (counted point.mount.count) point.place (at_point (map point_seen rest) mount)) (at_point (map point_seen (point ∷ rest)))
+    ∙ map_alike (λ mount. placed_if (counted point.mount.count) point.place (at_point (map point_seen rest) mount))
+    (at_point (map point_seen (point ∷ rest)))
     (mounts_in entries) (λ mount m.
     by mount (nat_eq (counted point.mount.count) mount.number)
     ∙ ap (λ b. record mount {
-      mount_point = or_else (cond b (Some (location_of point.place)) (lookup (nat_eq mount.number) (map point_seen rest))) mount.mount_point;
+      mount_point = or_else (cond b (Some (location_of point.place))
+          (lookup (nat_eq mount.number) (map point_seen rest))) mount.mount_point;
     }) (turned (counted point.mount.count) mount.number))
   where
     by : (mount : Mount ℕ) (b : Bool)
         → cond b (record mount { mount_point = Some (location_of point.place) }) (at_point (map point_seen rest) mount)
-        ≡ record mount { mount_point = or_else (cond b (Some (location_of point.place)) (lookup (nat_eq mount.number) (map point_seen rest))) mount.mount_point }
+        ≡ record mount {
+          mount_point = or_else
+              (cond b (Some (location_of point.place))
+              (lookup (nat_eq mount.number) (map point_seen rest))) mount.mount_point;
+        }
     by mount true = refl
     by mount false = refl

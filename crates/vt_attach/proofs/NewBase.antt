@@ -50,19 +50,24 @@ use Rattle.vt_attach.proofs.NewFilesystems.{all_own, filesystem_counted}
 use Rattle.vt_attach.proofs.TakingNumbers.{TakesNumbers, left_is_world}
 
 -- the destination is there
-pub destination_there : (value : WorldValue) → IsHeld value → (name : TaskName) (place : Location ℕ) (flags : MountFlags)
+pub destination_there : (value : WorldValue) → IsHeld value
+    → (name : TaskName) (place : Location ℕ) (flags : MountFlags)
     → Permits value name (ToMountPlain place flags) → is_located_well nat_eq (world_of value) place ≡ true
 destination_there value whole name place flags permits =
     (permit_fits value whole name (ToMountPlain place flags) permits).names.directory.reached.there
 
 -- One more filesystem, which is not looked at
 
-found_before : (filesystems : List (Filesystem ℕ)) (added : Filesystem ℕ) (number : ℕ) → nat_eq number added.number ≡ false
-    → find (λ (f : Filesystem ℕ). nat_eq number f.number) (filesystems ++ added ∷ []) ≡ find (λ (f : Filesystem ℕ). nat_eq number f.number) filesystems
+found_before : (filesystems : List (Filesystem ℕ)) (added : Filesystem ℕ) (number : ℕ)
+    → nat_eq number added.number ≡ false
+    → find (λ (f : Filesystem ℕ). nat_eq number f.number) (filesystems ++ added ∷ [])
+    ≡ find (λ (f : Filesystem ℕ). nat_eq number f.number) filesystems
 found_before [] added number other = ap (λ b. cond b (Some added) None) other
-found_before (first ∷ rest) added number other = ap (λ o. cond (nat_eq number first.number) (Some first) o) (found_before rest added number other)
+found_before (first ∷ rest) added number other = ap (λ o. cond (nat_eq number first.number) (Some first) o)
+    (found_before rest added number other)
 
-flat_before : {B : Type 0} (g : Filesystem ℕ → List B) (filesystems : List (Filesystem ℕ)) (added : Filesystem ℕ) → g added ≡ []
+flat_before : {B : Type 0} (g : Filesystem ℕ → List B) (filesystems : List (Filesystem ℕ)) (added : Filesystem ℕ)
+    → g added ≡ []
     → flat_map g (filesystems ++ added ∷ []) ≡ flat_map g filesystems
 flat_before g [] added none = λ i. none i ++ []
 flat_before g (first ∷ rest) added none = ap (λ list. g first ++ list) (flat_before g rest added none)
@@ -79,7 +84,10 @@ module _ (value : WorldValue) (whole : IsHeld value) (name : TaskName) (place : 
   added = new_plain nat_eq (counted value.next) (inode_number value.next 0)
 
   abbrev pub middle : World ℕ
-  middle = record (world_of value) { filesystems = filesystems_seen value.filesystems ++ new_plain nat_eq (counted value.next) (inode_number value.next 0) ∷ [] }
+  middle = record (world_of value) {
+    filesystems = filesystems_seen value.filesystems
+        ++ new_plain nat_eq (counted value.next) (inode_number value.next 0) ∷ [];
+  }
 
   abbrev pub tree : List (meant.Mount ℕ)
   tree = new_mount (counted value.next) (inode_number value.next 0) flags ∷ []
@@ -92,23 +100,28 @@ module _ (value : WorldValue) (whole : IsHeld value) (name : TaskName) (place : 
       let first : 4 * (value.next + 0) + 1 ≡ counted value.next = omega arith in
       ap (λ number. new_plain nat_eq number (inode_number value.next 0)) first
 
-  pub left_attached : left_by value permits.task (ToMountPlain place flags) ≡ attach nat_eq middle (odds fresh) place false tree
+  pub left_attached : left_by value permits.task (ToMountPlain place flags)
+      ≡ attach nat_eq middle (odds fresh) place false tree
   left_attached =
       new_mounts_of_trees_keep_all fresh world permits.task place flags
-      (worlds_are_in_use world whole.in_world) (mounts_of_worlds_stand world whole.in_world) (Roots.locations_of_worlds_stand world whole.in_world)
+      (worlds_are_in_use world whole.in_world) (mounts_of_worlds_stand world whole.in_world)
+      (Roots.locations_of_worlds_stand world whole.in_world)
       (ap is_some (permit_fits value whole name (ToMountPlain place flags) permits).names.own)
       ∙ ap (λ filesystem. mounted nat_eq (odds fresh) world place filesystem flags) plain_is
 
   abbrev left : World ℕ
   left = attach nat_eq middle (odds fresh) place false tree
 
-  left_world : IsWorld nat_eq (attach nat_eq middle (odds fresh) place false tree) × IsPlain (attach nat_eq middle (odds fresh) place false tree)
+  left_world : IsWorld nat_eq (attach nat_eq middle (odds fresh) place false tree)
+      × IsPlain (attach nat_eq middle (odds fresh) place false tree)
   left_world =
-      subst (λ (w : World ℕ). IsWorld nat_eq w × IsPlain w) left_attached (left_is_world value whole name (ToMountPlain place flags) permits.task takes)
+      subst (λ (w : World ℕ). IsWorld nat_eq w × IsPlain w) left_attached
+      (left_is_world value whole name (ToMountPlain place flags) permits.task takes)
 
   -- No mount and no location is in the new filesystem
 
-  others_elsewhere : (other : meant.Mount ℕ) → Among other (mounts_in value.mounts) → nat_eq (counted value.next) other.filesystem ≡ false
+  others_elsewhere : (other : meant.Mount ℕ) → Among other (mounts_in value.mounts)
+      → nat_eq (counted value.next) other.filesystem ≡ false
   others_elsewhere other m =
       let root = (and_parts _ _ (passes (has_its_root nat_eq world) world.mounts whole.in_world.roots other m)).0 in
       let seen = seen_in value.filesystems whole.own_inodes other.filesystem other.root
@@ -117,8 +130,10 @@ module _ (value : WorldValue) (whole : IsHeld value) (name : TaskName) (place : 
       let is = seen.number_is in
       ne_eqb (counted value.next) other.filesystem (λ same. absurd (omega (arith, low, is, same)))
 
-  all_stand : list_all (is_on (mounts_in value.mounts)) (all_locations world ++ places_of (mounts_in value.mounts)) ≡ true
-  all_stand = places_stand world (mounts_of_worlds_stand world whole.in_world) (Roots.locations_of_worlds_stand world whole.in_world)
+  all_stand : list_all (is_on (mounts_in value.mounts)) (all_locations world ++ places_of (mounts_in value.mounts))
+      ≡ true
+  all_stand = places_stand world (mounts_of_worlds_stand world whole.in_world)
+      (Roots.locations_of_worlds_stand world whole.in_world)
 
   on_elsewhere : (location : Location ℕ) → is_on (mounts_in value.mounts) location ≡ true
       → nat_eq (counted value.next) (mount_at nat_eq world location).filesystem ≡ false
@@ -130,32 +145,44 @@ module _ (value : WorldValue) (whole : IsHeld value) (name : TaskName) (place : 
       (found_itself (mounts_in value.mounts) whole.in_world.mounts.one_number from.0 from.1)
       ∙ others_elsewhere from.0 from.1
 
-  point_on : (mount : meant.Mount ℕ) → Among mount (mounts_in value.mounts) → (location : Location ℕ) → mount.mount_point ≡ Some location
+  point_on : (mount : meant.Mount ℕ) → Among mount (mounts_in value.mounts) → (location : Location ℕ)
+      → mount.mount_point ≡ Some location
       → is_on (mounts_in value.mounts) location ≡ true
   point_on mount m location is =
-      passes (is_on (mounts_in value.mounts)) (all_locations world ++ places_of (mounts_in value.mounts)) all_stand location
+      passes (is_on (mounts_in value.mounts))
+      (all_locations world ++ places_of (mounts_in value.mounts)) all_stand location
       (among-append_right (all_locations world) (places_of (mounts_in value.mounts)) location
-      (among-append_right (map (meant.root_of {N = ℕ}) (mounts_in value.mounts)) (filter_map (λ (x : meant.Mount ℕ). x.mount_point) (mounts_in value.mounts)) location
+      (among-append_right (map (meant.root_of {N = ℕ}) (mounts_in value.mounts))
+      (filter_map (λ (x : meant.Mount ℕ). x.mount_point) (mounts_in value.mounts)) location
       (among-filter_map (λ (x : meant.Mount ℕ). x.mount_point) (mounts_in value.mounts) mount location m is)))
 
-  all_outside : list_all (is_outside middle (counted value.next)) (all_locations world ++ filter_map (λ (x : meant.Mount ℕ). x.mount_point) (mounts_in value.mounts)) ≡ true
+  all_outside : list_all (is_outside middle (counted value.next))
+      (all_locations world ++ filter_map (λ (x : meant.Mount ℕ). x.mount_point) (mounts_in value.mounts)) ≡ true
   all_outside =
-      all_pass (is_outside middle (counted value.next)) (all_locations world ++ filter_map (λ (x : meant.Mount ℕ). x.mount_point) (mounts_in value.mounts)) (λ location m.
+      all_pass (is_outside middle (counted value.next))
+      (all_locations world ++ filter_map (λ (x : meant.Mount ℕ). x.mount_point) (mounts_in value.mounts))
+      (λ location m.
       ⊎_elim
       (λ own. ap not (on_elsewhere location
-      (passes (is_on (mounts_in value.mounts)) (all_locations world ++ places_of (mounts_in value.mounts)) all_stand location
+      (passes (is_on (mounts_in value.mounts))
+      (all_locations world ++ places_of (mounts_in value.mounts)) all_stand location
       (among-append_left (all_locations world) (places_of (mounts_in value.mounts)) location own))))
-      (λ point. let from = among-from_filter_map (λ (x : meant.Mount ℕ). x.mount_point) (mounts_in value.mounts) location point in
+      (λ point. let from = among-from_filter_map (λ (x : meant.Mount ℕ). x.mount_point)
+      (mounts_in value.mounts) location point in
       ap not (on_elsewhere location (point_on from.0 from.1 location from.2)))
-      (among-append (all_locations world) (filter_map (λ (x : meant.Mount ℕ). x.mount_point) (mounts_in value.mounts)) location m))
+      (among-append (all_locations world)
+      (filter_map (λ (x : meant.Mount ℕ). x.mount_point) (mounts_in value.mounts)) location m))
 
-  roots_elsewhere : list_all (λ (x : meant.Mount ℕ). not (nat_eq (counted value.next) x.filesystem) || nat_eq (inode_number value.next 0) x.root) (mounts_in value.mounts) ≡ true
+  roots_elsewhere : list_all (λ (x : meant.Mount ℕ). not (nat_eq (counted value.next) x.filesystem)
+      || nat_eq (inode_number value.next 0) x.root) (mounts_in value.mounts) ≡ true
   roots_elsewhere =
-      all_pass (λ (x : meant.Mount ℕ). not (nat_eq (counted value.next) x.filesystem) || nat_eq (inode_number value.next 0) x.root) (mounts_in value.mounts)
+      all_pass (λ (x : meant.Mount ℕ). not (nat_eq (counted value.next) x.filesystem)
+      || nat_eq (inode_number value.next 0) x.root) (mounts_in value.mounts)
       (λ x m. ap (λ b. not b || nat_eq (inode_number value.next 0) x.root) (others_elsewhere x m))
 
   none_showing : mounts_showing world (counted value.next) ≡ 0
-  none_showing = times_none (λ (x : meant.Mount ℕ). nat_eq (counted value.next) x.filesystem) (mounts_in value.mounts) others_elsewhere
+  none_showing = times_none (λ (x : meant.Mount ℕ). nat_eq (counted value.next) x.filesystem)
+      (mounts_in value.mounts) others_elsewhere
 
   -- The other filesystems are what they were
 
@@ -168,32 +195,41 @@ module _ (value : WorldValue) (whole : IsHeld value) (name : TaskName) (place : 
   roots_kept : list_all (has_its_root nat_eq middle) (mounts_in value.mounts) ≡ true
   roots_kept =
       all_pass (has_its_root nat_eq middle) (mounts_in value.mounts) (λ mount m.
-      (λ i. is_directory_node ((files_kept mount.filesystem (others_elsewhere mount m) i).files.tree.node mount.root) && points mount m mount.mount_point refl i)
+      (λ i. is_directory_node ((files_kept mount.filesystem (others_elsewhere mount m) i).files.tree.node mount.root)
+      && points mount m mount.mount_point refl i)
       ∙ passes (has_its_root nat_eq world) (mounts_in value.mounts) whole.in_world.roots mount m)
     where
-      points : (mount : meant.Mount ℕ) → Among mount (mounts_in value.mounts) → (o : Option (Location ℕ)) → mount.mount_point ≡ o
-          → list_all (is_directory_at nat_eq middle) (option_to_list o) ≡ list_all (is_directory_at nat_eq world) (option_to_list o)
+      points : (mount : meant.Mount ℕ) → Among mount (mounts_in value.mounts) → (o : Option (Location ℕ))
+          → mount.mount_point ≡ o
+          → list_all (is_directory_at nat_eq middle) (option_to_list o)
+          ≡ list_all (is_directory_at nat_eq world) (option_to_list o)
       points mount m None is = refl
       points mount m (Some location) is = λ i.
-          is_directory_node ((files_kept (mount_at nat_eq world location).filesystem (on_elsewhere location (point_on mount m location is)) i).files.tree.node location.node)
+          is_directory_node ((files_kept (mount_at nat_eq world location).filesystem
+          (on_elsewhere location (point_on mount m location is)) i).files.tree.node location.node)
           && true
 
   used_same : (f : Filesystem ℕ) → used_in nat_eq middle f ≡ used_in nat_eq world f
   used_same f = λ i.
       f.files.tree.root ∷ (named_in f.files ++ located_in nat_eq world f.number
-      ++ map (λ layer. layer.directory) (filter (λ layer. nat_eq f.number layer.filesystem) (flat_before (of_overlay [] layers_of) (filesystems_seen value.filesystems) added refl i))
+      ++ map (λ layer. layer.directory)
+      (filter (λ layer. nat_eq f.number layer.filesystem)
+      (flat_before (of_overlay [] layers_of) (filesystems_seen value.filesystems) added refl i))
       ++ flat_before (objects_of_overlay nat_eq f.number) (filesystems_seen value.filesystems) added refl i)
 
   in_use_then : InodesInUse middle
   in_use_then =
-      all_from_among (λ (f : Filesystem ℕ). list_all (is_inode_used middle f) f.files.numbers ≡ true) (filesystems_seen value.filesystems ++ added ∷ []) (λ f m.
+      all_from_among (λ (f : Filesystem ℕ). list_all (is_inode_used middle f) f.files.numbers ≡ true)
+      (filesystems_seen value.filesystems ++ added ∷ []) (λ f m.
       ⊎_elim
       (λ old. ap (λ used. list_all (λ n. is_among nat_eq n used) f.files.numbers) (used_same f)
-      ∙ among_from_all (λ (g : Filesystem ℕ). list_all (is_inode_used world g) g.files.numbers ≡ true) (filesystems_seen value.filesystems)
+      ∙ among_from_all (λ (g : Filesystem ℕ). list_all (is_inode_used world g) g.files.numbers ≡ true)
+      (filesystems_seen value.filesystems)
       (worlds_are_in_use world whole.in_world).inodes f old)
       (λ last. ⊎_elim
       (λ same. subst (λ (g : Filesystem ℕ). list_all (is_inode_used middle g) g.files.numbers ≡ true) (sym same)
-      (λ i. (eq-eqb (inode_number value.next 0) (inode_number value.next 0) refl i || is_among nat_eq (inode_number value.next 0) (rest_used)) && true))
+      (λ i. (eq-eqb (inode_number value.next 0) (inode_number value.next 0) refl i
+      || is_among nat_eq (inode_number value.next 0) (rest_used)) && true))
       (λ none. absurd none) last)
       (among-append (filesystems_seen value.filesystems) (added ∷ []) f m))
     where
@@ -207,7 +243,8 @@ module _ (value : WorldValue) (whole : IsHeld value) (name : TaskName) (place : 
     base = value.filesystems ++ entry ∷ []
 
     seen_base : filesystems_seen (value.filesystems ++ entry ∷ []) ≡ filesystems_seen value.filesystems ++ added ∷ []
-    seen_base = map-append filesystem_seen value.filesystems (entry ∷ []) ∙ ap (λ filesystem. filesystems_seen value.filesystems ++ filesystem ∷ []) is_new.seen
+    seen_base = map-append filesystem_seen value.filesystems (entry ∷ [])
+        ∙ ap (λ filesystem. filesystems_seen value.filesystems ++ filesystem ∷ []) is_new.seen
 
     pub base_is : middle ≡ with_base value (value.filesystems ++ entry ∷ [])
     base_is = λ i. record (world_of value) { filesystems = sym seen_base i }
@@ -219,40 +256,51 @@ module _ (value : WorldValue) (whole : IsHeld value) (name : TaskName) (place : 
     old_counted : (was : FilesystemEntry) → Among was value.filesystems
         → IsCounted middle (filesystem_numbered nat_eq middle (counted was.count)) (inodes_seen was)
     old_counted was m =
-        uses_are_exchanged world middle [] [] (counted was.count) (inodes_seen was) (worlds_have_trees world whole.in_world)
+        uses_are_exchanged world middle [] [] (counted was.count) (inodes_seen was)
+        (worlds_have_trees world whole.in_world)
         (worlds_are_in_use world whole.in_world).inodes left_world.1
         (others_use_nothing world middle (counted was.count) (world_is_plain value) left_world.1 refl refl
-        (files_kept (counted was.count) (let low = filesystem_counted value whole was m in ne_eqb (counted value.next) (counted was.count) (λ same. absurd (omega (arith, low, same))))))
+        (files_kept (counted was.count)
+        (let low = filesystem_counted value whole was m in ne_eqb (counted value.next) (counted was.count)
+        (λ same. absurd (omega (arith, low, same))))))
         (subst (λ f. IsCounted world f (inodes_seen was))
-        (sym (found_filesystem world.filesystems whole.in_world.files.one_filesystem (filesystem_seen was) (among-map filesystem_seen value.filesystems was m)))
+        (sym (found_filesystem world.filesystems whole.in_world.files.one_filesystem (filesystem_seen was)
+        (among-map filesystem_seen value.filesystems was m)))
         (among_from_all (CountsItsMounts world) value.filesystems whole.filesystems was m).inodes)
         refl
 
     new_counted : IsCounted middle (filesystem_numbered nat_eq middle (counted entry.count)) (inodes_seen entry)
     new_counted =
-        subst (λ count. IsCounted middle (filesystem_numbered nat_eq middle (counted count)) (inodes_seen entry)) (sym is_new.counts)
+        subst (λ count. IsCounted middle (filesystem_numbered nat_eq middle (counted count)) (inodes_seen entry))
+        (sym is_new.counts)
         (subst (λ f. IsCounted middle f (inodes_seen entry))
-        (sym (found_filesystem middle.filesystems left_world.0.files.one_filesystem added (among-append_right (filesystems_seen value.filesystems) (added ∷ []) added (inl refl))))
+        (sym (found_filesystem middle.filesystems left_world.0.files.one_filesystem added
+        (among-append_right (filesystems_seen value.filesystems) (added ∷ []) added (inl refl))))
         (subst (IsCounted middle added) (sym is_new.inodes)
         (subst (λ n. IsCounted middle added (one_counted (inode_number value.next 0) (1 + n))) none_showing
-        (new_tree_is_counted middle (counted value.next) (inode_number value.next 0) left_world.1 whole.in_world.mounts.one_number roots_elsewhere all_outside))))
+        (new_tree_is_counted middle (counted value.next)
+        (inode_number value.next 0) left_world.1 whole.in_world.mounts.one_number roots_elsewhere all_outside))))
 
     pub new_base : IsBase value (value.filesystems ++ entry ∷ [])
     new_base = record {
       own = all_own value whole entry is_new;
       trees = subst HasTrees base_is (worlds_have_trees left left_world.0);
       in_use = subst InodesInUse base_is in_use_then;
-      roots = subst (λ (w : World ℕ). list_all (has_its_root nat_eq w) (mounts_in value.mounts) ≡ true) base_is roots_kept;
+      roots = subst (λ (w : World ℕ). list_all (has_its_root nat_eq w) (mounts_in value.mounts)
+          ≡ true) base_is roots_kept;
       inodes = λ was m.
-          subst (λ (w : World ℕ). IsCounted w (filesystem_numbered nat_eq w (counted was.count)) (inodes_seen was)) base_is
+          subst (λ (w : World ℕ). IsCounted w (filesystem_numbered nat_eq w (counted was.count))
+          (inodes_seen was)) base_is
           (⊎_elim (old_counted was)
-          (λ last. subst (λ (one : FilesystemEntry). IsCounted middle (filesystem_numbered nat_eq middle (counted one.count)) (inodes_seen one)) (sym last) new_counted)
+          (λ last. subst (λ (one : FilesystemEntry). IsCounted middle
+          (filesystem_numbered nat_eq middle (counted one.count)) (inodes_seen one)) (sym last) new_counted)
           (from_base was m));
       mounts = λ was m.
           ⊎_elim
           (λ old. (among_from_all (CountsItsMounts world) value.filesystems whole.filesystems was old).mounts)
           (λ last. ap (λ (one : FilesystemEntry). one.mounts) last ∙ is_new.unmounted ∙ sym none_showing
-          ∙ ap (λ count. mounts_showing world (counted count)) (sym (ap (λ (one : FilesystemEntry). one.count) last ∙ is_new.counts)))
+          ∙ ap (λ count. mounts_showing world (counted count))
+          (sym (ap (λ (one : FilesystemEntry). one.count) last ∙ is_new.counts)))
           (from_base was m);
     }
 
@@ -260,14 +308,19 @@ module _ (value : WorldValue) (whole : IsHeld value) (name : TaskName) (place : 
   pub same_parts : parts_of nat_eq middle place ≡ parts_of nat_eq world place
   same_parts =
       ap (λ list. mount_at nat_eq world place ∷ list)
-      (filter_alike (takes_part nat_eq middle place) (takes_part nat_eq world place) (receivers_of nat_eq world (mount_at nat_eq world place)) (λ mount m.
-      λ i. not (nat_eq place.mount mount.number) && is_some mount.namespace && nat_eq (mount_at nat_eq world place).filesystem mount.filesystem
-      && is_directory_under nat_eq (files_kept mount.filesystem (others_elsewhere mount (receiver_there mount m)) i).files mount.root place.node))
+      (filter_alike (takes_part nat_eq middle place) (takes_part nat_eq world place)
+      (receivers_of nat_eq world (mount_at nat_eq world place)) (λ mount m.
+      λ i. not (nat_eq place.mount mount.number) && is_some mount.namespace
+      && nat_eq (mount_at nat_eq world place).filesystem mount.filesystem
+      && is_directory_under nat_eq (files_kept mount.filesystem
+      (others_elsewhere mount (receiver_there mount m)) i).files mount.root place.node))
     where
-      by : (o : Option ℕ) (mount : meant.Mount ℕ) → Among mount (unwrap_or (option_map (receivers nat_eq world) o) []) → Among mount (mounts_in value.mounts)
+      by : (o : Option ℕ) (mount : meant.Mount ℕ) → Among mount (unwrap_or (option_map (receivers nat_eq world) o) [])
+          → Among mount (mounts_in value.mounts)
       by None mount m = absurd m
       by (Some group) mount m =
           (among-from_filter (receives nat_eq world group) (mounts_in value.mounts) mount m).0
 
-      receiver_there : (mount : meant.Mount ℕ) → Among mount (receivers_of nat_eq world (mount_at nat_eq world place)) → Among mount (mounts_in value.mounts)
+      receiver_there : (mount : meant.Mount ℕ) → Among mount (receivers_of nat_eq world (mount_at nat_eq world place))
+          → Among mount (mounts_in value.mounts)
       receiver_there mount m = by (group_of (mount_at nat_eq world place).propagation) mount m

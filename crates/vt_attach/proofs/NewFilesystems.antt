@@ -19,18 +19,22 @@ use Rattle.vt_detach.proofs.OwnInodesKept.{IsOwn}
 
 -- what is counted before
 pub counted_before : (next count : ℕ) → is_counted_before next (counted count) ≡ true → count < next
-counted_before next count is = by (counted count % 2 == 0) refl (counted count % 4 == 1) (nat_lt (counted count / 4) next) refl is
+counted_before next count is = by (counted count % 2 == 0) refl (counted count % 4 == 1)
+    (nat_lt (counted count / 4) next) refl is
   where
-    by : (even : Bool) → (counted count % 2 == 0) ≡ even → (odd less : Bool) → nat_lt (counted count / 4) next ≡ less → (even || (odd && less)) ≡ true → count < next
+    by : (even : Bool) → (counted count % 2 == 0) ≡ even → (odd less : Bool) → nat_lt (counted count / 4) next ≡ less
+        → (even || (odd && less)) ≡ true → count < next
     by true e odd less f g = let zero = eqb-true (counted count % 2) 0 e in absurd (omega (arith, zero))
     by false e true true f g = let low = ltb-true (counted count / 4) next f in omega (arith, low)
     by false e true false f g = absurd (true≢false (sym g))
     by false e false less f g = absurd (true≢false (sym g))
 
-pub filesystem_counted : (value : WorldValue) → IsHeld value → (entry : FilesystemEntry) → Among entry value.filesystems → entry.count < value.next
+pub filesystem_counted : (value : WorldValue) → IsHeld value → (entry : FilesystemEntry) → Among entry value.filesystems
+    → entry.count < value.next
 filesystem_counted value whole entry m =
     counted_before value.next entry.count
-    (used_numbers_are_named (is_counted_before value.next) (world_of value) whole.given (two_left_out value.next) (counted entry.count)
+    (used_numbers_are_named (is_counted_before value.next) (world_of value) whole.given (two_left_out value.next)
+    (counted entry.count)
     (is_among_numbers (counted entry.count) (mounts_used ++ files_used ++ namespaces_used)
     (among-append_left (mounts_used ++ files_used) namespaces_used (counted entry.count)
     (among-append_right mounts_used files_used (counted entry.count)
@@ -46,7 +50,8 @@ filesystem_counted value whole entry m =
     namespaces_used : List ℕ
     namespaces_used = map (λ (namespace : Namespace ℕ). namespace.number) (world_of value).namespaces
 
-none_of : (filesystems : Filesystems) (count : ℕ) → ((entry : FilesystemEntry) → Among entry filesystems → entry.count < count)
+none_of : (filesystems : Filesystems) (count : ℕ)
+    → ((entry : FilesystemEntry) → Among entry filesystems → entry.count < count)
     → entry_of filesystems count ≡ None
 none_of [] count less = refl
 none_of (entry ∷ rest) count less =
@@ -59,10 +64,13 @@ pub next_is_free : (value : WorldValue) → IsHeld value → entry_of value.file
 next_is_free value whole = none_of value.filesystems value.next (filesystem_counted value whole)
 
 -- what is added is taken out again
-pub removed_again : (filesystems : Filesystems) (entry : FilesystemEntry) (count : ℕ) → entry.count ≡ count → entry_of filesystems count ≡ None
+pub removed_again : (filesystems : Filesystems) (entry : FilesystemEntry) (count : ℕ) → entry.count ≡ count
+    → entry_of filesystems count ≡ None
     → without count (filesystems ++ entry ∷ []) ≡ filesystems
-removed_again [] entry count is none = filter_skip (λ (other : FilesystemEntry). not (nat_eq count other.count)) entry [] (ap not (eq-eqb count entry.count (sym is)))
-removed_again (first ∷ rest) entry count is none = by (nat_eq count first.count) refl none (removed_again rest entry count is)
+removed_again [] entry count is none = filter_skip
+    (λ (other : FilesystemEntry). not (nat_eq count other.count)) entry [] (ap not (eq-eqb count entry.count (sym is)))
+removed_again (first ∷ rest) entry count is none = by (nat_eq count first.count) refl none
+    (removed_again rest entry count is)
   where
     by : (b : Bool) → nat_eq count first.count ≡ b → cond b (Some first) (entry_of rest count) ≡ None
         → (entry_of rest count ≡ None → without count (rest ++ entry ∷ []) ≡ rest)
@@ -73,13 +81,16 @@ removed_again (first ∷ rest) entry count is none = by (nat_eq count first.coun
         ∙ ap (λ others. first ∷ others) (later f)
 
 -- its inodes have numbers of its own
-pub new_is_own : (count : ℕ) (entry : FilesystemEntry) → IsNew count root_attr entry → IsOwn entry.count (inodes_seen entry)
-new_is_own count entry is number other = ap (λ (all : Inodes ℕ). all.inode number) is.inodes ∙ by (nat_eq number (inode_number count 0)) refl
+pub new_is_own : (count : ℕ) (entry : FilesystemEntry) → IsNew count root_attr entry
+    → IsOwn entry.count (inodes_seen entry)
+new_is_own count entry is number other = ap (λ (all : Inodes ℕ). all.inode number) is.inodes
+    ∙ by (nat_eq number (inode_number count 0)) refl
   where
     by : (b : Bool) → nat_eq number (inode_number count 0) ≡ b
         → cond b (Some (root_counted (inode_number count 0) 1)) None ≡ None
     by true e =
-        absurd (true≢false (sym (is_inode count 0 (omega arith)) ∙ ap (is_inode_of count) (sym (eqb-true number (inode_number count 0) e))
+        absurd (true≢false (sym (is_inode count 0 (omega arith))
+        ∙ ap (is_inode_of count) (sym (eqb-true number (inode_number count 0) e))
         ∙ ap (λ c. is_inode_of c number) (sym is.counts) ∙ other))
     by false e = refl
 

@@ -31,7 +31,7 @@ use Rattle.vt_propagate.specs.Pushing.{EachOnce}
 use Rattle.vt_propagate.specs.Seen.{IsSeen}
 use Rattle.vt_run_laws.specs.Handed.{counts_from, handed_from, is_counted_before}
 use Rattle.vt_detach.specs.Events.{Permits, left_by}
-use Rattle.vt_detach.specs.Held.{IsHeld, is_ungrouped}
+use Rattle.vt_detach.specs.Held.{IsHeld}
 use Rattle.vt_detach.specs.Uses.{kept}
 use Rattle.vt_detach.specs.WorldValue.{WorldValue, world_of}
 use Rattle.vt_detach.proofs.Grouped.{same_has}
@@ -45,11 +45,11 @@ use Rattle.vt_attach.proofs.AttachedCounts.{lower_numbers}
 use Rattle.vt_attach.proofs.Binding.{is_seen}
 use Rattle.vt_attach.proofs.CopiesAscend.{planned_ascend}
 use Rattle.vt_attach.proofs.GraftedDone.{graft_is_done, grafted_value, plan_attaches, with_base}
-use Rattle.vt_attach.proofs.Grafting.{all_ungrouped, copies_free, found_ungrouped}
 use Rattle.vt_attach.proofs.NewBase.{base_is, destination_there, left_attached, new_base, plain_is, same_parts, takes}
 use Rattle.vt_attach.proofs.NumbersByParts.{new_mounts_keep_to_numbers}
 
-module _ (value : WorldValue) (whole : IsHeld value) (name : TaskName) (graft : Graft) (counts : Counts) (flags : MountFlags)
+module _ (value : WorldValue) (whole : IsHeld value) (name : TaskName) (graft : Graft) (counts : Counts)
+    (flags : MountFlags)
     (permits : Permits value name (ToMountPlain (location_of graft.place) flags)) (binds : graft.moves ≡ false)
     (tree_is : map mount_of graft.tree.now ≡ new_mount (counted value.next) (inode_number value.next 0) flags ∷ [])
     (parts_are : map mount_of graft.parts.now ≡ parts_of nat_eq (world_of value) (location_of graft.place))
@@ -86,11 +86,13 @@ module _ (value : WorldValue) (whole : IsHeld value) (name : TaskName) (graft : 
 
   module _ (ascending : are_ascending (mounts_in value.mounts) ≡ true)
       (odd : list_all (λ mount. mount.number % 4 == 1) (mounts_in value.mounts) ≡ true) where
-    rising_in : (other : World ℕ) → EachOnce other.mounts → are_ascending (mounts_in value.mounts ++ planned_copies other graft counts) ≡ true
+    rising_in : (other : World ℕ) → EachOnce other.mounts
+        → are_ascending (mounts_in value.mounts ++ planned_copies other graft counts) ≡ true
     rising_in other one =
         planned_ascend counts (subst (λ n. 0 < n) (sym step) (omega arith)) other graft binds one tree_once tree_some
         (mounts_in value.mounts) ascending
-        (λ mount m. subst (λ n. mount.number < counted n) (sym first) (let low = lower_numbers value whole odd mount m in omega (arith, low)))
+        (λ mount m. subst (λ n. mount.number < counted n) (sym first)
+        (let low = lower_numbers value whole odd mount m in omega (arith, low)))
 
     pub may_mount : MayGraft value.mounts value.groups graft counts
     may_mount = record {
@@ -109,49 +111,61 @@ module _ (value : WorldValue) (whole : IsHeld value) (name : TaskName) (graft : 
       seen_then : IsSeen (with_base value (value.filesystems ++ entry ∷ [])) value.mounts value.groups
       seen_then = record {
         mounts = refl;
-        groups = same_has (world_of value) (with_base value (value.filesystems ++ entry ∷ [])) value.groups whole.groups refl (λ group. refl);
+        groups = same_has (world_of value)
+            (with_base value (value.filesystems ++ entry ∷ [])) value.groups whole.groups refl (λ group. refl);
         living = whole.in_world.mounts.groups;
       }
 
-      parts_then : map mount_of graft.parts.now ≡ parts_of nat_eq (with_base value (value.filesystems ++ entry ∷ [])) (location_of graft.place)
+      parts_then : map mount_of graft.parts.now
+          ≡ parts_of nat_eq (with_base value (value.filesystems ++ entry ∷ [])) (location_of graft.place)
       parts_then =
           parts_are ∙ sym (same_parts value whole name place flags permits)
-          ∙ ap (λ (w : World ℕ). parts_of nat_eq w (location_of graft.place)) (base_is value whole name place flags permits entry is_new)
+          ∙ ap (λ (w : World ℕ). parts_of nat_eq w (location_of graft.place))
+          (base_is value whole name place flags permits entry is_new)
 
       there : HasGroupsOf (with_base value (value.filesystems ++ entry ∷ [])) (map mount_of graft.tree.now)
       there mount contained group e =
           ⊎_elim
-          (λ same. absurd (true≢false (sym (ap is_some (sym (ap (λ (x : meant.Mount ℕ). group_of x.propagation) same) ∙ e)))))
+          (λ same. absurd (true≢false (sym
+          (ap is_some (sym (ap (λ (x : meant.Mount ℕ). group_of x.propagation) same) ∙ e)))))
           (λ none. absurd none)
           (subst (Among mount) tree_is (among_from_contains tree mount contained))
 
-      sizes : numbers_of_new_mount (with_new_filesystem world (plain_filesystem nat_eq fresh)) place ≡ 2 * (length graft.parts.now * 2)
+      sizes : numbers_of_new_mount (with_new_filesystem world (plain_filesystem nat_eq fresh)) place
+          ≡ 2 * (length graft.parts.now * 2)
       sizes =
-          let many : length (map mount_of graft.parts.now) ≡ length graft.parts.now = length-map graft.parts.now mount_of in
-          let all : 2 * (2 * length (map mount_of graft.parts.now)) ≡ 2 * (length graft.parts.now * 2) = omega (arith, many) in
-          ap (λ filesystem. 2 * (2 * length (parts_of nat_eq (with_new_filesystem world filesystem) place))) (plain_is value whole name place flags permits)
-          ∙ ap (λ (list : List (meant.Mount ℕ)). 2 * (2 * length list)) (same_parts value whole name place flags permits ∙ sym parts_are)
+          let many : length (map mount_of graft.parts.now)
+          ≡ length graft.parts.now = length-map graft.parts.now mount_of in
+          let all : 2 * (2 * length (map mount_of graft.parts.now))
+          ≡ 2 * (length graft.parts.now * 2) = omega (arith, many) in
+          ap (λ filesystem. 2 * (2 * length (parts_of nat_eq (with_new_filesystem world filesystem) place)))
+          (plain_is value whole name place flags permits)
+          ∙ ap (λ (list : List (meant.Mount ℕ)). 2 * (2 * length list))
+          (same_parts value whole name place flags permits ∙ sym parts_are)
           ∙ all
 
       pub new_mount_is_done : (mounts : List MountEntry) (groups : Grouping) (filesystems : Filesystems) (next : ℕ)
-          → IsGrafted graft counts (kept value.mounts (value.filesystems ++ entry ∷ [])) value.groups (kept mounts filesystems) groups
-          → next ≡ value.next + 2 * (length graft.parts.now * 2) → IsDone value name permit (grafted_value value mounts groups filesystems next)
+          → IsGrafted graft counts (kept value.mounts (value.filesystems ++ entry ∷ [])) value.groups
+          (kept mounts filesystems) groups
+          → next ≡ value.next + 2 * (length graft.parts.now * 2)
+          → IsDone value name permit (grafted_value value mounts groups filesystems next)
       new_mount_is_done mounts groups filesystems next is grows =
           let attaches = is.plan (with_base value base) seen_then whole.in_world.mounts.one_child parts_then in
-          let attach_is = plan_attaches (with_base value base) graft counts (map mount_of is.copies) (map new_group is.groups) (map point_seen is.points) attaches binds
+          let attach_is = plan_attaches (with_base value base) graft counts (map mount_of is.copies)
+          (map new_group is.groups) (map point_seen is.points) attaches binds
           (odds fresh) same_counts in
           let rising = ap (λ list. are_ascending (mounts_in value.mounts ++ list)) attaches.copies_are
           ∙ rising_in (with_base value base) whole.in_world.mounts.one_number in
-          let free = copies_free (with_base value base) place tree (odds fresh) (map mount_of is.copies) is.points attach_is
-          (found_ungrouped (mounts_in value.mounts) (all_ungrouped value whole) (counted graft.place.mount.count)) (all_ungrouped value whole)
-          (subst (λ list. list_all (λ (mount : meant.Mount ℕ). is_ungrouped mount.propagation) list ≡ true) (sym tree_is) refl) in
           let left_is = left_attached value whole name place flags permits
-          ∙ ap (λ (w : World ℕ). attach nat_eq w (odds fresh) place false (new_mount (counted value.next) (inode_number value.next 0) flags ∷ []))
+          ∙ ap (λ (w : World ℕ). attach nat_eq w (odds fresh) place false
+          (new_mount (counted value.next) (inode_number value.next 0) flags ∷ []))
           (base_is value whole name place flags permits entry is_new)
           ∙ ap (λ list. attach nat_eq (with_base value base) (odds fresh) place false list) (sym tree_is)
           ∙ attach_is in
           graft_is_done value whole base (new_base value whole name place flags permits entry is_new) graft counts mounts groups filesystems next is attaches there
-          rising free name permit permits (takes value whole name place flags permits) left_is
-          (subst (λ n. KeepsTo (is_counted_before n) (left_by value permits.task permit)) (ap (λ n. value.next + n) sizes ∙ sym grows)
-          (new_mounts_keep_to_numbers value.next (inode_number value.next 0) (omega arith) world permits.task place flags permits.given.called whole.given
+          rising name permit permits (takes value whole name place flags permits) left_is
+          (subst (λ n. KeepsTo (is_counted_before n) (left_by value permits.task permit))
+          (ap (λ n. value.next + n) sizes ∙ sym grows)
+          (new_mounts_keep_to_numbers value.next (inode_number value.next 0)
+          (omega arith) world permits.task place flags permits.given.called whole.given
           (located_is_named value whole place (destination_there value whole name place flags permits))))

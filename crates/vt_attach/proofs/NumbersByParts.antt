@@ -26,7 +26,8 @@ use Rattle.vt_attach.specs.AttachedNumbers.{BindsKeepToNumbers, MovesKeepToNumbe
 
 -- places in a table
 
-place_bound : {A : Type 0} (test : A → Bool) (k : ℕ) (list : List A) → 0 < k + length list → unwrap_or (place_from test k list) 0 < k + length list
+place_bound : {A : Type 0} (test : A → Bool) (k : ℕ) (list : List A) → 0 < k + length list
+    → unwrap_or (place_from test k list) 0 < k + length list
 place_bound test k [] some = some
 place_bound test k (a ∷ list) some = by (test a) (place_bound test (k + 1) list (omega arith))
   where
@@ -44,23 +45,28 @@ in_table size k i rows low less =
 
 module _ (parts tree : List (Mount ℕ)) (some_parts : 0 < length parts) (some : 0 < length tree) (fresh again : Fresh ℕ)
     (same : (k : ℕ) → k < 2 * (length parts * length tree) → fresh k ≡ again k) where
-  copy_same : (part origin : ℕ) → (copies_from nat_eq fresh parts tree).copy part origin ≡ (copies_from nat_eq again parts tree).copy part origin
+  copy_same : (part origin : ℕ) → (copies_from nat_eq fresh parts tree).copy part origin
+      ≡ (copies_from nat_eq again parts tree).copy part origin
   copy_same part origin =
       let less = in_table (length tree) (index_of nat_eq parts part) (index_of nat_eq tree origin) (length parts)
       (index_bound parts part some_parts) (index_bound tree origin some) in
       same (2 * numbered (length tree) (index_of nat_eq parts part) (index_of nat_eq tree origin)) (omega (arith, less))
 
-  image_same : (group origin : ℕ) → (copies_from nat_eq fresh parts tree).image group origin ≡ (copies_from nat_eq again parts tree).image group origin
+  image_same : (group origin : ℕ)
+      → (copies_from nat_eq fresh parts tree).image group origin
+      ≡ (copies_from nat_eq again parts tree).image group origin
   image_same group origin =
       let low = place_bound (is_member_of nat_eq group) 0 parts (omega (arith, some_parts)) in
       let less = in_table (length tree) (index_of_group nat_eq parts group) (index_of nat_eq tree origin) (length parts)
       (omega (arith, low)) (index_bound tree origin some) in
-      same (2 * numbered (length tree) (index_of_group nat_eq parts group) (index_of nat_eq tree origin) + 1) (omega (arith, less))
+      same (2 * numbered (length tree) (index_of_group nat_eq parts group) (index_of nat_eq tree origin) + 1)
+      (omega (arith, less))
 
   copies_same : copies_from nat_eq fresh parts tree ≡ copies_from nat_eq again parts tree
   copies_same = λ i. record { copy = λ part origin. copy_same part origin i; image = λ group origin. image_same group origin i }
 
-attach_same : (world : World ℕ) (place : Location ℕ) (moves : Bool) (tree : List (Mount ℕ)) → 0 < length tree → (fresh again : Fresh ℕ)
+attach_same : (world : World ℕ) (place : Location ℕ) (moves : Bool) (tree : List (Mount ℕ)) → 0 < length tree
+    → (fresh again : Fresh ℕ)
     → ((k : ℕ) → k < numbers_of_parts world place tree → fresh k ≡ again k)
     → attach nat_eq world fresh place moves tree ≡ attach nat_eq world again place moves tree
 attach_same world place moves tree some fresh again same =
@@ -79,20 +85,23 @@ counted_here next taken k low =
     either true e = refl
     either false e = e
 
-pub bind_some : (world : World ℕ) (source : Location ℕ) (recursive : Bool) → 0 < length (bind_tree nat_eq world source recursive)
+pub bind_some : (world : World ℕ) (source : Location ℕ) (recursive : Bool)
+    → 0 < length (bind_tree nat_eq world source recursive)
 bind_some world source false = omega arith
 bind_some world source true = omega arith
 
-tree_some : (depth : ℕ) (mounts : List (Mount ℕ)) (mount : Mount ℕ) → 0 < length (tree_from nat_eq depth mounts mount)
+pub tree_some : (depth : ℕ) (mounts : List (Mount ℕ)) (mount : Mount ℕ) → 0 < length (tree_from nat_eq depth mounts mount)
 tree_some zero mounts mount = omega arith
 tree_some (suc depth) mounts mount = omega arith
 
--- Where a permit takes the first numbers of a supply alone, the world that it leaves keeps to those, and to the numbers that it had.
+-- Where a permit takes the first numbers of a supply alone, the world that it leaves keeps to those, and to the numbers
+-- that it had.
 module _ (next taken : ℕ) (world : World ℕ) (task : Task ℕ) (permit : Permit ℕ) (supply : Fresh ℕ)
     (called : task_called world task.name ≡ Some task) (keeps : KeepsTo (is_counted_before next) world)
     (named : permit_named (is_counted_before next) permit ≡ true)
     (counts : (k : ℕ) → k < taken → is_counted_before (next + taken) (supply k) ≡ true)
-    (alone : (again : Fresh ℕ) → ((k : ℕ) → k < taken → again k ≡ supply k) → left_by again world task permit ≡ left_by supply world task permit) where
+    (alone : (again : Fresh ℕ) → ((k : ℕ) → k < taken → again k ≡ supply k)
+    → left_by again world task permit ≡ left_by supply world task permit) where
   keeps_to_first : KeepsTo (is_counted_before (next + taken)) (left_by supply world task permit)
   keeps_to_first renaming leaves =
       let leaves_old = λ (number : ℕ) (known : is_counted_before next number ≡ true).
@@ -103,11 +112,13 @@ module _ (next taken : ℕ) (world : World ℕ) (task : Task ℕ) (permit : Perm
 
 pub binds_keep_to_numbers : BindsKeepToNumbers
 binds_keep_to_numbers next world task source place recursive called keeps named =
-    keeps_to_first next (numbers_of_parts world place (bind_tree nat_eq world source recursive)) world task (ToBind source place recursive)
+    keeps_to_first next (numbers_of_parts world place (bind_tree nat_eq world source recursive)) world task
+    (ToBind source place recursive)
     (counts_from next) called keeps named
     (counted_here next (numbers_of_parts world place (bind_tree nat_eq world source recursive)))
     (λ again same. ap (settled nat_eq)
-    (attach_same world place false (bind_tree nat_eq world source recursive) (bind_some world source recursive) again (counts_from next) same))
+    (attach_same world place false (bind_tree nat_eq world source recursive) (bind_some world source recursive) again
+    (counts_from next) same))
 
 pub moves_keep_to_numbers : MovesKeepToNumbers
 moves_keep_to_numbers next world task mount place called keeps named =
@@ -115,15 +126,18 @@ moves_keep_to_numbers next world task mount place called keeps named =
     keeps_to_first next (numbers_of_parts world place tree) world task (ToMove mount place)
     (counts_from next) called keeps named (counted_here next (numbers_of_parts world place tree))
     (λ again same. ap (settled nat_eq)
-    (attach_same world place true tree (tree_some (length world.mounts) world.mounts (mount_numbered nat_eq world mount)) again (counts_from next) same))
+    (attach_same world place true tree
+    (tree_some (length world.mounts) world.mounts (mount_numbered nat_eq world mount)) again (counts_from next) same))
 
 pub new_mounts_keep_to_numbers : NewMountsKeepToNumbers
 new_mounts_keep_to_numbers next inode even world task place flags called keeps named =
     keeps_to_first next taken world task (ToMountPlain place flags) supply called keeps named
     counts
     (λ again same. ap (settled nat_eq)
-    ((λ i. mounted nat_eq (odds again) world place (new_plain nat_eq (same 0 (omega arith) i) (same 2 (omega arith) i)) flags)
-    ∙ attach_same middle place false tree (omega arith) (odds again) (odds supply) (λ k low. same (2 * k + 1) (omega (arith, low)))))
+    ((λ i. mounted nat_eq (odds again) world place
+    (new_plain nat_eq (same 0 (omega arith) i) (same 2 (omega arith) i)) flags)
+    ∙ attach_same middle place false tree (omega arith) (odds again) (odds supply)
+    (λ k low. same (2 * k + 1) (omega (arith, low)))))
   where
     supply : Fresh ℕ
     supply = handed_from next 2 inode
@@ -146,9 +160,11 @@ new_mounts_keep_to_numbers next inode even world task place flags called keeps n
 
 -- A new namespace
 
-numbers_same : (mounts : List (Mount ℕ)) → 0 < length mounts → (one other : Fresh ℕ) → ((k : ℕ) → k < length mounts → one k ≡ other k)
+numbers_same : (mounts : List (Mount ℕ)) → 0 < length mounts → (one other : Fresh ℕ)
+    → ((k : ℕ) → k < length mounts → one k ≡ other k)
     → numbers_by nat_eq one mounts ≡ numbers_by nat_eq other mounts
-numbers_same mounts some one other same = λ i number. same (index_of nat_eq mounts number) (index_bound mounts number some) i
+numbers_same mounts some one other same = λ i number. same (index_of nat_eq mounts number)
+    (index_bound mounts number some) i
 
 has_some : (list : List (Mount ℕ)) → (length (filter (is_root_mount nat_eq) list) == 1) ≡ true → 0 < length list
 has_some [] e = absurd (true≢false (sym e))

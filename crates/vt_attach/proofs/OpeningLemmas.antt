@@ -44,11 +44,13 @@ use Rattle.vt_detach.specs.WorldValue.{NamespaceEntry, WorldValue, namespace_of,
 pub pinned_once : (root uses : ℕ) → pinned nat_eq (one_counted root uses) root ≡ one_counted root (uses + 1)
 pinned_once root uses = λ i. record { root = root; inode = λ other. each (nat_eq other root) i; count = 1 }
   where
-    here : used_once_more (if nat_eq root root then Some (root_counted root uses) else None) ≡ Some (root_counted root (uses + 1))
+    here : used_once_more (if nat_eq root root then Some (root_counted root uses) else None)
+        ≡ Some (root_counted root (uses + 1))
     here = ap (λ b. used_once_more (if b then Some (root_counted root uses) else None)) (eq-eqb root root refl)
 
     each : (b : Bool)
-        → (if b then used_once_more (if nat_eq root root then Some (root_counted root uses) else None) else (if b then Some (root_counted root uses) else None))
+        → (if b then used_once_more (if nat_eq root root then Some (root_counted root uses) else None)
+        else (if b then Some (root_counted root uses) else None))
         ≡ (if b then Some (root_counted root (uses + 1)) else None)
     each true = here
     each false = refl
@@ -60,26 +62,37 @@ module _ (count : ℕ) where
   abbrev so_used : ℕ → ℕ → List Shown
   so_used uses mounts = record { count = count; inodes = one_counted root_number uses; mounts = mounts } ∷ []
 
-  once_more : (old new : Filesystems) (uses : ℕ) → ChangesInodes count (λ inodes. pinned nat_eq inodes root_number) old new
+  once_more : (old new : Filesystems) (uses : ℕ)
+      → ChangesInodes count (λ inodes. pinned nat_eq inodes root_number) old new
       → shown old ≡ so_used uses 1 → shown new ≡ so_used (uses + 1) 1
   once_more old new uses changes is =
       changes.changed ∙ ap (shown_with count (λ inodes. pinned nat_eq inodes root_number)) is
-      ∙ ap (λ b. cond b (record { count = count; inodes = pinned nat_eq (one_counted root_number uses) root_number; mounts = 1 })
+      ∙ ap (λ b. cond b (record {
+        count = count;
+        inodes = pinned nat_eq
+            (one_counted root_number uses) root_number;
+        mounts = 1;
+      })
       (record { count = count; inodes = one_counted root_number uses; mounts = 1 }) ∷ []) (eq-eqb count count refl)
       ∙ (λ i. record { count = count; inodes = pinned_once root_number uses i; mounts = 1 } ∷ [])
 
-  mounted : (entry : FilesystemEntry) (old new : Filesystems) (attr : Attr) → attr ≡ root_attr → old ≡ entry ∷ [] → IsNew count attr entry
-      → new ≡ with_changed count (λ (entry : FilesystemEntry). record entry { mounts = entry.mounts + 1 }) old → shown new ≡ so_used 1 1
+  mounted : (entry : FilesystemEntry) (old new : Filesystems) (attr : Attr) → attr ≡ root_attr → old ≡ entry ∷ []
+      → IsNew count attr entry
+      → new ≡ with_changed count (λ (entry : FilesystemEntry). record entry { mounts = entry.mounts + 1 }) old
+      → shown new ≡ so_used 1 1
   mounted entry old new attr is_attr is made changed =
-      ap shown (changed ∙ ap (with_changed count (λ (entry : FilesystemEntry). record entry { mounts = entry.mounts + 1 })) is)
-      ∙ ap (λ b. shown_entry (cond b (record entry { mounts = entry.mounts + 1 }) entry) ∷ []) (eq-eqb count entry.count (sym made.counts))
+      ap shown (changed ∙ ap (with_changed count
+      (λ (entry : FilesystemEntry). record entry { mounts = entry.mounts + 1 })) is)
+      ∙ ap (λ b. shown_entry (cond b (record entry { mounts = entry.mounts + 1 }) entry) ∷ [])
+      (eq-eqb count entry.count (sym made.counts))
       ∙ (λ i. record {
         count = made.counts i;
         inodes = (made.inodes ∙ ap (one_directory nat_eq root_number) is_attr) i;
         mounts = ap (λ n. n + 1) made.unmounted i;
       } ∷ [])
 
-  pub first_made : (entry : FilesystemEntry) (attr : Attr) (none added held one two three : Filesystems) → attr ≡ root_attr
+  pub first_made : (entry : FilesystemEntry) (attr : Attr) (none added held one two three : Filesystems)
+      → attr ≡ root_attr
       → none ≡ [] → added ≡ none ++ entry ∷ [] → IsNew count attr entry
       → held ≡ with_changed count (λ (entry : FilesystemEntry). record entry { mounts = entry.mounts + 1 }) added
       → ChangesInodes count (λ inodes. pinned nat_eq inodes root_number) held one
@@ -122,7 +135,8 @@ only_one n (a ∷ []) one among = by (nat_eq n a) refl among
     by false e among = absurd (true≢false (sym among))
 only_one n (a ∷ b ∷ rest) one among = absurd cc
 
-module _ (entry : FilesystemEntry) (counts : entry.count ≡ 2) (inodes : inodes_seen entry ≡ one_counted (inode_number 2 0) 4) where
+module _ (entry : FilesystemEntry) (counts : entry.count ≡ 2)
+    (inodes : inodes_seen entry ≡ one_counted (inode_number 2 0) 4) where
   abbrev root : ℕ
   root = inode_number 2 0
 
@@ -135,10 +149,17 @@ module _ (entry : FilesystemEntry) (counts : entry.count ≡ 2) (inodes : inodes
   first_seen =
       let there : is_among nat_eq root (numbers_seen entry) ≡ true =
       numbers_listed entry root ∙ ap (λ (all : Inodes ℕ). is_some ((tree_of all).node root)) inodes in
-      let numbers = only_one root (numbers_seen entry) (numbers_counted entry ∙ ap (λ (all : Inodes ℕ). all.count) inodes) there in
+      let numbers = only_one root (numbers_seen entry)
+      (numbers_counted entry ∙ ap (λ (all : Inodes ℕ). all.count) inodes) there in
       let tree : tree_of (inodes_seen entry) ≡ tree_of_root nat_eq root root_attr =
       ap tree_of inodes ∙ (λ i. record { root = root; node = λ other. node_of (nat_eq other root) i }) in
-      λ i. record { number = counted (counts i); files = record { tree = tree i; numbers = numbers i }; overlay = None; change = 0 }
+      λ i. record {
+        number = counted
+            (counts i);
+        files = record { tree = tree i; numbers = numbers i };
+        overlay = None;
+        change = 0;
+      }
 
   own : HasOwnInodes entry
   own number other = ap (λ (all : Inodes ℕ). all.inode number) inodes ∙ by (nat_eq number root) refl
@@ -170,9 +191,18 @@ first_tasks = first_task nat_eq opening_numbers ∷ []
 
 abbrev first_value : FilesystemEntry → WorldValue
 first_value entry =
-    record { mounts = first_mount_entries; groups = no_groups; filesystems = entry ∷ []; namespaces = first_namespace_entries; tasks = first_tasks; next = 3 }
+    record {
+      mounts = first_mount_entries;
+      groups = no_groups;
+      filesystems = entry
+          ∷ [];
+      namespaces = first_namespace_entries;
+      tasks = first_tasks;
+      next = 3;
+    }
 
-module _ (entry : FilesystemEntry) (counts : entry.count ≡ 2) (inodes : inodes_seen entry ≡ one_counted (inode_number 2 0) 4) (mounts : entry.mounts ≡ 1) where
+module _ (entry : FilesystemEntry) (counts : entry.count ≡ 2)
+    (inodes : inodes_seen entry ≡ one_counted (inode_number 2 0) 4) (mounts : entry.mounts ≡ 1) where
   abbrev seen : filesystem_seen entry ≡ new_plain nat_eq (counted 2) (inode_number 2 0)
   seen = first_seen entry counts inodes
 
@@ -192,16 +222,19 @@ module _ (entry : FilesystemEntry) (counts : entry.count ≡ 2) (inodes : inodes
       record {
         in_world = subst (IsWorld nat_eq) (sym first_world) (opening_is_a_world opening_numbers numbers_apart).0;
         groups = subst (λ world. Has world no_groups) (sym first_world) (opening_has_no_groups opening_numbers);
-        ungrouped = refl;
         given = subst (KeepsTo (is_counted_before 3)) (sym first_world)
             (opening_keeps_to_four (is_counted_before 3) opening_numbers refl refl refl refl);
         mounts = subst (λ world. All (CountsItsUses world) first_mount_entries) (sym first_world)
-            (All-cons (CountsItsUses (opening nat_eq opening_numbers)) _ [] (record { uses = refl; writers = refl }) (All-nil _));
+            (All-cons (CountsItsUses (opening nat_eq opening_numbers)) _ [] (record { uses = refl; writers = refl })
+            (All-nil _));
         filesystems = subst (λ world. All (CountsItsMounts world) (entry ∷ [])) (sym first_world)
             (All-cons (CountsItsMounts (opening nat_eq opening_numbers)) entry [] (record {
-              mounts = mounts ∙ ap (λ count. mounts_showing (opening nat_eq opening_numbers) (counted count)) (sym counts);
-              inodes = subst (λ (all : Inodes ℕ). IsCounted (opening nat_eq opening_numbers) (filesystem_seen entry) all) (sym inodes)
-                  (subst (λ (filesystem : Filesystem ℕ). IsCounted (opening nat_eq opening_numbers) filesystem (one_counted (inode_number 2 0) 4)) (sym seen)
+              mounts = mounts ∙ ap (λ count. mounts_showing (opening nat_eq opening_numbers) (counted count))
+                  (sym counts);
+              inodes = subst (λ (all : Inodes ℕ). IsCounted (opening nat_eq opening_numbers)
+                  (filesystem_seen entry) all) (sym inodes)
+                  (subst (λ (filesystem : Filesystem ℕ). IsCounted (opening nat_eq opening_numbers) filesystem
+                  (one_counted (inode_number 2 0) 4)) (sym seen)
                   (opening_is_counted opening_numbers));
             }) (All-nil _));
         own_inodes = All-cons HasOwnInodes entry [] (own entry counts inodes) (All-nil _);
@@ -210,8 +243,10 @@ module _ (entry : FilesystemEntry) (counts : entry.count ≡ 2) (inodes : inodes
       }
 
 -- what is made for the opening world is held, and is seen as that
-module _ (mounts : List MountEntry) (groups : Grouping) (filesystems : Filesystems) (namespaces : List NamespaceEntry) (tasks : List (meant.Task ℕ))
-    (mounts_are : mounts ≡ first_mount_entries) (groups_are : groups ≡ no_groups) (filesystems_are : shown filesystems ≡ first_shown 2)
+module _ (mounts : List MountEntry) (groups : Grouping) (filesystems : Filesystems) (namespaces : List NamespaceEntry)
+    (tasks : List (meant.Task ℕ))
+    (mounts_are : mounts ≡ first_mount_entries) (groups_are : groups ≡ no_groups)
+    (filesystems_are : shown filesystems ≡ first_shown 2)
     (namespaces_are : namespaces ≡ first_namespace_entries) (tasks_are : tasks ≡ first_tasks) where
   abbrev made : WorldValue
   made = record { mounts = mounts; groups = groups; filesystems = filesystems; namespaces = namespaces; tasks = tasks; next = 3 }
@@ -265,7 +300,8 @@ module _ (number : MountId) (namespace : NamespaceId) (filesystem : FilesystemId
   pub namespaces_made : record { count = namespace.count; tasks = 1 } ∷ [] ≡ first_namespace_entries
   namespaces_made = λ i. record { count = (namespace_is i).count; tasks = 1 } ∷ []
 
-  pub tasks_made : first_task_at (counted namespace.count) (location_of (record { mount = number; node = root_place })) ∷ [] ≡ first_tasks
+  pub tasks_made : first_task_at (counted namespace.count) (location_of (record { mount = number; node = root_place }))
+      ∷ [] ≡ first_tasks
   tasks_made =
       λ i. first_task_at (counted (namespace_is i).count)
       (record { mount = counted (number_is i).count; node = inode_number (filesystem_is i).count 0 }) ∷ []

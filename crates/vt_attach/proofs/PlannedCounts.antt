@@ -18,11 +18,18 @@ inodes_of_points points = map (λ (point : Location). inode_of point.node) point
 
 -- what inodes of a filesystem get and lose
 abbrev pub exchanged_on : List Inode → List Inode → ℕ → Shown → Shown
-exchanged_on gained lost more one = record one { inodes = exchanged (counted one.count) gained lost one.inodes; mounts = one.mounts + more }
+exchanged_on gained lost more one = record one {
+  inodes = exchanged
+      (counted one.count) gained lost one.inodes;
+  mounts = one.mounts + more;
+}
 
 all_pinned : (points : List Location) (all : List Shown)
     → folded pinned_by all points
-    ≡ map (λ (one : Shown). record one { inodes = folded (pinned_if (counted one.count)) one.inodes (inodes_of_points points) }) all
+    ≡ map (λ (one : Shown). record one {
+      inodes = folded (pinned_if (counted one.count)) one.inodes
+          (inodes_of_points points);
+    }) all
 all_pinned [] all = none all
   where
     none : (list : List Shown) → list ≡ map (λ (one : Shown). record one { inodes = one.inodes }) list
@@ -30,12 +37,18 @@ all_pinned [] all = none all
     none (one ∷ rest) = ap (λ others. one ∷ others) (none rest)
 all_pinned (point ∷ rest) all =
     all_pinned rest (pinned_by all point)
-    ∙ map_twice (λ (one : Shown). record one { inodes = folded (pinned_if (counted one.count)) one.inodes (inodes_of_points rest) })
+    ∙ map_twice (λ (one : Shown). record one {
+      inodes = folded (pinned_if (counted one.count)) one.inodes
+          (inodes_of_points rest);
+    })
     (λ (one : Shown). record one { inodes = pinned_if (counted one.count) one.inodes (inode_of point.node) }) all
 
 all_unpinned : (points : List Location) (all : List Shown)
     → folded unpinned_by all points
-    ≡ map (λ (one : Shown). record one { inodes = folded (unpinned_if (counted one.count)) one.inodes (inodes_of_points points) }) all
+    ≡ map (λ (one : Shown). record one {
+      inodes = folded (unpinned_if (counted one.count)) one.inodes
+          (inodes_of_points points);
+    }) all
 all_unpinned [] all = none all
   where
     none : (list : List Shown) → list ≡ map (λ (one : Shown). record one { inodes = one.inodes }) list
@@ -43,27 +56,36 @@ all_unpinned [] all = none all
     none (one ∷ rest) = ap (λ others. one ∷ others) (none rest)
 all_unpinned (point ∷ rest) all =
     all_unpinned rest (unpinned_by all point)
-    ∙ map_twice (λ (one : Shown). record one { inodes = folded (unpinned_if (counted one.count)) one.inodes (inodes_of_points rest) })
+    ∙ map_twice (λ (one : Shown). record one {
+      inodes = folded (unpinned_if (counted one.count)) one.inodes
+          (inodes_of_points rest);
+    })
     (λ (one : Shown). record one { inodes = unpinned_if (counted one.count) one.inodes (inode_of point.node) }) all
 
 folded_after : (test : ℕ) (front back : List Inode) (inodes : Inodes ℕ)
-    → folded (pinned_if test) (folded (pinned_if test) inodes front) back ≡ folded (pinned_if test) inodes (front ++ back)
+    → folded (pinned_if test) (folded (pinned_if test) inodes front) back
+    ≡ folded (pinned_if test) inodes (front ++ back)
 folded_after test [] back inodes = refl
 folded_after test (inode ∷ front) back inodes = folded_after test front back (pinned_if test inodes inode)
 
 -- all that a planned attachment does to filesystems
 pub planned_shown : (taken left : List Location) (copies : List Mount) (all : List Shown)
     → folded unpinned_by (folded shown_by (folded pinned_by all taken) copies) left
-    ≡ map (λ (one : Shown). exchanged_on (inodes_of_points taken ++ gained_by copies) (inodes_of_points left) (showing one.count copies) one) all
+    ≡ map (λ (one : Shown). exchanged_on (inodes_of_points taken ++ gained_by copies) (inodes_of_points left)
+    (showing one.count copies) one) all
 planned_shown taken left copies all =
     all_unpinned left (folded shown_by (folded pinned_by all taken) copies)
-    ∙ ap (map unpinned_all) (shown_by_all copies (folded pinned_by all taken) ∙ ap (map (with_mounts_on copies)) (all_pinned taken all)
+    ∙ ap (map unpinned_all) (shown_by_all copies (folded pinned_by all taken)
+    ∙ ap (map (with_mounts_on copies)) (all_pinned taken all)
     ∙ map_twice (with_mounts_on copies) pinned_all all)
     ∙ map_twice unpinned_all (λ one. with_mounts_on copies (pinned_all one)) all
     ∙ map_alike (λ one. unpinned_all (with_mounts_on copies (pinned_all one)))
-    (λ (one : Shown). exchanged_on (inodes_of_points taken ++ gained_by copies) (inodes_of_points left) (showing one.count copies) one) all
+    (λ (one : Shown). exchanged_on (inodes_of_points taken ++ gained_by copies) (inodes_of_points left)
+    (showing one.count copies) one) all
     (λ one m. λ i. record one {
-      inodes = folded (unpinned_if (counted one.count)) (folded_after (counted one.count) (inodes_of_points taken) (gained_by copies) one.inodes i) (inodes_of_points left);
+      inodes = folded (unpinned_if (counted one.count))
+          (folded_after (counted one.count) (inodes_of_points taken) (gained_by copies) one.inodes i)
+          (inodes_of_points left);
       mounts = one.mounts + showing one.count copies;
     })
   where
@@ -71,4 +93,7 @@ planned_shown taken left copies all =
     pinned_all one = record one { inodes = folded (pinned_if (counted one.count)) one.inodes (inodes_of_points taken) }
 
     unpinned_all : Shown → Shown
-    unpinned_all one = record one { inodes = folded (unpinned_if (counted one.count)) one.inodes (inodes_of_points left) }
+    unpinned_all one = record one {
+      inodes = folded (unpinned_if (counted one.count)) one.inodes
+          (inodes_of_points left);
+    }

@@ -30,7 +30,8 @@ use Rattle.vt_attach.proofs.RoomLemmas.{folded_more, not_refused, pinned_mounts,
 
 -- Their numbers stay
 
-pub number_stays : (place : Location) (entry : MountEntry) (b : Bool) → (cond b (placed_entry place entry) entry).mount.number ≡ entry.mount.number
+pub number_stays : (place : Location) (entry : MountEntry) (b : Bool)
+    → (cond b (placed_entry place entry) entry).mount.number ≡ entry.mount.number
 number_stays place entry true = refl
 number_stays place entry false = refl
 
@@ -39,10 +40,12 @@ module _ (number : ℕ) (place : Location) (back : List (meant.Mount ℕ)) where
       → list_all (λ later. nat_lt n later.number) (mounts_in (changed number (placed_entry place) entries) ++ back)
       ≡ list_all (λ later. nat_lt n later.number) (mounts_in entries ++ back)
   later_stay n [] = refl
-  later_stay n (entry ∷ entries) = λ i. nat_lt n (number_stays place entry (nat_eq number entry.mount.number) i) && later_stay n entries i
+  later_stay n (entry ∷ entries) = λ i. nat_lt n (number_stays place entry (nat_eq number entry.mount.number) i)
+      && later_stay n entries i
 
   one_ascends : (entries : List MountEntry)
-      → are_ascending (mounts_in (changed number (placed_entry place) entries) ++ back) ≡ are_ascending (mounts_in entries ++ back)
+      → are_ascending (mounts_in (changed number (placed_entry place) entries) ++ back)
+      ≡ are_ascending (mounts_in entries ++ back)
   one_ascends [] = refl
   one_ascends (entry ∷ entries) =
       (λ i. list_all (λ later. nat_lt (number_stays place entry (nat_eq number entry.mount.number) i) later.number)
@@ -54,7 +57,8 @@ pub points_ascend : (points : List Point) (entries : List MountEntry) (back : Li
     → are_ascending (mounts_in (with_points points entries) ++ back) ≡ are_ascending (mounts_in entries ++ back)
 points_ascend [] entries back = refl
 points_ascend (point ∷ rest) entries back =
-    one_ascends (counted point.mount.count) point.place back (with_points rest entries) ∙ points_ascend rest entries back
+    one_ascends (counted point.mount.count) point.place back (with_points rest entries)
+    ∙ points_ascend rest entries back
 
 -- What a look at the mounts tells of a mount that moves
 
@@ -74,16 +78,19 @@ point_is entries number result is =
     ∙ by_mount result
   where
     by_entry : (o : Option MountEntry) → option_and_then (λ (entry : MountEntry). entry.mount.mount_point) o
-        ≡ option_and_then (λ (mount : meant.Mount ℕ). mount.mount_point) (option_map (λ (entry : MountEntry). entry.mount) o)
+        ≡ option_and_then (λ (mount : meant.Mount ℕ). mount.mount_point)
+        (option_map (λ (entry : MountEntry). entry.mount) o)
     by_entry None = refl
     by_entry (Some entry) = refl
 
-    by_mount : (o : Option Mount) → option_and_then (λ (mount : meant.Mount ℕ). mount.mount_point) (option_map mount_of o)
+    by_mount : (o : Option Mount) → option_and_then (λ (mount : meant.Mount ℕ). mount.mount_point)
+        (option_map mount_of o)
         ≡ option_and_then (λ (mount : Mount). option_map location_of mount.mount_point) o
     by_mount None = refl
     by_mount (Some mount) = refl
 
-pub mapped_points : (o : Option Location) → map location_of (option_to_list o) ≡ option_to_list (option_map location_of o)
+pub mapped_points : (o : Option Location)
+    → map location_of (option_to_list o) ≡ option_to_list (option_map location_of o)
 mapped_points None = refl
 mapped_points (Some point) = refl
 
@@ -98,7 +105,8 @@ pub taken_pass : (test : Location → Bool) (points : List Point) (entries : Lis
 taken_pass test [] entries all = refl
 taken_pass test (point ∷ rest) entries all =
     list_all-append test (points_taken rest entries) (taken_at point (with_points rest entries))
-    ∙ (λ i. taken_pass test rest entries parts.1 i && by (is_some (entry_numbered (with_points rest entries) (counted point.mount.count))) i)
+    ∙ (λ i. taken_pass test rest entries parts.1 i
+    && by (is_some (entry_numbered (with_points rest entries) (counted point.mount.count))) i)
   where
     parts : (test point.place ≡ true) × (list_all (λ (other : Point). test other.place) rest ≡ true)
     parts = and_parts (test point.place) (list_all (λ (other : Point). test other.place) rest) all
@@ -129,19 +137,24 @@ pins_more (point ∷ rest) other all =
     let first = pinned_uses (inode_of point.node) other all in
     omega (arith, later, first)
 
-pins_mounts : (points : List Location) (other : ℕ) (all : List Shown) → mounts_shown other (folded pinned_by all points) ≡ mounts_shown other all
+pins_mounts : (points : List Location) (other : ℕ) (all : List Shown)
+    → mounts_shown other (folded pinned_by all points) ≡ mounts_shown other all
 pins_mounts [] other all = refl
-pins_mounts (point ∷ rest) other all = pins_mounts rest other (pinned_by all point) ∙ pinned_mounts (inode_of point.node) other all
+pins_mounts (point ∷ rest) other all = pins_mounts rest other (pinned_by all point)
+    ∙ pinned_mounts (inode_of point.node) other all
 
 -- each has room when its turn comes
-pub pin_room : (points : List Location) (all now : List Shown) (i : ℕ) (d : Location) → i < length points → length points ≤ most_counted
-    → point_has_room (most_counted - length points) all (Some (get_or points i d)) ≡ true → now ≡ folded pinned_by all (take i points)
+pub pin_room : (points : List Location) (all now : List Shown) (i : ℕ) (d : Location) → i < length points
+    → length points ≤ most_counted
+    → point_has_room (most_counted - length points) all (Some (get_or points i d)) ≡ true
+    → now ≡ folded pinned_by all (take i points)
     → uses_shown (inode_of (get_or points i d).node) now < most_counted
 pin_room points all now i d less fits room so_far =
     let was = leb-true (uses_shown (inode_of (get_or points i d).node) all) (most_counted - length points) room in
     let more = pins_more (take i points) (inode_of (get_or points i d).node) all in
     let size = length-take-le i points (omega (arith, less)) in
-    subst (λ later. uses_shown (inode_of (get_or points i d).node) later < most_counted) (sym so_far) (omega (arith, was, more, size, less, fits))
+    subst (λ later. uses_shown (inode_of (get_or points i d).node) later < most_counted) (sym so_far)
+    (omega (arith, was, more, size, less, fits))
 
 -- fewer uses are room for more
 pub room_stays : (most less : ℕ) (all : List Shown) → less ≤ most → (points : List Location)
@@ -149,31 +162,39 @@ pub room_stays : (most less : ℕ) (all : List Shown) → less ≤ most → (poi
     → list_all (λ (point : Location). point_has_room most all (Some point)) points ≡ true
 room_stays most less all fewer [] room = refl
 room_stays most less all fewer (point ∷ rest) room =
-    let parts = and_parts (point_has_room less all (Some point)) (list_all (λ (other : Location). point_has_room less all (Some other)) rest) room in
+    let parts = and_parts (point_has_room less all (Some point))
+    (list_all (λ (other : Location). point_has_room less all (Some other)) rest) room in
     let few = leb-true (uses_shown (inode_of point.node) all) less parts.0 in
-    λ i. le-leb (uses_shown (inode_of point.node) all) most (omega (arith, few, fewer)) i && room_stays most less all fewer rest parts.1 i
+    λ i. le-leb (uses_shown (inode_of point.node) all) most (omega (arith, few, fewer)) i
+    && room_stays most less all fewer rest parts.1 i
 
 module _ (points : List Location) (all : List Shown) (less most : ℕ) (fits : less + length points ≤ most) where
-  point_room_then : (point : Option Location) → point_has_room less all point ≡ true → point_has_room most (folded pinned_by all points) point ≡ true
+  point_room_then : (point : Option Location) → point_has_room less all point ≡ true
+      → point_has_room most (folded pinned_by all points) point ≡ true
   point_room_then None room = refl
   point_room_then (Some point) room =
       let was = leb-true (uses_shown (inode_of point.node) all) less room in
       let more = pins_more points (inode_of point.node) all in
       le-leb (uses_shown (inode_of point.node) (folded pinned_by all points)) most (omega (arith, was, more, fits))
 
-  room_then : (mount : Mount) → has_room less all mount ≡ true → has_room most (folded pinned_by all points) mount ≡ true
+  room_then : (mount : Mount) → has_room less all mount ≡ true
+      → has_room most (folded pinned_by all points) mount ≡ true
   room_then mount room =
-      let first = and_parts (nat_le (uses_shown (inode_of mount.root) all) less && point_has_room less all mount.mount_point) _ room in
+      let first = and_parts (nat_le (uses_shown (inode_of mount.root) all) less
+      && point_has_room less all mount.mount_point) _ room in
       let second = and_parts (nat_le (uses_shown (inode_of mount.root) all) less) _ first.0 in
       let root = leb-true (uses_shown (inode_of mount.root) all) less second.0 in
       let shows = leb-true (mounts_shown (counted mount.root.filesystem.count) all) less first.1 in
       let more = pins_more points (inode_of mount.root) all in
       let same = pins_mounts points (counted mount.root.filesystem.count) all in
-      λ i. le-leb (uses_shown (inode_of mount.root) (folded pinned_by all points)) most (omega (arith, root, more, fits)) i
+      λ i. le-leb (uses_shown (inode_of mount.root) (folded pinned_by all points)) most
+      (omega (arith, root, more, fits)) i
       && point_room_then mount.mount_point second.1 i
-      && le-leb (mounts_shown (counted mount.root.filesystem.count) (folded pinned_by all points)) most (omega (arith, shows, same, fits)) i
+      && le-leb (mounts_shown (counted mount.root.filesystem.count) (folded pinned_by all points)) most
+      (omega (arith, shows, same, fits)) i
 
-  pub all_room_then : (new : List Mount) → list_all (has_room less all) new ≡ true → list_all (has_room most (folded pinned_by all points)) new ≡ true
+  pub all_room_then : (new : List Mount) → list_all (has_room less all) new ≡ true
+      → list_all (has_room most (folded pinned_by all points)) new ≡ true
   all_room_then [] room = refl
   all_room_then (mount ∷ new) room =
       let parts = and_parts (has_room less all mount) (list_all (has_room less all) new) room in
@@ -181,26 +202,32 @@ module _ (points : List Location) (all : List Shown) (less most : ℕ) (fits : l
 
 -- One step of a loop
 
-pub pinned_next : (points : List Location) (old : List Shown) (before after : Filesystems) (i : ℕ) (d : Location) → i < length points
+pub pinned_next : (points : List Location) (old : List Shown) (before after : Filesystems) (i : ℕ) (d : Location)
+    → i < length points
     → length points ≤ most_counted
     → list_all (λ (point : Location). point_has_room (most_counted - length points) old (Some point)) points ≡ true
     → shown before ≡ folded pinned_by old (take i points) → (result : Result ⊤ Deny)
     → (IsErrOf result (denial S5)
-    → uses_in ((inodes_at before (get_or points i d).node.filesystem.count).inode (number_of (get_or points i d).node)) ≡ most_counted)
+    → uses_in ((inodes_at before (get_or points i d).node.filesystem.count).inode (number_of (get_or points i d).node))
+    ≡ most_counted)
     → IfErr result (λ deny. deny ≡ denial S5)
-    → OnOk result (ChangesInodes (get_or points i d).node.filesystem.count (λ inodes. pinned nat_eq inodes (number_of (get_or points i d).node)) before after)
+    → OnOk result (ChangesInodes (get_or points i d).node.filesystem.count
+    (λ inodes. pinned nat_eq inodes (number_of (get_or points i d).node)) before after)
     → shown after ≡ folded pinned_by old (take (i + 1) points)
 pinned_next points old before after i d less fits room so_far result limit memory ok =
     let node = (get_or points i d).node in
     let few = pin_room points old (shown before) i d less fits
-    (passes (λ (point : Location). point_has_room (most_counted - length points) old (Some point)) points room (get_or points i d) (at points i less)) so_far in
+    (passes (λ (point : Location). point_has_room (most_counted - length points) old (Some point)) points room
+    (get_or points i d) (at points i less)) so_far in
     let same = uses_are_shown node.filesystem.count (number_of node) before in
     pins node.filesystem.count (number_of node) before after
-    (not_refused result (ChangesInodes node.filesystem.count (λ inodes. pinned nat_eq inodes (number_of node)) before after)
+    (not_refused result (ChangesInodes node.filesystem.count
+    (λ inodes. pinned nat_eq inodes (number_of node)) before after)
     (uses_in ((inodes_at before node.filesystem.count).inode (number_of node)) ≡ most_counted) limit memory ok
     (λ full. omega (arith, full, few, same)))
     ∙ ap (λ all. pinned_by all (get_or points i d)) so_far
-    ∙ sym (ap (folded pinned_by old) (take_more points i d less) ∙ folded_more pinned_by (take i points) (get_or points i d) old)
+    ∙ sym (ap (folded pinned_by old) (take_more points i d less)
+    ∙ folded_more pinned_by (take i points) (get_or points i d) old)
   where
     at : (list : List Location) (k : ℕ) → k < length list → Among (get_or list k d) list
     at list k low =
@@ -209,19 +236,25 @@ pinned_next points old before after i d less fits room so_far result limit memor
         (subst (Among (get_or list k d)) (sym (take_more list k d low))
         (among-append_right (take k list) (get_or list k d ∷ []) (get_or list k d) (inl refl))))
 
-pub unpinned_next : (points : List Location) (old : List Shown) (before after : Filesystems) (i : ℕ) (d : Location) → i < length points
+pub unpinned_next : (points : List Location) (old : List Shown) (before after : Filesystems) (i : ℕ) (d : Location)
+    → i < length points
     → shown before ≡ folded unpinned_by old (take i points)
-    → ChangesInodes (get_or points i d).node.filesystem.count (λ inodes. unpinned nat_eq inodes (number_of (get_or points i d).node)) before after
+    → ChangesInodes (get_or points i d).node.filesystem.count
+    (λ inodes. unpinned nat_eq inodes (number_of (get_or points i d).node)) before after
     → shown after ≡ folded unpinned_by old (take (i + 1) points)
 unpinned_next points old before after i d less so_far changes =
     unpins (get_or points i d).node.filesystem.count (number_of (get_or points i d).node) before after changes
     ∙ ap (λ all. unpinned_by all (get_or points i d)) so_far
-    ∙ sym (ap (folded unpinned_by old) (take_more points i d less) ∙ folded_more unpinned_by (take i points) (get_or points i d) old)
+    ∙ sym (ap (folded unpinned_by old) (take_more points i d less)
+    ∙ folded_more unpinned_by (take i points) (get_or points i d) old)
 
 pub place_next : (most : ℕ) (filesystems : Filesystems) (points : List Point) (i : ℕ) (d : Point) → i < length points
-    → list_all (λ (point : Point). point_has_room most (shown filesystems) (Some point.place)) (take i points) ≡ true → (n : ℕ)
-    → n ≡ uses_in ((inodes_at filesystems (get_or points i d).place.node.filesystem.count).inode (number_of (get_or points i d).place.node)) → n ≤ most
-    → list_all (λ (point : Point). point_has_room most (shown filesystems) (Some point.place)) (take (i + 1) points) ≡ true
+    → list_all (λ (point : Point). point_has_room most (shown filesystems) (Some point.place)) (take i points) ≡ true
+    → (n : ℕ)
+    → n ≡ uses_in ((inodes_at filesystems (get_or points i d).place.node.filesystem.count).inode
+    (number_of (get_or points i d).place.node)) → n ≤ most
+    → list_all (λ (point : Point). point_has_room most (shown filesystems) (Some point.place)) (take (i + 1) points)
+    ≡ true
 place_next most filesystems points i d less so_far n is few =
     let node = (get_or points i d).place.node in
     let same = uses_are_shown node.filesystem.count (number_of node) filesystems in
@@ -229,7 +262,8 @@ place_next most filesystems points i d less so_far n is few =
     ∙ (λ j. so_far j && le-leb (uses_shown (inode_of node) (shown filesystems)) most (omega (arith, is, few, same)) j)
 
 -- mounts that came go again
-pub entered_undone : (old : List MountEntry) (new : List Mount) → are_ascending (mounts_in old ++ map mount_of new) ≡ true
+pub entered_undone : (old : List MountEntry) (new : List Mount)
+    → are_ascending (mounts_in old ++ map mount_of new) ≡ true
     → folded without_one (old ++ map unused_entry new) new ≡ old
 entered_undone old new ascending =
     ap (folded without_one (old ++ map unused_entry new)) (sym (append-nil new))

@@ -28,11 +28,15 @@ pub uses_are_shown : (count number : ℕ) (filesystems : Filesystems)
 uses_are_shown count number [] = refl
 uses_are_shown count number (entry ∷ rest) =
     by (nat_eq count entry.count) (uses_are_shown count number rest)
-    ∙ ap (λ b. unwrap_or (option_map (λ one. uses_in (one.inodes.inode number)) (cond b (Some (shown_entry entry)) (find (λ one. nat_eq (counted count) (counted one.count)) (shown rest)))) 0) (sym (counted_eq count entry.count))
+    ∙ ap (λ b. unwrap_or (option_map (λ one. uses_in (one.inodes.inode number))
+    (cond b (Some (shown_entry entry)) (find (λ one. nat_eq (counted count) (counted one.count)) (shown rest)))) 0)
+    (sym (counted_eq count entry.count))
   where
-    by : (b : Bool) → uses_in ((inodes_seen (unwrap_or (entry_of rest count) (no_entry count))).inode number) ≡ uses_shown (counted count, number) (shown rest)
+    by : (b : Bool) → uses_in ((inodes_seen (unwrap_or (entry_of rest count) (no_entry count))).inode number)
+        ≡ uses_shown (counted count, number) (shown rest)
         → uses_in ((inodes_seen (unwrap_or (cond b (Some entry) (entry_of rest count)) (no_entry count))).inode number)
-        ≡ unwrap_or (option_map (λ one. uses_in (one.inodes.inode number)) (cond b (Some (shown_entry entry)) (find (λ one. nat_eq (counted count) (counted one.count)) (shown rest)))) 0
+        ≡ unwrap_or (option_map (λ one. uses_in (one.inodes.inode number))
+        (cond b (Some (shown_entry entry)) (find (λ one. nat_eq (counted count) (counted one.count)) (shown rest)))) 0
     by true later = refl
     by false later = later
 
@@ -42,22 +46,28 @@ used_more : (o : Option (Counted ℕ)) → uses_in (used_once_more o) ≤ uses_i
 used_more None = omega arith
 used_more (Some inode) = omega arith
 
-pinned_more : (inodes : Inodes ℕ) (number other : ℕ) → uses_in ((pinned nat_eq inodes number).inode other) ≤ uses_in (inodes.inode other) + 1
+pinned_more : (inodes : Inodes ℕ) (number other : ℕ)
+    → uses_in ((pinned nat_eq inodes number).inode other) ≤ uses_in (inodes.inode other) + 1
 pinned_more inodes number other = by (nat_eq other number) refl
   where
-    by : (b : Bool) → nat_eq other number ≡ b → uses_in (cond b (used_once_more (inodes.inode number)) (inodes.inode other)) ≤ uses_in (inodes.inode other) + 1
-    by true e = subst (λ n. uses_in (used_once_more (inodes.inode n)) ≤ uses_in (inodes.inode other) + 1) (eqb-true other number e) (used_more (inodes.inode other))
+    by : (b : Bool) → nat_eq other number ≡ b
+        → uses_in (cond b (used_once_more (inodes.inode number)) (inodes.inode other)) ≤ uses_in
+        (inodes.inode other) + 1
+    by true e = subst (λ n. uses_in (used_once_more (inodes.inode n)) ≤ uses_in (inodes.inode other) + 1)
+        (eqb-true other number e) (used_more (inodes.inode other))
     by false e = omega arith
 
 pinned_if_more : (filesystem : ℕ) (inodes : Inodes ℕ) (inode : Inode) (other : ℕ)
     → uses_in ((pinned_if filesystem inodes inode).inode other) ≤ uses_in (inodes.inode other) + 1
 pinned_if_more filesystem inodes inode other = by (nat_eq filesystem inode.0)
   where
-    by : (b : Bool) → uses_in ((cond b (pinned nat_eq inodes inode.1) inodes).inode other) ≤ uses_in (inodes.inode other) + 1
+    by : (b : Bool) → uses_in ((cond b (pinned nat_eq inodes inode.1) inodes).inode other) ≤ uses_in
+        (inodes.inode other) + 1
     by true = pinned_more inodes inode.1 other
     by false = omega arith
 
-pub pinned_uses : (inode other : Inode) (all : List Shown) → uses_shown other (pinned_in inode all) ≤ uses_shown other all + 1
+pub pinned_uses : (inode other : Inode) (all : List Shown)
+    → uses_shown other (pinned_in inode all) ≤ uses_shown other all + 1
 pinned_uses inode other [] = omega arith
 pinned_uses inode other (one ∷ rest) = by (nat_eq other.0 (counted one.count)) (pinned_uses inode other rest)
   where
@@ -65,20 +75,24 @@ pinned_uses inode other (one ∷ rest) = by (nat_eq other.0 (counted one.count))
     use_of o = unwrap_or (option_map (λ (found : Shown). uses_in (found.inodes.inode other.1)) o) 0
 
     by : (b : Bool) → uses_shown other (pinned_in inode rest) ≤ uses_shown other rest + 1
-        → use_of (cond b (Some (record one { inodes = pinned_if (counted one.count) one.inodes inode })) (find (λ found. nat_eq other.0 (counted found.count)) (pinned_in inode rest)))
+        → use_of (cond b (Some (record one { inodes = pinned_if (counted one.count) one.inodes inode }))
+        (find (λ found. nat_eq other.0 (counted found.count)) (pinned_in inode rest)))
         ≤ use_of (cond b (Some one) (find (λ found. nat_eq other.0 (counted found.count)) rest)) + 1
     by true later = pinned_if_more (counted one.count) one.inodes inode other.1
     by false later = later
 
-pub pinned_mounts : (inode : Inode) (filesystem : ℕ) (all : List Shown) → mounts_shown filesystem (pinned_in inode all) ≡ mounts_shown filesystem all
+pub pinned_mounts : (inode : Inode) (filesystem : ℕ) (all : List Shown)
+    → mounts_shown filesystem (pinned_in inode all) ≡ mounts_shown filesystem all
 pinned_mounts inode filesystem [] = refl
-pinned_mounts inode filesystem (one ∷ rest) = by (nat_eq filesystem (counted one.count)) (pinned_mounts inode filesystem rest)
+pinned_mounts inode filesystem (one ∷ rest) = by (nat_eq filesystem (counted one.count))
+    (pinned_mounts inode filesystem rest)
   where
     mounts_of : Option Shown → ℕ
     mounts_of o = unwrap_or (option_map (λ (found : Shown). found.mounts) o) 0
 
     by : (b : Bool) → mounts_shown filesystem (pinned_in inode rest) ≡ mounts_shown filesystem rest
-        → mounts_of (cond b (Some (record one { inodes = pinned_if (counted one.count) one.inodes inode })) (find (λ found. nat_eq filesystem (counted found.count)) (pinned_in inode rest)))
+        → mounts_of (cond b (Some (record one { inodes = pinned_if (counted one.count) one.inodes inode }))
+        (find (λ found. nat_eq filesystem (counted found.count)) (pinned_in inode rest)))
         ≡ mounts_of (cond b (Some one) (find (λ found. nat_eq filesystem (counted found.count)) rest))
     by true later = refl
     by false later = later
@@ -104,68 +118,84 @@ mounted_more filesystem one = by (nat_eq filesystem (counted one.count))
     by true = omega arith
     by false = omega arith
 
-pub mounted_uses : (filesystem : ℕ) (other : Inode) (all : List Shown) → uses_shown other (mounted_in filesystem all) ≡ uses_shown other all
+pub mounted_uses : (filesystem : ℕ) (other : Inode) (all : List Shown)
+    → uses_shown other (mounted_in filesystem all) ≡ uses_shown other all
 mounted_uses filesystem other [] = refl
 mounted_uses filesystem other (one ∷ rest) =
-    ap (λ count. use_of (cond (nat_eq other.0 (counted count)) (Some (mounted_if filesystem one)) (find (λ found. nat_eq other.0 (counted found.count)) (mounted_in filesystem rest)))) (mounted_count filesystem one)
+    ap (λ count. use_of (cond (nat_eq other.0 (counted count)) (Some (mounted_if filesystem one))
+    (find (λ found. nat_eq other.0 (counted found.count)) (mounted_in filesystem rest))))
+    (mounted_count filesystem one)
     ∙ by (nat_eq other.0 (counted one.count)) (mounted_uses filesystem other rest)
   where
     use_of : Option Shown → ℕ
     use_of o = unwrap_or (option_map (λ (found : Shown). uses_in (found.inodes.inode other.1)) o) 0
 
     by : (b : Bool) → uses_shown other (mounted_in filesystem rest) ≡ uses_shown other rest
-        → use_of (cond b (Some (mounted_if filesystem one)) (find (λ found. nat_eq other.0 (counted found.count)) (mounted_in filesystem rest)))
+        → use_of (cond b (Some (mounted_if filesystem one))
+        (find (λ found. nat_eq other.0 (counted found.count)) (mounted_in filesystem rest)))
         ≡ use_of (cond b (Some one) (find (λ found. nat_eq other.0 (counted found.count)) rest))
     by true later = ap (λ (inodes : Inodes ℕ). uses_in (inodes.inode other.1)) (mounted_inodes filesystem one)
     by false later = later
 
-pub mounted_mounts : (filesystem other : ℕ) (all : List Shown) → mounts_shown other (mounted_in filesystem all) ≤ mounts_shown other all + 1
+pub mounted_mounts : (filesystem other : ℕ) (all : List Shown)
+    → mounts_shown other (mounted_in filesystem all) ≤ mounts_shown other all + 1
 mounted_mounts filesystem other [] = omega arith
 mounted_mounts filesystem other (one ∷ rest) =
-    subst (λ count. mounts_of (cond (nat_eq other (counted count)) (Some (mounted_if filesystem one)) (find (λ found. nat_eq other (counted found.count)) (mounted_in filesystem rest)))
-    ≤ mounts_of (cond (nat_eq other (counted one.count)) (Some one) (find (λ found. nat_eq other (counted found.count)) rest)) + 1) (sym (mounted_count filesystem one))
+    subst (λ count. mounts_of (cond (nat_eq other (counted count)) (Some (mounted_if filesystem one))
+    (find (λ found. nat_eq other (counted found.count)) (mounted_in filesystem rest)))
+    ≤ mounts_of (cond (nat_eq other (counted one.count)) (Some one)
+    (find (λ found. nat_eq other (counted found.count)) rest)) + 1) (sym (mounted_count filesystem one))
     (by (nat_eq other (counted one.count)) (mounted_mounts filesystem other rest))
   where
     mounts_of : Option Shown → ℕ
     mounts_of o = unwrap_or (option_map (λ (found : Shown). found.mounts) o) 0
 
     by : (b : Bool) → mounts_shown other (mounted_in filesystem rest) ≤ mounts_shown other rest + 1
-        → mounts_of (cond b (Some (mounted_if filesystem one)) (find (λ found. nat_eq other (counted found.count)) (mounted_in filesystem rest)))
+        → mounts_of (cond b (Some (mounted_if filesystem one))
+        (find (λ found. nat_eq other (counted found.count)) (mounted_in filesystem rest)))
         ≤ mounts_of (cond b (Some one) (find (λ found. nat_eq other (counted found.count)) rest)) + 1
     by true later = mounted_more filesystem one
     by false later = later
 
 -- two uses of an inode at the most, and one mount of a filesystem
-uses_at : (point : Option Location) (other : Inode) (all : List Shown) → uses_shown other (pinned_at point all) ≤ uses_shown other all + 1
+uses_at : (point : Option Location) (other : Inode) (all : List Shown)
+    → uses_shown other (pinned_at point all) ≤ uses_shown other all + 1
 uses_at None other all = omega arith
 uses_at (Some point) other all = pinned_uses (inode_of point.node) other all
 
-pub mounts_at : (point : Option Location) (other : ℕ) (all : List Shown) → mounts_shown other (pinned_at point all) ≡ mounts_shown other all
+pub mounts_at : (point : Option Location) (other : ℕ) (all : List Shown)
+    → mounts_shown other (pinned_at point all) ≡ mounts_shown other all
 mounts_at None other all = refl
 mounts_at (Some point) other all = pinned_mounts (inode_of point.node) other all
 
-uses_by : (mount : Mount) (other : Inode) (all : List Shown) → uses_shown other (shown_by all mount) ≤ uses_shown other all + 2
+uses_by : (mount : Mount) (other : Inode) (all : List Shown)
+    → uses_shown other (shown_by all mount) ≤ uses_shown other all + 2
 uses_by mount other all =
-    let mounted = mounted_uses (counted mount.root.filesystem.count) other (pinned_at mount.mount_point (pinned_in (inode_of mount.root) all)) in
+    let mounted = mounted_uses (counted mount.root.filesystem.count) other
+    (pinned_at mount.mount_point (pinned_in (inode_of mount.root) all)) in
     let point = uses_at mount.mount_point other (pinned_in (inode_of mount.root) all) in
     let root = pinned_uses (inode_of mount.root) other all in
     omega (arith, mounted, point, root)
 
-mounts_by : (mount : Mount) (other : ℕ) (all : List Shown) → mounts_shown other (shown_by all mount) ≤ mounts_shown other all + 1
+mounts_by : (mount : Mount) (other : ℕ) (all : List Shown)
+    → mounts_shown other (shown_by all mount) ≤ mounts_shown other all + 1
 mounts_by mount other all =
-    let mounted = mounted_mounts (counted mount.root.filesystem.count) other (pinned_at mount.mount_point (pinned_in (inode_of mount.root) all)) in
+    let mounted = mounted_mounts (counted mount.root.filesystem.count) other
+    (pinned_at mount.mount_point (pinned_in (inode_of mount.root) all)) in
     let point = mounts_at mount.mount_point other (pinned_in (inode_of mount.root) all) in
     let root = pinned_mounts (inode_of mount.root) other all in
     omega (arith, mounted, point, root)
 
-pub uses_by_all : (new : List Mount) (other : Inode) (all : List Shown) → uses_shown other (folded shown_by all new) ≤ uses_shown other all + 2 * length new
+pub uses_by_all : (new : List Mount) (other : Inode) (all : List Shown)
+    → uses_shown other (folded shown_by all new) ≤ uses_shown other all + 2 * length new
 uses_by_all [] other all = omega arith
 uses_by_all (mount ∷ new) other all =
     let rest = uses_by_all new other (shown_by all mount) in
     let first = uses_by mount other all in
     omega (arith, rest, first)
 
-pub mounts_by_all : (new : List Mount) (other : ℕ) (all : List Shown) → mounts_shown other (folded shown_by all new) ≤ mounts_shown other all + length new
+pub mounts_by_all : (new : List Mount) (other : ℕ) (all : List Shown)
+    → mounts_shown other (folded shown_by all new) ≤ mounts_shown other all + length new
 mounts_by_all [] other all = omega arith
 mounts_by_all (mount ∷ new) other all =
     let rest = mounts_by_all new other (shown_by all mount) in
@@ -173,48 +203,60 @@ mounts_by_all (mount ∷ new) other all =
     omega (arith, rest, first)
 
 -- Where there is room for all before the first, there is room for each when its turn comes.
-module _ (before : List Mount) (size : ℕ) (all : List Shown) (few : length before < size) (fits : 2 * size ≤ most_counted) where
+module _ (before : List Mount) (size : ℕ) (all : List Shown) (few : length before < size)
+    (fits : 2 * size ≤ most_counted) where
   point_later : (point : Option Location) → point_has_room (most_counted - 2 * size) all point ≡ true
       → point_has_room (most_counted - 2) (folded shown_by all before) point ≡ true
   point_later None room = refl
   point_later (Some point) room =
       let was = leb-true (uses_shown (inode_of point.node) all) (most_counted - 2 * size) room in
       let more = uses_by_all before (inode_of point.node) all in
-      le-leb (uses_shown (inode_of point.node) (folded shown_by all before)) (most_counted - 2) (omega (arith, was, more, few, fits))
+      le-leb (uses_shown (inode_of point.node) (folded shown_by all before)) (most_counted - 2)
+      (omega (arith, was, more, few, fits))
 
   pub room_later : (mount : Mount) → has_room (most_counted - 2 * size) all mount ≡ true
       → has_room (most_counted - 2) (folded shown_by all before) mount ≡ true
   room_later mount room =
-      let first = and_parts (nat_le (uses_shown (inode_of mount.root) all) (most_counted - 2 * size) && point_has_room (most_counted - 2 * size) all mount.mount_point) _ room in
+      let first = and_parts (nat_le (uses_shown (inode_of mount.root) all) (most_counted - 2 * size)
+      && point_has_room (most_counted - 2 * size) all mount.mount_point) _ room in
       let second = and_parts (nat_le (uses_shown (inode_of mount.root) all) (most_counted - 2 * size)) _ first.0 in
       let root = leb-true (uses_shown (inode_of mount.root) all) (most_counted - 2 * size) second.0 in
       let root_more = uses_by_all before (inode_of mount.root) all in
-      let mounts = leb-true (mounts_shown (counted mount.root.filesystem.count) all) (most_counted - 2 * size) first.1 in
+      let mounts = leb-true (mounts_shown (counted mount.root.filesystem.count) all)
+      (most_counted - 2 * size) first.1 in
       let mounts_more = mounts_by_all before (counted mount.root.filesystem.count) all in
-      λ i. le-leb (uses_shown (inode_of mount.root) (folded shown_by all before)) (most_counted - 2) (omega (arith, root, root_more, few, fits)) i
+      λ i. le-leb (uses_shown (inode_of mount.root) (folded shown_by all before)) (most_counted - 2)
+      (omega (arith, root, root_more, few, fits)) i
       && point_later mount.mount_point second.1 i
-      && le-leb (mounts_shown (counted mount.root.filesystem.count) (folded shown_by all before)) (most_counted - 2) (omega (arith, mounts, mounts_more, few, fits)) i
+      && le-leb (mounts_shown (counted mount.root.filesystem.count) (folded shown_by all before)) (most_counted - 2)
+      (omega (arith, mounts, mounts_more, few, fits)) i
 
-pub room_at : (new : List Mount) (all now : List Shown) (i : ℕ) (d : Mount) → i < length new → 2 * length new ≤ most_counted
+pub room_at : (new : List Mount) (all now : List Shown) (i : ℕ) (d : Mount) → i < length new
+    → 2 * length new ≤ most_counted
     → list_all (has_room (most_counted - 2 * length new) all) new ≡ true → now ≡ folded shown_by all (take i new)
     → has_room (most_counted - 2) now (get_or new i d) ≡ true
 room_at new all now i d less fits room so_far =
     subst (λ later. has_room (most_counted - 2) later (get_or new i d) ≡ true) (sym so_far)
-    (room_later (take i new) (length new) all (let size = length-take-le i new (omega (arith, less)) in omega (arith, size, less)) fits (get_or new i d)
+    (room_later (take i new) (length new) all
+    (let size = length-take-le i new (omega (arith, less)) in omega (arith, size, less)) fits (get_or new i d)
     (passes (has_room (most_counted - 2 * length new) all) new room (get_or new i d) (among_at new i d less)))
 
 -- one more at the end
-pub folded_more : {A B : Type 0} (add : B → A → B) (front : List A) (last : A) (b : B) → folded add b (front ++ last ∷ []) ≡ add (folded add b front) last
+pub folded_more : {A B : Type 0} (add : B → A → B) (front : List A) (last : A) (b : B)
+    → folded add b (front ++ last ∷ []) ≡ add (folded add b front) last
 folded_more add [] last b = refl
 folded_more add (first ∷ front) last b = folded_more add front last (add b first)
 
 -- What code counts
 
 pub holds : (count : ℕ) (old : Filesystems)
-    → shown (with_changed count (λ entry. record entry { mounts = entry.mounts + 1 }) old) ≡ mounted_in (counted count) (shown old)
+    → shown (with_changed count (λ entry. record entry { mounts = entry.mounts + 1 }) old)
+    ≡ mounted_in (counted count) (shown old)
 holds count [] = refl
 holds count (entry ∷ rest) =
-    λ i. (by (nat_eq count entry.count) ∙ ap (λ b. cond b (record (shown_entry entry) { mounts = entry.mounts + 1 }) (shown_entry entry)) (sym (counted_eq count entry.count))) i
+    λ i. (by (nat_eq count entry.count)
+    ∙ ap (λ b. cond b (record (shown_entry entry) { mounts = entry.mounts + 1 }) (shown_entry entry))
+    (sym (counted_eq count entry.count))) i
     ∷ holds count rest i
   where
     by : (b : Bool) → shown_entry (cond b (record entry { mounts = entry.mounts + 1 }) entry)
@@ -223,23 +265,28 @@ holds count (entry ∷ rest) =
     by false = refl
 
 -- what is refused memory alone, and that only at the most, is not refused below
-pub not_refused : (result : Result ⊤ Deny) (P Q : Type 0) → (IsErrOf result (denial S5) → Q) → IfErr result (λ deny. deny ≡ denial S5)
+pub not_refused : (result : Result ⊤ Deny) (P Q : Type 0) → (IsErrOf result (denial S5) → Q)
+    → IfErr result (λ deny. deny ≡ denial S5)
     → OnOk result P → (Q → ⊥) → P
 not_refused (Ok value) P Q limit memory ok less = ok
 not_refused (Err deny) P Q limit memory ok less = absurd (less (limit (ap Err memory)))
 
 -- the parts of room
-pub root_has_room : (most : ℕ) (filesystems : Filesystems) (mount : Mount) → has_room most (shown filesystems) mount ≡ true
+pub root_has_room : (most : ℕ) (filesystems : Filesystems) (mount : Mount)
+    → has_room most (shown filesystems) mount ≡ true
     → uses_in ((inodes_at filesystems mount.root.filesystem.count).inode (number_of mount.root)) ≤ most
 root_has_room most filesystems mount room =
-    let first = and_parts (nat_le (uses_shown (inode_of mount.root) (shown filesystems)) most && point_has_room most (shown filesystems) mount.mount_point) _ room in
+    let first = and_parts (nat_le (uses_shown (inode_of mount.root) (shown filesystems)) most
+    && point_has_room most (shown filesystems) mount.mount_point) _ room in
     let second = and_parts (nat_le (uses_shown (inode_of mount.root) (shown filesystems)) most) _ first.0 in
-    subst (λ n. n ≤ most) (sym (uses_are_shown mount.root.filesystem.count (number_of mount.root) filesystems)) (leb-true _ most second.0)
+    subst (λ n. n ≤ most) (sym (uses_are_shown mount.root.filesystem.count (number_of mount.root) filesystems))
+    (leb-true _ most second.0)
 
 pub filesystem_has_room : (most : ℕ) (all : List Shown) (mount : Mount) → has_room most all mount ≡ true
     → mounts_shown (counted mount.root.filesystem.count) all ≤ most
 filesystem_has_room most all mount room =
-    leb-true _ most (and_parts (nat_le (uses_shown (inode_of mount.root) all) most && point_has_room most all mount.mount_point) _ room).1
+    leb-true _ most (and_parts (nat_le (uses_shown (inode_of mount.root) all) most
+    && point_has_room most all mount.mount_point) _ room).1
 
 -- one use more leaves room for one less
 pub point_room_left : (all : List Shown) (mount : Mount) → has_room (most_counted - 2) all mount ≡ true
@@ -247,11 +294,14 @@ pub point_room_left : (all : List Shown) (mount : Mount) → has_room (most_coun
 point_room_left all mount room =
     by mount.mount_point
     (and_parts (nat_le (uses_shown (inode_of mount.root) all) (most_counted - 2)) _
-    (and_parts (nat_le (uses_shown (inode_of mount.root) all) (most_counted - 2) && point_has_room (most_counted - 2) all mount.mount_point) _ room).0).1
+    (and_parts (nat_le (uses_shown (inode_of mount.root) all) (most_counted - 2)
+    && point_has_room (most_counted - 2) all mount.mount_point) _ room).0).1
   where
-    by : (o : Option Location) → point_has_room (most_counted - 2) all o ≡ true → point_has_room (most_counted - 1) (pinned_in (inode_of mount.root) all) o ≡ true
+    by : (o : Option Location) → point_has_room (most_counted - 2) all o ≡ true
+        → point_has_room (most_counted - 1) (pinned_in (inode_of mount.root) all) o ≡ true
     by None e = refl
     by (Some point) e =
         let was = leb-true (uses_shown (inode_of point.node) all) (most_counted - 2) e in
         let more = pinned_uses (inode_of mount.root) (inode_of point.node) all in
-        le-leb (uses_shown (inode_of point.node) (pinned_in (inode_of mount.root) all)) (most_counted - 1) (omega (arith, was, more))
+        le-leb (uses_shown (inode_of point.node) (pinned_in (inode_of mount.root) all)) (most_counted - 1)
+        (omega (arith, was, more))

@@ -1,4 +1,5 @@
--- The end of an event that takes numbers: mount(2), unshare(2). What is counted next grows by as many counts as it takes.
+-- The end of an event that takes numbers: mount(2), unshare(2). What is counted next grows by as many counts as it
+-- takes.
 use Rattle.std.proofs.Common.{◌≡◌, ℕ, ◌+◌, ◌%◌, nat_eq, length, ◌*◌, Some}
 use Rattle.vt_spec.specs.Language.Calls.{TaskName}
 use Rattle.vt_spec.specs.Machine.Permits.{Permit}
@@ -37,7 +38,8 @@ module _ (value : WorldValue) (whole : IsHeld value) (name : TaskName) (permit :
   -- what is left is a world
   pub left_is_world : IsWorld nat_eq (left_by value task permit) × IsPlain (left_by value task permit)
   left_is_world =
-      given_permits_leave_worlds (world_of value) (supply_of value permit) task permit whole.in_world (world_is_plain value) takes.given
+      given_permits_leave_worlds (world_of value) (supply_of value permit) task permit whole.in_world
+      (world_is_plain value) takes.given
 
   -- what is left keeps to the counts before the next one, whatever numbers were taken
   pub numbers_are_kept : (new : WorldValue) → ShowsAs (left_by value task permit) new → CountsBeside new
@@ -45,13 +47,14 @@ module _ (value : WorldValue) (whole : IsHeld value) (name : TaskName) (permit :
       → KeepsTo (is_counted_before new.next) (left_by value task permit) → IsDone value name permit new
   numbers_are_kept new shows counts own keeps =
       let same = shown_is_same (left_by value task permit) new shows left_is_world.0 in
-      let world = same_worlds_are_worlds (left_by value task permit) (world_of new) same left_is_world.1 left_is_world.0 in
+      let world = same_worlds_are_worlds (left_by value task permit)
+      (world_of new) same left_is_world.1 left_is_world.0 in
       record {
         held = record {
           in_world = world.0;
           groups = shown_has (left_by value task permit) new shows left_is_world.0;
-          ungrouped = counts.ungrouped;
-          given = same_worlds_keep_to_numbers (is_counted_before new.next) (left_by value task permit) (world_of new) same left_is_world.1 keeps;
+          given = same_worlds_keep_to_numbers (is_counted_before new.next) (left_by value task permit)
+              (world_of new) same left_is_world.1 keeps;
           mounts = counts.uses;
           filesystems = all_from_among (CountsItsMounts (world_of new)) new.filesystems (λ entry m. record {
             mounts = counts.mounts entry m;
@@ -64,7 +67,9 @@ module _ (value : WorldValue) (whole : IsHeld value) (name : TaskName) (permit :
       }
 
 -- a new namespace takes two numbers for each mount of the one that is left
-pub left_keeps : (value : WorldValue) → IsHeld value → (name : TaskName) (task : Task ℕ) → TakesNumbers value name ToUnshare task
-    → KeepsTo (is_counted_before (value.next + 2 * length (mounts_of nat_eq (world_of value) task.namespace))) (left_by value task ToUnshare)
+pub left_keeps : (value : WorldValue) → IsHeld value → (name : TaskName) (task : Task ℕ)
+    → TakesNumbers value name ToUnshare task
+    → KeepsTo (is_counted_before (value.next + 2 * length (mounts_of nat_eq (world_of value) task.namespace)))
+    (left_by value task ToUnshare)
 left_keeps value whole name task takes =
     unshares_keep_to_numbers value.next (world_of value) task whole.in_world takes.given.called whole.given

@@ -6,8 +6,8 @@ use Rattle.vt_spec.specs.Language.Calls.{TaskName}
 use Rattle.vt_spec.specs.Machine.Permits.Permit.{ToUnshare}
 use Rattle.vt_spec.specs.Machine.World.{Task}
 use Rattle.vt_fs.specs.FilesystemsValue.{Filesystems}
+use Rattle.vt_group.specs.Grouping.{Grouping}
 use Rattle.vt_location.specs.declared.locations.Location.{Location}
-use Rattle.vt_location.specs.declared.mounts.Mount.{Mount}
 use Rattle.vt_location.specs.Locations.{location_of}
 use Rattle.vt_location.specs.MountValue.{mount_of}
 use Rattle.vt_location.specs.Numbers.{counted}
@@ -16,30 +16,33 @@ use Rattle.vt_run_laws.specs.Handed.{counts_from}
 use Rattle.vt_tasks.specs.declared.task.Task.{Task as Own}
 use Rattle.vt_tasks.specs.TaskValue.{task_of}
 use Rattle.vt_tasks.specs.TasksValue.{called, changed_by, changed_called, replaced}
-use Rattle.vt_attach.specs.Copying.{attached_in, copies_of, moved_in, with_use_moved}
+use Rattle.vt_attach.specs.Copying.{CopiesAttached, attached_in, copies_of, moved_in, with_use_moved}
 use Rattle.vt_detach.specs.Events.{Permits}
 use Rattle.vt_detach.specs.Held.{IsHeld}
 use Rattle.vt_detach.specs.NamespacesLeft.{MountsAreLeft, namespace_entry, with_one_task_less}
-use Rattle.vt_attach.specs.Room.{has_small_slots}
-use Rattle.vt_detach.specs.Uses.{kept, with_attached}
+use Rattle.vt_detach.specs.Uses.{kept}
 use Rattle.vt_detach.specs.WorldValue.{NamespaceEntry, WorldValue}
 use Rattle.vt_detach.proofs.Staying.{IsDone}
 use Rattle.vt_attach.proofs.UnsharedDone as Done
 use Rattle.vt_attach.proofs.UnsharedInodes.{copies_gain, copies_there}
 use Rattle.vt_attach.proofs.UnsharedWorlds.{new_is}
 
--- the mounts and filesystems with the copies, with the root and the working directory on them, and without the old namespace
-pub record IsUnshared (value : WorldValue) (name : TaskName) (own : Own) (copies : List Mount) (root directory : Location)
-    (mounts : List MountEntry) (filesystems : Filesystems) (moved : List MountEntry) (namespaces : List NamespaceEntry) (new : WorldValue) : Type 0 where
-  pub copied : map mount_of copies ≡ copies_of value.next (attached_in (counted own.namespace.count) value.mounts)
-  pub slots : list_all has_small_slots copies ≡ true
-  pub attached : kept mounts filesystems ≡ with_attached copies (kept value.mounts value.filesystems)
-  pub root_is : location_of root ≡ moved_in value.next (attached_in (counted own.namespace.count) value.mounts) (location_of own.root)
-  pub directory_is : location_of directory ≡ moved_in value.next (attached_in (counted own.namespace.count) value.mounts) (location_of own.directory)
+-- the mounts and filesystems with the copies, with the root and the working directory on them, and without the old
+-- namespace
+pub record IsUnshared (value : WorldValue) (name : TaskName) (own : Own) (root directory : Location)
+    (mounts : List MountEntry) (grown : Grouping) (filesystems : Filesystems) (moved : List MountEntry)
+    (namespaces : List NamespaceEntry) (new : WorldValue) : Type 0 where
+  pub made : CopiesAttached value.next (counted own.namespace.count) (kept value.mounts value.filesystems) value.groups
+      (kept mounts filesystems) grown
+  pub root_is : location_of root
+      ≡ moved_in value.next (attached_in (counted own.namespace.count) value.mounts) (location_of own.root)
+  pub directory_is : location_of directory
+      ≡ moved_in value.next (attached_in (counted own.namespace.count) value.mounts) (location_of own.directory)
   pub uses : moved ≡ with_use_moved (counted own.directory.mount.count) (counted directory.mount.count)
       (with_use_moved (counted own.root.mount.count) (counted root.mount.count) mounts)
   pub entered : namespaces ≡ value.namespaces ++ (record { count = value.next; tasks = 1 } ∷ [])
-  pub left : MountsAreLeft (counted own.namespace.count) (namespace_entry own.namespace.count namespaces) (kept moved filesystems) value.groups
+  pub left : MountsAreLeft (counted own.namespace.count) (namespace_entry own.namespace.count namespaces)
+      (kept moved filesystems) grown
       (kept new.mounts new.filesystems) new.groups
   pub namespaces_left : new.namespaces ≡ with_one_task_less own.namespace.count namespaces
   pub tasks : new.tasks ≡ changed_called name
@@ -47,18 +50,25 @@ pub record IsUnshared (value : WorldValue) (name : TaskName) (own : Own) (copies
   pub before : list_all (λ mount. nat_lt mount.number (counted value.next)) (mounts_in value.mounts) ≡ true
   pub next : new.next ≡ value.next + 2 * length (attached_in (counted own.namespace.count) value.mounts)
 
-pub task_is_unshared : (value : WorldValue) → IsHeld value → (name : TaskName) → Permits value name ToUnshare → (own : Own)
-    → Some (task_of own) ≡ called name value.tasks → (copies : List Mount) (root directory : Location)
-    → (mounts : List MountEntry) (filesystems : Filesystems) (moved : List MountEntry) (namespaces : List NamespaceEntry) (new : WorldValue)
-    → IsUnshared value name own copies root directory mounts filesystems moved namespaces new
+pub task_is_unshared : (value : WorldValue) → IsHeld value → (name : TaskName) → Permits value name ToUnshare
+    → (own : Own)
+    → Some (task_of own) ≡ called name value.tasks → (root directory : Location)
+    → (mounts : List MountEntry) (grown : Grouping) (filesystems : Filesystems) (moved : List MountEntry)
+    (namespaces : List NamespaceEntry) (new : WorldValue)
+    → IsUnshared value name own root directory mounts grown filesystems moved namespaces new
     → IsDone value name ToUnshare new
-task_is_unshared value whole name permits own is copies root directory mounts filesystems moved namespaces new facts =
-    Done.unshared_done value whole name permits own.namespace.count in_namespace copies copied_so mounts filesystems facts.attached
-    (copies_gain value whole name permits.task permits.called (counts_from value.next) permits.given.serves copies same_copies facts.slots)
-    (copies_there value whole name permits.task permits.called (counts_from value.next) permits.given.serves copies same_copies facts.slots)
-    new
-    (subst (λ all. MountsAreLeft (counted own.namespace.count) (namespace_entry own.namespace.count all) (kept moved_entries filesystems) value.groups (kept new.mounts new.filesystems) new.groups) facts.entered
-    (subst (λ all. MountsAreLeft (counted own.namespace.count) (namespace_entry own.namespace.count namespaces) (kept all filesystems) value.groups (kept new.mounts new.filesystems) new.groups) uses_are facts.left))
+task_is_unshared value whole name permits own is root directory mounts grown filesystems moved namespaces new facts =
+    Done.unshared_done value whole name permits own.namespace.count in_namespace facts.made.added copied_so mounts
+    filesystems facts.made.attached
+    (copies_gain value whole name permits.task permits.called
+    (counts_from value.next) permits.given.serves facts.made.added same_copies facts.made.slots)
+    (copies_there value whole name permits.task permits.called
+    (counts_from value.next) permits.given.serves facts.made.added same_copies facts.made.slots)
+    grown facts.made.grows new
+    (subst (λ all. MountsAreLeft (counted own.namespace.count) (namespace_entry own.namespace.count all)
+    (kept moved_entries filesystems) grown (kept new.mounts new.filesystems) new.groups) facts.entered
+    (subst (λ all. MountsAreLeft (counted own.namespace.count) (namespace_entry own.namespace.count namespaces)
+    (kept all filesystems) grown (kept new.mounts new.filesystems) new.groups) uses_are facts.left))
     (facts.namespaces_left ∙ ap (with_one_task_less own.namespace.count) facts.entered)
     tasks_are
     (facts.next ∙ ap (λ n. value.next + 2 * length (attached_in n value.mounts)) in_namespace)
@@ -70,31 +80,38 @@ task_is_unshared value whole name permits own is copies root directory mounts fi
     in_namespace : counted own.namespace.count ≡ permits.task.namespace
     in_namespace = ap (λ (task : Task ℕ). task.namespace) own_is
 
-    copied_so : map mount_of copies ≡ copies_of value.next (attached_in permits.task.namespace value.mounts)
-    copied_so = facts.copied ∙ ap (λ n. copies_of value.next (attached_in n value.mounts)) in_namespace
+    copied_so : map mount_of facts.made.added ≡ copies_of value.next (attached_in permits.task.namespace value.mounts)
+    copied_so = facts.made.copied ∙ ap (λ n. copies_of value.next (attached_in n value.mounts)) in_namespace
 
-    same_copies : map mount_of copies ≡ Rattle.vt_attach.proofs.UnsharedWorlds.copies value whole name permits.task permits.called permits.given.serves own.namespace.count in_namespace
-    same_copies = Done.same_copies value whole name permits own.namespace.count in_namespace copies copied_so mounts filesystems facts.attached
+    same_copies : map mount_of facts.made.added
+        ≡ Rattle.vt_attach.proofs.UnsharedWorlds.copies value whole name permits.task permits.called
+        permits.given.serves own.namespace.count in_namespace
+    same_copies = Done.same_copies value whole name permits own.namespace.count in_namespace facts.made.added copied_so
+        mounts filesystems facts.made.attached
 
     moved_task : Task ℕ
-    moved_task = Done.moved_task value whole name permits own.namespace.count in_namespace copies copied_so mounts filesystems facts.attached
+    moved_task = Done.moved_task value whole name permits own.namespace.count in_namespace facts.made.added copied_so
+        mounts filesystems facts.made.attached
 
     moved_entries : List MountEntry
-    moved_entries = Done.moved_entries value whole name permits own.namespace.count in_namespace copies copied_so mounts filesystems facts.attached
+    moved_entries = Done.moved_entries value whole name permits own.namespace.count in_namespace facts.made.added
+        copied_so mounts filesystems facts.made.attached
 
     root_goes : location_of root ≡ moved_task.root
     root_goes = facts.root_is ∙ (λ i. moved_in value.next (attached_in (in_namespace i) value.mounts) (own_is i).root)
 
     directory_goes : location_of directory ≡ moved_task.directory
-    directory_goes = facts.directory_is ∙ (λ i. moved_in value.next (attached_in (in_namespace i) value.mounts) (own_is i).directory)
+    directory_goes = facts.directory_is
+        ∙ (λ i. moved_in value.next (attached_in (in_namespace i) value.mounts) (own_is i).directory)
 
     uses_are : moved ≡ moved_entries
     uses_are =
         facts.uses
         ∙ (λ i. with_use_moved (own_is i).directory.mount (directory_goes i).mount
-        (with_use_moved (own_is i).root.mount (root_goes i).mount (ap (λ k. k.mounts) facts.attached i)))
+        (with_use_moved (own_is i).root.mount (root_goes i).mount (ap (λ k. k.mounts) facts.made.attached i)))
 
-    tasks_are : new.tasks ≡ Done.tasks value whole name permits own.namespace.count in_namespace copies copied_so mounts filesystems facts.attached
+    tasks_are : new.tasks ≡ Done.tasks value whole name permits own.namespace.count in_namespace facts.made.added
+        copied_so mounts filesystems facts.made.attached
     tasks_are =
         facts.tasks
         ∙ ap (changed_by (λ task. record task { namespace = counted value.next; root = location_of root; directory = location_of directory }) value.tasks) permits.called

@@ -30,7 +30,8 @@ is_there : {A : Type 0} (o : Option A) (default : A) → is_some o ≡ true → 
 is_there None default some = absurd (true≢false (sym some))
 is_there (Some a) default some = refl
 
-module _ (value : WorldValue) (whole : IsHeld value) (source : Place) (recursive : Bool) (small : source.node.slot < 18446744073709551616)
+module _ (value : WorldValue) (whole : IsHeld value) (source : Place) (recursive : Bool)
+    (small : source.node.slot < 18446744073709551616)
     (there : is_located_well nat_eq (world_of value) (location_of source) ≡ true) where
   abbrev world : World ℕ
   world = world_of value
@@ -48,7 +49,8 @@ module _ (value : WorldValue) (whole : IsHeld value) (source : Place) (recursive
   rest_of_tree false = ([], refl)
   rest_of_tree true = (
     flat_map (bindable_tree nat_eq (length world.mounts) world.mounts)
-        (filter (stands_under nat_eq world (location_of source)) (bindable_children nat_eq world.mounts (counted source.mount.count))),
+        (filter (stands_under nat_eq world (location_of source))
+        (bindable_children nat_eq world.mounts (counted source.mount.count))),
     refl,
   )
 
@@ -59,7 +61,8 @@ module _ (value : WorldValue) (whole : IsHeld value) (source : Place) (recursive
   tree_is = (rest_of_tree recursive).1
 
   each_once : EachOnce tree_now
-  each_once = binds_take_each_once world (location_of source) recursive whole.in_world.mounts.one_number whole.in_world.mounts.standing
+  each_once = binds_take_each_once world
+      (location_of source) recursive whole.in_world.mounts.one_number whole.in_world.mounts.standing
 
   top_number : top.number ≡ counted source.mount.count
   top_number = number_found mounts_now (counted source.mount.count)
@@ -70,7 +73,8 @@ module _ (value : WorldValue) (whole : IsHeld value) (source : Place) (recursive
   in_world : (mount : Mount ℕ) → Among mount rest → Among mount mounts_now
   in_world mount m =
       ⊎_elim
-      (λ same. absurd (true≢false (sym (eq-eqb mount.number top.number (ap (λ (x : Mount ℕ). x.number) same)) ∙ other mount m)))
+      (λ same. absurd (true≢false (sym (eq-eqb mount.number top.number (ap (λ (x : Mount ℕ). x.number) same))
+      ∙ other mount m)))
       (λ later. later)
       (bind_there_or_source world (location_of source) recursive mount (subst (Among mount) (sym tree_is) (inr m)))
 
@@ -80,12 +84,14 @@ module _ (value : WorldValue) (whole : IsHeld value) (source : Place) (recursive
   source_found : find (λ (mount : Mount ℕ). nat_eq (counted source.mount.count) mount.number) mounts_now
       ≡ Some (mount_at nat_eq world (location_of source))
   source_found =
-      is_there (find (λ (mount : Mount ℕ). nat_eq (counted source.mount.count) mount.number) mounts_now) (no_mount (counted source.mount.count))
+      is_there (find (λ (mount : Mount ℕ). nat_eq (counted source.mount.count) mount.number) mounts_now)
+      (no_mount (counted source.mount.count))
       (found_some (counted source.mount.count) mounts_now (and_parts _ _ there).0)
 
   top_rooted : rooted_at source (mount_at nat_eq world (location_of source)) ≡ top
   top_rooted =
-      ap (λ b. cond b (record (mount_at nat_eq world (location_of source)) { filesystem = counted source.node.filesystem.count; root = number_of source.node })
+      ap (λ b. cond b (record (mount_at nat_eq world
+      (location_of source)) { filesystem = counted source.node.filesystem.count; root = number_of source.node })
       (mount_at nat_eq world (location_of source))) (eq-eqb top.number (counted source.mount.count) top_number)
       ∙ (λ i. record top { filesystem = sym (source_seen.shows ∙ ap counted source_seen.count_is) i })
 
@@ -94,18 +100,21 @@ module _ (value : WorldValue) (whole : IsHeld value) (source : Place) (recursive
       ap (λ b. cond b (record mount { filesystem = counted source.node.filesystem.count; root = number_of source.node }) mount)
       (ap (nat_eq mount.number) (sym top_number) ∙ other mount m)
 
-  all_rooted : (some : List (Mount ℕ)) → ((mount : Mount ℕ) → Among mount some → rooted_at source mount ≡ mount) → map (rooted_at source) some ≡ some
+  all_rooted : (some : List (Mount ℕ)) → ((mount : Mount ℕ) → Among mount some → rooted_at source mount ≡ mount)
+      → map (rooted_at source) some ≡ some
   all_rooted [] are = refl
   all_rooted (mount ∷ some) are = λ i. are mount (inl refl) i ∷ all_rooted some (λ x m. are x (inr m)) i
 
-  pub tree_bound : are_ascending mounts_now ≡ true → (origins : List MountId) → AreOf origins tree_now → bound_mounts source mounts_now origins ≡ tree_now
+  pub tree_bound : are_ascending mounts_now ≡ true → (origins : List MountId) → AreOf origins tree_now
+      → bound_mounts source mounts_now origins ≡ tree_now
   tree_bound ascending origins are = by origins (subst (AreOf origins) tree_is are) ∙ sym tree_is
     where
       by : (ids : List MountId) → AreOf ids (top ∷ rest) → bound_mounts source mounts_now ids ≡ top ∷ rest
       by [] are = absurd cc
       by (id ∷ ids) are =
           let here : counted id.count ≡ top.number = cc in
-          let later : map (λ (id : MountId). counted id.count) ids ≡ map (λ (mount : Mount ℕ). mount.number) rest = cc in
+          let later : map (λ (id : MountId). counted id.count) ids
+          ≡ map (λ (mount : Mount ℕ). mount.number) rest = cc in
           ap (λ o. cons_option (option_map (rooted_at source) o) (bound_mounts source mounts_now ids))
           (ap (λ number. find (λ (x : Mount ℕ). nat_eq number x.number) mounts_now) (here ∙ top_number) ∙ source_found)
           ∙ (λ i. top_rooted i ∷ (picked (rooted_at source) mounts_now rest ids later

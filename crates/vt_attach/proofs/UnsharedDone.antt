@@ -1,5 +1,5 @@
 -- The end of an unshare, where the inodes that the copies use are found: unshare(2) with CLONE_NEWNS.
-use Rattle.std.proofs.Common.{◌≡◌, refl, sym, ap, subst, ◌∙◌, ℕ, ◌+◌, ◌*◌, nat_eq, Bool, true, false, List, [], ◌∷◌, ◌++◌, length, map, Option, Some}
+use Rattle.std.proofs.Common.{◌≡◌, refl, sym, ap, subst, ◌∙◌, ℕ, ◌+◌, ◌*◌, nat_eq, ◌&&◌, Bool, true, false, List, [], ◌∷◌, ◌++◌, filter, length, map, Option, Some}
 use Rattle.std.specs.Prelude.{All, nat_lt}
 use Rattle.std.specs.List.{list_all}
 use Rattle.vt_spec.specs.Lists.{holds_of}
@@ -9,29 +9,29 @@ use Rattle.vt_spec.specs.Machine.Namespaces.{copied_mount}
 use Rattle.vt_spec.specs.Machine.Permits.Permit.{ToUnshare}
 use Rattle.vt_spec.specs.Machine.SameWorlds.{SameWorlds}
 use Rattle.vt_spec.specs.Machine.Settled.{settled}
-use Rattle.vt_spec.specs.Machine.World.{Task, World, mounts_of}
-use Rattle.vt_spec.specs.Machine.Invariants.{IsWorld}
+use Rattle.vt_spec.specs.Machine.World.{Namespace, Task, World, mount_at, mounts_of}
+use Rattle.vt_spec.specs.Machine.Invariants.{IsWorld, MountInvariants}
 use Rattle.vt_count_laws.specs.Counted.{IsPlain}
 use Rattle.vt_count_laws.specs.Using.{AreThere, places_of}
 use Rattle.vt_fs.specs.FilesystemsValue.{FilesystemEntry, Filesystems, inodes_seen, shown}
-use Rattle.vt_group.specs.Grouping.{Has, are_rising, numbers_of}
+use Rattle.vt_group.specs.Grouping.{Grouping, Has, are_rising, numbers_of}
+use Rattle.vt_group.specs.Together.{GrowsTo, typed}
 use Rattle.vt_laws.specs.Numbers.{KeepsTo}
 use Rattle.vt_letting_go.specs.Counts.{times}
 use Rattle.vt_letting_go.specs.Mounting.{inode_at}
 use Rattle.vt_letting_go.specs.OneByOne.{Inode}
-use Rattle.vt_letting_go.proofs.Lists.{Among, all_from_among, among_from_all}
+use Rattle.vt_letting_go.proofs.Lists.{Among}
 use Rattle.vt_location.specs.declared.mounts.Mount.{Mount as Attached}
 use Rattle.vt_location.specs.MountValue.{mount_of}
 use Rattle.vt_location.specs.Numbers.{counted}
 use Rattle.vt_mount.specs.MountsValue.{MountEntry, are_ascending, mounts_in}
-use Rattle.vt_permit_laws.proofs.SameInUse.{same_worlds_are_worlds}
 use Rattle.vt_permit_laws.proofs.SameNumbers.{same_worlds_keep_to_numbers}
 use Rattle.vt_run_laws.specs.Handed.{counts_from, is_counted_before}
 use Rattle.vt_tasks.specs.TasksValue.{Tasks}
 use Rattle.vt_attach.specs.Copying.{attached_in, copies_of}
 use Rattle.vt_detach.specs.Events.{Permits, left_by}
-use Rattle.vt_detach.specs.Held.{CountsItsMounts, CountsWhatIsInIt, HasOwnInodes, IsHeld}
-use Rattle.vt_detach.specs.NamespacesLeft.{MountsAreLeft, namespace_entry, with_one_task_less}
+use Rattle.vt_detach.specs.Held.{CountsWhatIsInIt, IsHeld}
+use Rattle.vt_detach.specs.NamespacesLeft.{MountsAreLeft, namespace_entry, numbers_inside, with_one_task_less}
 use Rattle.vt_detach.specs.Uses.{kept, with_attached}
 use Rattle.vt_detach.specs.WorldValue.{NamespaceEntry, WorldValue, namespace_of, world_of}
 use Rattle.vt_attach.proofs.AddedBegins as Begins
@@ -40,23 +40,26 @@ use Rattle.vt_attach.proofs.GrownGroups.{ascending_rises}
 use Rattle.vt_attach.proofs.CopyLemmas.{ascending_filter}
 use Rattle.vt_attach.proofs.UnsharingLemmas.{copies_ascend}
 use Rattle.vt_attach.proofs.AddedUses.{gained_by, shown_by_all}
-use Rattle.vt_detach.proofs.Bridging.{IsSwept, swept_has, swept_is_counted, swept_is_same}
-use Rattle.vt_detach.proofs.Finishing.{CountsBeside, own_exchanged}
-use Rattle.vt_detach.proofs.Grouped.{rising_mapped}
-use Rattle.vt_detach.proofs.Midway.{Reached, gone_if, gone_number}
-use Rattle.vt_detach.proofs.MidwayDone.{reached_counted, reached_has_none, reached_swept}
+use Rattle.vt_detach.proofs.Bridging.{IsSwept, swept_is_same}
+use Rattle.vt_detach.proofs.Finishing.{CountsBeside, swept_held}
+use Rattle.vt_detach.proofs.LeavingNamespaces.{IsLeft, leaves}
+use Rattle.vt_detach.proofs.Midway.{Reached}
+use Rattle.vt_detach.proofs.MidwayDone.{reached_counted, reached_swept}
 use Rattle.vt_attach.proofs.MovedUses as Moved
-use Rattle.vt_detach.proofs.NamespacesEnded.{left_counted}
-use Rattle.vt_detach.proofs.OwnInodesKept.{IsOwn}
+use Rattle.vt_detach.proofs.NamespacesEnded.{ends, left_counted}
+use Rattle.vt_detach.proofs.NamespacesTyped.{gone_numbers, nowhere_private}
 use Rattle.vt_detach.proofs.Staying.{IsDone, becomes_so, world_is_plain}
+use Rattle.vt_detach.proofs.TypedEvents.{counts_typed, swept_typed, typed_value}
+use Rattle.vt_detach.proofs.TypedWorlds.{settled_typed, settled_typed_has, typed_world}
 use Rattle.vt_attach.proofs.TakingNumbers.{TakesNumbers, left_is_world, left_keeps}
-use Rattle.vt_attach.proofs.UnsharedLeft.{IsLeft, groups_stay, leaves}
+use Rattle.vt_attach.proofs.UnsharedGroups as Groups
 use Rattle.vt_attach.proofs.UnsharedTasks as Tasks
 use Rattle.vt_attach.proofs.UnsharedWorlds as Worlds
 
 module _ (value : WorldValue) (whole : IsHeld value) (name : TaskName) (permits : Permits value name ToUnshare)
     (count : ℕ) (in_namespace : counted count ≡ permits.task.namespace)
-    (copies : List Attached) (copied_so : map mount_of copies ≡ copies_of value.next (attached_in permits.task.namespace value.mounts))
+    (copies : List Attached) (copied_so : map mount_of copies
+    ≡ copies_of value.next (attached_in permits.task.namespace value.mounts))
     (mounts : List MountEntry) (filesystems : Filesystems)
     (is_kept : kept mounts filesystems ≡ with_attached copies (kept value.mounts value.filesystems)) where
   abbrev world : World ℕ
@@ -89,120 +92,180 @@ module _ (value : WorldValue) (whole : IsHeld value) (name : TaskName) (permits 
   pub same_copies : added ≡ Worlds.copies value whole name task permits.called permits.given.serves count in_namespace
   same_copies =
       copied_so
-      ∙ ap (λ n. map (copied_mount (Tasks.copy value whole name task permits.called (counts_from value.next) permits.given.serves) n) (mounts_of nat_eq world task.namespace))
+      ∙ ap (λ n. map (copied_mount (Tasks.copy value whole name task permits.called
+      (counts_from value.next) permits.given.serves) n) (mounts_of nat_eq world task.namespace))
       (Worlds.new_is value whole name task permits.called permits.given.serves count in_namespace)
 
   pub is_added : IsAdded value added tasks come_to gone_from (λ mount. inside mount.namespace)
-  is_added =
-      subst (λ all. IsAdded value all tasks come_to gone_from (λ mount. inside mount.namespace)) (sym same_copies)
-      (Worlds.is_added value whole name task permits.called permits.given.serves count in_namespace)
+  is_added = Worlds.is_added value whole name task permits.called permits.given.serves count in_namespace added
+      same_copies
 
   -- the mounts, with the root and the working directory on the copies
   abbrev pub moved_entries : List MountEntry
   moved_entries =
-      Moved.moved_entries value whole copies tasks (λ mount. inside mount.namespace) task.root task.directory moved_task.root moved_task.directory is_added
+      Moved.moved_entries value whole copies tasks
+      (λ mount. inside mount.namespace) task.root task.directory moved_task.root moved_task.directory is_added
 
   keeps : KeepsAdded value added come_to gone_from (gained_by copies) (kept moved_entries filesystems)
   keeps = record {
-    mounts = Moved.moved_mounts value whole copies tasks (λ mount. inside mount.namespace) task.root task.directory moved_task.root moved_task.directory is_added;
+    mounts = Moved.moved_mounts value whole copies tasks
+        (λ mount. inside mount.namespace) task.root task.directory moved_task.root moved_task.directory is_added;
     uses = λ entry m. (Moved.moved_was value whole copies tasks (λ mount. inside mount.namespace) task.root task.directory moved_task.root moved_task.directory is_added entry m).1.uses;
     writers = λ entry m. (Moved.moved_was value whole copies tasks (λ mount. inside mount.namespace) task.root task.directory moved_task.root moved_task.directory is_added entry m).1.writers;
     filesystems = ap (λ k. k.filesystems) is_kept ∙ shown_by_all copies (shown value.filesystems);
   }
 
-  module _ (uses_gained : (test : Inode → Bool) → times test (map (inode_at (with_added value added tasks)) (places_of added)) ≡ times test (gained_by copies))
-      (gained_there : (was : FilesystemEntry) → Among was value.filesystems → AreThere (counted was.count) (inodes_seen was) (gained_by copies))
-      (new : WorldValue) (is_left : MountsAreLeft (counted count) (namespace_entry count entries) (kept moved_entries filesystems) value.groups
+  -- The world with the copies, and its groups
+
+  abbrev base : World ℕ
+  base = Worlds.base value whole name task permits.called permits.given.serves count in_namespace added same_copies
+
+  abbrev goes : Mount ℕ → Bool
+  goes = Worlds.goes value whole name task permits.called permits.given.serves count in_namespace added same_copies
+
+  abbrev remaining : List (Namespace ℕ)
+  remaining = Worlds.remaining value whole name task permits.called permits.given.serves count in_namespace added
+      same_copies
+
+  base_holds : MountInvariants nat_eq base
+  base_holds = Worlds.base_holds value whole name task permits.called permits.given.serves count in_namespace added
+      same_copies
+
+  module _ (uses_gained : (test : Inode → Bool)
+      → times test (map (inode_at (with_added value added tasks)) (places_of added)) ≡ times test (gained_by copies))
+      (gained_there : (was : FilesystemEntry) → Among was value.filesystems
+      → AreThere (counted was.count) (inodes_seen was) (gained_by copies))
+      (grown : Grouping) (grows : GrowsTo value.groups grown (map typed copies) [])
+      (new : WorldValue) (is_left : MountsAreLeft (counted count) (namespace_entry count entries)
+      (kept moved_entries filesystems) grown
       (kept new.mounts new.filesystems) new.groups)
       (namespaces_are : new.namespaces ≡ with_one_task_less count entries) (tasks_are : new.tasks ≡ tasks)
       (next_is : new.next ≡ value.next + 2 * length (attached_in task.namespace value.mounts))
       (before : list_all (λ mount. nat_lt mount.number (counted value.next)) (mounts_in value.mounts) ≡ true) where
     abbrev ended : World ℕ
     ended = Begins.ended value whole added tasks come_to gone_from inside
-        (Worlds.nowhere_stays value whole name task permits.called permits.given.serves count in_namespace) (map namespace_of (with_one_task_less count entries))
-        is_added (gained_by copies) (kept moved_entries filesystems) keeps uses_gained gained_there
+        (Worlds.nowhere_stays value whole name task permits.called permits.given.serves count in_namespace)
+        remaining is_added (gained_by copies) (kept moved_entries filesystems) keeps uses_gained gained_there
 
-    begins : Reached value ended (gained_by copies) (λ mount. inside mount.namespace) [] (kept moved_entries filesystems)
+    begins : Reached value ended (gained_by copies) goes [] (kept moved_entries filesystems)
     begins = Begins.added_begins value whole added tasks come_to gone_from inside
-        (Worlds.nowhere_stays value whole name task permits.called permits.given.serves count in_namespace) (map namespace_of (with_one_task_less count entries))
-        is_added (gained_by copies) (kept moved_entries filesystems) keeps uses_gained gained_there
+        (Worlds.nowhere_stays value whole name task permits.called permits.given.serves count in_namespace)
+        remaining is_added (gained_by copies) (kept moved_entries filesystems) keeps uses_gained gained_there
 
-    left : IsLeft value ended (gained_by copies) (λ mount. inside mount.namespace) (kept new.mounts new.filesystems)
-    left = leaves value whole ended (gained_by copies) (counted count) (kept moved_entries filesystems) (kept new.mounts new.filesystems) new.groups
-        count tasks entries (Worlds.entries_count value whole name task permits.called permits.given.serves count in_namespace)
-        (namespace_entry count entries) is_left begins
-
-    ended_is : settled nat_eq ended ≡ left_by value task ToUnshare
-    ended_is =
-        ap (settled nat_eq)
-        (ap (λ all. record (with_added value all tasks) { mounts = map (Rattle.vt_detach.proofs.Midway.gone_if (λ mount. inside mount.namespace)) (world.mounts ++ all); namespaces = map namespace_of (with_one_task_less count entries) }) same_copies
-        ∙ sym (Worlds.unshared_is value whole name task permits.called permits.given.serves count in_namespace
-        (λ mount m stays place at. subst (λ all. (mount : Mount ℕ) → Among mount (with_added value all tasks).mounts → inside mount.namespace ≡ false → (place : Location ℕ) → mount.mount_point ≡ Some place
-        → inside (Rattle.vt_spec.specs.Machine.World.mount_at nat_eq (with_added value all tasks) place).namespace ≡ false) same_copies
-        (λ mount m stays place at. (Begins.parent_is value whole added tasks come_to gone_from inside
-        (Worlds.nowhere_stays value whole name task permits.called permits.given.serves count in_namespace) (map namespace_of (with_one_task_less count entries))
-        is_added (gained_by copies) (kept moved_entries filesystems) keeps uses_gained gained_there mount m stays place at).1) mount m stays place at)))
-
-    takes : TakesNumbers value name ToUnshare task
-    takes = record { called = permits.called; given = permits.given; inode = 0; even = refl; supply = refl }
-
-    world_left : IsWorld nat_eq (settled nat_eq ended) × IsPlain (settled nat_eq ended)
-    world_left = subst (λ w. IsWorld nat_eq w × IsPlain w) (sym ended_is) (left_is_world value whole name ToUnshare task takes)
+    stays : (mount : Mount ℕ) → Among mount base.mounts → goes mount ≡ false → (place : Location ℕ)
+        → mount.mount_point ≡ Some place → goes (mount_at nat_eq base place) ≡ false
+    stays mount m still place at =
+        (Begins.parent_is value whole added tasks come_to gone_from inside
+        (Worlds.nowhere_stays value whole name task permits.called permits.given.serves count in_namespace)
+        remaining is_added (gained_by copies) (kept moved_entries filesystems) keeps uses_gained gained_there
+        mount m still place at).1
 
     -- the copies come after all mounts, in the order of those that they are of
-    still_rising : are_rising (numbers_of ended.mounts) ≡ true
-    still_rising =
-        rising_mapped (gone_if (λ mount. inside mount.namespace)) (gone_number (λ mount. inside mount.namespace)) (world.mounts ++ added)
-        (ap (λ all. are_rising (numbers_of (world.mounts ++ all))) copied_so
+    rising : are_rising (numbers_of (world.mounts ++ added)) ≡ true
+    rising =
+        ap (λ all. are_rising (numbers_of (world.mounts ++ all))) copied_so
         ∙ sym (ascending_rises (world.mounts ++ copies_of value.next (attached_in task.namespace value.mounts)))
         ∙ copies_ascend value.next world.mounts (attached_in task.namespace value.mounts) ascending before
-        (ascending_filter (λ mount. holds_of (nat_eq task.namespace) mount.namespace) world.mounts ascending))
+        (ascending_filter (λ mount. holds_of (nat_eq task.namespace) mount.namespace) world.mounts ascending)
       where
         ascending : are_ascending world.mounts ≡ true
         ascending = ascending_rises world.mounts ∙ whole.groups.order
 
-    swept : IsSwept value ended (gained_by copies) left.reached.lost new
+    base_has : Has base grown
+    base_has = Groups.base_has value whole name task permits.called permits.given.serves count in_namespace
+        copies same_copies rising grown grows
+
+    -- the mounts that are to go are those of the namespace that ends
+    inside_old : ends count tasks entries
+        (Worlds.entries_count value whole name task permits.called permits.given.serves count in_namespace) ≡ true
+        → numbers_inside (counted count) moved_entries ≡ gone_numbers base base_holds tasks goes remaining stays
+    inside_old last =
+        ap (λ (mounts : List (Mount ℕ)). map (λ (mount : Mount ℕ). mount.number) (filter is_inside mounts)) keeps.mounts
+        ∙ ap (λ b. map (λ (mount : Mount ℕ). mount.number) (filter (λ mount. b && is_inside mount) base.mounts))
+        (sym last)
+      where
+        is_inside : Mount ℕ → Bool
+        is_inside mount = holds_of (nat_eq (counted count)) mount.namespace
+
+    left : IsLeft value ended (gained_by copies) goes (kept new.mounts new.filesystems) new.groups
+    left = leaves value whole base base_holds tasks count entries
+        (Worlds.entries_count value whole name task permits.called permits.given.serves count in_namespace)
+        remaining stays grown base_has (gained_by copies) (kept moved_entries filesystems)
+        (kept new.mounts new.filesystems) begins
+        (Groups.base_typed value whole name task permits.called permits.given.serves count in_namespace copies
+        same_copies rising grown grows moved_entries keeps.mounts) inside_old new.groups is_left
+
+    -- The code's world, but for types
+
+    abbrev untyped : WorldValue
+    untyped = record new { mounts = left.entries }
+
+    swept : IsSwept value ended (gained_by copies) left.reached.lost untyped
     swept =
-        reached_swept value ended (gained_by copies) (λ mount. inside mount.namespace) (kept new.mounts new.filesystems) left.reached left.all_gone new refl (sym tasks_are)
+        reached_swept value ended (gained_by copies) goes
+        (kept left.entries new.filesystems) left.reached left.all_gone untyped refl (sym tasks_are)
         (world_is_plain value)
-        (ap (map (λ (n : Rattle.vt_spec.specs.Machine.World.Namespace ℕ). record n { change = 0 })) (ap (map namespace_of) (sym namespaces_are)))
+        (ap (map (λ (n : Namespace ℕ). record n { change = 0 })) (ap (map namespace_of) (sym namespaces_are)))
 
-    has : Has (settled nat_eq ended) new.groups
-    has = subst (Has (settled nat_eq ended))
-        (sym (groups_stay value whole (counted count) (kept moved_entries filesystems) (kept new.mounts new.filesystems) new.groups
-        (namespace_entry count entries) is_left))
-        (reached_has_none value ended (gained_by copies) (λ mount. inside mount.namespace) (kept new.mounts new.filesystems) left.reached left.all_gone new refl (sym tasks_are)
-        whole still_rising)
-
-    counts : CountsBeside new
+    counts : CountsBeside untyped
     counts =
-        reached_counted value ended (gained_by copies) (λ mount. inside mount.namespace) (kept new.mounts new.filesystems) left.reached left.all_gone new refl (sym tasks_are)
-        (subst (All (CountsWhatIsInIt (world_of new))) (sym namespaces_are)
-        (left_counted count tasks entries (Worlds.entries_count value whole name task permits.called permits.given.serves count in_namespace) (world_of new) tasks_are))
+        reached_counted value ended (gained_by copies) goes
+        (kept left.entries new.filesystems) left.reached left.all_gone untyped refl (sym tasks_are)
+        (subst (All (CountsWhatIsInIt (world_of untyped))) (sym namespaces_are)
+        (left_counted count tasks entries
+        (Worlds.entries_count value whole name task permits.called permits.given.serves count in_namespace)
+        (world_of untyped) tasks_are))
+
+    -- With types
+
+    abbrev typed_ended : World ℕ
+    typed_ended = typed_world new.groups ended
+
+    abbrev typed_new : WorldValue
+    typed_new = typed_value new.groups untyped
+
+    typed_left : left_by value task ToUnshare ≡ settled nat_eq typed_ended
+    typed_left =
+        ap (settled nat_eq)
+        (Worlds.ended_is value whole name task permits.called permits.given.serves count in_namespace added same_copies
+        stays)
+        ∙ settled_typed ended new.groups left.has
+
+    takes : TakesNumbers value name ToUnshare task
+    takes = record { called = permits.called; given = permits.given; inode = 0; even = refl; supply = refl }
+
+    world_left : IsWorld nat_eq (settled nat_eq typed_ended) × IsPlain (settled nat_eq typed_ended)
+    world_left = subst (λ w. IsWorld nat_eq w × IsPlain w) typed_left
+        (left_is_world value whole name ToUnshare task takes)
+
+    typed_swept : IsSwept value typed_ended (gained_by copies) left.reached.lost typed_new
+    typed_swept = swept_typed new.groups untyped value ended (gained_by copies) left.reached.lost swept
+
+    typed_has : Has (settled nat_eq typed_ended) new.groups
+    typed_has = settled_typed_has ended new.groups left.has (nowhere_private base base_holds tasks goes remaining stays)
+
+    typed_counts : CountsBeside typed_new
+    typed_counts = counts_typed new.groups untyped counts
+
+    same : SameWorlds (settled nat_eq typed_ended) (world_of typed_new)
+    same = swept_is_same value whole typed_ended (gained_by copies) left.reached.lost typed_new typed_swept typed_has
+        world_left
+
+    keeps_numbers : KeepsTo (is_counted_before new.next) (world_of typed_new)
+    keeps_numbers =
+        subst (λ next. KeepsTo (is_counted_before next) (world_of typed_new)) (sym next_is)
+        (same_worlds_keep_to_numbers (is_counted_before
+        (value.next + 2 * length (attached_in task.namespace value.mounts))) (settled nat_eq typed_ended)
+        (world_of typed_new) same world_left.1
+        (subst (KeepsTo (is_counted_before (value.next + 2 * length (attached_in task.namespace value.mounts))))
+        typed_left (left_keeps value whole name task takes)))
 
     pub unshared_done : IsDone value name ToUnshare new
     unshared_done =
-        let same = swept_is_same value whole ended (gained_by copies) left.reached.lost new swept has world_left in
-        let is = same_worlds_are_worlds (settled nat_eq ended) (world_of new) same world_left.1 world_left.0 in
-        record {
-          held = record {
-            in_world = is.0;
-            groups = swept_has value whole ended (gained_by copies) left.reached.lost new swept has world_left;
-            ungrouped = counts.ungrouped;
-            given = subst (λ next. KeepsTo (is_counted_before next) (world_of new)) (sym next_is)
-                (same_worlds_keep_to_numbers (is_counted_before (value.next + 2 * length (attached_in task.namespace value.mounts))) (settled nat_eq ended) (world_of new) same world_left.1
-                (subst (KeepsTo (is_counted_before (value.next + 2 * length (attached_in task.namespace value.mounts)))) (sym ended_is) (left_keeps value whole name task takes)));
-            mounts = counts.uses;
-            filesystems = all_from_among (CountsItsMounts (world_of new)) new.filesystems (λ entry m. record {
-              mounts = counts.mounts entry m;
-              inodes = swept_is_counted value whole ended (gained_by copies) left.reached.lost new swept has world_left entry m is.0;
-            });
-            own_inodes = all_from_among HasOwnInodes new.filesystems (λ entry m. let from = swept.entries entry m in
-                subst (λ count. IsOwn count (inodes_seen entry)) (sym from.count)
-                (subst (IsOwn from.was.count) (sym from.inodes)
-                (own_exchanged from.was.count (gained_by copies) left.reached.lost (inodes_seen from.was)
-                (among_from_all HasOwnInodes value.filesystems whole.own_inodes from.was from.among))));
-            namespaces = counts.namespaces;
-          };
-          becomes = becomes_so value name ToUnshare new task permits.called (subst (λ w. SameWorlds w (world_of new)) ended_is same);
-        }
+        subst (λ mounts. IsDone value name ToUnshare (record new { mounts = mounts })) (sym left.typed)
+        (record {
+          held = swept_held value whole typed_ended world_left (gained_by copies) left.reached.lost typed_new
+              typed_swept typed_has typed_counts keeps_numbers;
+          becomes = becomes_so value name ToUnshare typed_new task permits.called
+              (subst (λ w. SameWorlds w (world_of typed_new)) (sym typed_left) same);
+        })

@@ -40,7 +40,8 @@ use Rattle.vt_detach.proofs.MidwayBegins.{point_is_located}
 use Rattle.vt_detach.proofs.Showing.{found_filesystem}
 use Rattle.vt_attach.proofs.UnsharedTasks.{added, copied, copy, copy_is, from_spec, new_namespace, one_number, tasks_moved, to_spec}
 
-module _ (value : WorldValue) (whole : IsHeld value) (name : TaskName) (task : Task ℕ) (found : task_called (world_of value) name ≡ Some task)
+module _ (value : WorldValue) (whole : IsHeld value) (name : TaskName) (task : Task ℕ)
+    (found : task_called (world_of value) name ≡ Some task)
     (fresh : Fresh ℕ) (serves : Serves nat_eq (world_of value) fresh)
     (copies : List Mount) (same : map mount_of copies ≡ added value whole name task found fresh serves)
     (slots : list_all has_small_slots copies ≡ true) where
@@ -48,7 +49,8 @@ module _ (value : WorldValue) (whole : IsHeld value) (name : TaskName) (task : T
   world = world_of value
 
   abbrev base : World ℕ
-  base = with_added value (added value whole name task found fresh serves) (tasks_moved value whole name task found fresh serves)
+  base = with_added value (added value whole name task found fresh serves)
+      (tasks_moved value whole name task found fresh serves)
 
   abbrev originals : List (meant.Mount ℕ)
   originals = copied value whole name task found fresh serves
@@ -59,22 +61,29 @@ module _ (value : WorldValue) (whole : IsHeld value) (name : TaskName) (task : T
   abbrev copy_of : meant.Mount ℕ → meant.Mount ℕ
   copy_of = copied_mount number_of_copy (new_namespace value whole name task found fresh serves)
 
-  in_added : (mount : Mount) → Among mount copies → Among (mount_of mount) (added value whole name task found fresh serves)
+  in_added : (mount : Mount) → Among mount copies
+      → Among (mount_of mount) (added value whole name task found fresh serves)
   in_added mount m = subst (Among (mount_of mount)) same (among-map mount_of copies mount m)
 
-  original : (mount : Mount) → Among mount copies → (x : meant.Mount ℕ) × Among x originals × (mount_of mount ≡ copy_of x)
+  original : (mount : Mount) → Among mount copies
+      → (x : meant.Mount ℕ) × Among x originals × (mount_of mount ≡ copy_of x)
   original mount m = among-from_map copy_of originals (mount_of mount) (in_added mount m)
 
-  was_there : (x : meant.Mount ℕ) → Among x originals → Among x world.mounts × (holds_of (nat_eq task.namespace) x.namespace ≡ true)
-  was_there x m = among-from_filter (λ (y : meant.Mount ℕ). holds_of (nat_eq task.namespace) y.namespace) world.mounts x m
+  was_there : (x : meant.Mount ℕ) → Among x originals
+      → Among x world.mounts × (holds_of (nat_eq task.namespace) x.namespace ≡ true)
+  was_there x m = among-from_filter
+      (λ (y : meant.Mount ℕ). holds_of (nat_eq task.namespace) y.namespace) world.mounts x m
 
   -- roots
 
-  root_there : (mount : Mount) → Among mount copies → is_there nat_eq world (counted mount.root.filesystem.count) (number_of mount.root) ≡ true
+  root_there : (mount : Mount) → Among mount copies
+      → is_there nat_eq world (counted mount.root.filesystem.count) (number_of mount.root) ≡ true
   root_there mount m =
       let from = original mount m in
-      let root = (and_parts _ _ (passes (has_its_root nat_eq world) world.mounts whole.in_world.roots from.0 (was_there from.0 from.1).0)).0 in
-      ap (λ (x : meant.Mount ℕ). is_some ((filesystem_numbered nat_eq world x.filesystem).files.tree.node x.root)) from.2
+      let root = (and_parts _ _ (passes (has_its_root nat_eq world) world.mounts whole.in_world.roots from.0
+      (was_there from.0 from.1).0)).0 in
+      ap (λ (x : meant.Mount ℕ). is_some
+      ((filesystem_numbered nat_eq world x.filesystem).files.tree.node x.root)) from.2
       ∙ directory_there ((filesystem_numbered nat_eq world from.0.filesystem).files.tree.node from.0.root) root
 
   -- mount points
@@ -83,18 +92,23 @@ module _ (value : WorldValue) (whole : IsHeld value) (name : TaskName) (task : T
     pub shown : (mount_at nat_eq base (location_of point)).filesystem ≡ counted point.node.filesystem.count
     pub there : is_there nat_eq world (counted point.node.filesystem.count) (number_of point.node) ≡ true
 
-  point_is : (x : meant.Mount ℕ) → Among x originals → (o : Option (meant.Location ℕ)) → x.mount_point ≡ o → (point : Location)
-      → Some (location_of point) ≡ option_map (location_on_copy number_of_copy) o → point.node.slot < 18446744073709551616 → IsPointOf point
+  point_is : (x : meant.Mount ℕ) → Among x originals → (o : Option (meant.Location ℕ)) → x.mount_point ≡ o
+      → (point : Location)
+      → Some (location_of point) ≡ option_map (location_on_copy number_of_copy) o
+      → point.node.slot < 18446744073709551616 → IsPointOf point
   point_is x m None e point at small = absurd cc
   point_is x m (Some place) e point at small =
       let was = was_there x m in
-      let is : location_of point ≡ location_on_copy number_of_copy place = same_Some (location_of point) (location_on_copy number_of_copy place) at in
+      let is : location_of point ≡ location_on_copy number_of_copy place = same_Some (location_of point)
+      (location_on_copy number_of_copy place) at in
       let parent = parent_of world whole.in_world.mounts x (to_spec world.mounts x was.0) place e in
       let parent_was = from_spec world.mounts parent.parent parent.there in
-      let inside : Among parent.parent originals = among-filter (λ (y : meant.Mount ℕ). holds_of (nat_eq task.namespace) y.namespace) world.mounts parent.parent
+      let inside : Among parent.parent originals = among-filter
+      (λ (y : meant.Mount ℕ). holds_of (nat_eq task.namespace) y.namespace) world.mounts parent.parent
       parent_was (ap (holds_of (nat_eq task.namespace)) (sym parent.namespace) ∙ was.1) in
       let found_parent : mount_numbered nat_eq world place.mount ≡ parent.parent =
-      ap (mount_numbered nat_eq world) (sym parent.number) ∙ found_itself world.mounts whole.in_world.mounts.one_number parent.parent parent_was in
+      ap (mount_numbered nat_eq world) (sym parent.number)
+      ∙ found_itself world.mounts whole.in_world.mounts.one_number parent.parent parent_was in
       let through : (mount_at nat_eq base (location_of point)).filesystem ≡ (mount_at nat_eq world place).filesystem =
       ap (λ (l : meant.Location ℕ). (mount_at nat_eq base l).filesystem) is
       ∙ ap (λ n. (mount_numbered nat_eq base (number_of_copy n)).filesystem) (sym parent.number)
@@ -102,46 +116,57 @@ module _ (value : WorldValue) (whole : IsHeld value) (name : TaskName) (task : T
       ∙ ap (λ (y : meant.Mount ℕ). y.filesystem) (sym found_parent) in
       let well : is_located_well nat_eq world place ≡ true =
       (and_parts (is_located_well nat_eq world place) true
-      (point_is_located value whole value.tasks [] [] (nothing_moves value) (λ o. false) refl [] x was.0 (Some place) e)).0 in
+      (point_is_located value whole value.tasks [] [] (nothing_moves value) (λ o. false) refl [] x was.0
+      (Some place) e)).0 in
       let there : is_there nat_eq world (mount_at nat_eq world place).filesystem (number_of point.node) ≡ true =
-      ap (λ (l : meant.Location ℕ). is_there nat_eq world (mount_at nat_eq world place).filesystem l.node) is ∙ (and_parts _ _ well).1 in
-      let seen = seen_in value.filesystems whole.own_inodes (mount_at nat_eq world place).filesystem (number_of point.node) there in
+      ap (λ (l : meant.Location ℕ). is_there nat_eq world (mount_at nat_eq world place).filesystem l.node) is
+      ∙ (and_parts _ _ well).1 in
+      let seen = seen_in value.filesystems whole.own_inodes (mount_at nat_eq world place).filesystem
+      (number_of point.node) there in
       let slot = slot_of seen.entry.count (number_of point.node) seen.own in
       let shown_in : (mount_at nat_eq world place).filesystem ≡ counted point.node.filesystem.count =
-      seen.number_is ∙ ap counted (sym (inode_same point.node.filesystem.count seen.entry.count point.node.slot slot.0 small slot.1 slot.2).0) in
+      seen.number_is ∙ ap counted (sym
+      (inode_same point.node.filesystem.count seen.entry.count point.node.slot slot.0 small slot.1 slot.2).0) in
       record {
         shown = through ∙ shown_in;
         there = ap (λ f. is_there nat_eq world f (number_of point.node)) (sym shown_in) ∙ there;
       }
 
-  point_of_copy : (mount : Mount) → Among mount copies → (point : Location) → mount.mount_point ≡ Some point → IsPointOf point
+  point_of_copy : (mount : Mount) → Among mount copies → (point : Location) → mount.mount_point ≡ Some point
+      → IsPointOf point
   point_of_copy mount m point e =
       let from = original mount m in
       point_is from.0 from.1 from.0.mount_point refl point
       (sym (ap (option_map location_of) e) ∙ ap (λ (x : meant.Mount ℕ). x.mount_point) from.2)
       (ltb-true point.node.slot 18446744073709551616
-      (subst (λ o. point_is_small o ≡ true) e (and_parts (nat_lt mount.root.slot 18446744073709551616) _ (passes has_small_slots copies slots mount m)).1))
+      (subst (λ o. point_is_small o ≡ true) e
+      (and_parts (nat_lt mount.root.slot 18446744073709551616) _ (passes has_small_slots copies slots mount m)).1))
 
   copy_found : (mount : Mount) → Among mount copies → IsFoundIn base mount
   copy_found mount m = record {
     root = ap (λ (x : meant.Mount ℕ). (x.filesystem, number_of mount.root))
         (found_itself base.mounts (one_number value whole name task found fresh serves) (mount_of mount)
-        (among-append_right world.mounts (added value whole name task found fresh serves) (mount_of mount) (in_added mount m)));
+        (among-append_right world.mounts (added value whole name task found fresh serves) (mount_of mount)
+        (in_added mount m)));
     point = λ point e. ap (λ f. (f, number_of point.node)) (point_of_copy mount m point e).shown;
   }
 
   pub copies_gain : (test : Inode → Bool)
-      → times test (map (inode_at (with_added value (map mount_of copies) (tasks_moved value whole name task found fresh serves))) (places_of (map mount_of copies)))
+      → times test (map (inode_at (with_added value (map mount_of copies)
+      (tasks_moved value whole name task found fresh serves))) (places_of (map mount_of copies)))
       ≡ times test (gained_by copies)
   copies_gain test =
-      ap (λ all. times test (map (inode_at (with_added value all (tasks_moved value whole name task found fresh serves))) (places_of (map mount_of copies)))) same
+      ap (λ all. times test (map (inode_at
+      (with_added value all (tasks_moved value whole name task found fresh serves)))
+      (places_of (map mount_of copies)))) same
       ∙ gained_uses base test copies copy_found
 
   -- each is there
 
   there_in : (was : FilesystemEntry) → Among was value.filesystems → (node : NodeRef)
       → is_there nat_eq world (counted node.filesystem.count) (number_of node) ≡ true
-      → (not (nat_eq (counted was.count) (counted node.filesystem.count)) || is_some ((inodes_seen was).inode (number_of node))) ≡ true
+      → (not (nat_eq (counted was.count) (counted node.filesystem.count))
+      || is_some ((inodes_seen was).inode (number_of node))) ≡ true
   there_in was m node there = by (nat_eq (counted was.count) (counted node.filesystem.count)) refl
     where
       some_inode : (o : Option (Trees.Inode ℕ)) → is_some (node_in o) ≡ true → is_some o ≡ true
@@ -154,10 +179,12 @@ module _ (value : WorldValue) (whole : IsHeld value) (name : TaskName) (task : T
       by true e =
           some_inode ((inodes_seen was).inode (number_of node))
           (ap (λ (f : Filesystem ℕ). is_some (f.files.tree.node (number_of node)))
-          (sym (found_filesystem world.filesystems whole.in_world.files.one_filesystem (filesystem_seen was) (among-map filesystem_seen value.filesystems was m))
+          (sym (found_filesystem world.filesystems whole.in_world.files.one_filesystem (filesystem_seen was)
+          (among-map filesystem_seen value.filesystems was m))
           ∙ ap (filesystem_numbered nat_eq world) (eqb-true _ _ e)) ∙ there)
 
-  pub copies_there : (was : FilesystemEntry) → Among was value.filesystems → AreThere (counted was.count) (inodes_seen was) (gained_by copies)
+  pub copies_there : (was : FilesystemEntry) → Among was value.filesystems
+      → AreThere (counted was.count) (inodes_seen was) (gained_by copies)
   copies_there was m = each copies (λ mount n. n)
     where
       test : Inode → Bool
@@ -165,15 +192,19 @@ module _ (value : WorldValue) (whole : IsHeld value) (name : TaskName) (task : T
 
       both : (xs ys : List Inode) → list_all test xs ≡ true → list_all test ys ≡ true → list_all test (xs ++ ys) ≡ true
       both [] ys a b = b
-      both (x ∷ xs) ys a b = let parts = and_parts (test x) (list_all test xs) a in λ i. parts.0 i && both xs ys parts.1 b i
+      both (x ∷ xs) ys a b = let parts = and_parts (test x) (list_all test xs) a in λ i. parts.0 i
+          && both xs ys parts.1 b i
 
-      points : (mount : Mount) → Among mount copies → (o : Option Location) → mount.mount_point ≡ o → list_all test (point_inodes o) ≡ true
+      points : (mount : Mount) → Among mount copies → (o : Option Location) → mount.mount_point ≡ o
+          → list_all test (point_inodes o) ≡ true
       points mount n None e = refl
       points mount n (Some point) e = λ i. there_in was m point.node (point_of_copy mount n point e).there i && true
 
-      each : (some : List Mount) → ((mount : Mount) → Among mount some → Among mount copies) → AreThere (counted was.count) (inodes_seen was) (gained_by some)
+      each : (some : List Mount) → ((mount : Mount) → Among mount some → Among mount copies)
+          → AreThere (counted was.count) (inodes_seen was) (gained_by some)
       each [] within = refl
       each (mount ∷ rest) within = λ i.
           there_in was m mount.root (root_there mount (within mount (inl refl))) i
           && both (point_inodes mount.mount_point) (gained_by rest)
-          (points mount (within mount (inl refl)) mount.mount_point refl) (each rest (λ other n. within other (inr n))) i
+          (points mount (within mount (inl refl)) mount.mount_point refl)
+          (each rest (λ other n. within other (inr n))) i

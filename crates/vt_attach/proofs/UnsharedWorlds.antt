@@ -9,28 +9,33 @@ use Rattle.vt_spec.specs.Lists.{holds_of, is_among}
 use Rattle.vt_spec.specs.Machine.Detach.{taken_away}
 use Rattle.vt_spec.specs.Machine.Mounts.{Location, Mount}
 use Rattle.vt_spec.specs.Machine.Namespaces.{has_tasks, is_in_ended, namespaces_ended, unshared}
+use Rattle.vt_spec.specs.Machine.Receives.{regrouped}
 use Rattle.vt_spec.specs.Machine.Run.{Serves, numbers_in_use, used_by_filesystem, used_by_mount}
 use Rattle.vt_spec.specs.Machine.World.{Namespace, Task, World, mount_at, task_called}
-use Rattle.vt_spec.specs.Machine.Invariants.{is_listed}
+use Rattle.vt_spec.specs.Machine.Invariants.{MountInvariants, is_listed}
 use Rattle.vt_location.proofs.NumberLemmas.{counted_test}
+use Rattle.vt_mount_laws.proofs.Unsharing.{unshare_keeps_mounts}
 use Rattle.vt_letting_go.specs.Counts.{times}
-use Rattle.vt_letting_go.proofs.Lists.{Among, among-append, among-append_right, among-from_map, among-map, among_from_all, among_numbers, filter_alike, is_among_left, is_among_right, is_among_numbers, passes}
+use Rattle.vt_letting_go.proofs.Lists.{Among, among-append, among-append_right, among-from_filter, among-from_map, among-map, among_from_all, among_numbers, filter_alike, is_among_left, is_among_right, is_among_numbers, passes}
 use Rattle.vt_location.specs.Numbers.{counted}
 use Rattle.vt_run_laws.specs.Handed.{counts_from}
 use Rattle.vt_tasks.specs.Counts.{one_if}
 use Rattle.vt_tasks.specs.TasksValue.{Tasks}
-use Rattle.vt_detach.specs.Held.{CountsWhatIsInIt, IsHeld, is_ungrouped}
+use Rattle.vt_detach.specs.Held.{CountsWhatIsInIt, IsHeld}
 use Rattle.vt_detach.specs.NamespacesLeft.{with_one_task_less}
 use Rattle.vt_detach.specs.WorldValue.{NamespaceEntry, WorldValue, namespace_of, world_of}
 use Rattle.vt_attach.proofs.AddedBegins.{IsAdded, with_added}
-use Rattle.vt_detach.proofs.Midway.{gone_if}
+use Rattle.vt_detach.proofs.LeavingNamespaces.{nothing_goes_with}
 use Rattle.vt_detach.proofs.Moving.{swap_eq}
-use Rattle.vt_detach.proofs.NamespacesEnded.{CountsOneMore, ends, in_ended_is, namespaces_are, taken_alone_away, tasks_counted}
+use Rattle.vt_detach.proofs.NamespacesEnded.{CountsOneMore, ends, in_ended_is, namespaces_are, tasks_counted}
+use Rattle.vt_detach.proofs.NamespacesTyped.{gone_numbers, left_world, taken_is_left}
 use Rattle.vt_detach.proofs.Splits.{times_replaced}
 use Rattle.vt_attach.proofs.UnsharedTasks.{added, another, come_to, copied, gone_from, moved_task, new_namespace, task_is_moved, tasks_moved}
 
-module _ (value : WorldValue) (whole : IsHeld value) (name : TaskName) (task : Task ℕ) (found : task_called (world_of value) name ≡ Some task)
-    (serves : Serves nat_eq (world_of value) (counts_from value.next)) (count : ℕ) (in_namespace : counted count ≡ task.namespace) where
+module _ (value : WorldValue) (whole : IsHeld value) (name : TaskName) (task : Task ℕ)
+    (found : task_called (world_of value) name ≡ Some task)
+    (serves : Serves nat_eq (world_of value) (counts_from value.next)) (count : ℕ)
+    (in_namespace : counted count ≡ task.namespace) where
   abbrev world : World ℕ
   world = world_of value
 
@@ -50,7 +55,8 @@ module _ (value : WorldValue) (whole : IsHeld value) (name : TaskName) (task : T
   pub new_is : counted value.next ≡ new
   new_is = omega arith
 
-  not_new : (number : ℕ) → Among number (map (λ (n : Namespace ℕ). n.number) world.namespaces) → nat_eq number new ≡ false
+  not_new : (number : ℕ) → Among number (map (λ (n : Namespace ℕ). n.number) world.namespaces)
+      → nat_eq number new ≡ false
   not_new number listed = by (nat_eq number new) refl
     where
       by : (b : Bool) → nat_eq number new ≡ b → b ≡ false
@@ -87,50 +93,50 @@ module _ (value : WorldValue) (whole : IsHeld value) (name : TaskName) (task : T
       (λ old.
       let was = (among_from_all (CountsWhatIsInIt world) value.namespaces whole.namespaces entry old).tasks in
       let number = among-map namespace_of value.namespaces entry old in
-      let other = not_new (counted entry.count) (among-map (λ (n : Namespace ℕ). n.number) world.namespaces (namespace_of entry) number) in
-      let all = times_replaced name value.tasks task (moved_task value whole name task found (counts_from value.next) serves)
+      let other = not_new (counted entry.count)
+      (among-map (λ (n : Namespace ℕ). n.number) world.namespaces (namespace_of entry) number) in
+      let all = times_replaced name value.tasks task
+      (moved_task value whole name task found (counts_from value.next) serves)
       whole.in_world.tasks.one_task found refl (inside_of (counted entry.count)) in
       let mine : one_if (nat_eq (counted entry.count) task.namespace) ≡ one_if (nat_eq count entry.count) =
-      ap one_if (ap (nat_eq (counted entry.count)) (sym in_namespace) ∙ counted_test entry.count count ∙ swap_eq entry.count count) in
+      ap one_if (ap (nat_eq (counted entry.count)) (sym in_namespace) ∙ counted_test entry.count count
+      ∙ swap_eq entry.count count) in
       let none : one_if (nat_eq (counted entry.count) new) ≡ 0 = ap one_if other in
       record {
         inside = omega (arith, was, all, mine, none);
         some = ap (λ n. nat_eq n 0) was
             ∙ tasks_counted (counted entry.count) value.tasks
-            (passes (has_tasks nat_eq world) world.namespaces whole.in_world.namespaces.namespaces_live (namespace_of entry) number);
+            (passes (has_tasks nat_eq world) world.namespaces whole.in_world.namespaces.namespaces_live
+            (namespace_of entry) number);
       })
       (λ rest. ⊎_elim (λ last. subst (CountsOneMore count moved) (sym last) new_counts) (λ none. absurd none) rest)
       (among-append value.namespaces (record { count = value.next; tasks = 1 } ∷ []) entry m)
     where
       new_counts : CountsOneMore count moved (record { count = value.next; tasks = 1 })
       new_counts =
-          let all = times_replaced name value.tasks task (moved_task value whole name task found (counts_from value.next) serves)
+          let all = times_replaced name value.tasks task
+          (moved_task value whole name task found (counts_from value.next) serves)
           whole.in_world.tasks.one_task found refl (inside_of new) in
           let none = none_in_new value.tasks listed_task in
           let own : one_if (nat_eq new new) ≡ 1 = ap one_if (eq-eqb new new refl) in
           let apart = another value whole name task found (counts_from value.next) serves in
           let mine : one_if (nat_eq new task.namespace) ≡ 0 = ap one_if (swap_eq new task.namespace ∙ apart) in
           let last : one_if (nat_eq count value.next) ≡ 0 =
-          ap one_if (sym (counted_test count value.next) ∙ ap (λ n. nat_eq n (counted value.next)) in_namespace ∙ ap (nat_eq task.namespace) new_is ∙ apart) in
+          ap one_if (sym (counted_test count value.next) ∙ ap (λ n. nat_eq n (counted value.next)) in_namespace
+          ∙ ap (nat_eq task.namespace) new_is ∙ apart) in
           let here : times (inside_of new) moved ≡ 1 = omega (arith, all, none, own, mine) in
-          let there : times (inside_of (counted value.next)) moved ≡ 1 = ap (λ n. times (inside_of n) moved) new_is ∙ here in
+          let there : times (inside_of (counted value.next)) moved ≡ 1 = ap (λ n. times (inside_of n) moved) new_is
+          ∙ here in
           record { inside = omega (arith, there, last); some = refl }
 
   -- The world after it
-
-  abbrev pub whole_base : World ℕ
-  whole_base = unshared nat_eq world (counts_from value.next) task
 
   -- the old namespace's mounts go, if it ends
   abbrev pub inside : Option ℕ → Bool
   inside o = ends count moved entries entries_count && holds_of (nat_eq (counted count)) o
 
   pub nowhere_stays : inside None ≡ false
-  nowhere_stays = by (ends count moved entries entries_count)
-    where
-      by : (b : Bool) → (b && false) ≡ false
-      by true = refl
-      by false = refl
+  nowhere_stays = nothing_goes_with (ends count moved entries entries_count)
 
   pub new_stays : inside (Some new) ≡ false
   new_stays =
@@ -138,58 +144,91 @@ module _ (value : WorldValue) (whole : IsHeld value) (name : TaskName) (task : T
       (ap (λ n. nat_eq n new) in_namespace ∙ another value whole name task found (counts_from value.next) serves)
       ∙ nowhere_stays
 
-  pub is_added : IsAdded value copies moved (come_to value whole name task found (counts_from value.next) serves)
-      (gone_from value whole name task found (counts_from value.next) serves) (λ mount. inside mount.namespace)
-  is_added = task_is_moved value whole name task found (counts_from value.next) serves inside new_stays
+  module _ (more : List (Mount ℕ)) (same : more ≡ copies) where
+    -- with the copies and the new namespace
+    abbrev pub base : World ℕ
+    base = record (with_added value more moved) {
+      namespaces = world.namespaces ++ (record { number = new; change = 0 } ∷ []);
+    }
 
-  abbrev goes : Mount ℕ → Bool
-  goes mount = inside mount.namespace
+    is_unshared : unshared nat_eq world (counts_from value.next) task ≡ base
+    is_unshared = ap (λ all. record (with_added value all moved) {
+      namespaces = world.namespaces ++ (record { number = new; change = 0 } ∷ []);
+    }) (sym same)
 
-  same_namespaces : whole_base.namespaces ≡ map namespace_of entries
-  same_namespaces =
-      (λ i. world.namespaces ++ (record { number = sym new_is i; change = 0 } ∷ []))
-      ∙ sym (map-append namespace_of value.namespaces (record { count = value.next; tasks = 1 } ∷ []))
+    pub base_holds : MountInvariants nat_eq base
+    base_holds = subst (MountInvariants nat_eq) is_unshared
+        (unshare_keeps_mounts world (counts_from value.next) task serves whole.in_world.mounts)
 
-  listed : (mount : Mount ℕ) → Among mount whole_base.mounts → list_all (is_listed nat_eq whole_base) (option_to_list mount.namespace) ≡ true
-  listed mount m =
-      ⊎_elim
-      (λ old. by mount.namespace (passes (λ (x : Mount ℕ). list_all (is_listed nat_eq world) (option_to_list x.namespace)) world.mounts whole.in_world.namespaces.mounts_listed mount old))
-      (λ copy.
-      let from = among-from_map _ (copied value whole name task found (counts_from value.next) serves) mount copy in
-      ap (λ (x : Mount ℕ). list_all (is_listed nat_eq whole_base) (option_to_list x.namespace)) from.2
-      ∙ ap (λ b. b && true)
-      (ap (is_among nat_eq new) (map-append (λ (n : Namespace ℕ). n.number) world.namespaces (record { number = new; change = 0 } ∷ []))
-      ∙ is_among_right new (map (λ (n : Namespace ℕ). n.number) world.namespaces) (new ∷ []) (ap (λ b. b || false) (eq-eqb new new refl))))
-      (among-append world.mounts copies mount m)
-    where
-      by : (o : Option ℕ) → list_all (is_listed nat_eq world) (option_to_list o) ≡ true → list_all (is_listed nat_eq whole_base) (option_to_list o) ≡ true
-      by None e = refl
-      by (Some n) e =
-          ap (λ b. b && true)
-          (ap (is_among nat_eq n) (map-append (λ (x : Namespace ℕ). x.number) world.namespaces (record { number = new; change = 0 } ∷ []))
-          ∙ is_among_left n (map (λ (x : Namespace ℕ). x.number) world.namespaces) (new ∷ []) (and_parts (is_listed nat_eq world n) true e).0)
+    pub is_added : IsAdded value more moved (come_to value whole name task found (counts_from value.next) serves)
+        (gone_from value whole name task found (counts_from value.next) serves) (λ mount. inside mount.namespace)
+    is_added = subst (λ all. IsAdded value all moved
+        (come_to value whole name task found (counts_from value.next) serves)
+        (gone_from value whole name task found (counts_from value.next) serves) (λ mount. inside mount.namespace))
+        (sym same) (task_is_moved value whole name task found (counts_from value.next) serves inside new_stays)
 
-  ungrouped : (mount : Mount ℕ) → Among mount whole_base.mounts → is_ungrouped mount.propagation ≡ true
-  ungrouped mount m =
-      ⊎_elim
-      (λ old. let from = among-from_map (λ e. e.mount) value.mounts mount old in
-      ap (λ (x : Mount ℕ). is_ungrouped x.propagation) from.2 ∙ passes (λ e. is_ungrouped e.mount.propagation) value.mounts whole.ungrouped from.0 from.1)
-      (λ copy. is_added.ungrouped mount copy)
-      (among-append world.mounts copies mount m)
+    -- a copy is of a mount that was there
+    pub copy_of : (mount : Mount ℕ) → Among mount more
+        → (was : Mount ℕ) × Among was world.mounts × (mount.namespace ≡ Some new)
+        × (mount.propagation ≡ was.propagation)
+    copy_of mount m =
+        let from = among-from_map _ (copied value whole name task found (counts_from value.next) serves) mount
+        (subst (Among mount) same m) in
+        let was = among-from_filter (λ (x : Mount ℕ). holds_of (nat_eq task.namespace) x.namespace) world.mounts
+        from.0 from.1 in
+        (from.0, was.0, ap (λ (x : Mount ℕ). x.namespace) from.2, ap (λ (x : Mount ℕ). x.propagation) from.2)
 
-  pub unshared_is : ((mount : Mount ℕ) → Among mount whole_base.mounts → goes mount ≡ false → (place : Location ℕ) → mount.mount_point ≡ Some place
-      → goes (mount_at nat_eq whole_base place) ≡ false)
-      → namespaces_ended nat_eq whole_base
-      ≡ record (with_added value copies moved) {
-        mounts = map (gone_if goes) whole_base.mounts;
-        namespaces = map namespace_of (with_one_task_less count entries);
-      }
-  unshared_is stays =
-      ap (λ (mounts : List (Mount ℕ)). record (taken_away nat_eq whole_base (map (λ (x : Mount ℕ). x.number) mounts)) {
-        namespaces = filter (has_tasks nat_eq whole_base) whole_base.namespaces;
-      })
-      (filter_alike (is_in_ended nat_eq whole_base) goes whole_base.mounts (λ mount m.
-      in_ended_is count moved entries entries_count whole_base refl same_namespaces mount (listed mount m)))
-      ∙ (λ i. record (taken_alone_away whole_base is_added.one_number ungrouped goes stays i) {
-        namespaces = namespaces_are count moved entries entries_count whole_base refl same_namespaces i;
-      })
+    abbrev pub goes : Mount ℕ → Bool
+    goes mount = inside mount.namespace
+
+    same_namespaces : base.namespaces ≡ map namespace_of entries
+    same_namespaces =
+        (λ i. world.namespaces ++ (record { number = sym new_is i; change = 0 } ∷ []))
+        ∙ sym (map-append namespace_of value.namespaces (record { count = value.next; tasks = 1 } ∷ []))
+
+    listed : (mount : Mount ℕ) → Among mount base.mounts
+        → list_all (is_listed nat_eq base) (option_to_list mount.namespace) ≡ true
+    listed mount m =
+        ⊎_elim
+        (λ old. by mount.namespace (passes
+        (λ (x : Mount ℕ). list_all (is_listed nat_eq world)
+        (option_to_list x.namespace)) world.mounts whole.in_world.namespaces.mounts_listed mount old))
+        (λ copy.
+        ap (λ o. list_all (is_listed nat_eq base) (option_to_list o)) (copy_of mount copy).2
+        ∙ ap (λ b. b && true)
+        (ap (is_among nat_eq new) (map-append (λ (n : Namespace ℕ). n.number) world.namespaces
+        (record { number = new; change = 0 } ∷ []))
+        ∙ is_among_right new (map (λ (n : Namespace ℕ). n.number) world.namespaces) (new ∷ [])
+        (ap (λ b. b || false) (eq-eqb new new refl))))
+        (among-append world.mounts more mount m)
+      where
+        by : (o : Option ℕ) → list_all (is_listed nat_eq world) (option_to_list o) ≡ true
+            → list_all (is_listed nat_eq base) (option_to_list o) ≡ true
+        by None e = refl
+        by (Some n) e =
+            ap (λ b. b && true)
+            (ap (is_among nat_eq n) (map-append (λ (x : Namespace ℕ). x.number) world.namespaces
+            (record { number = new; change = 0 } ∷ []))
+            ∙ is_among_left n (map (λ (x : Namespace ℕ). x.number) world.namespaces) (new ∷ [])
+            (and_parts (is_listed nat_eq world n) true e).0)
+
+    -- the namespaces that have tasks
+    abbrev pub remaining : List (Namespace ℕ)
+    remaining = map namespace_of (with_one_task_less count entries)
+
+    -- the policy's world before the sweep: these mounts are detached, and then the groups without members end
+    pub ended_is : (stays : (mount : Mount ℕ) → Among mount base.mounts → goes mount ≡ false → (place : Location ℕ)
+        → mount.mount_point ≡ Some place → goes (mount_at nat_eq base place) ≡ false)
+        → namespaces_ended nat_eq (unshared nat_eq world (counts_from value.next) task)
+        ≡ regrouped nat_eq (left_world base base_holds moved goes remaining stays)
+    ended_is stays =
+        ap (namespaces_ended nat_eq) is_unshared
+        ∙ ap (λ (mounts : List (Mount ℕ)). record (taken_away nat_eq base (map (λ (x : Mount ℕ). x.number) mounts)) {
+          namespaces = filter (has_tasks nat_eq base) base.namespaces;
+        })
+        (filter_alike (is_in_ended nat_eq base) goes base.mounts (λ mount m.
+        in_ended_is count moved entries entries_count base refl same_namespaces mount (listed mount m)))
+        ∙ ap (λ (all : List (Namespace ℕ)). record (taken_away nat_eq base
+        (gone_numbers base base_holds moved goes remaining stays)) { namespaces = all })
+        (namespaces_are count moved entries entries_count base refl same_namespaces)
+        ∙ taken_is_left base base_holds moved goes remaining stays

@@ -1,13 +1,19 @@
 -- Copies of a namespace's mounts in another one: unshare(2) with CLONE_NEWNS.
 use Rattle.std.specs.List.{list_all}
 use Rattle.std.specs.Prelude.{Bool, List, [], false, filter, if◌then◌else◌, map, nat_eq, nat_lt, true, ℕ, ◌&&◌, ◌∷◌, ◌≡◌}
+use Rattle.vt_group.specs.Grouping.{Grouping}
+use Rattle.vt_group.specs.Together.{GrowsTo, typed}
+use Rattle.vt_location.specs.declared.mounts.Mount.{Mount as Attached}
 use Rattle.vt_location.specs.declared.numbers.MountId.{MountId}
+use Rattle.vt_location.specs.MountValue.{mount_of}
 use Rattle.vt_location.specs.Numbers.{counted}
 use Rattle.vt_mount.specs.MountsValue.{MountEntry, changed, held, mounts_in, released}
 use Rattle.vt_run_laws.specs.Handed.{counts_from}
 use Rattle.vt_spec.specs.Lists.{holds_of, odds}
 use Rattle.vt_spec.specs.Machine.Mounts.{Location, Mount, numbers_by}
 use Rattle.vt_spec.specs.Machine.Namespaces.{copied_mount, moved_location}
+use Rattle.vt_attach.specs.Room.{has_small_slots}
+use Rattle.vt_detach.specs.Uses.{Kept, with_attached}
 
 -- the mounts that are attached in a namespace
 abbrev pub attached_in : ℕ → List MountEntry → List (Mount ℕ)
@@ -31,6 +37,15 @@ copied_by next originals mount = copied_mount (copy_numbers next originals) (cou
 
 abbrev pub copies_of : ℕ → List (Mount ℕ) → List (Mount ℕ)
 copies_of next originals = map (copied_by next originals) originals
+
+-- the copies of a namespace's mounts were attached, and entered into the groups with their types
+pub record CopiesAttached (next namespace : ℕ) (old : Kept) (before : Grouping) (new : Kept) (now : Grouping)
+    : Type 0 where
+  pub added : List Attached
+  pub copied : map mount_of added ≡ copies_of next (attached_in namespace old.mounts)
+  pub slots : list_all has_small_slots added ≡ true
+  pub attached : new ≡ with_attached added old
+  pub grows : GrowsTo before now (map typed added) []
 
 -- where a location of the caller is then
 abbrev pub moved_in : ℕ → List (Mount ℕ) → Location ℕ → Location ℕ

@@ -4,6 +4,7 @@ pub mod Copying
 pub mod Room
 pub mod Planned
 pub mod Grafted
+pub mod Moved
 pub mod AttachedGroups
 pub mod AttachedNumbers
 pub mod PlannedUses

@@ -1,21 +1,63 @@
 //! Copies of a namespace's mounts: unshare(2) with `CLONE_NEWNS`.
-ghost use Rattle.std.specs.Prelude.{List, ℕ, ◌+◌, ◌*◌, ◌<◌, ◌≡◌, IfOk, false, find, length, map, nat_eq, option_map, true};
+ghost use Rattle.std.specs.Prelude.{List, ℕ, ◌+◌, ◌*◌, ◌<◌, ◌≡◌, IfErr, IfOk, OnErr, OnOk, false, find, length, map, nat_eq, nat_lt, option_map, true};
+ghost use Rattle.std.specs.List.{list_all};
 ghost use Rattle.vt_location.specs.Locations.{location_of};
 ghost use Rattle.vt_location.specs.MountValue.{mount_of};
 ghost use Rattle.vt_location.specs.Numbers.{counted};
 ghost use Rattle.vt_mount.specs.MountsValue.{mounts_in, uses_of, writers_of};
+ghost use Rattle.vt_spec.specs.declared.errors.Rule.TheVariants.{S5};
+ghost use Rattle.vt_spec.specs.Errors.{denial};
 ghost use Rattle.vt_spec.specs.Lists.{holds_of};
 ghost use Rattle.vt_spec.specs.Machine.Mounts as meant;
 ghost use Rattle.vt_spec.specs.Machine.Namespaces.{location_on_copy};
-ghost use Rattle.vt_attach.specs.Copying.{AreOf, are_rising, attached_in, copied_by, copies_of, copy_numbers, moved_in, with_use_moved};
+ghost use Rattle.vt_attach.specs.Copying.{AreOf, CopiesAttached, are_rising, attached_in, copied_by, copies_of, copy_numbers, moved_in, with_use_moved};
+ghost use Rattle.vt_detach.specs.Uses.{kept};
 
+use crate::planned::{Planned, attach_planned};
 use std::alloc::{AllocError, Global};
+use vt_fs::Filesystems;
+use vt_group::Groups;
 use vt_location::{Location, Mount, MountId, NamespaceId};
 use vt_mount::Mounts;
+use vt_spec::errors::{Deny, Rule};
 
-/// Copies of the mounts of a namespace in the one that is counted `next`, in their order: the copy of the i-th, from 0,
-/// is counted `next + 2·i + 1`, and its mount point is on the copy of its parent.
-pub(crate) fn copies(
+/// Attaches copies of the mounts of a namespace in the one that is counted `next`, after all others; or nothing. The
+/// copy of a shared mount is in its peer group, that of a slave has its master.
+///
+/// S5 (ENOMEM): an allocation failed, or an inode or a filesystem would have more than 2^64 - 1 uses.
+pub fn attach_copies(
+    alloc: Global,
+    mounts: &mut Mounts,
+    groups: &mut Groups,
+    filesystems: &mut Filesystems,
+    namespace: NamespaceId,
+    next: u64,
+) -> Result<(), Deny>
+    requires room { next + 2 * length (attached_in (counted namespace.count) mounts.old) + 1 < u64.MAX }
+    requires before { list_all (λ mount. nat_lt mount.number (counted next)) (mounts_in mounts.old) ≡ true }
+    ensures ok { OnOk result (CopiesAttached next (counted namespace.count) (kept mounts.old filesystems.old) groups.old
+        (kept mounts.new filesystems.new) groups.new) }
+    ensures memory { IfErr result (λ deny. deny ≡ denial S5) }
+    ensures err_mounts { OnErr result (mounts.new ≡ mounts.old) }
+    ensures err_groups { OnErr result (groups.new ≡ groups.old) }
+    ensures err_filesystems { OnErr result (filesystems.new ≡ filesystems.old) }
+{
+    mounts.are_ascending();
+    let Ok(added) = copies(alloc, mounts, namespace, next) else {
+        return Err(Rule::S5.denial());
+    };
+    let plan = Planned {
+        copies: &added,
+        groups: &[],
+        points: &[],
+    };
+    attach_planned(alloc, mounts, groups, filesystems, &plan)?;
+    Ok(())
+}
+
+// Copies of the mounts of a namespace in the one that is counted `next`, in their order: the copy of the i-th, from 0,
+// is counted `next + 2·i + 1`, and its mount point is on the copy of its parent.
+fn copies(
     alloc: Global,
     mounts: &Mounts,
     namespace: NamespaceId,

@@ -7,4 +7,5 @@ pub mod bound;
 pub mod copying;
 pub mod grafted;
 pub mod laws;
+pub mod moved;
 pub mod planned;

@@ -37,9 +37,9 @@ pub struct Planned<'a> {
 
 // The mount points that mounts get, and those that they leave.
 #[derive(Debug, Drop)]
-struct Moves {
-    taken: Vec<Location>,
-    left: Vec<Location>,
+pub(crate) struct Moves {
+    pub(crate) taken: Vec<Location>,
+    pub(crate) left: Vec<Location>,
 }
 
 /// Attaches mounts after all others, with the groups that they form, and moves others: all or nothing. The roots and
@@ -82,7 +82,7 @@ pub fn attach_planned(
 
 // Whether all uses that come can be counted: two of an inode for each copy, and one for each mount that moves, at the
 // most.
-fn plan_has_room(filesystems: &Filesystems, plan: &Planned) -> bool
+pub(crate) fn plan_has_room(filesystems: &Filesystems, plan: &Planned) -> bool
     ensures fits { result ≡ true → 2 * length plan.now.copies.now + length plan.now.points.now ≤ most_counted }
     ensures copies { result ≡ true → list_all
         (has_room (most_counted - (2 * length plan.now.copies.now + length plan.now.points.now))
@@ -189,7 +189,11 @@ fn change_all(
 }
 
 // Mounts move, the last one of the list first.
-fn move_all(alloc: Global, mounts: &mut Mounts, points: &[NewPoint]) -> Result<Moves, Deny>
+pub(crate) fn move_all(
+    alloc: Global,
+    mounts: &mut Mounts,
+    points: &[NewPoint],
+) -> Result<Moves, Deny>
     ensures mounts { OnOk result (mounts.new ≡ with_points points.now mounts.old) }
     ensures moves { IfOk result (λ moves. AreMoves points.now mounts.old moves.taken.items moves.left.items) }
     ensures memory { IfErr result (λ deny. deny ≡ denial S5) }
@@ -238,7 +242,7 @@ fn note(moves: &mut Moves, taken: Location, left: Option<Location>) -> Result<()
 }
 
 // The inodes at mount points are used once more.
-fn pin_all(filesystems: &mut Filesystems, points: &[Location])
+pub(crate) fn pin_all(filesystems: &mut Filesystems, points: &[Location])
     requires { list_all (λ point. point_has_room (most_counted - length points.now) (shown filesystems.old)
         (Some point)) points.now ≡ true }
     ensures { shown filesystems.new ≡ folded pinned_by (shown filesystems.old) points.now }
@@ -250,7 +254,7 @@ fn pin_all(filesystems: &mut Filesystems, points: &[Location])
 }
 
 // The inodes at mount points are used once less.
-fn unpin_all(filesystems: &mut Filesystems, points: &[Location])
+pub(crate) fn unpin_all(filesystems: &mut Filesystems, points: &[Location])
     ensures { shown filesystems.new ≡ folded unpinned_by (shown filesystems.old) points.now }
 {
     for point in points {

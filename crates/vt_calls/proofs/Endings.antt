@@ -17,15 +17,8 @@ use Rattle.vt_spec.specs.Machine.World.{Task, task_called}
 use Rattle.vt_permits.specs.Allocating.{TakesMemory}
 use Rattle.vt_permits.specs.Memory.{JudgesAlike, JudgesByReceivers}
 use Rattle.vt_permits.specs.PermitValue.{permit_of}
-use Rattle.vt_location.specs.Numbers.{counted}
 use Rattle.vt_permits.specs.declared.permit.Permit as code
-use Rattle.vt_spec.specs.Machine.Permits as permits
-use Rattle.vt_permits.specs.declared.permit.Permit.TheVariants.{ToSetType}
-use Rattle.vt_permit_laws.specs.Steps.{makes_shared}
-use Rattle.vt_location.specs.declared.numbers.MountId.{MountId}
 use Rattle.vt_request.specs.Answers.{answer_of}
-use Rattle.vt_request.specs.Requests.{type_word_of}
-use Rattle.vt_request.specs.declared.request.TypeWord.{TypeWord}
 use Rattle.vt_request.specs.declared.answer.Answer.{Answer}
 use Rattle.vt_request.specs.declared.answer.Answer.TheVariants.{Done}
 use Rattle.vt_run_laws.proofs.AlikeWorlds.{sameness_is_an_equivalence}
@@ -34,7 +27,7 @@ use Rattle.vt_detach.specs.Events.{Becomes, Permits, left_by, supply_of}
 use Rattle.vt_detach.specs.Held.{IsHeld}
 use Rattle.vt_detach.specs.WorldValue.{WorldValue, world_of}
 use Rattle.vt_calls.proofs.Finishing.{answers, grants, leaves, refuses}
-use Rattle.vt_calls.proofs.Forms.{frees, is_free, types}
+use Rattle.vt_calls.proofs.Forms.{frees, is_free}
 use Rattle.vt_calls.proofs.Supplies.{AreVacant, allotted, counts, judged_with, permits}
 use Rattle.vt_calls.specs.Answered.{answered}
 use Rattle.vt_answers.specs.Ends.{MayBeRefusedMemory}
@@ -68,7 +61,8 @@ module _ (value : WorldValue) (name : TaskName) (call : Call) (held : IsHeld val
         outcome = (
           inr (
             short,
-            subst (λ fresh. MayBeRefusedMemory call (policy nat_eq fresh (world_of value) name call).answer) (sym supplied.1) may,
+            subst (λ fresh. MayBeRefusedMemory call (policy nat_eq fresh (world_of value) name call).answer)
+                (sym supplied.1) may,
           ),
           refl,
         );
@@ -81,7 +75,8 @@ module _ (value : WorldValue) (name : TaskName) (call : Call) (held : IsHeld val
       refused_by (denial S2)
       (ap (λ found. (after (world_of value) (ok_or found (denial S2)) (λ one.
       finished nat_eq (world_of value) name call
-      (filesystems_changed_by nat_eq (world_of value) (judge_in nat_eq (counts_from value.next) (world_of value) one call))
+      (filesystems_changed_by nat_eq (world_of value)
+      (judge_in nat_eq (counts_from value.next) (world_of value) one call))
       (call_outcome nat_eq (counts_from value.next) (world_of value) one call))).answer) called)
 
   -- as it is judged
@@ -96,7 +91,8 @@ module _ (value : WorldValue) (name : TaskName) (call : Call) (held : IsHeld val
       (sym (answers (counts_from value.next) (world_of value) name task call called (Ok permit) e ∙ granted.1)) tt)
       (λ none. let same : Ok permit ≡ Err deny = alike none in cc)
   refused task called (Err refusal) e deny (inl same) alike =
-      refused_by deny (refuses (counts_from value.next) (world_of value) name task call called refusal e ∙ ap Err (sym same))
+      refused_by deny (refuses (counts_from value.next) (world_of value) name task call called refusal e
+      ∙ ap Err (sym same))
   refused task called (Err refusal) e deny (inr (short, late)) alike =
       later (refuses (counts_from value.next) (world_of value) name task call called refusal e)
     where
@@ -115,7 +111,8 @@ module _ (value : WorldValue) (name : TaskName) (call : Call) (held : IsHeld val
 
 -- A call that is given a permit
 
-module _ (old : WorldValue) (name : TaskName) (call : Call) (permit : code.Permit) (given : IsPermitted old name call permit) where
+module _ (old : WorldValue) (name : TaskName) (call : Call) (permit : code.Permit)
+    (given : IsPermitted old name call permit) where
   abbrev granted : Permit ℕ
   granted = permit_of given.task permit
 
@@ -126,16 +123,19 @@ module _ (old : WorldValue) (name : TaskName) (call : Call) (permit : code.Permi
   ends_ok new answer vacant told becomes =
       let fresh = supply_of old granted in
       let supplied = allotted old given.held granted vacant in
-      let judged : judge_in nat_eq fresh (world_of old) given.task call ≡ Ok granted = judged_with old name call permit given fresh in
+      let judged : judge_in nat_eq fresh (world_of old) given.task call
+      ≡ Ok granted = judged_with old name call permit given fresh in
       let meets : Meets call (policy nat_eq fresh (world_of old) name call) (Ok answer) old new = (
         answers fresh (world_of old) name given.task call given.called (Ok granted) judged ∙ told,
-        sameness_is_an_equivalence.onward (policy nat_eq fresh (world_of old) name call).world (left_by old given.task granted)
+        sameness_is_an_equivalence.onward (policy nat_eq fresh (world_of old) name call).world
+            (left_by old given.task granted)
             (world_of new)
             (leaves fresh (world_of old) name given.task call given.called granted judged given.held.in_world.nothing_unused)
             (becomes given.task given.called),
       ) in
       let handed : Meets call (policy nat_eq supplied.0.new (world_of old) name call) (Ok answer) old new =
-      subst (λ numbers. Meets call (policy nat_eq numbers (world_of old) name call) (Ok answer) old new) (sym supplied.1) meets in record {
+      subst (λ numbers. Meets call (policy nat_eq numbers (world_of old) name call) (Ok answer) old new)
+      (sym supplied.1) meets in record {
         allotment = supplied.0;
         serves = supplied.2;
         outcome = handed;
@@ -152,7 +152,8 @@ module _ (old : WorldValue) (name : TaskName) (call : Call) (permit : code.Permi
       (short_by old name call given.held deny short
       (subst (MayBeRefusedMemory call)
       (sym (answers fresh (world_of old) name given.task call given.called (Ok granted) given.judged ∙ told.1)) tt)
-      (frees (looks_of nat_eq (world_of old)) (overfills nat_eq fresh (world_of old) given.task) given.task call granted given.judged
+      (frees (looks_of nat_eq (world_of old))
+      (overfills nat_eq fresh (world_of old) given.task) given.task call granted given.judged
       taken))
 
 -- The permit, as an arm of code has it, and as the definitions see it
@@ -174,7 +175,8 @@ module _ (old : WorldValue) (name : TaskName) (permit arm : code.Permit) (meant 
   made new answer vacant told becomes call given =
       let same = granted_is call given in
       ends_ok old name call permit given new answer (subst (AreVacant old) (sym same) vacant)
-      (subst (λ p. (apply nat_eq (supply_of old p) (world_of old) given.task p).answer ≡ Ok (answer_of answer)) (sym same)
+      (subst (λ p. (apply nat_eq (supply_of old p) (world_of old) given.task p).answer ≡ Ok (answer_of answer))
+      (sym same)
       (told given.task given.called))
       (subst (λ p. Becomes old name p new) (sym same) becomes)
 
@@ -218,16 +220,3 @@ module _ (old : WorldValue) (name : TaskName) (permit arm : code.Permit) (meant 
       subst (λ r. EndsGiven old name permit r new) (sym e) (made new Done vacant told becomes)
   changed_if new (Err deny) result e vacant told P taken when becomes memory same =
       subst (λ r. EndsGiven old name permit r new) (sym e) (short new deny memory same (taken when))
-
--- The grammar lets no call make a mount shared
-
-pub unshared_type : (old : WorldValue) (name : TaskName) (permit : code.Permit) (mount : MountId) (word : TypeWord) (recursive : Bool)
-    → permit ≡ ToSetType mount word recursive → IsGiven old name permit
-    → makes_shared (permits.Permit.ToSetType (counted mount.count) (type_word_of word) recursive) ≡ false
-unshared_type old name permit mount word recursive is given =
-    let asked = given.1 in
-    let fresh = counts_from old.next in
-    let fits : makes_shared (permit_of asked.task permit) ≡ false =
-    types (looks_of nat_eq (world_of old)) (overfills nat_eq fresh (world_of old) asked.task) asked.task given.0
-    (permit_of asked.task permit) asked.judged asked.has in
-    ap (λ p. makes_shared (permit_of asked.task p)) (sym is) ∙ fits

@@ -108,7 +108,8 @@ module _ (fresh : Fresh ℕ) (world : World ℕ) (name : TaskName) (task : Task 
   abbrev changed : List ℕ
   changed = filesystems_changed_by nat_eq world (judge_in nat_eq fresh world task call)
 
-  policy_is : policy nat_eq fresh world name call ≡ finished nat_eq world name call changed (call_outcome nat_eq fresh world task call)
+  policy_is : policy nat_eq fresh world name call
+      ≡ finished nat_eq world name call changed (call_outcome nat_eq fresh world task call)
   policy_is =
       ap (λ found. after world (ok_or found (denial S2)) (λ one.
       finished nat_eq world name call (filesystems_changed_by nat_eq world (judge_in nat_eq fresh world one call))
@@ -116,7 +117,8 @@ module _ (fresh : Fresh ℕ) (world : World ℕ) (name : TaskName) (task : Task 
 
   -- and what it leaves is the world in which the permit was applied, with what nothing uses gone
   pub leaves : (permit : Permit ℕ) → judge_in nat_eq fresh world task call ≡ Ok permit → settled nat_eq world ≡ world
-      → SameWorlds (policy nat_eq fresh world name call).world (settled nat_eq (apply nat_eq fresh world task permit).world)
+      → SameWorlds (policy nat_eq fresh world name call).world
+      (settled nat_eq (apply nat_eq fresh world task permit).world)
   leaves permit e in_use = by (only_looks call) refl
     where
       outcome : Outcome ℕ
@@ -129,22 +131,28 @@ module _ (fresh : Fresh ℕ) (world : World ℕ) (name : TaskName) (task : Task 
       ok = ap (λ (o : Outcome ℕ). is_ok o.answer) applied ∙ ap is_ok (grants fresh world task permit).1
 
       by : (b : Bool) → only_looks call ≡ b
-          → SameWorlds (policy nat_eq fresh world name call).world (settled nat_eq (apply nat_eq fresh world task permit).world)
+          → SameWorlds (policy nat_eq fresh world name call).world
+          (settled nat_eq (apply nat_eq fresh world task permit).world)
       by true looks =
-          let left : (policy nat_eq fresh world name call).world ≡ world = look_changes_nothing fresh world name call looks in
+          let left : (policy nat_eq fresh world name call).world
+          ≡ world = look_changes_nothing fresh world name call looks in
           let same : policy nat_eq fresh world name call ≡ outcome =
           policy_is ∙ ap (λ b. finished_by nat_eq (b || not (is_ok outcome.answer)) world name changed outcome) looks in
           let kept : (apply nat_eq fresh world task permit).world ≡ world =
           ap (λ (o : Outcome ℕ). o.world) (sym applied) ∙ ap (λ (o : Outcome ℕ). o.world) (sym same) ∙ left in
-          let ends : settled nat_eq (apply nat_eq fresh world task permit).world ≡ world = ap (settled nat_eq) kept ∙ in_use in
+          let ends : settled nat_eq (apply nat_eq fresh world task permit).world ≡ world = ap (settled nat_eq) kept
+          ∙ in_use in
           subst (λ w. SameWorlds w (settled nat_eq (apply nat_eq fresh world task permit).world)) (sym left)
           (subst (λ w. SameWorlds world w) (sym ends) (sameness_is_an_equivalence.itself world))
       by false looks =
-          let left : (cond (only_looks call || not (is_ok outcome.answer)) outcome.world (settled nat_eq outcome.world)) ≡ settled
+          let left : (cond (only_looks call || not (is_ok outcome.answer)) outcome.world (settled nat_eq outcome.world))
+          ≡ settled
           nat_eq outcome.world =
           ap (λ b. cond (b || not (is_ok outcome.answer)) outcome.world (settled nat_eq outcome.world)) looks
           ∙ ap (λ b. cond (not b) outcome.world (settled nat_eq outcome.world)) ok in
-          let raised : without_changes (policy nat_eq fresh world name call).world ≡ without_changes (settled nat_eq outcome.world) =
+          let raised : without_changes (policy nat_eq fresh world name call).world
+          ≡ without_changes (settled nat_eq outcome.world) =
           (last_step_raises_numbers_alone fresh world name task call called).1 ∙ ap without_changes left in
-          subst (λ (o : Outcome ℕ). SameWorlds (policy nat_eq fresh world name call).world (settled nat_eq o.world)) applied
+          subst (λ (o : Outcome ℕ). SameWorlds (policy nat_eq fresh world name call).world
+          (settled nat_eq o.world)) applied
           (same_but_for_changes (policy nat_eq fresh world name call).world (settled nat_eq outcome.world) raised)

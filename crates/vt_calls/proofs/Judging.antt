@@ -2,7 +2,7 @@
 use Rattle.std.proofs.Common.{◌≡◌, refl, sym, subst, ◌∙◌, ℕ, true, nat_eq, Some, None, Result, Ok, Err, arith}
 use Rattle.std.specs.Prelude.{IfErr, IfOk}
 use Rattle.std.proofs.lemmas.Grind.{common_steps}
-use Rattle.vt_spec.specs.Language.Script.{namespaces}
+use Rattle.vt_spec.specs.Language.Script.{propagation}
 use Rattle.vt_spec.specs.declared.errors.Deny.{Deny}
 use Rattle.vt_spec.specs.Machine.Judge.{Judgement, judge, judge_in}
 use Rattle.vt_spec.specs.Machine.World.{Task, task_called}
@@ -31,7 +31,7 @@ few (call.Fork None) = refl
 few asked = refl
 
 module _ (value : WorldValue) (name : TaskName) (asked : Call) (held : IsHeld value) (task : Task ℕ)
-    (called : task_called (world_of value) name ≡ Some task) (has : namespaces.has (call_of asked) ≡ true) where
+    (called : task_called (world_of value) name ≡ Some task) (has : propagation.has (call_of asked) ≡ true) where
   tied : judge nat_eq (looks_of_value value) (overfills_of value) task (call_of asked)
       ≡ judge_in nat_eq (counts_from value.next) (world_of value) task (call_of asked)
   tied = judged_alike value task (call_of asked) (no_overlay (call_of asked) has)

@@ -4,7 +4,7 @@ use Rattle.std.specs.Prelude.{All, ⊤}
 use Rattle.std.proofs.lemmas.List.Elements.{All-cons}
 use Rattle.vt_spec.specs.Language.Calls.{Call, TaskName}
 use Rattle.vt_spec.specs.Language.Calls.Call.{MountOverlay}
-use Rattle.vt_spec.specs.Language.Script.{namespaces}
+use Rattle.vt_spec.specs.Language.Script.{propagation}
 use Rattle.vt_spec.specs.Machine.Judge.{judge_in}
 use Rattle.vt_spec.specs.Machine.Permits.{Permit}
 use Rattle.vt_spec.specs.Machine.Permits.Permit.{Allowed, ToBind, ToChange, ToClose, ToEnterNamespace, ToExit, ToFork, ToList, ToListMounts, ToMake, ToMountOverlay, ToMountPlain, ToMove, ToOpen, ToOpenNew, ToPivot, ToRead, ToReadPart, ToRemoveDirectory, ToRename, ToSetCredentials, ToSetDirectory, ToSetFlags, ToSetRoot, ToSetType, ToSetUmask, ToStat, ToUnmount, ToUnmountLazily, ToUnshare, ToWritePart}
@@ -36,7 +36,8 @@ filesystems_plain : (entries : List FilesystemEntry)
     → All (λ (filesystem : Filesystem ℕ). is_overlay filesystem ≡ false) (filesystems_seen entries)
 filesystems_plain [] = λ k d below. absurd (omega arith)
 filesystems_plain (entry ∷ rest) =
-    All-cons (λ (filesystem : Filesystem ℕ). is_overlay filesystem ≡ false) (filesystem_seen entry) (filesystems_seen rest) refl
+    All-cons (λ (filesystem : Filesystem ℕ). is_overlay filesystem ≡ false) (filesystem_seen entry)
+    (filesystems_seen rest) refl
     (filesystems_plain rest)
 
 pub plain : (value : WorldValue) → IsPlain (world_of value)
@@ -51,7 +52,8 @@ AreVacant value permit = ⊤
 
 -- the numbers of a supply are an allotment
 abbrev pub IsAllotted : WorldValue → (ℕ → ℕ) → Type 0
-IsAllotted value fresh = (allotment : Allotment) × (allotment.new ≡ fresh) × ServesInHand may_be_given (world_of value) allotment
+IsAllotted value fresh = (allotment : Allotment) × (allotment.new ≡ fresh)
+    × ServesInHand may_be_given (world_of value) allotment
 
 pub counts : (value : WorldValue) → IsHeld value → IsAllotted value (counts_from value.next)
 counts value held = counts_serve value.next (world_of value) held.given
@@ -65,7 +67,8 @@ handed value held place inode vacant =
 pub allotted : (value : WorldValue) → IsHeld value → (permit : Permit ℕ) → AreVacant value permit
     → IsAllotted value (supply_of value permit)
 allotted value held (ToMake directory name node) vacant = handed value held 0 (next_inode value directory) vacant
-allotted value held (ToOpenNew directory name node access) vacant = handed value held 0 (next_inode value directory) vacant
+allotted value held (ToOpenNew directory name node access) vacant = handed value held 0
+    (next_inode value directory) vacant
 allotted value held (ToMountPlain place flags) vacant = handed value held 2 (inode_number value.next 0) vacant
 allotted value held Allowed vacant = counts value held
 allotted value held (ToList directory) vacant = counts value held
@@ -97,11 +100,12 @@ allotted value held (ToPivot new put) vacant = counts value held
 allotted value held ToListMounts vacant = counts value held
 
 -- the grammar has no mount of an overlay
-pub no_overlay : (call : Call) → namespaces.has call ≡ true → mounts_overlay call ≡ false
+pub no_overlay : (call : Call) → propagation.has call ≡ true → mounts_overlay call ≡ false
 no_overlay (MountOverlay path options flags) has = absurd cc
 no_overlay call has = refl
 
-module _ (value : WorldValue) (name : TaskName) (call : Call) (permit : code.Permit) (given : IsPermitted value name call permit) where
+module _ (value : WorldValue) (name : TaskName) (call : Call) (permit : code.Permit)
+    (given : IsPermitted value name call permit) where
   abbrev granted : Permit ℕ
   granted = permit_of given.task permit
 

@@ -1,4 +1,5 @@
--- What the world of the code judges is what the definitions judge: whether a namespace gets too many mounts does not go by the task.
+-- What the world of the code judges is what the definitions judge: whether a namespace gets too many mounts does not go
+-- by the task.
 use Rattle.std.proofs.Common.{◌≡◌, refl, ℕ, false, nat_eq}
 use Rattle.vt_spec.specs.Language.Calls.{Call}
 use Rattle.vt_spec.specs.Language.Calls.Call.{Bind, Chdir, Chmod, Chown, Chroot, Close, Drop, Exec, Exit, Fork, Lazy, LinkTo, ListMounts, Ls, Lstat, MakeWhiteout, Mkdir, MountOverlay, MountPlain, MoveMount, Opaque, OpenFile, PivotRoot, Pread, Pwrite, Read, Readlink, Remount, Rename, Rmdir, SetType, Setns, Stat, SymlinkAt, Umask, Umount, Unlink, Unshare, Write}

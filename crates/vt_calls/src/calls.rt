@@ -1,6 +1,6 @@
 //! The calls of tasks.
 ghost use Rattle.std.specs.Prelude.{◌≡◌, Err, IfErr, IfOk, true};
-ghost use Rattle.vt_spec.specs.Language.Script.{namespaces};
+ghost use Rattle.vt_spec.specs.Language.Script.{propagation};
 ghost use Rattle.vt_request.specs.Requests.{call_of};
 ghost use Rattle.vt_detach.specs.WorldValue.{world_of};
 ghost use Rattle.vt_calls.specs.Meets.{Ends};
@@ -13,7 +13,7 @@ use vt_answers::Calls;
 use vt_ns::World;
 use vt_permits::Permit;
 use vt_policy::judge;
-use vt_request::{Answer, Call, TaskName};
+use vt_request::{Answer, Call, Directive, TaskName};
 use vt_spec::errors::{Deny, Rule};
 
 /// A world that answers calls.
@@ -43,6 +43,12 @@ impl Calls for Kernel {
         judged_call(&mut self.world, name, call)
     }
 
+    fn direct(&self, directive: Directive) -> Result<Answer, Deny> {
+        match directive {
+            Directive::Peers => Ok(Answer::PeerList(self.world.peers()?)),
+        }
+    }
+
     fn has_numbers(&self) {
         self.world.is_held();
     }
@@ -51,7 +57,7 @@ impl Calls for Kernel {
 // Judges a call, and applies its permit.
 #[inline(always)]
 fn judged_call(world: &mut World, name: &TaskName, call: Call) -> Result<Answer, Deny>
-    requires { namespaces.has (call_of call) ≡ true }
+    requires { propagation.has (call_of call) ≡ true }
     ensures { Ends world.old name.now (call_of call) result world.new }
 {
     match permit_of(world, name, call) {
@@ -63,7 +69,7 @@ fn judged_call(world: &mut World, name: &TaskName, call: Call) -> Result<Answer,
 // What a call is permitted in the world. S2 (ESRCH): there is no such task. The other rules are those of the call.
 #[inline(always)]
 fn permit_of(world: &World, name: &TaskName, call: Call) -> Result<Permit, Deny>
-    requires { namespaces.has (call_of call) ≡ true }
+    requires { propagation.has (call_of call) ≡ true }
     ensures ok { IfOk result (λ permit. IsPermitted world.now name.now (call_of call) permit) }
     ensures err { IfErr result (λ deny. Ends world.now name.now (call_of call) (Err deny) world.now) }
 {

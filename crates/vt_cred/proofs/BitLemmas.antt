@@ -40,11 +40,14 @@ and-includes set wanted includes = same_from_bits (bit_and set wanted) wanted (�
 
 pub Decides-has_all : (set wanted : ℕ) → Decides (has_all set wanted) (Includes set wanted)
 Decides-has_all set wanted =
-    let test = Decides-eqb (bit_and set wanted) wanted in
-    ((λ held place is_wanted. bit-from_and set wanted place (test.0 held) is_wanted), (λ includes. test.1 (and-includes set wanted includes)))
+    let test = Decides-eqb (bit_and set wanted) wanted in (
+      (λ held place is_wanted. bit-from_and set wanted place (test.0 held) is_wanted),
+      (λ includes. test.1 (and-includes set wanted includes)),
+    )
 
 -- of a number below 2 ^ w that is taken from the w ones, a bit is left where the number has none
-bit-from_ones : (w taken place : ℕ) → taken < 2 ^ w → place < w → bit_at (2 ^ w - 1 - taken) place + bit_at taken place ≡ 1
+bit-from_ones : (w taken place : ℕ) → taken < 2 ^ w → place < w
+    → bit_at (2 ^ w - 1 - taken) place + bit_at taken place ≡ 1
 bit-from_ones w taken place small within =
     let rest = bit_at (2 ^ w - 1 - taken) place in
     let gone = bit_at taken place in
@@ -64,13 +67,17 @@ bit-from_ones w taken place small within =
     ]
 
 -- a place at which the mask has a bit just where what is taken has none
-without-inside : (set taken mask place : ℕ) → bit_at mask place + bit_at taken place ≡ 1 → IsBitSet (bit_and set mask) place ↔ (IsBitSet set place × ¬ IsBitSet taken place)
+without-inside : (set taken mask place : ℕ) → bit_at mask place + bit_at taken place ≡ 1
+    → IsBitSet (bit_and set mask) place ↔ (IsBitSet set place × ¬ IsBitSet taken place)
 without-inside set taken mask place apart =
     let both = bit_at_and set mask place in
     let set_small = bit_at-lt set place in (
       (λ left.
-          let one = one-from_IsBitSet (bit_and set mask) place left in
-          (IsBitSet-from_one set place (omega arith), λ gone. let gone_one = one-from_IsBitSet taken place gone in omega arith)),
+          let one = one-from_IsBitSet (bit_and set mask) place left in (
+            IsBitSet-from_one set place (omega arith),
+            λ gone.
+                let gone_one = one-from_IsBitSet taken place gone in omega arith,
+          )),
       (λ kept.
           let one = one-from_IsBitSet set place kept.0 in
           elim (zero_or_one (bit_at taken place) (bit_at-lt taken place)) [
@@ -80,7 +87,8 @@ without-inside set taken mask place apart =
     )
 
 -- a place at which the set has no bit
-without-outside : (set taken mask place : ℕ) → bit_at set place ≡ 0 → IsBitSet (bit_and set mask) place ↔ (IsBitSet set place × ¬ IsBitSet taken place)
+without-outside : (set taken mask place : ℕ) → bit_at set place ≡ 0
+    → IsBitSet (bit_and set mask) place ↔ (IsBitSet set place × ¬ IsBitSet taken place)
 without-outside set taken mask place none =
     let both = bit_at_and set mask place in (
       (λ left. let one = one-from_IsBitSet (bit_and set mask) place left in absurd (omega arith)),
@@ -88,7 +96,8 @@ without-outside set taken mask place none =
     )
 
 -- a mask of the w ones without some bits takes just those bits away
-pub IsWithout-and : (w set taken : ℕ) → set < 2 ^ w → taken < 2 ^ w → IsWithout set taken (bit_and set (2 ^ w - 1 - taken))
+pub IsWithout-and : (w set taken : ℕ) → set < 2 ^ w → taken < 2 ^ w
+    → IsWithout set taken (bit_and set (2 ^ w - 1 - taken))
 IsWithout-and w set taken set_small taken_small = λ place.
     elim (cases_lt place w) [
       | inl within ↦ without-inside set taken (2 ^ w - 1 - taken) place (bit-from_ones w taken place taken_small within)
@@ -99,7 +108,8 @@ IsWithout-and w set taken set_small taken_small = λ place.
 pub and-not_umask : (umask asked : ℕ) → umask ≤ 1023 → asked ≤ 1023 → bit_and asked (65535 - umask) ≡ masked umask asked
 and-not_umask umask asked umask_small asked_small =
     let whole : bit_and asked 1023 ≡ asked = and_mask asked 10 ∙ omega arith in
-    let low : bit_and 1023 (65535 - umask) ≡ 1023 - umask = and_comm 1023 (65535 - umask) ∙ and_mask (65535 - umask) 10 ∙ omega arith in
+    let low : bit_and 1023 (65535 - umask) ≡ 1023 - umask = and_comm 1023 (65535 - umask) ∙ and_mask (65535 - umask) 10
+    ∙ omega arith in
     ap (λ n. bit_and n (65535 - umask)) (sym whole) ∙ and_assoc (65535 - umask) asked 1023 ∙ ap (bit_and asked) low
 
 pub Decides-IsBitSet : (n place : ℕ) → Decides (bit_at n place == 1) (IsBitSet n place)

@@ -1,4 +1,5 @@
--- From what code counts to what the sweep leaves: where inodes got uses and lost uses, and mounts and filesystems went as the
+-- From what code counts to what the sweep leaves: where inodes got uses and lost uses, and mounts and filesystems went
+-- as the
 -- sweep says, the code's world is the one that the sweep leaves, and counts what is in it.
 use Rattle.std.proofs.Common.{◌≡◌, sym, subst, ◌∙◌, ℕ, nat_eq, not, List, map}
 use Rattle.vt_spec.specs.Machine.SameWorlds.{SameWorlds, without_changes}
@@ -25,7 +26,8 @@ pub use Rattle.vt_detach.proofs.Showing.{found_filesystem}
 use Rattle.vt_detach.proofs.Showing.{ShowsAs, shown_has, shown_is_counted, shown_is_same}
 
 -- An entry comes from one of the same filesystem, in which inodes got these uses and lost those.
-pub record ComesFrom (old : WorldValue) (after : World ℕ) (gained lost : List Inode) (entry : FilesystemEntry) : Type 0 where
+pub record ComesFrom (old : WorldValue) (after : World ℕ) (gained lost : List Inode)
+    (entry : FilesystemEntry) : Type 0 where
   pub was : FilesystemEntry
   pub among : Among was old.filesystems
   pub count : entry.count ≡ was.count
@@ -52,11 +54,14 @@ module _ (old : WorldValue) (held : IsHeld old) (after : World ℕ) (gained lost
       → IsCounted left (filesystem_numbered nat_eq left (counted entry.count)) (inodes_seen entry)
   counted_left entry m =
       let from = swept.entries entry m in
-      let was_counted = (among_from_all (CountsItsMounts (world_of old)) old.filesystems held.filesystems from.was from.among).inodes in
-      subst (λ count. IsCounted left (filesystem_numbered nat_eq left (counted count)) (inodes_seen entry)) (sym from.count)
+      let was_counted = (among_from_all
+      (CountsItsMounts (world_of old)) old.filesystems held.filesystems from.was from.among).inodes in
+      subst (λ count. IsCounted left (filesystem_numbered nat_eq left (counted count)) (inodes_seen entry))
+      (sym from.count)
       (subst (IsCounted left (filesystem_numbered nat_eq left (counted from.was.count))) (sym from.inodes)
       (uses_are_swept (world_of old) after gained lost (counted from.was.count) (inodes_seen from.was)
-      (worlds_have_trees (world_of old) held.in_world) (worlds_are_in_use (world_of old) held.in_world).inodes swept.plain from.exchanges
+      (worlds_have_trees (world_of old) held.in_world)
+      (worlds_are_in_use (world_of old) held.in_world).inodes swept.plain from.exchanges
       (subst (λ f. IsCounted (world_of old) f (inodes_seen from.was))
       (sym (found_filesystem (world_of old).filesystems held.in_world.files.one_filesystem (filesystem_seen from.was)
       (among-map filesystem_seen old.filesystems from.was from.among)))
@@ -65,14 +70,16 @@ module _ (old : WorldValue) (held : IsHeld old) (after : World ℕ) (gained lost
 
   numbers_left : map (λ f. f.number) left.filesystems ≡ map (λ f. f.number) (living after).filesystems
   numbers_left =
-      numbers_mapped (λ f. only_used nat_eq first_round (not (is_overlay f)) f) (λ f. used_number first_round (not (is_overlay f)) f) first_round.filesystems
-      ∙ numbers_mapped (λ f. only_used nat_eq (living after) (is_overlay f) f) (λ f. used_number (living after) (is_overlay f) f) (living after).filesystems
+      numbers_mapped (λ f. only_used nat_eq first_round (not (is_overlay f)) f)
+      (λ f. used_number first_round (not (is_overlay f)) f) first_round.filesystems
+      ∙ numbers_mapped (λ f. only_used nat_eq (living after) (is_overlay f) f)
+      (λ f. used_number (living after) (is_overlay f) f) (living after).filesystems
     where
       first_round : World ℕ
       first_round = without_dead_in nat_eq is_overlay (living after)
 
-  shows : ShowsAs left new
-  shows = record {
+  pub shows_left : ShowsAs left new
+  shows_left = record {
     plain = is.1;
     mounts = swept.mounts;
     groups = has;
@@ -84,13 +91,13 @@ module _ (old : WorldValue) (held : IsHeld old) (after : World ℕ) (gained lost
 
   -- the code's world is the one that the sweep leaves
   pub swept_is_same : SameWorlds left (world_of new)
-  swept_is_same = shown_is_same left new shows is.0
+  swept_is_same = shown_is_same left new shows_left is.0
 
   -- and has the groups that are kept
   pub swept_has : Has (world_of new) new.groups
-  swept_has = shown_has left new shows is.0
+  swept_has = shown_has left new shows_left is.0
 
   -- and its inodes count what is in it
   pub swept_is_counted : (entry : FilesystemEntry) → Among entry new.filesystems → IsWorld nat_eq (world_of new)
       → IsCounted (world_of new) (filesystem_seen entry) (inodes_seen entry)
-  swept_is_counted = shown_is_counted left new shows is.0
+  swept_is_counted = shown_is_counted left new shows_left is.0

@@ -1,4 +1,5 @@
--- Where the counted inodes of one filesystem have changed, the code's world is the one that the sweep after the change leaves,
+-- Where the counted inodes of one filesystem have changed, the code's world is the one that the sweep after the change
+-- leaves,
 -- and counts what is in it.
 use Rattle.std.proofs.Common.{◌≡◌, refl, sym, ap, subst, ◌∙◌, ⊎_elim, inl, inr, true≢false, ℕ, nat_eq, eq-eqb, eqb-true, Bool, true, false, cond, [], ◌∷◌, map, Some, None, is_some, unwrap_or}
 use Rattle.std.specs.Prelude.{⊤}
@@ -71,7 +72,8 @@ module _ (count : ℕ) (change : Inodes ℕ → Inodes ℕ) where
       counts true e = ap (λ s. s.count) e
       counts false e = ap (λ s. s.count) e
 
-      inodes : (b : Bool) → shown_entry entry ≡ one b → inodes_seen entry ≡ cond b (change (inodes_seen was)) (inodes_seen was)
+      inodes : (b : Bool) → shown_entry entry ≡ one b
+          → inodes_seen entry ≡ cond b (change (inodes_seen was)) (inodes_seen was)
       inodes true e = ap (λ s. s.inodes) e
       inodes false e = ap (λ s. s.inodes) e
 
@@ -85,7 +87,8 @@ module _ (count : ℕ) (change : Inodes ℕ → Inodes ℕ) where
   ArePaired (was ∷ olds) [] = ⊥
   ArePaired (was ∷ olds) (entry ∷ news) = IsChangedEntry count change was entry × ArePaired olds news
 
-  paired : (olds news : Filesystems) → map shown_entry news ≡ map (shown_if count change) (map shown_entry olds) → ArePaired olds news
+  paired : (olds news : Filesystems) → map shown_entry news ≡ map (shown_if count change) (map shown_entry olds)
+      → ArePaired olds news
   paired [] [] same = tt
   paired [] (entry ∷ news) same = absurd cc
   paired (was ∷ olds) [] same = absurd cc
@@ -100,12 +103,18 @@ module _ (count : ℕ) (change : Inodes ℕ → Inodes ℕ) where
     pub among : Among entry news
     pub is : IsChangedEntry count change was entry
 
-  becomes_one : (olds news : Filesystems) → ArePaired olds news → (was : FilesystemEntry) → Among was olds → HasPartner was news
+  becomes_one : (olds news : Filesystems) → ArePaired olds news → (was : FilesystemEntry) → Among was olds
+      → HasPartner was news
   becomes_one [] news pairs was m = absurd m
   becomes_one (first ∷ olds) [] pairs was m = absurd pairs
   becomes_one (first ∷ olds) (entry ∷ news) pairs was m =
       ⊎_elim
-      (λ same. record { entry = entry; among = inl refl; is = subst (λ x. IsChangedEntry count change x entry) (sym same) pairs.0 })
+      (λ same. record {
+        entry = entry;
+        among = inl refl;
+        is = subst (λ x. IsChangedEntry count change x entry)
+            (sym same) pairs.0;
+      })
       (λ later. let rest = becomes_one olds news pairs.1 was later in record { entry = rest.entry; among = inr rest.among; is = rest.is }) m
 
   pub record HasSource (entry : FilesystemEntry) (olds : Filesystems) : Type 0 where
@@ -113,7 +122,8 @@ module _ (count : ℕ) (change : Inodes ℕ → Inodes ℕ) where
     pub among : Among was olds
     pub is : IsChangedEntry count change was entry
 
-  was_one : (olds news : Filesystems) → ArePaired olds news → (entry : FilesystemEntry) → Among entry news → HasSource entry olds
+  was_one : (olds news : Filesystems) → ArePaired olds news → (entry : FilesystemEntry) → Among entry news
+      → HasSource entry olds
   was_one [] [] pairs entry m = absurd m
   was_one [] (first ∷ news) pairs entry m = absurd pairs
   was_one (was ∷ olds) [] pairs entry m = absurd m
@@ -127,11 +137,13 @@ same_files : (a b : FilesystemEntry) → inodes_seen a ≡ inodes_seen b → Sam
 same_files a b same = record {
   tree = ap tree_of same;
   numbers = same_numbers_are_permuted (numbers_seen a) (numbers_seen b) (numbers_apart_each a) (numbers_apart_each b)
-      (λ number. numbers_listed a number ∙ ap (λ (inodes : Inodes ℕ). is_some (node_in (inodes.inode number))) same ∙ sym (numbers_listed b number));
+      (λ number. numbers_listed a number ∙ ap (λ (inodes : Inodes ℕ). is_some (node_in (inodes.inode number))) same
+      ∙ sym (numbers_listed b number));
 }
 
 -- A change of the files at a location of the code's world: the filesystem that the location is in, and how it changes
-pub record ChangesFiles (value : WorldValue) (location : Location ℕ) (change : Change ℕ) (filesystems : Filesystems) : Type 0 where
+pub record ChangesFiles (value : WorldValue) (location : Location ℕ) (change : Change ℕ)
+    (filesystems : Filesystems) : Type 0 where
   pub entry : FilesystemEntry
   pub among : Among entry value.filesystems
   pub found : entry_of value.filesystems entry.count ≡ Some entry
@@ -141,7 +153,8 @@ pub record ChangesFiles (value : WorldValue) (location : Location ℕ) (change :
   pub changes : ChangesInodes entry.count (changed_by change) value.filesystems filesystems
   pub own : (number : ℕ) → is_inode_of entry.count number ≡ false → MakesOther number change
 
-module _ (value : WorldValue) (held : IsHeld value) (location : Location ℕ) (change : Change ℕ) (filesystems : Filesystems)
+module _ (value : WorldValue) (held : IsHeld value) (location : Location ℕ) (change : Change ℕ)
+    (filesystems : Filesystems)
     (made : ChangesFiles value location change filesystems) where
   abbrev count : ℕ
   count = made.entry.count
@@ -161,12 +174,14 @@ module _ (value : WorldValue) (held : IsHeld value) (location : Location ℕ) (c
     plain = files_are_plain value.filesystems;
     counted =
         subst (λ f. IsCounted (world_of value) f (inodes_seen made.entry)) (sym filesystem_is)
-        (among_from_all (CountsItsMounts (world_of value)) value.filesystems held.filesystems made.entry made.among).inodes;
+        (among_from_all (CountsItsMounts
+        (world_of value)) value.filesystems held.filesystems made.entry made.among).inodes;
     fits = made.fits;
     links = made.links;
   }
 
-  the_one : (entry : FilesystemEntry) → Among entry value.filesystems → nat_eq count entry.count ≡ true → entry ≡ made.entry
+  the_one : (entry : FilesystemEntry) → Among entry value.filesystems → nat_eq count entry.count ≡ true
+      → entry ≡ made.entry
   the_one entry m same =
       same_Some entry made.entry
       (sym (one_entry value.filesystems held.in_world.files.one_filesystem entry m)
@@ -182,7 +197,8 @@ module _ (value : WorldValue) (held : IsHeld value) (location : Location ℕ) (c
   pub inodes_after : inodes_seen partner.entry ≡ changed nat_eq (inodes_seen made.entry) change
   inodes_after =
       partner.is.inodes_are
-      ∙ ap (λ b. cond b (changed nat_eq (inodes_seen made.entry) change) (inodes_seen made.entry)) (eq-eqb count count refl)
+      ∙ ap (λ b. cond b (changed nat_eq (inodes_seen made.entry) change) (inodes_seen made.entry))
+      (eq-eqb count count refl)
 
   -- with the changed files in the place of the old ones
   abbrev put : Filesystem ℕ
@@ -195,7 +211,8 @@ module _ (value : WorldValue) (held : IsHeld value) (location : Location ℕ) (c
   same_put [] (entry ∷ news) all two = absurd two
   same_put (was ∷ olds) [] all two = absurd two
   same_put (was ∷ olds) (entry ∷ news) all two = (
-    subst (λ b. SameFilesystem (cond b put (filesystem_seen was)) (filesystem_seen entry)) (sym (counted_test count was.count))
+    subst (λ b. SameFilesystem (cond b put (filesystem_seen was)) (filesystem_seen entry))
+        (sym (counted_test count was.count))
         (by (nat_eq count was.count) refl two.0.inodes_are),
     same_put olds news (λ other m. all other (inr m)) two.1,
   )
@@ -215,9 +232,11 @@ module _ (value : WorldValue) (held : IsHeld value) (location : Location ℕ) (c
         overlay = refl;
       }
 
-  same_with_tree : SameWorlds (with_tree (world_of value) (filesystem_of (world_of value) location) (files_seen partner.entry)) (world_of new)
+  same_with_tree : SameWorlds (with_tree (world_of value) (filesystem_of (world_of value) location)
+      (files_seen partner.entry)) (world_of new)
   same_with_tree =
-      subst (λ f. SameWorlds (with_filesystem nat_eq (world_of value) (with_files f (files_seen partner.entry))) (world_of new))
+      subst (λ f. SameWorlds (with_filesystem nat_eq (world_of value) (with_files f (files_seen partner.entry)))
+      (world_of new))
       (sym filesystem_is) (record {
         mounts = refl;
         master = refl;
@@ -237,7 +256,8 @@ module _ (value : WorldValue) (held : IsHeld value) (location : Location ℕ) (c
       (sameness_is_an_equivalence.back
       (with_tree (world_of value) (filesystem_of (world_of value) location) (files_seen partner.entry)) (after fresh)
       (counted_changes_are_swept fresh (world_of value) location (inodes_seen made.entry) change is_change
-      (files_seen partner.entry) (ap tree_of inodes_after) (numbers_apart_each partner.entry) (numbers_listed partner.entry)))
+      (files_seen partner.entry) (ap tree_of inodes_after) (numbers_apart_each partner.entry)
+      (numbers_listed partner.entry)))
       same_with_tree
 
   -- Counts
@@ -248,15 +268,18 @@ module _ (value : WorldValue) (held : IsHeld value) (location : Location ℕ) (c
   plain_after : IsPlain (after fresh)
   plain_after =
       same_worlds_are_plain_alike (world_of new) (after fresh)
-      (sameness_is_an_equivalence.back (after fresh) (world_of new) (change_is_swept fresh)) (files_are_plain filesystems)
+      (sameness_is_an_equivalence.back (after fresh) (world_of new) (change_is_swept fresh))
+      (files_are_plain filesystems)
 
   at_the_one : filesystem_at nat_eq (after fresh) location ≡ filesystem_numbered nat_eq (after fresh) (counted count)
   at_the_one =
-      subst (λ w. filesystem_at nat_eq w location ≡ filesystem_numbered nat_eq w (filesystem_of (world_of value) location))
+      subst (λ w. filesystem_at nat_eq w location
+      ≡ filesystem_numbered nat_eq w (filesystem_of (world_of value) location))
       (sym (only_files_change fresh (world_of value) location (inodes_seen made.entry) change is_change)) refl
       ∙ ap (filesystem_numbered nat_eq (after fresh)) made.shows
 
-  counted_then : (was entry : FilesystemEntry) → Among was value.filesystems → IsChangedEntry count (changed_by change) was entry
+  counted_then : (was entry : FilesystemEntry) → Among was value.filesystems
+      → IsChangedEntry count (changed_by change) was entry
       → IsCounted (after fresh) (filesystem_numbered nat_eq (after fresh) (counted was.count)) (inodes_seen entry)
   counted_then was entry m is = by (nat_eq count was.count) refl is.inodes_are
     where
@@ -265,7 +288,8 @@ module _ (value : WorldValue) (held : IsHeld value) (location : Location ℕ) (c
           → IsCounted (after fresh) (filesystem_numbered nat_eq (after fresh) (counted was.count)) (inodes_seen entry)
       by true e inodes =
           let same = the_one was m e in
-          subst (λ n. IsCounted (after fresh) (filesystem_numbered nat_eq (after fresh) (counted n)) (inodes_seen entry))
+          subst (λ n. IsCounted (after fresh) (filesystem_numbered nat_eq (after fresh) (counted n))
+          (inodes_seen entry))
           (eqb-true count was.count e)
           (subst (IsCounted (after fresh) (filesystem_numbered nat_eq (after fresh) (counted count)))
           (ap (λ x. changed nat_eq (inodes_seen x) change) (sym same) ∙ sym inodes)
@@ -273,8 +297,10 @@ module _ (value : WorldValue) (held : IsHeld value) (location : Location ℕ) (c
           (counts_follow_changes fresh (world_of value) location (inodes_seen made.entry) change is_change)))
       by false e inodes =
           subst (IsCounted (after fresh) (filesystem_numbered nat_eq (after fresh) (counted was.count))) (sym inodes)
-          (other_counts_stay fresh (world_of value) location (inodes_seen made.entry) change is_change (counted was.count) (inodes_seen was)
-          (λ same. true≢false (sym (eq-eqb count was.count (counted_same count was.count (sym (same ∙ made.shows)))) ∙ e))
+          (other_counts_stay fresh (world_of value) location (inodes_seen made.entry) change is_change
+          (counted was.count) (inodes_seen was)
+          (λ same. true≢false (sym (eq-eqb count was.count (counted_same count was.count (sym (same ∙ made.shows))))
+          ∙ e))
           (subst (λ f. IsCounted (world_of value) f (inodes_seen was))
           (sym (found_by_number value.filesystems was.count
           ∙ ap (λ found. filesystem_seen (unwrap_or found (no_entry was.count)))
@@ -303,26 +329,30 @@ module _ (value : WorldValue) (held : IsHeld value) (location : Location ℕ) (c
           (made.own number (ap (λ n. is_inode_of n number) (eqb-true count source.was.count e) ∙ other_too)) none_before
       by false e is = ap (λ (inodes : Inodes ℕ). inodes.inode number) is ∙ none_before
 
-  pub change_is_held : IsWorld nat_eq (world_of new) → KeepsTo (is_counted_before value.next) (world_of new) → IsHeld new
+  pub change_is_held : IsWorld nat_eq (world_of new) → KeepsTo (is_counted_before value.next) (world_of new)
+      → IsHeld new
   change_is_held is keeps = record {
     in_world = is;
     groups = same_has (world_of value) (world_of new) value.groups held.groups refl (λ group. refl);
-    ungrouped = held.ungrouped;
     given = keeps;
     mounts = all_from_among (CountsItsUses (world_of new)) value.mounts (λ entry m.
         let was = among_from_all (CountsItsUses (world_of value)) value.mounts held.mounts entry m in
         record { uses = was.uses; writers = was.writers });
     filesystems = all_from_among (CountsItsMounts (world_of new)) filesystems (λ entry m.
         let source = was_one count (changed_by change) value.filesystems filesystems pairs entry m in
-        let was = among_from_all (CountsItsMounts (world_of value)) value.filesystems held.filesystems source.was source.among in
+        let was = among_from_all (CountsItsMounts
+        (world_of value)) value.filesystems held.filesystems source.was source.among in
         record {
           mounts = source.is.mounts_are ∙ was.mounts ∙ ap (λ n. mounts_of_filesystem n) (sym source.is.count_is);
           inodes =
               subst (λ f. IsCounted (world_of new) f (inodes_seen entry))
               (found_by_number filesystems entry.count
-              ∙ ap (λ found. filesystem_seen (unwrap_or found (no_entry entry.count))) (one_entry filesystems is.files.one_filesystem entry m))
-              (subst (λ n. IsCounted (world_of new) (filesystem_numbered nat_eq (world_of new) (counted n)) (inodes_seen entry)) (sym source.is.count_is)
-              (same_worlds_count_alike (after fresh) (world_of new) (counted source.was.count) (inodes_seen entry) (change_is_swept fresh) plain_after
+              ∙ ap (λ found. filesystem_seen (unwrap_or found (no_entry entry.count)))
+              (one_entry filesystems is.files.one_filesystem entry m))
+              (subst (λ n. IsCounted (world_of new) (filesystem_numbered nat_eq (world_of new) (counted n))
+              (inodes_seen entry)) (sym source.is.count_is)
+              (same_worlds_count_alike (after fresh) (world_of new) (counted source.was.count) (inodes_seen entry)
+              (change_is_swept fresh) plain_after
               (counted_then source.was entry source.among source.is)));
         });
     own_inodes = all_from_among HasOwnInodes filesystems own_after;
@@ -340,16 +370,20 @@ pub record IsFilesEvent (value : WorldValue) (name : TaskName) (permit : Permit 
   pub becomes : Becomes value name permit new
 
 -- the permit asks for this change, whatever numbers are handed in; of those that are named some do
-pub record AsksForChange (value : WorldValue) (task : Task ℕ) (permit : Permit ℕ) (location : Location ℕ) (change : Change ℕ) : Type 0 where
+pub record AsksForChange (value : WorldValue) (task : Task ℕ) (permit : Permit ℕ) (location : Location ℕ)
+    (change : Change ℕ) : Type 0 where
   pub named : permit_named (is_counted_before value.next) permit ≡ true
   pub rest : Fresh ℕ
-  pub applied : (apply nat_eq (supply_of value permit) (world_of value) task permit).world ≡ with_change nat_eq rest (world_of value) location change
+  pub applied : (apply nat_eq (supply_of value permit) (world_of value) task permit).world
+      ≡ with_change nat_eq rest (world_of value) location change
   pub named_supply : Fresh ℕ
   pub are_named : IsSuppliedFrom (is_counted_before value.next) named_supply
   pub named_rest : Fresh ℕ
-  pub applied_named : (apply nat_eq named_supply (world_of value) task permit).world ≡ with_change nat_eq named_rest (world_of value) location change
+  pub applied_named : (apply nat_eq named_supply (world_of value) task permit).world
+      ≡ with_change nat_eq named_rest (world_of value) location change
 
-pub files_are_changed : (value : WorldValue) (name : TaskName) (permit : Permit ℕ) (location : Location ℕ) (change : Change ℕ)
+pub files_are_changed : (value : WorldValue) (name : TaskName) (permit : Permit ℕ) (location : Location ℕ)
+    (change : Change ℕ)
     (filesystems : Filesystems) → IsHeld value → (permits : Permits value name permit)
     → AsksForChange value permits.task permit location change → ChangesFiles value location change filesystems
     → IsFilesEvent value name permit (with_filesystems value filesystems)
@@ -357,7 +391,8 @@ files_are_changed value name permit location change filesystems held permits ask
   held = change_is_held value held location change filesystems made
       (same_is_a_world_too (world_of value) (supply_of value permit) permits.task permit (world_of new) held.in_world
       (files_are_plain value.filesystems) permits.given same).0
-      (same_keeps_to_numbers_too (is_counted_before value.next) asks.named_supply (world_of value) permits.task permit (world_of new)
+      (same_keeps_to_numbers_too (is_counted_before value.next) asks.named_supply (world_of value) permits.task permit
+      (world_of new)
       permits.given.called held.given asks.are_named asks.named
       (subst (λ w. SameWorlds (settled nat_eq w) (world_of new)) (sym asks.applied_named)
       (change_is_swept value held location change filesystems made asks.named_rest))

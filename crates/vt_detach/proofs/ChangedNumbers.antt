@@ -10,7 +10,8 @@ module _ (number : ℕ) where
   abbrev IsNone : Inodes ℕ → Type 0
   IsNone inodes = inodes.inode number ≡ None
 
-  none_with : (inodes : Inodes ℕ) (other : ℕ) (inode : Option (Inode ℕ)) → IsNone inodes → (number ≡ other → inode ≡ None)
+  none_with : (inodes : Inodes ℕ) (other : ℕ) (inode : Option (Inode ℕ)) → IsNone inodes
+      → (number ≡ other → inode ≡ None)
       → IsNone (with_inode nat_eq inodes other inode)
   none_with inodes other inode none same = by (nat_eq number other) refl
     where
@@ -26,7 +27,8 @@ module _ (number : ℕ) where
       → IsNone (with_changed nat_eq inodes other change)
   none_changed inodes other change none =
       none_with inodes other (inode_with_node (change (node_in (inodes.inode other))) (inodes.inode other)) none
-      (λ same. none_with_node (change (node_in (inodes.inode other))) (inodes.inode other) (ap inodes.inode (sym same) ∙ none))
+      (λ same. none_with_node (change (node_in (inodes.inode other))) (inodes.inode other)
+      (ap inodes.inode (sym same) ∙ none))
 
   none_pinned : (inodes : Inodes ℕ) (other : ℕ) → IsNone inodes → IsNone (pinned nat_eq inodes other)
   none_pinned inodes other none =
@@ -38,7 +40,8 @@ module _ (number : ℕ) where
       none_with inodes other (used_once_less (inodes.inode other)) none
       (λ same. ap used_once_less (ap inodes.inode (sym same) ∙ none))
 
-  none_replaced : (inodes : Inodes ℕ) (object : Option ℕ) → IsNone inodes → IsNone (without_replaced nat_eq inodes object)
+  none_replaced : (inodes : Inodes ℕ) (object : Option ℕ) → IsNone inodes
+      → IsNone (without_replaced nat_eq inodes object)
   none_replaced inodes None none = none
   none_replaced inodes (Some object) none =
       none_unpinned (with_changed nat_eq inodes object (node_with_parent object)) object
@@ -55,9 +58,11 @@ module _ (number : ℕ) where
   MakesOther (SetMark directory opaque) = ⊤
   MakesOther (CopyUp object) = ⊤
 
-  pub none_stays : (inodes : Inodes ℕ) (change : Change ℕ) → MakesOther change → IsNone inodes → IsNone (changed nat_eq inodes change)
+  pub none_stays : (inodes : Inodes ℕ) (change : Change ℕ) → MakesOther change → IsNone inodes
+      → IsNone (changed nat_eq inodes change)
   none_stays inodes (Make directory name made node) other none =
-      none_with (with_changed nat_eq inodes directory (node_with_entry name made)) made (Some (record { node = node; uses = 1 }))
+      none_with (with_changed nat_eq inodes directory (node_with_entry name made)) made
+      (Some (record { node = node; uses = 1 }))
       (none_changed inodes directory (node_with_entry name made) none) (λ same. absurd (other same))
   none_stays inodes (AddName directory name object) other none =
       none_pinned (with_changed nat_eq inodes directory (node_with_entry name object)) object
@@ -71,7 +76,8 @@ module _ (number : ℕ) where
       (with_changed nat_eq (with_changed nat_eq inodes from (node_without_entry old)) to (node_with_entry new object))
       object (node_with_parent to))
       (entry_named new (entries_in (node_in (inodes.inode to))))
-      (none_changed (with_changed nat_eq (with_changed nat_eq inodes from (node_without_entry old)) to (node_with_entry new object))
+      (none_changed (with_changed nat_eq (with_changed nat_eq inodes from (node_without_entry old)) to
+      (node_with_entry new object))
       object (node_with_parent to)
       (none_changed (with_changed nat_eq inodes from (node_without_entry old)) to (node_with_entry new object)
       (none_changed inodes from (node_without_entry old) none)))

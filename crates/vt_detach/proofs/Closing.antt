@@ -47,12 +47,14 @@ pub record Goes (descriptor : Descriptor ℕ) (all rest : Descriptors) : Type 0 
   pub was : all ≡ front ++ (descriptor ∷ back)
   pub is : rest ≡ front ++ back
 
-none_goes : (number least : ℕ) (all : Descriptors) → are_ascending_from least all ≡ true → number < least → others number all ≡ all
+none_goes : (number least : ℕ) (all : Descriptors) → are_ascending_from least all ≡ true → number < least
+    → others number all ≡ all
 none_goes number least [] rising below = refl
 none_goes number least (first ∷ rest) rising below =
     let parts = and_parts _ _ rising in
     let above = leb-true least first.number parts.0 in
-    (λ i. cond (not (ne_eqb number first.number (λ same. absurd (omega (arith, same, above, below))) i)) (first ∷ others number rest) (others number rest))
+    (λ i. cond (not (ne_eqb number first.number (λ same. absurd (omega (arith, same, above, below))) i))
+    (first ∷ others number rest) (others number rest))
     ∙ ap (λ later. first ∷ later) (none_goes number (first.number + 1) rest parts.1 (omega (arith, above, below)))
 
 one_goes : (number least : ℕ) (all : Descriptors) (descriptor : Descriptor ℕ) → are_ascending_from least all ≡ true
@@ -62,7 +64,8 @@ one_goes number least (first ∷ rest) descriptor rising found =
     let parts = and_parts _ _ rising in
     by (number == first.number) refl found parts.1 (one_goes number (first.number + 1) rest descriptor parts.1)
   where
-    by : (b : Bool) → (number == first.number) ≡ b → cond b (Some first) (find (λ one. number == one.number) rest) ≡ Some descriptor
+    by : (b : Bool) → (number == first.number) ≡ b
+        → cond b (Some first) (find (λ one. number == one.number) rest) ≡ Some descriptor
         → are_ascending_from (first.number + 1) rest ≡ true
         → (find (λ one. number == one.number) rest ≡ Some descriptor → Goes descriptor rest (others number rest))
         → Goes descriptor (first ∷ rest) (cond (not b) (first ∷ others number rest) (others number rest))
@@ -70,7 +73,8 @@ one_goes number least (first ∷ rest) descriptor rising found =
       front = [];
       back = rest;
       was = ap (λ one. one ∷ rest) (let same : first ≡ descriptor = cc in same);
-      is = none_goes number (first.number + 1) rest rising (let same : number ≡ first.number = eqb-true number first.number e in omega (arith, same));
+      is = none_goes number (first.number + 1) rest rising
+          (let same : number ≡ first.number = eqb-true number first.number e in omega (arith, same));
     }
     by false e here rising later = let goes = later here in record {
       front = first ∷ goes.front;
@@ -79,7 +83,8 @@ one_goes number least (first ∷ rest) descriptor rising found =
       is = ap (λ all. first ∷ all) goes.is;
     }
 
-pub times_around : {A : Type 0} (test : A → Bool) (front back : List A) (one : A) → times test (front ++ (one ∷ back)) ≡ times test (front ++ back) + cond (test one) 1 0
+pub times_around : {A : Type 0} (test : A → Bool) (front back : List A) (one : A)
+    → times test (front ++ (one ∷ back)) ≡ times test (front ++ back) + cond (test one) 1 0
 times_around test [] back one = omega arith
 times_around test (first ∷ front) back one = let later = times_around test front back one in omega (arith, later)
 
@@ -92,8 +97,10 @@ place descriptor = descriptor.location
 abbrev pub used_by : Descriptor ℕ → Use
 used_by descriptor = record { location = descriptor.location; writes = descriptor.writes }
 
-module _ (value : WorldValue) (whole : IsHeld value) (name : TaskName) (task : Task ℕ) (found : task_called (world_of value) name ≡ Some task)
-    (number : ℕ) (descriptor : Descriptor ℕ) (goes : Goes descriptor task.descriptors (others number task.descriptors)) where
+module _ (value : WorldValue) (whole : IsHeld value) (name : TaskName) (task : Task ℕ)
+    (found : task_called (world_of value) name ≡ Some task)
+    (number : ℕ) (descriptor : Descriptor ℕ)
+    (goes : Goes descriptor task.descriptors (others number task.descriptors)) where
   abbrev new : Task ℕ
   new = without_descriptor task number
 
@@ -107,47 +114,62 @@ module _ (value : WorldValue) (whole : IsHeld value) (name : TaskName) (task : T
     was = ap locations_in split.was ∙ locations_around split.front task split.back
         ∙ ap (λ places. locations_in split.front ++ ((task.root ∷ task.directory ∷ places) ++ locations_in split.back))
         (ap (map place) goes.was ∙ map-append place goes.front (descriptor ∷ goes.back))
-        ∙ around (locations_in split.front) (task.root ∷ task.directory ∷ map place goes.front) (descriptor.location ∷ map place goes.back) (locations_in split.back);
+        ∙ around (locations_in split.front) (task.root ∷ task.directory ∷ map place goes.front)
+        (descriptor.location ∷ map place goes.back) (locations_in split.back);
     is = ap locations_in split.is ∙ locations_around split.front new split.back
         ∙ ap (λ places. locations_in split.front ++ ((task.root ∷ task.directory ∷ places) ++ locations_in split.back))
         (ap (map place) goes.is ∙ map-append place goes.front goes.back)
-        ∙ around (locations_in split.front) (task.root ∷ task.directory ∷ map place goes.front) (map place goes.back) (locations_in split.back);
+        ∙ around (locations_in split.front) (task.root ∷ task.directory ∷ map place goes.front) (map place goes.back)
+        (locations_in split.back);
     there = refl;
     writes = λ mount.
         let moved = writes_replaced name value.tasks task new whole.in_world.tasks.one_task found refl mount in
-        let was : writes_of_task mount task ≡ times (writes_on mount) (goes.front ++ goes.back) + cond (writes_on mount descriptor) 1 0 =
+        let was : writes_of_task mount task
+        ≡ times (writes_on mount) (goes.front ++ goes.back) + cond (writes_on mount descriptor) 1 0 =
         ap (times (writes_on mount)) goes.was ∙ times_around (writes_on mount) goes.front goes.back descriptor in
-        let is : writes_of_task mount new ≡ times (writes_on mount) (goes.front ++ goes.back) = ap (times (writes_on mount)) goes.is in
+        let is : writes_of_task mount new
+        ≡ times (writes_on mount) (goes.front ++ goes.back) = ap (times (writes_on mount)) goes.is in
         omega (arith, moved, was, is);
   }
 
-  same_tasks : (namespace : ℕ) → times (λ one. nat_eq namespace one.namespace) (replaced new value.tasks) ≡ times (λ one. nat_eq namespace one.namespace) value.tasks
+  same_tasks : (namespace : ℕ) → times (λ one. nat_eq namespace one.namespace) (replaced new value.tasks)
+      ≡ times (λ one. nat_eq namespace one.namespace) value.tasks
   same_tasks namespace =
-      let moved = times_replaced name value.tasks task new whole.in_world.tasks.one_task found refl (λ one. nat_eq namespace one.namespace) in
+      let moved = times_replaced name value.tasks task new whole.in_world.tasks.one_task found refl
+      (λ one. nat_eq namespace one.namespace) in
       omega (arith, moved)
 
-pub file_is_closed : (value : WorldValue) (name : TaskName) (number : ℕ) (closed : OpenFile) (mounts : List MountEntry) (filesystems : Filesystems) (tasks : Tasks)
+pub file_is_closed : (value : WorldValue) (name : TaskName) (number : ℕ) (closed : OpenFile) (mounts : List MountEntry)
+    (filesystems : Filesystems) (tasks : Tasks)
     → IsHeld value → Permits value name (ToClose number) → closed.location.node.slot < 18446744073709551616
     → ((task : Task ℕ) → Among task value.tasks → are_ascending_from 0 task.descriptors ≡ true)
-    → Some (numbered number closed) ≡ option_and_then (λ task. descriptor_numbered task number) (called name value.tasks)
+    → Some (numbered number closed)
+    ≡ option_and_then (λ task. descriptor_numbered task number) (called name value.tasks)
     → tasks ≡ changed_called name (λ task. without_descriptor task number) value.tasks
-    → kept mounts filesystems ≡ without_location closed.location (access_of closed.access).writes (kept value.mounts value.filesystems)
+    → kept mounts filesystems ≡ without_location closed.location (access_of closed.access).writes
+    (kept value.mounts value.filesystems)
     → IsDone value name (ToClose number) (remade value mounts filesystems tasks)
 file_is_closed value name number closed mounts filesystems tasks whole permits few rising was is is_kept =
     let task = permits.task in
     let one = replaced_split name value.tasks task task whole.in_world.tasks.one_task permits.called refl in
-    let among : Among task value.tasks = subst (λ all. Among task all) (sym one.was) (among-append_right one.front (task ∷ one.back) task (inl refl)) in
+    let among : Among task value.tasks = subst (λ all. Among task all) (sym one.was)
+    (among-append_right one.front (task ∷ one.back) task (inl refl)) in
     let numbered_so : descriptor_numbered task number ≡ Some (numbered number closed) =
     sym (was ∙ ap (option_and_then (λ (other : Task ℕ). descriptor_numbered other number)) permits.called) in
     let goes = one_goes number 0 task.descriptors (numbered number closed) (rising task among) numbered_so in
     let moves = closed_moves value whole name task permits.called number (numbered number closed) goes in
-    let well = passes (is_located_well nat_eq (world_of value)) (all_locations (world_of value)) whole.in_world.tasks.locations_live (location_of closed.location)
-    (subst (λ all. Among (location_of closed.location) all) (sym moves.was) (among-append_right moves.front ((location_of closed.location ∷ []) ++ moves.back) (location_of closed.location) (inl refl))) in
+    let well = passes (is_located_well nat_eq (world_of value))
+    (all_locations (world_of value)) whole.in_world.tasks.locations_live (location_of closed.location)
+    (subst (λ all. Among (location_of closed.location) all) (sym moves.was)
+    (among-append_right moves.front ((location_of closed.location ∷ []) ++ moves.back) (location_of closed.location)
+    (inl refl))) in
     subst (λ all. IsDone value name (ToClose number) (remade value mounts filesystems all))
     (sym (is ∙ ap (changed_by (λ other. without_descriptor other number) value.tasks) permits.called))
-    (left_done value whole (replaced (without_descriptor task number) value.tasks) [] (used_by (numbered number closed)) moves mounts filesystems
+    (left_done value whole (replaced (without_descriptor task number) value.tasks) []
+    (used_by (numbered number closed)) moves mounts filesystems
     (is_kept ∙ (λ i. let_go_mount (counted closed.location.mount.count)
-    (released_use (counted closed.location.mount.count) (sym (seen_where_located value whole closed.location few well) i, number_of closed.location.node)
+    (released_use (counted closed.location.mount.count)
+    (sym (seen_where_located value whole closed.location few well) i, number_of closed.location.node)
     (access_of closed.access).writes (kept value.mounts value.filesystems))))
     name (ToClose number) task (record { called = permits.called; given = permits.given; named = refl; applied = λ fresh. refl })
     (same_tasks value whole name task permits.called number (numbered number closed) goes))
@@ -160,7 +182,9 @@ pub nothing_is_closed : (value : WorldValue) (name : TaskName) (number : ℕ) (t
     → IsDone value name (ToClose number) (after value tasks)
 nothing_is_closed value name number tasks whole permits was is =
     let task = permits.task in
-    let none : descriptor_numbered task number ≡ None = sym (was ∙ ap (option_and_then (λ (other : Task ℕ). descriptor_numbered other number)) permits.called) in
+    let none : descriptor_numbered task number
+    ≡ None = sym (was ∙ ap (option_and_then
+    (λ (other : Task ℕ). descriptor_numbered other number)) permits.called) in
     let same = all_stay task.descriptors none in
     staying_is_done value name (ToClose number) task (without_descriptor task number) tasks whole
     (record {

@@ -1,46 +1,45 @@
 -- Events after which a task has left locations and a namespace.
-use Rattle.std.proofs.Common.{◌≡◌, refl, sym, ap, subst, ◌∙◌, ℕ, nat_eq, eq-eqb, Bool, true, false, true≢false, cond, ◌&&◌, List, [], map, filter, Option, Some, None, is_some}
+use Rattle.std.proofs.Common.{◌≡◌, refl, sym, ap, subst, ◌∙◌, ℕ, nat_eq, Bool, true, false, true≢false, ◌&&◌, List, [], map, filter, Option, Some, None, is_some}
 use Rattle.std.specs.Prelude.{option_to_list}
 use Rattle.std.specs.List.{list_all}
 use Rattle.vt_spec.specs.Language.Calls.{TaskName}
 use Rattle.vt_spec.specs.Lists.{folded, holds_of}
 use Rattle.vt_spec.specs.Machine.Detach.{taken_away}
-use Rattle.vt_spec.specs.Machine.Mounts.{Mount, detached}
+use Rattle.vt_spec.specs.Machine.Mounts.{Location, Mount}
 use Rattle.vt_spec.specs.Machine.Namespaces.{has_tasks, is_in_ended, namespaces_ended}
 use Rattle.vt_spec.specs.Machine.Permits.{Permit}
 use Rattle.vt_spec.specs.Machine.Receives.{regrouped}
-use Rattle.vt_spec.specs.Machine.World.{Namespace, Task, World}
+use Rattle.vt_spec.specs.Machine.World.{Namespace, Task, World, mount_at}
 use Rattle.vt_spec.specs.Machine.Invariants.{is_listed}
 use Rattle.vt_fs.specs.FilesystemsValue.{Filesystems}
 use Rattle.vt_group.specs.Grouping.{Grouping}
-use Rattle.vt_group.specs.Together.{TakesAway}
-use Rattle.vt_group.proofs.Others.{has_ordered}
-use Rattle.vt_group.proofs.Together.{regrouped_living}
-use Rattle.vt_letting_go.proofs.Lists.{Among, fails, filter_alike, map_same, passes}
+use Rattle.vt_letting_go.proofs.Lists.{Among, filter_alike, passes}
 use Rattle.vt_location.specs.Numbers.{counted}
 use Rattle.vt_mount.specs.MountsValue.{MountEntry}
 use Rattle.vt_tasks.specs.TasksValue.{Tasks}
 use Rattle.vt_detach.specs.Held.{CountsWhatIsInIt, IsHeld}
-use Rattle.vt_detach.specs.NamespacesLeft.{EndsIf, MountsAreLeft, NamespaceEnds, has_one_task, is_attached_in, namespace_entry, numbers_inside, with_one_task_less}
+use Rattle.vt_detach.specs.NamespacesLeft.{MountsAreLeft, namespace_entry, numbers_inside, with_one_task_less}
 use Rattle.vt_detach.specs.Typed.{AreTyped}
 use Rattle.vt_detach.specs.Uses.{Kept, kept}
 use Rattle.vt_detach.specs.WorldValue.{NamespaceEntry, WorldValue, namespace_of, world_of}
 use Rattle.vt_detach.proofs.Bridging.{IsSwept}
-use Rattle.vt_detach.proofs.Finishing.{CountsBeside, IsApplied, finished}
+use Rattle.vt_detach.proofs.Finishing.{CountsBeside, IsApplied}
 use Rattle.vt_detach.proofs.FollowedTypes.{gained_typed, own_types, uses_left_typed}
-use Rattle.vt_detach.proofs.Grouped.{left_has}
-use Rattle.vt_detach.proofs.Midway.{Reached, gone_if}
+use Rattle.vt_detach.proofs.LeavingNamespaces.{IsLeft, leaves, nothing_goes_with}
+use Rattle.vt_detach.proofs.Midway.{Reached}
 use Rattle.vt_detach.proofs.MidwayBegins.{begins, ended, goes_attached, k_begins, parent_stays}
-use Rattle.vt_detach.proofs.MidwayDone.{detaches_all, leave_use, leaves_all, reached_counted, reached_swept}
+use Rattle.vt_detach.proofs.MidwayDone.{leave_use, leaves_all, reached_counted, reached_swept}
 use Rattle.vt_detach.proofs.Moving.{Moves, Use, inodes_of_uses, same_moved_mounts}
 use Rattle.vt_detach.proofs.NamespaceMounts.{inside_stays}
-use Rattle.vt_detach.proofs.NamespacesEnded.{CountsOneMore, ends_by, in_ended_is, left_counted, namespaces_are}
-use Rattle.vt_detach.proofs.NamespacesTyped.{left_has_groups, nowhere_private, regrouped_beside, taken_is_left}
+use Rattle.vt_detach.proofs.NamespacesEnded.{CountsOneMore, ends, in_ended_is, left_counted, namespaces_are}
+use Rattle.vt_detach.proofs.NamespacesTyped.{nowhere_private, taken_is_left}
 use Rattle.vt_detach.proofs.Staying.{IsDone, after, world_is_plain}
-use Rattle.vt_detach.proofs.TypedEvents.{typed_done, typed_free, typed_value}
+use Rattle.vt_detach.proofs.TypedEvents.{typed_done}
 
-module _ (value : WorldValue) (whole : IsHeld value) (tasks : Tasks) (more less : List Use) (moves : Moves value tasks more less)
-    (count : ℕ) (entries : List NamespaceEntry) (counts : (entry : NamespaceEntry) → Among entry entries → CountsOneMore count tasks entry)
+module _ (value : WorldValue) (whole : IsHeld value) (tasks : Tasks) (more less : List Use)
+    (moves : Moves value tasks more less)
+    (count : ℕ) (entries : List NamespaceEntry)
+    (counts : (entry : NamespaceEntry) → Among entry entries → CountsOneMore count tasks entry)
     (same_namespaces : map namespace_of value.namespaces ≡ map namespace_of entries) where
   abbrev world : World ℕ
   world = world_of value
@@ -48,71 +47,62 @@ module _ (value : WorldValue) (whole : IsHeld value) (tasks : Tasks) (more less 
   abbrev next : World ℕ
   next = world_of (after value tasks)
 
-  abbrev ends : Bool
-  ends = ends_by count tasks entries counts (namespace_entry count entries)
+  abbrev remaining : List (Namespace ℕ)
+  remaining = filter (has_tasks nat_eq next) next.namespaces
 
   abbrev inside : Option ℕ → Bool
-  inside o = ends && holds_of (nat_eq (counted count)) o
+  inside o = ends count tasks entries counts && holds_of (nat_eq (counted count)) o
 
   pub nowhere_stays : inside None ≡ false
-  nowhere_stays = by ends
-    where
-      by : (b : Bool) → (b && false) ≡ false
-      by true = refl
-      by false = refl
+  nowhere_stays = nothing_goes_with (ends count tasks entries counts)
 
   abbrev going : Mount ℕ → Bool
   going mount = inside mount.namespace
 
   abbrev attached : (mount : Mount ℕ) → going mount ≡ true → is_some mount.namespace ≡ true
-  attached = goes_attached value whole tasks more less moves inside nowhere_stays (filter (has_tasks nat_eq next) next.namespaces)
+  attached = goes_attached value whole tasks more less moves inside nowhere_stays remaining
 
   abbrev start : World ℕ
-  start = ended value whole tasks more less moves inside nowhere_stays (filter (has_tasks nat_eq next) next.namespaces)
+  start = ended value whole tasks more less moves inside nowhere_stays remaining
+
+  stays : (mount : Mount ℕ) → Among mount world.mounts → going mount ≡ false → (place : Location ℕ)
+      → mount.mount_point ≡ Some place → going (mount_at nat_eq world place) ≡ false
+  stays = parent_stays value whole tasks more less moves inside nowhere_stays remaining
 
   same_mounts : filter (is_in_ended nat_eq next) next.mounts ≡ filter going next.mounts
   same_mounts = filter_alike (is_in_ended nat_eq next) going next.mounts (λ mount m.
       in_ended_is count tasks entries counts next refl same_namespaces mount
-      (passes (λ x. list_all (is_listed nat_eq world) (option_to_list x.namespace)) world.mounts whole.in_world.namespaces.mounts_listed mount m))
+      (passes (λ x. list_all (is_listed nat_eq world)
+      (option_to_list x.namespace)) world.mounts whole.in_world.namespaces.mounts_listed mount m))
 
   -- the policy's world before the sweep: these mounts are detached, and then the groups without members end
   pub ended_regrouped : namespaces_ended nat_eq next ≡ regrouped nat_eq start
   ended_regrouped =
-      (λ i. record (taken_away nat_eq next (map (λ (mount : Mount ℕ). mount.number) (same_mounts i))) { namespaces = filter (has_tasks nat_eq next) next.namespaces })
-      ∙ taken_is_left value whole tasks going (filter (has_tasks nat_eq next) next.namespaces)
-      (parent_stays value whole tasks more less moves inside nowhere_stays (filter (has_tasks nat_eq next) next.namespaces))
-
-  -- where no namespace ends, no mount goes
-  module _ (none : ends ≡ false) where
-    same_start : map (gone_if going) world.mounts ≡ world.mounts
-    same_start = map_same (gone_if going) world.mounts (λ mount m.
-        ap (λ b. cond b (detached mount) mount) (ap (λ b. b && holds_of (nat_eq (counted count)) mount.namespace) none))
-
-    pub ended_so : namespaces_ended nat_eq next ≡ start
-    ended_so =
-        ended_regrouped
-        ∙ ap (λ (mounts : List (Mount ℕ)). regrouped nat_eq (record start { mounts = mounts })) same_start
-        ∙ regrouped_beside world (filter (has_tasks nat_eq next) next.namespaces) tasks
-        ∙ ap (λ (one : World ℕ). record one { namespaces = filter (has_tasks nat_eq next) next.namespaces; tasks = tasks })
-        (regrouped_living world whole.in_world.mounts.groups)
-        ∙ ap (λ (mounts : List (Mount ℕ)). record start { mounts = mounts }) (sym same_start)
+      (λ i. record (taken_away nat_eq next
+      (map (λ (mount : Mount ℕ). mount.number) (same_mounts i))) {
+        namespaces = filter
+            (has_tasks nat_eq next) next.namespaces;
+      })
+      ∙ taken_is_left world whole.in_world.mounts tasks going remaining stays
 
   abbrev k_left : Kept
-  k_left = folded (leave_use world) (folded (Rattle.vt_detach.proofs.Moving.gain world) (kept value.mounts value.filesystems) more) less
+  k_left = folded (leave_use world)
+      (folded (Rattle.vt_detach.proofs.Moving.gain world) (kept value.mounts value.filesystems) more) less
 
   typed_left : AreTyped value.groups k_left.mounts
   typed_left =
-      uses_left_typed value.groups world less (folded (Rattle.vt_detach.proofs.Moving.gain world) (kept value.mounts value.filesystems) more)
+      uses_left_typed value.groups world less
+      (folded (Rattle.vt_detach.proofs.Moving.gain world) (kept value.mounts value.filesystems) more)
       (gained_typed value.groups world more (kept value.mounts value.filesystems) (own_types value whole))
 
   abbrev gained : List Rattle.vt_letting_go.specs.OneByOne.Inode
   gained = inodes_of_uses world more
 
   abbrev k_gained : Kept
-  k_gained = k_begins value whole tasks more less moves inside nowhere_stays (filter (has_tasks nat_eq next) next.namespaces)
+  k_gained = k_begins value whole tasks more less moves inside nowhere_stays remaining
 
   reached_gains : Reached value start gained going less k_gained
-  reached_gains = begins value whole tasks more less moves inside nowhere_stays (filter (has_tasks nat_eq next) next.namespaces)
+  reached_gains = begins value whole tasks more less moves inside nowhere_stays remaining
 
   reached_uses : Reached value start gained going [] k_left
   reached_uses = leaves_all value whole start gained going attached less k_gained reached_gains
@@ -121,7 +111,8 @@ module _ (value : WorldValue) (whole : IsHeld value) (tasks : Tasks) (more less 
   abbrev is_inside : Mount ℕ → Bool
   is_inside mount = holds_of (nat_eq (counted count)) mount.namespace
 
-  inside_left : ends ≡ true → numbers_inside (counted count) k_left.mounts ≡ map (λ (mount : Mount ℕ). mount.number) (filter going world.mounts)
+  inside_left : ends count tasks entries counts ≡ true → numbers_inside (counted count) k_left.mounts
+      ≡ map (λ (mount : Mount ℕ). mount.number) (filter going world.mounts)
   inside_left last =
       ap (map (λ (mount : Mount ℕ). mount.number))
       (inside_stays is_inside nowhere value whole start gained going attached less k_gained reached_gains
@@ -135,8 +126,10 @@ module _ (value : WorldValue) (whole : IsHeld value) (tasks : Tasks) (more less 
           by None f = refl
           by (Some number) f = absurd (true≢false f)
 
-  module _ (filesystems : Filesystems) (namespaces : List NamespaceEntry) (are : namespaces ≡ with_one_task_less count entries)
-      (name : TaskName) (permit : Permit ℕ) (task : Task ℕ) (is : IsApplied value name permit task (namespaces_ended nat_eq next)) where
+  module _ (filesystems : Filesystems) (namespaces : List NamespaceEntry)
+      (are : namespaces ≡ with_one_task_less count entries)
+      (name : TaskName) (permit : Permit ℕ) (task : Task ℕ)
+      (is : IsApplied value name permit task (namespaces_ended nat_eq next)) where
     -- the world of the code but for types
     abbrev untyped : List MountEntry → WorldValue
     untyped mounts = record value { mounts = mounts; filesystems = filesystems; namespaces = namespaces; tasks = tasks }
@@ -145,67 +138,38 @@ module _ (value : WorldValue) (whole : IsHeld value) (tasks : Tasks) (more less 
         (all_gone : (entry : MountEntry) → Among entry mounts → going entry.mount ≡ false) where
       left_swept : IsSwept value start gained at.lost (untyped mounts)
       left_swept =
-          reached_swept value start gained going (kept mounts filesystems) at all_gone (untyped mounts) refl refl (world_is_plain value)
-          (ap (map (λ (n : Namespace ℕ). record n { change = 0 })) (namespaces_are count tasks entries counts next refl same_namespaces ∙ ap (map namespace_of) (sym are)))
+          reached_swept value start gained going (kept mounts filesystems) at all_gone (untyped mounts) refl refl
+          (world_is_plain value)
+          (ap (map (λ (n : Namespace ℕ). record n { change = 0 }))
+          (namespaces_are count tasks entries counts next refl same_namespaces ∙ ap (map namespace_of) (sym are)))
 
       left_counts : CountsBeside (untyped mounts)
       left_counts =
           reached_counted value start gained going (kept mounts filesystems) at all_gone (untyped mounts) refl refl
-          (subst (λ all. Rattle.std.specs.Prelude.All (CountsWhatIsInIt (world_of (untyped mounts))) all) (sym are) (left_counted count tasks entries counts (world_of (untyped mounts)) refl))
+          (subst (λ all. Rattle.std.specs.Prelude.All (CountsWhatIsInIt (world_of (untyped mounts))) all) (sym are)
+          (left_counted count tasks entries counts (world_of (untyped mounts)) refl))
 
-    -- no namespace ends
-    all_stay : ends ≡ false → (mounts : List MountEntry) → kept mounts filesystems ≡ k_left → IsDone value name permit (untyped mounts)
-    all_stay none mounts same =
-        let at : Reached value start gained going [] (kept mounts filesystems) = subst (Reached value start gained going []) (sym same) reached_uses in
-        let gone = λ (entry : MountEntry) (m : Among entry mounts). ap (λ b. b && holds_of (nat_eq (counted count)) entry.mount.namespace) none in
-        finished value whole name permit task start
-        (record { called = is.called; given = is.given; named = is.named; applied = λ fresh. is.applied fresh ∙ ended_so none })
-        gained at.lost (untyped mounts) (left_swept mounts at gone)
-        (left_has value whole start (same_start none) (λ group. refl))
-        (left_counts mounts at gone) refl
-
-    -- one does: its mounts leave their groups at once, and all mounts get the types that the groups then tell
-    one_ends : ends ≡ true → (mounts : List MountEntry) → NamespaceEnds (counted count) k_left (kept mounts filesystems)
-        → (groups : Grouping) → TakesAway value.groups groups (numbers_inside (counted count) k_left.mounts)
-        → IsDone value name permit (typed_value groups (untyped mounts))
-    one_ends last mounts h groups follows =
-        let stays = parent_stays value whole tasks more less moves inside nowhere_stays (filter (has_tasks nat_eq next) next.namespaces) in
-        let taken = subst (TakesAway value.groups groups) (inside_left last) follows in
-        let at = detaches_all value whole start gained going attached (counted count)
-        (λ mount its. (λ i. last i && holds_of (nat_eq (counted count)) (its i)) ∙ eq-eqb (counted count) (counted count) refl)
-        h.gone [] k_left (kept mounts filesystems) h.detached reached_uses in
-        let gone = λ (entry : MountEntry) (m : Among entry mounts).
-        ap (λ b. ends && b) (fails (is_attached_in (counted count)) mounts h.none_left entry m) ∙ nothing ends in
-        typed_done value whole name permit task start
-        (record { called = is.called; given = is.given; named = is.named; applied = λ fresh. is.applied fresh ∙ ended_regrouped })
-        groups (left_has_groups value whole tasks going (filter (has_tasks nat_eq next) next.namespaces) stays groups taken)
-        (nowhere_private value whole tasks going (filter (has_tasks nat_eq next) next.namespaces) stays)
-        gained at.lost (untyped mounts) (left_swept mounts at gone) (left_counts mounts at gone)
-        (typed_free value whole groups _ follows mounts) refl
-      where
-        nothing : (b : Bool) → (b && false) ≡ false
-        nothing true = refl
-        nothing false = refl
-
+    -- all mounts get the types that the groups tell, once those of a namespace that ends have left theirs
     pub departs : (mounts : List MountEntry) (groups : Grouping)
-        → MountsAreLeft (counted count) (namespace_entry count entries) k_left value.groups (kept mounts filesystems) groups
+        → MountsAreLeft (counted count) (namespace_entry count entries) k_left value.groups
+        (kept mounts filesystems) groups
         → IsDone value name permit (record (untyped mounts) { groups = groups })
-    departs mounts groups left = by (namespace_entry count entries) refl left
+    departs mounts groups are_left =
+        subst (λ all. IsDone value name permit (record (untyped all) { groups = groups })) (sym left.typed)
+        (typed_done value whole name permit task start
+        (record {
+          called = is.called;
+          given = is.given;
+          named = is.named;
+          applied = λ fresh. is.applied fresh
+              ∙ ended_regrouped;
+        })
+        groups left.has (nowhere_private world whole.in_world.mounts tasks going remaining stays)
+        gained left.reached.lost (untyped left.entries) (left_swept left.entries left.reached left.all_gone)
+        (left_counts left.entries left.reached left.all_gone)
+        refl)
       where
-        stay : ends ≡ false → (kept mounts filesystems ≡ k_left) × (groups ≡ value.groups)
-            → IsDone value name permit (record (untyped mounts) { groups = groups })
-        stay none same =
-            subst (λ now. IsDone value name permit (record (untyped mounts) { groups = now })) (sym same.1) (all_stay none mounts same.0)
-
-        by : (o : Option NamespaceEntry) → namespace_entry count entries ≡ o
-            → MountsAreLeft (counted count) o k_left value.groups (kept mounts filesystems) groups
-            → IsDone value name permit (record (untyped mounts) { groups = groups })
-        by None e same = stay (ap (ends_by count tasks entries counts) e) same
-        by (Some entry) e same = chosen (has_one_task entry) refl same
-          where
-            chosen : (b : Bool) → has_one_task entry ≡ b → EndsIf b (counted count) k_left value.groups (kept mounts filesystems) groups
-                → IsDone value name permit (record (untyped mounts) { groups = groups })
-            chosen false f h = stay (ap (ends_by count tasks entries counts) e ∙ f) h
-            chosen true f h =
-                subst (λ now. IsDone value name permit (record (untyped now) { groups = groups })) (sym (h.types (has_ordered world value.groups whole.groups) typed_left))
-                (one_ends (ap (ends_by count tasks entries counts) e ∙ f) h.entries h.ends groups h.groups)
+        left : IsLeft value start gained going (kept mounts filesystems) groups
+        left = leaves value whole world whole.in_world.mounts tasks count entries counts remaining stays
+            value.groups whole.groups gained k_left (kept mounts filesystems) reached_uses typed_left inside_left groups
+            are_left

@@ -30,24 +30,30 @@ use Rattle.vt_detach.proofs.Shown.{found_entry}
 abbrev pub detached_entry_if : ℕ → MountEntry → MountEntry
 detached_entry_if number entry = cond (nat_eq number entry.mount.number) (detached_entry entry) entry
 
-same_detached : (number : ℕ) (entry : MountEntry) → (detached_entry_if number entry).mount ≡ detached_if number entry.mount
-same_detached number entry = by (nat_eq number entry.mount.number) ∙ ap (λ b. cond b (detached entry.mount) entry.mount) (swap_eq number entry.mount.number)
+same_detached : (number : ℕ) (entry : MountEntry)
+    → (detached_entry_if number entry).mount ≡ detached_if number entry.mount
+same_detached number entry = by (nat_eq number entry.mount.number)
+    ∙ ap (λ b. cond b (detached entry.mount) entry.mount) (swap_eq number entry.mount.number)
   where
     by : (b : Bool) → (cond b (detached_entry entry) entry).mount ≡ cond b (detached entry.mount) entry.mount
     by true = refl
     by false = refl
 
-pub mounts_detached : (number : ℕ) (entries : List MountEntry) → mounts_in (changed number detached_entry entries) ≡ map (detached_if number) (mounts_in entries)
+pub mounts_detached : (number : ℕ) (entries : List MountEntry)
+    → mounts_in (changed number detached_entry entries) ≡ map (detached_if number) (mounts_in entries)
 mounts_detached number entries =
     map_twice (λ (entry : MountEntry). entry.mount) (detached_entry_if number) entries
-    ∙ map_alike (λ entry. (detached_entry_if number entry).mount) (λ entry. detached_if number entry.mount) entries (λ entry m. same_detached number entry)
+    ∙ map_alike (λ entry. (detached_entry_if number entry).mount) (λ entry. detached_if number entry.mount) entries
+    (λ entry m. same_detached number entry)
     ∙ sym (map_twice (detached_if number) (λ (entry : MountEntry). entry.mount) entries)
 
 -- to detach one first
-pub detach_first : (number : ℕ) (pending : List ℕ) (mount : Mount ℕ) → detached_in (number ∷ pending) mount ≡ detached_in pending (detached_if number mount)
+pub detach_first : (number : ℕ) (pending : List ℕ) (mount : Mount ℕ)
+    → detached_in (number ∷ pending) mount ≡ detached_in pending (detached_if number mount)
 detach_first number pending mount = by (nat_eq mount.number number)
   where
-    by : (b : Bool) → cond (b || is_among nat_eq mount.number pending) (detached mount) mount ≡ detached_in pending (cond b (detached mount) mount)
+    by : (b : Bool) → cond (b || is_among nat_eq mount.number pending) (detached mount) mount
+        ≡ detached_in pending (cond b (detached mount) mount)
     by true = again (is_among nat_eq mount.number pending)
       where
         again : (c : Bool) → detached mount ≡ cond c (detached (detached mount)) (detached mount)
@@ -64,7 +70,8 @@ inodes_of_point (Some point) = inode_of point.node ∷ []
 abbrev pub unpinned_all : List Inode → Shown → Shown
 unpinned_all lost one = record one { inodes = folded (unpinned_if (counted one.count)) one.inodes lost }
 
-unpinned_is : (point : Option Location) (all : List Shown) → unpinned_at point all ≡ map (unpinned_all (inodes_of_point point)) all
+unpinned_is : (point : Option Location) (all : List Shown)
+    → unpinned_at point all ≡ map (unpinned_all (inodes_of_point point)) all
 unpinned_is None all = map_itself all
 unpinned_is (Some point) all = refl
 
@@ -80,7 +87,8 @@ module _ (old : WorldValue) (number : ℕ) (pending : List ℕ) (gained lost : L
 
   placed : (mount_in nat_eq (mounts_in k.mounts) number).mount_point ≡ option_map location_of point
   placed =
-      ap (λ o. (unwrap_or o (no_mount number)).mount_point) (found_entry number k.mounts) ∙ by (entry_numbered k.mounts number) ∙ sym point_is
+      ap (λ o. (unwrap_or o (no_mount number)).mount_point) (found_entry number k.mounts)
+      ∙ by (entry_numbered k.mounts number) ∙ sym point_is
     where
       by : (o : Option MountEntry) → (unwrap_or (option_map (λ entry. entry.mount) o) (no_mount number)).mount_point
           ≡ option_and_then (λ (entry : MountEntry). entry.mount.mount_point) o
@@ -91,14 +99,16 @@ module _ (old : WorldValue) (number : ℕ) (pending : List ℕ) (gained lost : L
   more_is = ap (λ o. map (inode_at (world_of old)) (option_to_list o)) placed ∙ by point point_is few
     where
       seen : (one : Location) → (o : Option MountEntry) → entry_numbered k.mounts number ≡ o
-          → Some (location_of one) ≡ option_and_then (λ (entry : MountEntry). entry.mount.mount_point) o → one.node.slot < 18446744073709551616
+          → Some (location_of one) ≡ option_and_then (λ (entry : MountEntry). entry.mount.mount_point) o
+          → one.node.slot < 18446744073709551616
           → (mount_at nat_eq (world_of old) (location_of one)).filesystem ≡ counted one.node.filesystem.count
       seen one None e h small = absurd cc
       seen one (Some entry) e h small =
           is.points entry.mount (among-map (λ (x : MountEntry). x.mount) k.mounts entry
           (found_it (λ (x : MountEntry). nat_eq number x.mount.number) k.mounts entry e).0) one (sym h) small
 
-      by : (o : Option Location) → option_map location_of o ≡ point_of number k.mounts → IfSome o (λ point. point.node.slot < 18446744073709551616)
+      by : (o : Option Location) → option_map location_of o ≡ point_of number k.mounts
+          → IfSome o (λ point. point.node.slot < 18446744073709551616)
           → map (inode_at (world_of old)) (option_to_list (option_map location_of o)) ≡ inodes_of_point o
       by None h small = refl
       by (Some one) h small = λ i. (seen one (entry_numbered k.mounts number) refl h small i, number_of one.node) ∷ []
@@ -120,13 +130,17 @@ module _ (old : WorldValue) (number : ℕ) (pending : List ℕ) (gained lost : L
             ∙ (λ i. folded (unpinned_if (counted (was.count i))) (was.inodes i) (sym more_is i))
             ∙ sym (folded_append (unpinned_if f) (folded (pinned_if f) (inodes_seen was.was) gained) lost more);
         exchanges = subst (λ all. Exchanges gained all f (world_of old) world)
-            (sym (append_three lost more (points_lost (world_of old) (map (detached_if number) (mounts_in k.mounts)) pending))
-            ∙ ap (λ mounts. (lost ++ more) ++ points_lost (world_of old) mounts pending) (sym (mounts_detached number k.mounts)))
+            (sym (append_three lost more (points_lost (world_of old)
+            (map (detached_if number) (mounts_in k.mounts)) pending))
+            ∙ ap (λ mounts. (lost ++ more) ++ points_lost (world_of old) mounts pending)
+            (sym (mounts_detached number k.mounts)))
             was.exchanges;
-        mounts = ap (λ (x : Shown). x.mounts) from.2 ∙ was.mounts ∙ ap (λ n. mounts_showing world (counted n)) (sym count);
+        mounts = ap (λ (x : Shown). x.mounts) from.2 ∙ was.mounts
+            ∙ ap (λ n. mounts_showing world (counted n)) (sym count);
       }
 
-  numbers_now : map (λ (one : Shown). counted one.count) k.filesystems ≡ map (λ (one : Shown). counted one.count) kept_now.filesystems
+  numbers_now : map (λ (one : Shown). counted one.count) k.filesystems
+      ≡ map (λ (one : Shown). counted one.count) kept_now.filesystems
   numbers_now =
       sym (map_twice (λ (one : Shown). counted one.count) (unpinned_all (inodes_of_point point)) k.filesystems)
       ∙ ap (map (λ (one : Shown). counted one.count)) (sym (unpinned_is point k.filesystems))
@@ -135,61 +149,75 @@ module _ (old : WorldValue) (number : ℕ) (pending : List ℕ) (gained lost : L
   detached_kept : IsKeptBut old (number ∷ pending) pending gained (lost ++ more) world kept_now
   detached_kept = record {
     mounts = is.mounts
-        ∙ map_alike (detached_in (number ∷ pending)) (λ mount. detached_in pending (detached_if number mount)) (mounts_in k.mounts)
+        ∙ map_alike (detached_in (number ∷ pending)) (λ mount. detached_in pending (detached_if number mount))
+        (mounts_in k.mounts)
         (λ mount m. detach_first number pending mount)
         ∙ sym (map_twice (detached_in pending) (detached_if number) (mounts_in k.mounts))
         ∙ ap (map (detached_in pending)) (sym (mounts_detached number k.mounts));
     uses = all_from_among (CountsItsUses world) kept_now.mounts (λ new m.
         let from = among-from_map (detached_entry_if number) k.mounts new m in
         subst (CountsItsUses world) (sym from.2)
-        (counted_still from.0 (nat_eq number from.0.mount.number) (among_from_all (CountsItsUses world) k.mounts is.uses from.0 from.1)));
+        (counted_still from.0 (nat_eq number from.0.mount.number)
+        (among_from_all (CountsItsUses world) k.mounts is.uses from.0 from.1)));
     numbers = is.numbers ∙ numbers_now;
     filesystems = shown_now;
-    ungrouped = is.ungrouped;
     stand = is.stand;
     located = is.located;
     in_use = is.in_use;
     mounted = is.mounted;
     plain = is.plain;
     points = λ mount m one p small.
-        let from = among-from_map (detached_if number) (mounts_in k.mounts) mount (subst (λ all. Among mount all) (mounts_detached number k.mounts) m) in
+        let from = among-from_map (detached_if number) (mounts_in k.mounts) mount
+        (subst (λ all. Among mount all) (mounts_detached number k.mounts) m) in
         is.points from.0 from.1 one
         (pointed from.0 one (nat_eq from.0.number number) (ap (λ (x : Mount ℕ). x.mount_point) (sym from.2) ∙ p)) small;
     places = is.places;
   }
     where
-      counted_still : (entry : MountEntry) (b : Bool) → CountsItsUses world entry → CountsItsUses world (cond b (detached_entry entry) entry)
+      counted_still : (entry : MountEntry) (b : Bool) → CountsItsUses world entry
+          → CountsItsUses world (cond b (detached_entry entry) entry)
       counted_still entry true counts = record { uses = counts.uses; writers = counts.writers }
       counted_still entry false counts = counts
 
-      pointed : (mount : Mount ℕ) (one : Location) (b : Bool) → (cond b (detached mount) mount).mount_point ≡ Some (location_of one)
+      pointed : (mount : Mount ℕ) (one : Location) (b : Bool)
+          → (cond b (detached mount) mount).mount_point ≡ Some (location_of one)
           → mount.mount_point ≡ Some (location_of one)
       pointed mount one true h = absurd cc
       pointed mount one false h = h
 
-  apart : (entry : MountEntry) → entry_numbered kept_now.mounts number ≡ Some entry → (is_some entry.mount.namespace ≡ false) × (entry.mount.mount_point ≡ None)
+  apart : (entry : MountEntry) → entry_numbered kept_now.mounts number ≡ Some entry
+      → (is_some entry.mount.namespace ≡ false) × (entry.mount.mount_point ≡ None)
   apart entry e =
       let found = found_it (λ (x : MountEntry). nat_eq number x.mount.number) kept_now.mounts entry e in
       let from = among-from_map (detached_entry_if number) k.mounts entry found.0 in
       by from.0 (nat_eq number from.0.mount.number) refl from.2 found.1
     where
-      by : (was : MountEntry) (b : Bool) → nat_eq number was.mount.number ≡ b → entry ≡ cond b (detached_entry was) was → nat_eq number entry.mount.number ≡ true
+      by : (was : MountEntry) (b : Bool) → nat_eq number was.mount.number ≡ b → entry ≡ cond b (detached_entry was) was
+          → nat_eq number entry.mount.number ≡ true
           → (is_some entry.mount.namespace ≡ false) × (entry.mount.mount_point ≡ None)
-      by was true f same numbered = (ap (λ (x : MountEntry). is_some x.mount.namespace) same, ap (λ (x : MountEntry). x.mount.mount_point) same)
-      by was false f same numbered = absurd (true≢false (sym numbered ∙ ap (λ (x : MountEntry). nat_eq number x.mount.number) same ∙ f))
+      by was true f same numbered = (
+        ap (λ (x : MountEntry). is_some x.mount.namespace) same,
+        ap
+            (λ (x : MountEntry). x.mount.mount_point) same,
+      )
+      by was false f same numbered = absurd
+          (true≢false (sym numbered ∙ ap (λ (x : MountEntry). nat_eq number x.mount.number) same ∙ f))
 
   -- One mount of those that are pending is detached, and goes if nothing is on it.
-  pub one_detached : (now : List Inode) × IsKeptBut old pending pending gained now (looked_at world number) (without_attachment number point k)
+  pub one_detached : (now : List Inode)
+      × IsKeptBut old pending pending gained now (looked_at world number) (without_attachment number point k)
   one_detached = mount_looked_at old number pending gained (lost ++ more) world kept_now detached_kept apart
 
 -- Mounts are being detached: these are pending, and this world is left at the end.
-pub record IsDetaching (old : WorldValue) (gained : List Inode) (last : World ℕ) (pending : List ℕ) (k : Kept) : Type 0 where
+pub record IsDetaching (old : WorldValue) (gained : List Inode) (last : World ℕ) (pending : List ℕ)
+    (k : Kept) : Type 0 where
   pub lost : List Inode
   pub world : World ℕ
   pub is : IsKeptBut old pending pending gained lost world k
   pub ends : folded looked_at world pending ≡ last
 
-pub detaching_on : (old : WorldValue) (gained : List Inode) (last : World ℕ) (number : ℕ) (pending : List ℕ) (k : Kept) (point : Option Location)
+pub detaching_on : (old : WorldValue) (gained : List Inode) (last : World ℕ) (number : ℕ) (pending : List ℕ) (k : Kept)
+    (point : Option Location)
     → IsDetaching old gained last (number ∷ pending) k → option_map location_of point ≡ point_of number k.mounts
     → IfSome point (λ point. point.node.slot < 18446744073709551616)
     → IsDetaching old gained last pending (without_attachment number point k)

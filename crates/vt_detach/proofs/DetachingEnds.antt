@@ -1,4 +1,5 @@
--- The begin in a world with its invariants, and the end: where all mounts of a list are detached, the sweep's world is left.
+-- The begin in a world with its invariants, and the end: where all mounts of a list are detached, the sweep's world is
+-- left.
 use Rattle.std.proofs.Common.{◌≡◌, refl, sym, ap, subst, ◌∙◌, inl, ℕ, nat_eq, Bool, true, false, true≢false, cond, ◌&&◌, List, [], map, Option, Some, None, option_map, is_some}
 use Rattle.std.specs.Prelude.{All, option_to_list}
 use Rattle.std.specs.List.{list_all}
@@ -25,7 +26,7 @@ use Rattle.vt_group.specs.Together.{TakesAway}
 use Rattle.vt_letting_go.specs.Counts.{mount_uses, mounts_showing, times}
 use Rattle.vt_letting_go.specs.Leaving.{stands_on_attached}
 use Rattle.vt_letting_go.specs.OneByOne.{Inode}
-use Rattle.vt_letting_go.proofs.Lists.{Among, all_from_among, all_pass, among-from_map, among-map, among_from_all, is_among_numbers, map_alike, map_twice, passes}
+use Rattle.vt_letting_go.proofs.Lists.{Among, all_from_among, among-from_map, among-map, among_from_all, is_among_numbers, map_alike, map_twice, passes}
 use Rattle.vt_letting_go.proofs.MountingTaken as Taken
 use Rattle.vt_letting_go.proofs.OfWorlds.{mounts_of_worlds_stand}
 use Rattle.vt_letting_go.proofs.PlacesLeft.{found_is_there, number_found}
@@ -48,8 +49,7 @@ use Rattle.vt_detach.proofs.LocationsSeen.{seen_where_located}
 use Rattle.vt_detach.proofs.Moving.{map_itself}
 use Rattle.vt_detach.proofs.Remaining.{remade}
 use Rattle.vt_detach.proofs.Staying.{IsDone, world_is_plain}
-use Rattle.vt_detach.proofs.TypedEvents.{typed_done, typed_free, typed_value}
-use Rattle.vt_detach.proofs.Ungrouped.{nothing_regrouped}
+use Rattle.vt_detach.proofs.TypedEvents.{typed_done, typed_value}
 
 -- What is kept of a world with its invariants
 
@@ -58,7 +58,8 @@ module _ (value : WorldValue) (whole : IsHeld value) where
   world = world_of value
 
   -- mount points are there
-  pub point_located : (mount : Mount ℕ) → Among mount world.mounts → (place : Place ℕ) → mount.mount_point ≡ Some place → is_located_well nat_eq world place ≡ true
+  pub point_located : (mount : Mount ℕ) → Among mount world.mounts → (place : Place ℕ) → mount.mount_point ≡ Some place
+      → is_located_well nat_eq world place ≡ true
   point_located mount m place p =
       λ i. among i && there i
     where
@@ -68,13 +69,15 @@ module _ (value : WorldValue) (whole : IsHeld value) where
       attached : is_some (mount_at nat_eq world place).namespace ≡ true
       attached =
           passes (λ (one : Place ℕ). is_some (mount_at nat_eq world one).namespace) (option_to_list mount.mount_point)
-          (passes (stands_on_attached world) world.mounts (mounts_of_worlds_stand world whole.in_world).on_attached mount m) place at_point
+          (passes (stands_on_attached world) world.mounts
+          (mounts_of_worlds_stand world whole.in_world).on_attached mount m) place at_point
 
       among : is_among nat_eq place.mount (map (λ (x : Mount ℕ). x.number) world.mounts) ≡ true
       among =
           is_among_numbers place.mount (map (λ (x : Mount ℕ). x.number) world.mounts)
           (subst (λ n. Among n (map (λ (x : Mount ℕ). x.number) world.mounts)) (number_found world.mounts place.mount)
-          (among-map (λ (x : Mount ℕ). x.number) world.mounts (mount_in nat_eq world.mounts place.mount) (found_is_there world.mounts place.mount attached)))
+          (among-map (λ (x : Mount ℕ). x.number) world.mounts (mount_in nat_eq world.mounts place.mount)
+          (found_is_there world.mounts place.mount attached)))
 
       there : is_there nat_eq world (mount_at nat_eq world place).filesystem place.node ≡ true
       there =
@@ -101,30 +104,23 @@ module _ (value : WorldValue) (whole : IsHeld value) where
           ∙ (among_from_all (CountsItsMounts world) value.filesystems whole.filesystems from.0 from.1).mounts
           ∙ ap (λ n. mounts_showing world (counted n)) (sym (ap (λ (x : Shown). x.count) from.2));
     };
-    ungrouped = all_pass (λ (mount : Mount ℕ). is_ungrouped mount.propagation) world.mounts (λ mount m.
-        let from = among-from_map (λ (entry : MountEntry). entry.mount) value.mounts mount m in
-        ap (λ (x : Mount ℕ). is_ungrouped x.propagation) from.2
-        ∙ passes (λ (entry : MountEntry). is_ungrouped entry.mount.propagation) value.mounts whole.ungrouped from.0 from.1);
     stand = mounts_of_worlds_stand world whole.in_world;
     located = Roots.locations_of_worlds_stand world whole.in_world;
     in_use = (worlds_are_in_use world whole.in_world).mounts;
     mounted = (worlds_are_in_use world whole.in_world).filesystems;
     plain = world_is_plain value;
-    points = λ mount m point p few. seen_where_located value whole point few (point_located mount m (location_of point) p);
+    points = λ mount m point p few. seen_where_located value whole point few
+        (point_located mount m (location_of point) p);
     places = λ mount m place p. refl;
   }
 
 -- The end
 
 module _ (old : WorldValue) (after : World ℕ) (gained lost : List Inode) (new : WorldValue)
-    (is : IsKeptBut old [] [] gained lost (living after) (kept new.mounts new.filesystems)) (same_tasks : after.tasks ≡ new.tasks) where
+    (is : IsKeptBut old [] [] gained lost (living after) (kept new.mounts new.filesystems))
+    (same_tasks : after.tasks ≡ new.tasks) where
   mounts_are : (living after).mounts ≡ mounts_in new.mounts
   mounts_are = is.mounts ∙ sym (map_itself (mounts_in new.mounts))
-
-  free : list_all (λ (entry : MountEntry). is_ungrouped entry.mount.propagation) new.mounts ≡ true
-  free = all_pass (λ (entry : MountEntry). is_ungrouped entry.mount.propagation) new.mounts (λ entry m.
-      passes (λ (mount : Mount ℕ). is_ungrouped mount.propagation) (living after).mounts is.ungrouped entry.mount
-      (subst (λ all. Among entry.mount all) (sym mounts_are) (among-map (λ (one : MountEntry). one.mount) new.mounts entry m)))
 
   pub detached_swept : IsPlain after
       → (without_changes after).namespaces ≡ (without_changes (world_of new)).namespaces
@@ -133,21 +129,22 @@ module _ (old : WorldValue) (after : World ℕ) (gained lost : List Inode) (new 
     plain = plain;
     mounts = mounts_are;
     numbers = is.numbers ∙ map_twice (λ (one : Shown). counted one.count) shown_entry new.filesystems;
-    entries = λ entry m. let from = is.filesystems (shown_entry entry) (among-map shown_entry new.filesystems entry m) in record {
-      was = from.was;
-      among = from.among;
-      count = from.count;
-      there = from.there;
-      inodes = from.inodes;
-      exchanges = subst (λ all. Exchanges gained all (counted from.was.count) (world_of old) (living after)) (no_more lost) from.exchanges;
-    };
+    entries = λ entry m. let from = is.filesystems (shown_entry entry)
+        (among-map shown_entry new.filesystems entry m) in record {
+          was = from.was;
+          among = from.among;
+          count = from.count;
+          there = from.there;
+          inodes = from.inodes;
+          exchanges = subst (λ all. Exchanges gained all (counted from.was.count) (world_of old) (living after))
+              (no_more lost) from.exchanges;
+        };
     namespaces = namespaces;
     tasks = tasks;
   }
 
   pub detached_counted : All (CountsWhatIsInIt (world_of new)) new.namespaces → CountsBeside new
   detached_counted inside = record {
-    ungrouped = free;
     uses = all_from_among (CountsItsUses (world_of new)) new.mounts (λ entry m.
         let counts = among_from_all (CountsItsUses (living after)) new.mounts is.uses entry m in
         record {
@@ -162,50 +159,40 @@ module _ (old : WorldValue) (after : World ℕ) (gained lost : List Inode) (new 
 
 -- Mounts that are taken away with all on them are detached.
 
-pub still_ungrouped : (gone : List ℕ) (mounts : List (Mount ℕ)) → list_all (λ (mount : Mount ℕ). is_ungrouped mount.propagation) mounts ≡ true
-    → list_all (λ (mount : Mount ℕ). is_ungrouped mount.propagation) (map (detached_in gone) mounts) ≡ true
-still_ungrouped gone mounts ungrouped =
-    all_pass (λ (mount : Mount ℕ). is_ungrouped mount.propagation) (map (detached_in gone) mounts) (λ mount m.
-    let from = among-from_map (detached_in gone) mounts mount m in
-    ap (λ (x : Mount ℕ). is_ungrouped x.propagation) from.2
-    ∙ by from.0 (is_among nat_eq from.0.number gone) (passes (λ (x : Mount ℕ). is_ungrouped x.propagation) mounts ungrouped from.0 from.1))
-  where
-    by : (mount : Mount ℕ) (b : Bool) → is_ungrouped mount.propagation ≡ true → is_ungrouped (cond b (detached mount) mount).propagation ≡ true
-    by mount true h = refl
-    by mount false h = h
-
 pub taken_regroups : (world : World ℕ) (gone : List ℕ) → HasChildrenOf gone world.mounts
     → taken_away nat_eq world gone ≡ regrouped nat_eq (detached_world gone world)
 taken_regroups world gone closed =
     ap (λ mounts. regrouped nat_eq (with_mounts world mounts))
-    (map_alike (after_going nat_eq world gone) (detached_in gone) world.mounts (λ mount m. same mount m (is_among nat_eq mount.number gone) refl))
+    (map_alike (after_going nat_eq world gone) (detached_in gone) world.mounts
+    (λ mount m. same mount m (is_among nat_eq mount.number gone) refl))
   where
-    stays_placed : (mount : Mount ℕ) → Among mount world.mounts → is_among nat_eq mount.number gone ≡ false → (o : Option (Place ℕ)) → mount.mount_point ≡ o
+    stays_placed : (mount : Mount ℕ) → Among mount world.mounts → is_among nat_eq mount.number gone ≡ false
+        → (o : Option (Place ℕ)) → mount.mount_point ≡ o
         → option_map (mount_point_left nat_eq world gone) o ≡ o
     stays_placed mount m e None p = refl
     stays_placed mount m e (Some place) p =
         ap (option_map (mount_point_left nat_eq world gone)) (sym p)
         ∙ ap (λ (x : Mount ℕ). x.mount_point) (sym (Taken.stays world gone world.namespaces mount e))
-        ∙ Taken.same_place world gone world.namespaces false mount place p e (other (is_among nat_eq place.mount gone) refl)
+        ∙ Taken.same_place world gone world.namespaces false mount place p e
+        (other (is_among nat_eq place.mount gone) refl)
       where
         other : (b : Bool) → is_among nat_eq place.mount gone ≡ b → b ≡ false
         other true h = absurd (true≢false (sym (closed mount m place p h) ∙ e))
         other false h = refl
 
     same : (mount : Mount ℕ) → Among mount world.mounts → (b : Bool) → is_among nat_eq mount.number gone ≡ b
-        → cond b (detached mount) (record mount { mount_point = option_map (mount_point_left nat_eq world gone) mount.mount_point }) ≡ cond b (detached mount) mount
+        → cond b (detached mount) (record mount {
+          mount_point = option_map
+              (mount_point_left nat_eq world gone) mount.mount_point;
+        }) ≡ cond b (detached mount) mount
     same mount m true e = refl
-    same mount m false e = ap (λ place. record mount { mount_point = place }) (stays_placed mount m e mount.mount_point refl)
-
--- where no mount is in a group, none ends
-pub taken_is_detached : (world : World ℕ) (gone : List ℕ) → list_all (λ (mount : Mount ℕ). is_ungrouped mount.propagation) world.mounts ≡ true
-    → HasChildrenOf gone world.mounts → taken_away nat_eq world gone ≡ detached_world gone world
-taken_is_detached world gone ungrouped closed =
-    taken_regroups world gone closed ∙ nothing_regrouped (detached_world gone world) (still_ungrouped gone world.mounts ungrouped)
+    same mount m false e = ap (λ place. record mount { mount_point = place })
+        (stays_placed mount m e mount.mount_point refl)
 
 -- a mount that is in no namespace then is private
 pub detached_is_private : (world : World ℕ) (gone : List ℕ) → list_all is_nowhere_or_attached world.mounts ≡ true
-    → (mount : Mount ℕ) → Among mount (detached_world gone world).mounts → is_some mount.namespace ≡ false → mount.propagation ≡ Private
+    → (mount : Mount ℕ) → Among mount (detached_world gone world).mounts → is_some mount.namespace ≡ false
+    → mount.propagation ≡ Private
 detached_is_private world gone nowhere mount m none =
     let from = among-from_map (detached_in gone) world.mounts mount m in
     ap (λ (x : Mount ℕ). x.propagation) from.2
@@ -215,9 +202,11 @@ detached_is_private world gone nowhere mount m none =
 -- An event in which mounts of a list are detached, and nothing else happens
 
 -- where these mounts are in no group
-pub detached_done : (value : WorldValue) (name : TaskName) (permit : Permit ℕ) (task : Task ℕ) (gone : List ℕ) (mounts : List MountEntry) (filesystems : Filesystems)
+pub detached_done : (value : WorldValue) (name : TaskName) (permit : Permit ℕ) (task : Task ℕ) (gone : List ℕ)
+    (mounts : List MountEntry) (filesystems : Filesystems)
     → IsHeld value → HasChildrenOf gone (mounts_in value.mounts)
-    → ((mount : Mount ℕ) → Among mount (mounts_in value.mounts) → is_among nat_eq mount.number gone ≡ true → is_ungrouped mount.propagation ≡ true)
+    → ((mount : Mount ℕ) → Among mount (mounts_in value.mounts) → is_among nat_eq mount.number gone ≡ true
+    → is_ungrouped mount.propagation ≡ true)
     → IsApplied value name permit task (taken_away nat_eq (world_of value) gone)
     → IsDetaching value [] (living (detached_world gone (world_of value))) [] (kept mounts filesystems)
     → IsDone value name permit (remade value mounts filesystems value.tasks)
@@ -225,14 +214,16 @@ detached_done value name permit task gone mounts filesystems whole closed free i
     let world = world_of value in
     let after = detached_world gone world in
     let new = remade value mounts filesystems value.tasks in
-    let kept_last = subst (λ one. IsKeptBut value [] [] [] detaching.lost one (kept mounts filesystems)) detaching.ends detaching.is in
+    let kept_last = subst (λ one. IsKeptBut value [] [] [] detaching.lost one
+    (kept mounts filesystems)) detaching.ends detaching.is in
     let live = whole.in_world.mounts.groups in
     finished value whole name permit task after
     (record {
       called = is.called;
       given = is.given;
       named = is.named;
-      applied = λ fresh. is.applied fresh ∙ taken_regroups world gone closed ∙ alone_regroups world value.groups whole.groups live gone free;
+      applied = λ fresh. is.applied fresh ∙ taken_regroups world gone closed
+          ∙ alone_regroups world value.groups whole.groups live gone free;
     })
     [] detaching.lost new
     (detached_swept value after [] detaching.lost new kept_last refl (world_is_plain value) refl refl)
@@ -241,11 +232,13 @@ detached_done value name permit task gone mounts filesystems whole closed free i
     (not_attached (is_some mount.namespace) (is_located nat_eq after mount.number) dead))))
     (detached_counted value after [] detaching.lost new kept_last refl
     (all_from_among (CountsWhatIsInIt (world_of new)) value.namespaces (λ entry m.
-    let was = among_from_all (CountsWhatIsInIt (world_of value)) value.namespaces whole.namespaces entry m in record { tasks = was.tasks })))
+    let was = among_from_all (CountsWhatIsInIt
+    (world_of value)) value.namespaces whole.namespaces entry m in record { tasks = was.tasks })))
     refl
 
 -- Where they are in groups, they leave them at once, and all mounts get the types that the groups then tell.
-pub detached_typed : (value : WorldValue) (name : TaskName) (permit : Permit ℕ) (task : Task ℕ) (gone : List ℕ) (groups : Grouping)
+pub detached_typed : (value : WorldValue) (name : TaskName) (permit : Permit ℕ) (task : Task ℕ) (gone : List ℕ)
+    (groups : Grouping)
     (mounts : List MountEntry) (filesystems : Filesystems) → IsHeld value → HasChildrenOf gone (mounts_in value.mounts)
     → TakesAway value.groups groups gone → IsApplied value name permit task (taken_away nat_eq (world_of value) gone)
     → IsDetaching value [] (living (detached_world gone (world_of value))) [] (kept mounts filesystems)
@@ -253,7 +246,8 @@ pub detached_typed : (value : WorldValue) (name : TaskName) (permit : Permit ℕ
 detached_typed value name permit task gone groups mounts filesystems whole closed follows is detaching =
     let after = detached_world gone (world_of value) in
     let new = remade value mounts filesystems value.tasks in
-    let kept_last = subst (λ one. IsKeptBut value [] [] [] detaching.lost one (kept mounts filesystems)) detaching.ends detaching.is in
+    let kept_last = subst (λ one. IsKeptBut value [] [] [] detaching.lost one
+    (kept mounts filesystems)) detaching.ends detaching.is in
     let regroups = taken_regroups (world_of value) gone closed in
     typed_done value whole name permit task after
     (record { called = is.called; given = is.given; named = is.named; applied = λ fresh. is.applied fresh ∙ regroups })
@@ -263,5 +257,6 @@ detached_typed value name permit task gone groups mounts filesystems whole close
     (detached_swept value after [] detaching.lost new kept_last refl (world_is_plain value) refl refl)
     (detached_counted value after [] detaching.lost new kept_last refl
     (all_from_among (CountsWhatIsInIt (world_of new)) value.namespaces (λ entry m.
-    let was = among_from_all (CountsWhatIsInIt (world_of value)) value.namespaces whole.namespaces entry m in record { tasks = was.tasks })))
-    (typed_free value whole groups gone follows mounts) refl
+    let was = among_from_all (CountsWhatIsInIt
+    (world_of value)) value.namespaces whole.namespaces entry m in record { tasks = was.tasks })))
+    refl

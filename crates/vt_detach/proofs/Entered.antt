@@ -56,11 +56,13 @@ root_is_located value whole task namespace root is = by (root_mount nat_eq (worl
     world : World ℕ
     world = world_of value
 
-    found_one : (p : Mount ℕ → Bool) (mounts : List (Mount ℕ)) (mount : Mount ℕ) → find p mounts ≡ Some mount → Among mount mounts
+    found_one : (p : Mount ℕ → Bool) (mounts : List (Mount ℕ)) (mount : Mount ℕ) → find p mounts ≡ Some mount
+        → Among mount mounts
     found_one p [] mount e = absurd cc
     found_one p (x ∷ xs) mount e = one (p x) e (found_one p xs mount)
       where
-        one : (b : Bool) → cond b (Some x) (find p xs) ≡ Some mount → (find p xs ≡ Some mount → Among mount xs) → Among mount (x ∷ xs)
+        one : (b : Bool) → cond b (Some x) (find p xs) ≡ Some mount → (find p xs ≡ Some mount → Among mount xs)
+            → Among mount (x ∷ xs)
         one true f later = inl (sym (same_Some x mount f))
         one false f later = inr (later f)
 
@@ -68,7 +70,8 @@ root_is_located value whole task namespace root is = by (root_mount nat_eq (worl
     held None e = refl
     held (Some n) e = ap (λ b. b && true) e
 
-    by : (o : Option (Mount ℕ)) → root_mount nat_eq world namespace ≡ o → option_map (λ mount. topmost nat_eq world.mounts (root_of mount)) o ≡ Some root
+    by : (o : Option (Mount ℕ)) → root_mount nat_eq world namespace ≡ o
+        → option_map (λ mount. topmost nat_eq world.mounts (root_of mount)) o ≡ Some root
         → is_located_well nat_eq world root ≡ true
     by None e f = absurd (none f)
       where
@@ -78,11 +81,14 @@ root_is_located value whole task namespace root is = by (root_mount nat_eq (worl
         let among = among-from_filter (λ (x : Mount ℕ). holds_of (nat_eq namespace) x.namespace) world.mounts mount
         (found_one (λ (x : Mount ℕ). not (is_some x.mount_point)) (mounts_of nat_eq world namespace) mount e) in
         let itself = found_itself world.mounts whole.in_world.mounts.one_number mount among.0 in
-        let directory = (and_parts _ _ (passes (has_its_root nat_eq world) world.mounts whole.in_world.roots mount among.0)).0 in
+        let directory = (and_parts _ _
+        (passes (has_its_root nat_eq world) world.mounts whole.in_world.roots mount among.0)).0 in
         let there = topmost_found world whole.in_world (record task { namespace = namespace }) (root_of mount) (
           (
-            is_among_numbers mount.number (map (λ (x : Mount ℕ). x.number) world.mounts) (among-map (λ (x : Mount ℕ). x.number) world.mounts mount among.0),
-            ap (λ (x : Mount ℕ). list_all (nat_eq namespace) (option_to_list x.namespace)) itself ∙ held mount.namespace among.1,
+            is_among_numbers mount.number (map (λ (x : Mount ℕ). x.number) world.mounts)
+                (among-map (λ (x : Mount ℕ). x.number) world.mounts mount among.0),
+            ap (λ (x : Mount ℕ). list_all (nat_eq namespace) (option_to_list x.namespace)) itself
+                ∙ held mount.namespace among.1,
           ),
           ap (λ (x : Mount ℕ). is_some ((Rattle.vt_spec.specs.Machine.World.filesystem_numbered nat_eq world x.filesystem).files.tree.node mount.root)) itself
               ∙ directory_there _ directory,
@@ -97,13 +103,16 @@ nothing_found : (p : Mount ℕ → Bool) (mounts : List (Mount ℕ)) → find p 
 nothing_found p [] e = refl
 nothing_found p (x ∷ xs) e = by (p x) e (nothing_found p xs)
   where
-    by : (b : Bool) → cond b (Some x) (find p xs) ≡ None → (find p xs ≡ None → filter p xs ≡ []) → cond b (x ∷ filter p xs) (filter p xs) ≡ []
+    by : (b : Bool) → cond b (Some x) (find p xs) ≡ None → (find p xs ≡ None → filter p xs ≡ [])
+        → cond b (x ∷ filter p xs) (filter p xs) ≡ []
     by true f later = absurd cc
     by false f later = later f
 
 pub namespace_has_a_root : (value : WorldValue) → IsHeld value → (name : TaskName) (count : ℕ) (root : Option Location)
-    → Permits value name (ToEnterNamespace (counted count)) → option_map location_of root ≡ namespace_root nat_eq (world_of value) (counted count) → IsSome root
-namespace_has_a_root value whole name count None permits is = absurd (by (root_mount nat_eq world (counted count)) refl is)
+    → Permits value name (ToEnterNamespace (counted count))
+    → option_map location_of root ≡ namespace_root nat_eq (world_of value) (counted count) → IsSome root
+namespace_has_a_root value whole name count None permits is = absurd
+    (by (root_mount nat_eq world (counted count)) refl is)
   where
     world : World ℕ
     world = world_of value
@@ -111,7 +120,8 @@ namespace_has_a_root value whole name count None permits is = absurd (by (root_m
     one_root : (length (filter (is_root_mount nat_eq) (mounts_of nat_eq world (counted count))) == 1) ≡ true
     one_root =
         let from = among-from_map (λ (n : Namespace ℕ). n.number) world.namespaces (counted count)
-        (among_numbers (counted count) (map (λ (n : Namespace ℕ). n.number) world.namespaces) (permit_fits value whole name (ToEnterNamespace (counted count)) permits).names) in
+        (among_numbers (counted count) (map (λ (n : Namespace ℕ). n.number) world.namespaces)
+        (permit_fits value whole name (ToEnterNamespace (counted count)) permits).names) in
         ap (λ n. length (filter (is_root_mount nat_eq) (mounts_of nat_eq world n)) == 1) from.2
         ∙ passes (has_one_root nat_eq world) world.namespaces whole.in_world.namespaces.root_mounts from.0 from.1
 
@@ -120,12 +130,14 @@ namespace_has_a_root value whole name count None permits is = absurd (by (root_m
     by (Some mount) e f = cc
     by None e f =
         true≢false
-        (sym one_root ∙ ap (λ (list : List (Mount ℕ)). length list == 1) (nothing_found (is_root_mount nat_eq) (mounts_of nat_eq world (counted count)) e))
+        (sym one_root ∙ ap (λ (list : List (Mount ℕ)). length list == 1)
+        (nothing_found (is_root_mount nat_eq) (mounts_of nat_eq world (counted count)) e))
 namespace_has_a_root value whole name count (Some root) permits is = refl
 
 -- The task
 
-module _ (value : WorldValue) (whole : IsHeld value) (name : TaskName) (task : Task ℕ) (found : task_called (world_of value) name ≡ Some task)
+module _ (value : WorldValue) (whole : IsHeld value) (name : TaskName) (task : Task ℕ)
+    (found : task_called (world_of value) name ≡ Some task)
     (count : ℕ) (root : meant.Location ℕ) (well : is_located_well nat_eq (world_of value) root ≡ true) where
   abbrev world : World ℕ
   world = world_of value
@@ -142,7 +154,8 @@ module _ (value : WorldValue) (whole : IsHeld value) (name : TaskName) (task : T
   abbrev files : List (meant.Location ℕ)
   files = map (λ (d : Rattle.vt_spec.specs.Machine.World.Descriptor ℕ). d.location) task.descriptors
 
-  pub enter_moves : Moves value tasks (standing root ∷ standing root ∷ []) (standing task.root ∷ standing task.directory ∷ [])
+  pub enter_moves : Moves value tasks (standing root ∷ standing root ∷ [])
+      (standing task.root ∷ standing task.directory ∷ [])
   enter_moves = record {
     front = locations_in split.front;
     back = files ++ locations_in split.back;
@@ -155,38 +168,50 @@ module _ (value : WorldValue) (whole : IsHeld value) (name : TaskName) (task : T
   }
 
   -- one task more there, and one less where it was
-  pub enter_counts : (left : ℕ) → task.namespace ≡ counted left → (entry : NamespaceEntry) → Among entry (with_task_more count value.namespaces)
+  pub enter_counts : (left : ℕ) → task.namespace ≡ counted left → (entry : NamespaceEntry)
+      → Among entry (with_task_more count value.namespaces)
       → CountsOneMore left tasks entry
   enter_counts left its entry m =
-      let from = among-from_map (λ (e : NamespaceEntry). cond (nat_eq count e.count) (more_tasks e) e) value.namespaces entry m in
+      let from = among-from_map (λ (e : NamespaceEntry). cond (nat_eq count e.count)
+      (more_tasks e) e) value.namespaces entry m in
       subst (CountsOneMore left tasks) (sym from.2) (one from.0 from.1 (nat_eq count from.0.count) refl)
     where
-      one : (e : NamespaceEntry) → Among e value.namespaces → (b : Bool) → nat_eq count e.count ≡ b → CountsOneMore left tasks (cond b (more_tasks e) e)
+      one : (e : NamespaceEntry) → Among e value.namespaces → (b : Bool) → nat_eq count e.count ≡ b
+          → CountsOneMore left tasks (cond b (more_tasks e) e)
       one e n b is =
           let had = (among_from_all (CountsWhatIsInIt world) value.namespaces whole.namespaces e n).tasks in
-          let moved = times_replaced name value.tasks task entered whole.in_world.tasks.one_task found refl (λ (other : Task ℕ). nat_eq (counted e.count) other.namespace) in
-          let come : one_if (nat_eq (counted e.count) (counted count)) ≡ cond b 1 0 = ap one_if (counted_eq_back e.count count ∙ is) in
+          let moved = times_replaced name value.tasks task entered whole.in_world.tasks.one_task found refl
+          (λ (other : Task ℕ). nat_eq (counted e.count) other.namespace) in
+          let come : one_if (nat_eq (counted e.count) (counted count))
+          ≡ cond b 1 0 = ap one_if (counted_eq_back e.count count ∙ is) in
           let gone : one_if (nat_eq (counted e.count) task.namespace) ≡ cond (nat_eq left e.count) 1 0 =
           ap (λ k. one_if (nat_eq (counted e.count) k)) its ∙ ap one_if (counted_eq_back e.count left) in
           let some : nat_eq e.tasks 0 ≡ false = ap (λ k. nat_eq k 0) had
           ∙ tasks_counted (counted e.count) value.tasks
-          (passes (has_tasks nat_eq world) world.namespaces whole.in_world.namespaces.namespaces_live (namespace_of e) (among-map namespace_of value.namespaces e n)) in
-          by b (e.tasks + cond b 1 0) refl (let all : e.tasks + cond b 1 0 ≡ times (λ (other : Task ℕ). nat_eq (counted e.count) other.namespace) tasks + cond (nat_eq left e.count) 1 0 =
+          (passes (has_tasks nat_eq world) world.namespaces whole.in_world.namespaces.namespaces_live (namespace_of e)
+          (among-map namespace_of value.namespaces e n)) in
+          by b (e.tasks + cond b 1 0) refl
+          (let all : e.tasks + cond b 1 0
+          ≡ times (λ (other : Task ℕ). nat_eq (counted e.count) other.namespace) tasks + cond
+          (nat_eq left e.count) 1 0 =
           omega (arith, had, moved, come, gone) in all) some
         where
           by : (b : Bool) (n : ℕ) → n ≡ e.tasks + cond b 1 0
-              → n ≡ times (λ (other : Task ℕ). nat_eq (counted e.count) other.namespace) tasks + cond (nat_eq left e.count) 1 0 → nat_eq e.tasks 0 ≡ false
+              → n ≡ times (λ (other : Task ℕ). nat_eq (counted e.count) other.namespace) tasks + cond
+              (nat_eq left e.count) 1 0 → nat_eq e.tasks 0 ≡ false
               → CountsOneMore left tasks (cond b (more_tasks e) e)
           by true n is all some = record {
             inside = sym is ∙ all;
-            some = Rattle.std.proofs.Common.ne_eqb (e.tasks + 1) 0 (λ z. let zero : e.tasks + 1 ≡ 0 = z in absurd (omega (arith, zero)));
+            some = Rattle.std.proofs.Common.ne_eqb (e.tasks + 1) 0
+                (λ z. let zero : e.tasks + 1 ≡ 0 = z in absurd (omega (arith, zero)));
           }
           by false n is all some = record {
             inside = (let same : e.tasks ≡ n = omega (arith, is) in same) ∙ all;
             some = some;
           }
 
-pub same_namespaces_more : (count : ℕ) (all : List NamespaceEntry) → map namespace_of all ≡ map namespace_of (with_task_more count all)
+pub same_namespaces_more : (count : ℕ) (all : List NamespaceEntry)
+    → map namespace_of all ≡ map namespace_of (with_task_more count all)
 same_namespaces_more count [] = refl
 same_namespaces_more count (e ∷ es) = λ i. one (nat_eq count e.count) i ∷ same_namespaces_more count es i
   where
@@ -195,12 +220,15 @@ same_namespaces_more count (e ∷ es) = λ i. one (nat_eq count e.count) i ∷ s
     one false = refl
 
 -- a namespace that is listed has a number that was given out
-listed_is_named : (value : WorldValue) → IsHeld value → (namespace : ℕ) → Rattle.vt_spec.specs.Machine.Invariants.is_listed nat_eq (world_of value) namespace ≡ true
+listed_is_named : (value : WorldValue) → IsHeld value → (namespace : ℕ)
+    → Rattle.vt_spec.specs.Machine.Invariants.is_listed nat_eq (world_of value) namespace ≡ true
     → is_counted_before value.next namespace ≡ true
 listed_is_named value whole namespace listed =
-    used_numbers_are_named (is_counted_before value.next) (world_of value) whole.given (3, 7, (λ e. absurd (omega (arith, e))), refl, refl) namespace
+    used_numbers_are_named (is_counted_before value.next) (world_of value) whole.given
+    (3, 7, (λ e. absurd (omega (arith, e))), refl, refl) namespace
     (is_among_numbers namespace (numbers_in_use (world_of value))
-    (among-append_right (Rattle.std.proofs.Common.flat_map used_by_mount (world_of value).mounts ++ Rattle.std.proofs.Common.flat_map used_by_filesystem (world_of value).filesystems)
+    (among-append_right (Rattle.std.proofs.Common.flat_map used_by_mount (world_of value).mounts
+    ++ Rattle.std.proofs.Common.flat_map used_by_filesystem (world_of value).filesystems)
     (map (λ (n : Namespace ℕ). n.number) (world_of value).namespaces) namespace
     (among_numbers namespace (map (λ (n : Namespace ℕ). n.number) (world_of value).namespaces) listed)))
 
@@ -209,19 +237,23 @@ held_so : (value : WorldValue) → IsHeld value → (at : Location) (k : Kept) �
     → is_located_well nat_eq (world_of value) (location_of at) ≡ true
     → with_location at false k ≡ gain (world_of value) k (standing (location_of at))
 held_so value whole at k few well =
-    λ i. with_use (counted at.mount.count) (sym (seen_where_located value whole at few well) i, number_of at.node) false k
+    λ i. with_use (counted at.mount.count)
+    (sym (seen_where_located value whole at few well) i, number_of at.node) false k
 
 pub task_enters : (value : WorldValue) (name : TaskName) (count : ℕ) (root : Location) (left : Left)
-    (mounts : List MountEntry) (groups : Grouping) (filesystems : Filesystems) (namespaces : List NamespaceEntry) (new_tasks : Tasks) (k : Kept)
+    (mounts : List MountEntry) (groups : Grouping) (filesystems : Filesystems) (namespaces : List NamespaceEntry)
+    (new_tasks : Tasks) (k : Kept)
     → IsHeld value → Permits value name (ToEnterNamespace (counted count))
     → Some (location_of root) ≡ namespace_root nat_eq (world_of value) (counted count)
-    → root.node.slot < 18446744073709551616 → left.root.node.slot < 18446744073709551616 → left.directory.node.slot < 18446744073709551616
+    → root.node.slot < 18446744073709551616 → left.root.node.slot < 18446744073709551616
+    → left.directory.node.slot < 18446744073709551616
     → Some (left_of left) ≡ option_map left_by (called name value.tasks)
     → new_tasks ≡ changed_called name (λ task. entered_at task (counted count) (location_of root)) value.tasks
     → k ≡ without_location left.directory false (without_location left.root false
     (with_location root false (with_location root false (kept value.mounts value.filesystems))))
     → namespaces ≡ with_one_task_less left.namespace.count (with_task_more count value.namespaces)
-    → MountsAreLeft (counted left.namespace.count) (namespace_entry left.namespace.count (with_task_more count value.namespaces)) k value.groups
+    → MountsAreLeft (counted left.namespace.count)
+    (namespace_entry left.namespace.count (with_task_more count value.namespaces)) k value.groups
     (kept mounts filesystems) groups
     → IsDone value name (ToEnterNamespace (counted count))
     (record value { mounts = mounts; groups = groups; filesystems = filesystems; namespaces = namespaces; tasks = new_tasks })
@@ -240,9 +272,11 @@ task_enters value name count root left mounts groups filesystems namespaces new_
     let k_so : k ≡ folded (leave_use world) held (standing task.root ∷ standing task.directory ∷ []) =
     k_is
     ∙ ap (λ one. without_location left.directory false (without_location left.root false one))
-    (ap (with_location root false) (held_so value whole root old few well) ∙ held_so value whole root (gain world old (standing place)) few well)
+    (ap (with_location root false) (held_so value whole root old few well)
+    ∙ held_so value whole root (gain world old (standing place)) few well)
     ∙ ap (without_location left.directory false)
-    (left_so value whole left.root false held few_root (ap (is_located_well nat_eq world) at_root ∙ located_so task.root (inl refl))
+    (left_so value whole left.root false held few_root
+    (ap (is_located_well nat_eq world) at_root ∙ located_so task.root (inl refl))
     ∙ ap (λ l. leave_use world held (standing l)) at_root)
     ∙ left_so value whole left.directory false (leave_use world held (standing task.root)) few_directory
     (ap (is_located_well nat_eq world) at_directory ∙ located_so task.directory (inr (inl refl)))
@@ -260,9 +294,12 @@ task_enters value name count root left mounts groups filesystems namespaces new_
     (record {
       called = permits.called;
       given = permits.given;
-      named = listed_is_named value whole (counted count) (permit_fits value whole name (ToEnterNamespace (counted count)) permits).names;
-      applied = λ fresh. ap (λ o. namespaces_ended nat_eq (with_task world (entered_at task (counted count) (unwrap_or o task.root)))) (sym root_is);
+      named = listed_is_named value whole (counted count)
+          (permit_fits value whole name (ToEnterNamespace (counted count)) permits).names;
+      applied = λ fresh. ap (λ o. namespaces_ended nat_eq
+          (with_task world (entered_at task (counted count) (unwrap_or o task.root)))) (sym root_is);
     })
     mounts groups
-    (subst (λ one. MountsAreLeft (counted left.namespace.count) (namespace_entry left.namespace.count (with_task_more count value.namespaces)) one
+    (subst (λ one. MountsAreLeft (counted left.namespace.count)
+    (namespace_entry left.namespace.count (with_task_more count value.namespaces)) one
     value.groups (kept mounts filesystems) groups) k_so mounts_are))

@@ -51,13 +51,15 @@ pub record GoesOne (task : Task ℕ) (tasks after : Tasks) : Type 0 where
   pub was : tasks ≡ front ++ (task ∷ back)
   pub is : after ≡ front ++ back
 
-without_nobody : (name : TaskName) (tasks : Tasks) → list_any (λ task. same_name name task.name) tasks ≡ false → without_called name tasks ≡ tasks
+without_nobody : (name : TaskName) (tasks : Tasks) → list_any (λ task. same_name name task.name) tasks ≡ false
+    → without_called name tasks ≡ tasks
 without_nobody name [] none = refl
 without_nobody name (task ∷ tasks) none =
     let parts = or_parts (same_name name task.name) _ none in
     λ i. cond (not (parts.0 i)) (task ∷ without_nobody name tasks parts.1 i) (without_nobody name tasks parts.1 i)
 
-pub one_goes_out : (name : TaskName) (tasks : Tasks) (task : Task ℕ) → AreNamedApart tasks → called name tasks ≡ Some task
+pub one_goes_out : (name : TaskName) (tasks : Tasks) (task : Task ℕ) → AreNamedApart tasks
+    → called name tasks ≡ Some task
     → GoesOne task tasks (without_called name tasks)
 one_goes_out name [] task apart found = absurd cc
 one_goes_out name (first ∷ tasks) task apart found =
@@ -72,7 +74,9 @@ one_goes_out name (first ∷ tasks) task apart found =
       front = [];
       back = tasks;
       was = ap (λ one. one ∷ tasks) (same_Some first task here);
-      is = without_nobody name tasks (ap (λ own. list_any (λ (other : Task ℕ). same_name own other.name) tasks) (same_names name first.name e) ∙ others);
+      is = without_nobody name tasks
+          (ap (λ own. list_any (λ (other : Task ℕ). same_name own other.name) tasks) (same_names name first.name e)
+          ∙ others);
     }
     by false e here others later = let goes = later here in record {
       front = first ∷ goes.front;
@@ -86,13 +90,16 @@ abbrev pub uses_of_task : Task ℕ → List Use
 uses_of_task task = standing task.root ∷ standing task.directory ∷ map used_by task.descriptors
 
 pub uses_are_locations : (task : Task ℕ) → locations (uses_of_task task) ≡ locations_of task
-uses_are_locations task = ap (λ places. task.root ∷ task.directory ∷ places) (map_twice (λ (u : Use). u.location) used_by task.descriptors)
+uses_are_locations task = ap (λ places. task.root ∷ task.directory ∷ places)
+    (map_twice (λ (u : Use). u.location) used_by task.descriptors)
 
-files_write : (mount : ℕ) (descriptors : List (Descriptor ℕ)) → times (writes_on_mount mount) (map used_by descriptors) ≡ times (writes_on mount) descriptors
+files_write : (mount : ℕ) (descriptors : List (Descriptor ℕ))
+    → times (writes_on_mount mount) (map used_by descriptors) ≡ times (writes_on mount) descriptors
 files_write mount [] = refl
 files_write mount (d ∷ ds) = ap (λ rest. cond (writes_on mount d) 1 0 + rest) (files_write mount ds)
 
-module _ (value : WorldValue) (whole : IsHeld value) (name : TaskName) (task : Task ℕ) (found : task_called (world_of value) name ≡ Some task) where
+module _ (value : WorldValue) (whole : IsHeld value) (name : TaskName) (task : Task ℕ)
+    (found : task_called (world_of value) name ≡ Some task) where
   abbrev world : World ℕ
   world = world_of value
 
@@ -119,10 +126,12 @@ module _ (value : WorldValue) (whole : IsHeld value) (name : TaskName) (task : T
   }
 
   -- the namespaces
-  pub exit_counts : (count : ℕ) → task.namespace ≡ counted count → (entry : NamespaceEntry) → Among entry value.namespaces → CountsOneMore count tasks entry
+  pub exit_counts : (count : ℕ) → task.namespace ≡ counted count → (entry : NamespaceEntry)
+      → Among entry value.namespaces → CountsOneMore count tasks entry
   exit_counts count its entry m =
       let had = (among_from_all (CountsWhatIsInIt world) value.namespaces whole.namespaces entry m).tasks in
-      let one = total-without (λ (other : Task ℕ). one_if (nat_eq (counted entry.count) other.namespace)) name value.tasks task whole.in_world.tasks.one_task found in
+      let one = total-without (λ (other : Task ℕ). one_if
+      (nat_eq (counted entry.count) other.namespace)) name value.tasks task whole.in_world.tasks.one_task found in
       let was = times_total (λ (other : Task ℕ). nat_eq (counted entry.count) other.namespace) value.tasks in
       let is = times_total (λ (other : Task ℕ). nat_eq (counted entry.count) other.namespace) tasks in
       let own : one_if (nat_eq (counted entry.count) task.namespace) ≡ cond (nat_eq count entry.count) 1 0 =
@@ -131,11 +140,13 @@ module _ (value : WorldValue) (whole : IsHeld value) (name : TaskName) (task : T
         inside = omega (arith, had, one, was, is, own);
         some = ap (λ n. nat_eq n 0) had
             ∙ tasks_counted (counted entry.count) value.tasks
-            (passes (has_tasks nat_eq world) world.namespaces whole.in_world.namespaces.namespaces_live (namespace_of entry) (among-map namespace_of value.namespaces entry m));
+            (passes (has_tasks nat_eq world) world.namespaces whole.in_world.namespaces.namespaces_live
+            (namespace_of entry) (among-map namespace_of value.namespaces entry m));
       }
 
   -- a location of the task is there
-  pub located : (location : meant.Location ℕ) → Among location (locations_of task) → is_located_well nat_eq world location ≡ true
+  pub located : (location : meant.Location ℕ) → Among location (locations_of task)
+      → is_located_well nat_eq world location ≡ true
   located location m =
       passes (is_located_well nat_eq world) (all_locations world) whole.in_world.tasks.locations_live location
       (subst (λ all. Among location all) (sym (ap locations_in goes.was ∙ locations_around goes.front task goes.back))
@@ -143,49 +154,63 @@ module _ (value : WorldValue) (whole : IsHeld value) (name : TaskName) (task : T
       (among-append_left (locations_of task) (locations_in goes.back) location m)))
 
 -- code leaves what the definitions name
-pub left_so : (value : WorldValue) → IsHeld value → (at : Location) (writes : Bool) (k : Kept) → at.node.slot < 18446744073709551616
+pub left_so : (value : WorldValue) → IsHeld value → (at : Location) (writes : Bool) (k : Kept)
+    → at.node.slot < 18446744073709551616
     → is_located_well nat_eq (world_of value) (location_of at) ≡ true
-    → without_location at writes k ≡ leave_use (world_of value) k (record { location = location_of at; writes = writes })
+    → without_location at writes k
+    ≡ leave_use (world_of value) k (record { location = location_of at; writes = writes })
 left_so value whole at writes k few well =
-    λ i. without_use (counted at.mount.count) (sym (seen_where_located value whole at few well) i, number_of at.node) writes k
+    λ i. without_use (counted at.mount.count)
+    (sym (seen_where_located value whole at few well) i, number_of at.node) writes k
 
-pub files_left_so : (value : WorldValue) → IsHeld value → (files : List OpenFile) (descriptors : List (Descriptor ℕ)) (k : Kept)
+pub files_left_so : (value : WorldValue) → IsHeld value
+    → (files : List OpenFile) (descriptors : List (Descriptor ℕ)) (k : Kept)
     → map (λ (file : OpenFile). location_of file.location) files ≡ map (λ (d : Descriptor ℕ). d.location) descriptors
     → map (λ (file : OpenFile). (access_of file.access).writes) files ≡ map (λ (d : Descriptor ℕ). d.writes) descriptors
     → list_all has_slot files ≡ true
-    → ((location : meant.Location ℕ) → Among location (map place descriptors) → is_located_well nat_eq (world_of value) location ≡ true)
+    → ((location : meant.Location ℕ) → Among location (map place descriptors)
+    → is_located_well nat_eq (world_of value) location ≡ true)
     → fold without_file k files ≡ folded (leave_use (world_of value)) k (map used_by descriptors)
 files_left_so value whole [] [] k places writes slots well = refl
 files_left_so value whole [] (d ∷ ds) k places writes slots well = absurd cc
 files_left_so value whole (file ∷ files) [] k places writes slots well = absurd cc
 files_left_so value whole (file ∷ files) (d ∷ ds) k places writes slots well =
     let at : location_of file.location ≡ d.location = cc in
-    let rest : map (λ (file : OpenFile). location_of file.location) files ≡ map (λ (d : Descriptor ℕ). d.location) ds = cc in
+    let rest : map (λ (file : OpenFile). location_of file.location) files
+    ≡ map (λ (d : Descriptor ℕ). d.location) ds = cc in
     let write : (access_of file.access).writes ≡ d.writes = cc in
-    let later : map (λ (file : OpenFile). (access_of file.access).writes) files ≡ map (λ (d : Descriptor ℕ). d.writes) ds = cc in
+    let later : map (λ (file : OpenFile). (access_of file.access).writes) files
+    ≡ map (λ (d : Descriptor ℕ). d.writes) ds = cc in
     let few = and_parts (has_slot file) (list_all has_slot files) slots in
     let here : without_file k file ≡ leave_use (world_of value) k (used_by d) =
-    left_so value whole file.location (access_of file.access).writes k (ltb-true file.location.node.slot 18446744073709551616 few.0)
+    left_so value whole file.location (access_of file.access).writes k
+    (ltb-true file.location.node.slot 18446744073709551616 few.0)
     (ap (is_located_well nat_eq (world_of value)) at ∙ well d.location (inl refl))
     ∙ (λ i. leave_use (world_of value) k (record { location = at i; writes = write i })) in
     ap (λ one. fold without_file one files) here
-    ∙ files_left_so value whole files ds (leave_use (world_of value) k (used_by d)) rest later few.1 (λ location m. well location (inr m))
+    ∙ files_left_so value whole files ds (leave_use (world_of value) k (used_by d)) rest later few.1
+    (λ location m. well location (inr m))
 
 -- what code leaves of a task
 pub record LeavesAll (old : Kept) (task : Held) (files : List OpenFile) (left : Kept) : Type 0 where
   pub root : task.root.node.slot < 18446744073709551616
   pub directory : task.directory.node.slot < 18446744073709551616
   pub slots : list_all has_slot files ≡ true
-  pub places : map (λ (file : OpenFile). location_of file.location) files ≡ map (λ (d : Descriptor ℕ). d.location) (task_of task).descriptors
-  pub writes : map (λ (file : OpenFile). (access_of file.access).writes) files ≡ map (λ (d : Descriptor ℕ). d.writes) (task_of task).descriptors
+  pub places : map (λ (file : OpenFile). location_of file.location) files
+      ≡ map (λ (d : Descriptor ℕ). d.location) (task_of task).descriptors
+  pub writes : map (λ (file : OpenFile). (access_of file.access).writes) files
+      ≡ map (λ (d : Descriptor ℕ). d.writes) (task_of task).descriptors
   pub is : left ≡ fold without_file (without_location task.directory false (without_location task.root false old)) files
 
 pub task_exits : (value : WorldValue) (name : TaskName) (task : Held) (files : List OpenFile) (left : Kept)
-    (mounts : List MountEntry) (groups : Grouping) (filesystems : Filesystems) (namespaces : List NamespaceEntry) (left_tasks : Tasks)
-    → IsHeld value → Permits value name ToExit → Some (task_of task) ≡ called name value.tasks → left_tasks ≡ without_called name value.tasks
+    (mounts : List MountEntry) (groups : Grouping) (filesystems : Filesystems) (namespaces : List NamespaceEntry)
+    (left_tasks : Tasks)
+    → IsHeld value → Permits value name ToExit → Some (task_of task) ≡ called name value.tasks
+    → left_tasks ≡ without_called name value.tasks
     → LeavesAll (kept value.mounts value.filesystems) task files left
     → namespaces ≡ with_one_task_less task.namespace.count value.namespaces
-    → MountsAreLeft (counted task.namespace.count) (namespace_entry task.namespace.count value.namespaces) left value.groups
+    → MountsAreLeft (counted task.namespace.count)
+    (namespace_entry task.namespace.count value.namespaces) left value.groups
     (kept mounts filesystems) groups
     → IsDone value name ToExit
     (record value { mounts = mounts; groups = groups; filesystems = filesystems; namespaces = namespaces; tasks = left_tasks })
@@ -197,23 +222,32 @@ task_exits value name task files left mounts groups filesystems namespaces left_
     let k = kept value.mounts value.filesystems in
     let left_is : left ≡ folded (leave_use (world_of value)) k (uses_of_task meant_task) =
     leaves.is
-    ∙ files_left_so value whole files meant_task.descriptors (without_location task.directory false (without_location task.root false k)) leaves.places leaves.writes leaves.slots
+    ∙ files_left_so value whole files meant_task.descriptors
+    (without_location task.directory false
+    (without_location task.root false k)) leaves.places leaves.writes leaves.slots
     (λ location m. well location (inr (inr m)))
     ∙ ap (λ one. folded (leave_use (world_of value)) one (map used_by meant_task.descriptors))
-    (left_so value whole task.directory false (without_location task.root false k) leaves.directory (well (location_of task.directory) (inr (inl refl)))
-    ∙ ap (λ one. leave_use (world_of value) one (standing meant_task.directory)) (left_so value whole task.root false k leaves.root (well (location_of task.root) (inl refl)))) in
+    (left_so value whole task.directory false (without_location task.root false k) leaves.directory
+    (well (location_of task.directory) (inr (inl refl)))
+    ∙ ap (λ one. leave_use (world_of value) one (standing meant_task.directory))
+    (left_so value whole task.root false k leaves.root (well (location_of task.root) (inl refl)))) in
     subst (λ all. IsDone value name ToExit
     (record value { mounts = mounts; groups = groups; filesystems = filesystems; namespaces = namespaces; tasks = all })) (sym are)
-    (departs value whole (without_called name value.tasks) [] (uses_of_task meant_task) (exit_moves value whole name meant_task called_so)
+    (departs value whole (without_called name value.tasks) [] (uses_of_task meant_task)
+    (exit_moves value whole name meant_task called_so)
     count value.namespaces (exit_counts value whole name meant_task called_so count refl) refl filesystems namespaces namespaces_are
     name ToExit meant_task
     (record {
       called = called_so;
-      given = subst (λ one. Rattle.vt_permit_laws.specs.Left.IsGiven (Rattle.vt_detach.specs.Events.supply_of value ToExit) (world_of value) one ToExit)
+      given = subst (λ one. Rattle.vt_permit_laws.specs.Left.IsGiven
+          (Rattle.vt_detach.specs.Events.supply_of value ToExit) (world_of value) one ToExit)
           (same_Some permits.task meant_task (sym permits.called ∙ called_so)) permits.given;
       named = refl;
-      applied = λ fresh. ap (λ own. namespaces_ended nat_eq (Rattle.vt_spec.specs.Machine.World.without_task (world_of value) own)) (name-of-called name value.tasks meant_task called_so);
+      applied = λ fresh. ap (λ own. namespaces_ended nat_eq
+          (Rattle.vt_spec.specs.Machine.World.without_task (world_of value) own))
+          (name-of-called name value.tasks meant_task called_so);
     })
     mounts groups
-    (subst (λ one. MountsAreLeft (counted count) (namespace_entry count value.namespaces) one value.groups (kept mounts filesystems) groups)
+    (subst (λ one. MountsAreLeft (counted count) (namespace_entry count value.namespaces) one value.groups
+    (kept mounts filesystems) groups)
     left_is mounts_are))

@@ -28,7 +28,8 @@ use Rattle.vt_detach.proofs.ChangedNumbers.{MakesOther}
 use Rattle.vt_detach.proofs.FilesSeen.{IsLocated, files_are_plain, inodes_named, located, located_filesystem, located_inodes}
 
 -- what the permit of a call names is there
-pub permit_fits : (value : WorldValue) → IsHeld value → (name : TaskName) (permit : Permit ℕ) (permits : Permits value name permit)
+pub permit_fits : (value : WorldValue) → IsHeld value
+    → (name : TaskName) (permit : Permit ℕ) (permits : Permits value name permit)
     → IsFitPermit (supply_of value permit) (world_of value) permits.task permit
 permit_fits value held name permit permits =
     permits_fit (world_of value) (supply_of value permit) permits.task permits.given.call permit held.in_world
@@ -39,10 +40,12 @@ abbrev pub IsSmall : Location → Type 0
 IsSmall at = at.node.slot < 18446744073709551616
 
 -- A change by a call that names it: chmod(2), link(2), unlink(2), write(2)
-module _ (value : WorldValue) (held : IsHeld value) (name : TaskName) (at : Location) (small : IsSmall at) (change : Change ℕ)
+module _ (value : WorldValue) (held : IsHeld value) (name : TaskName) (at : Location) (small : IsSmall at)
+    (change : Change ℕ)
     (permits : Permits value name (ToChange (location_of at) change)) where
   pub change_at : IsLocated value at
-  change_at = located value held at small (permit_fits value held name (ToChange (location_of at) change) permits).names.0.there
+  change_at = located value held at small
+      (permit_fits value held name (ToChange (location_of at) change) permits).names.0.there
 
   pub change_is_done : (filesystems : Filesystems) → change_named (is_counted_before value.next) change ≡ true
       → LinksWhatIsThere (inodes_seen change_at.entry) change
@@ -72,7 +75,8 @@ module _ (value : WorldValue) (held : IsHeld value) (name : TaskName) (at : Loca
             (ap (λ filesystem. filesystem.files.tree) (sym (located_filesystem value at change_at)));
         links = links;
         changes =
-            subst (λ count. ChangesInodes count (changed_by change) value.filesystems filesystems) (sym change_at.count_is) changes;
+            subst (λ count. ChangesInodes count (changed_by change) value.filesystems filesystems)
+            (sym change_at.count_is) changes;
         own = own;
       })
 
@@ -84,17 +88,21 @@ module _ (value : WorldValue) (held : IsHeld value) (name : TaskName) (at : Loca
   pub change_fits : Fits (inodes_at value.filesystems at.node.filesystem.count) change
   change_fits =
       given_changes_fit (world_of value) (supply_of value (ToChange (location_of at) change)) permits.task
-      (ToChange (location_of at) change) (location_of at) change (inodes_at value.filesystems at.node.filesystem.count) held.in_world
+      (ToChange (location_of at) change) (location_of at) change
+      (inodes_at value.filesystems at.node.filesystem.count) held.in_world
       (files_are_plain value.filesystems) permits.given refl
       (ap tree_of (located_inodes value at change_at)
       ∙ ap (λ filesystem. filesystem.files.tree) (sym (located_filesystem value at change_at)))
 
 -- chmod(2), chown(2)
-pub attr_is_set : (value : WorldValue) → IsHeld value → (name : TaskName) (object : Location) (attr : Attr) (filesystems : Filesystems)
+pub attr_is_set : (value : WorldValue) → IsHeld value
+    → (name : TaskName) (object : Location) (attr : Attr) (filesystems : Filesystems)
     → IsSmall object → Permits value name (ToChange (location_of object) (SetAttr (number_of object.node) attr))
-    → ChangesInodes object.node.filesystem.count (λ inodes. changed nat_eq inodes (SetAttr (number_of object.node) attr))
+    → ChangesInodes object.node.filesystem.count
+    (λ inodes. changed nat_eq inodes (SetAttr (number_of object.node) attr))
     value.filesystems filesystems
-    → IsFilesEvent value name (ToChange (location_of object) (SetAttr (number_of object.node) attr)) (with_filesystems value filesystems)
+    → IsFilesEvent value name (ToChange (location_of object) (SetAttr (number_of object.node) attr))
+    (with_filesystems value filesystems)
 attr_is_set value held name object attr filesystems small permits changes =
     change_is_done value held name object small (SetAttr (number_of object.node) attr) permits filesystems
     (inodes_named value.next object.node.filesystem.count object.node.slot) tt (λ number other. tt) changes

@@ -27,7 +27,8 @@ use Rattle.vt_detach.proofs.NumbersBeside.{found_by_number}
 
 -- No filesystem is an overlay
 
-pub files_are_plain : (filesystems : Filesystems) → All (λ filesystem. is_overlay filesystem ≡ false) (filesystems_seen filesystems)
+pub files_are_plain : (filesystems : Filesystems)
+    → All (λ filesystem. is_overlay filesystem ≡ false) (filesystems_seen filesystems)
 files_are_plain filesystems =
     all_from_among (λ filesystem. is_overlay filesystem ≡ false) (filesystems_seen filesystems) (λ filesystem m.
     ap is_overlay (among-from_map filesystem_seen filesystems filesystem m).2)
@@ -35,11 +36,13 @@ files_are_plain filesystems =
 -- Filesystems by their counts
 
 -- no two have one count
-pub one_entry : (fs : Filesystems) → any_pair (λ (a b : Filesystem ℕ). nat_eq a.number b.number) (filesystems_seen fs) ≡ false
+pub one_entry : (fs : Filesystems)
+    → any_pair (λ (a b : Filesystem ℕ). nat_eq a.number b.number) (filesystems_seen fs) ≡ false
     → (entry : FilesystemEntry) → Among entry fs → entry_of fs entry.count ≡ Some entry
 one_entry [] one entry m = absurd m
 one_entry (first ∷ rest) one entry m =
-    let parts = or_parts (list_any (λ (b : Filesystem ℕ). nat_eq (counted first.count) b.number) (filesystems_seen rest))
+    let parts = or_parts (list_any (λ (b : Filesystem ℕ). nat_eq (counted first.count) b.number)
+    (filesystems_seen rest))
     (any_pair (λ (a b : Filesystem ℕ). nat_eq a.number b.number) (filesystems_seen rest)) one in
     by parts.0 (nat_eq entry.count first.count) refl m (λ n. one_entry rest parts.1 entry n)
   where
@@ -50,8 +53,10 @@ one_entry (first ∷ rest) one entry m =
     by others true e n next =
         ⊎_elim (λ same. ap Some (sym same))
         (λ later. absurd (true≢false
-        (sym (eq-eqb (counted first.count) (counted entry.count) (ap counted (sym (eqb-true entry.count first.count e))))
-        ∙ fails (λ (b : Filesystem ℕ). nat_eq (counted first.count) b.number) (filesystems_seen rest) others (filesystem_seen entry)
+        (sym (eq-eqb (counted first.count) (counted entry.count)
+        (ap counted (sym (eqb-true entry.count first.count e))))
+        ∙ fails (λ (b : Filesystem ℕ). nat_eq (counted first.count) b.number) (filesystems_seen rest) others
+        (filesystem_seen entry)
         (among-map filesystem_seen rest entry later)))) n
     by others false e n next =
         ⊎_elim (λ same. absurd (true≢false (sym (eq-eqb entry.count first.count (ap (λ x. x.count) same)) ∙ e))) next n
@@ -66,12 +71,14 @@ pub record IsSeenIn (fs : Filesystems) (number inode : ℕ) : Type 0 where
 
 abbrev filesystem_found : Filesystems → ℕ → Filesystem ℕ
 filesystem_found fs number =
-    unwrap_or (find (λ (filesystem : Filesystem ℕ). nat_eq number filesystem.number) (filesystems_seen fs)) (no_filesystem number)
+    unwrap_or (find (λ (filesystem : Filesystem ℕ). nat_eq number filesystem.number) (filesystems_seen fs))
+    (no_filesystem number)
 
 abbrev found_if : Bool → FilesystemEntry → Filesystems → ℕ → Filesystem ℕ
 found_if b x fs number =
     unwrap_or
-    (cond b (Some (filesystem_seen x)) (find (λ (filesystem : Filesystem ℕ). nat_eq number filesystem.number) (filesystems_seen fs)))
+    (cond b (Some (filesystem_seen x))
+    (find (λ (filesystem : Filesystem ℕ). nat_eq number filesystem.number) (filesystems_seen fs)))
     (no_filesystem number)
 
 pub seen_in : (fs : Filesystems) → All HasOwnInodes fs → (number inode : ℕ)
@@ -86,7 +93,8 @@ seen_in (x ∷ fs) own number inode there =
     here false e there =
         absurd (true≢false (sym there ∙ ap (λ o. is_some (node_in o)) (All-head HasOwnInodes x fs own inode e)))
 
-    by : (b : Bool) → nat_eq number (counted x.count) ≡ b → is_some ((found_if b x fs number).files.tree.node inode) ≡ true
+    by : (b : Bool) → nat_eq number (counted x.count) ≡ b
+        → is_some ((found_if b x fs number).files.tree.node inode) ≡ true
         → (is_some ((filesystem_found fs number).files.tree.node inode) ≡ true → IsSeenIn fs number inode)
         → IsSeenIn (x ∷ fs) number inode
     by true e there rest = record {
@@ -101,7 +109,8 @@ seen_in (x ∷ fs) own number inode there =
       among = inr later.among;
       found =
           ap (λ b. cond b (Some x) (entry_of fs later.entry.count))
-          (sym (counted_test later.entry.count x.count) ∙ ap (λ n. nat_eq n (counted x.count)) (sym later.number_is) ∙ e)
+          (sym (counted_test later.entry.count x.count) ∙ ap (λ n. nat_eq n (counted x.count)) (sym later.number_is)
+          ∙ e)
           ∙ later.found;
       number_is = later.number_is;
       own = later.own;
@@ -125,22 +134,27 @@ among_goes_on n [] b c m = m
 among_goes_on n (x ∷ a) b c m = true_or (nat_eq n x) (is_among nat_eq n ((a ++ b) ++ c)) (among_goes_on n a b c m)
 
 -- mounts that are there are in use
-used_mount : (n : ℕ) (mounts : List (Mount ℕ)) (rest : List ℕ) → is_among nat_eq n (map (λ (mount : Mount ℕ). mount.number) mounts) ≡ true
+used_mount : (n : ℕ) (mounts : List (Mount ℕ)) (rest : List ℕ)
+    → is_among nat_eq n (map (λ (mount : Mount ℕ). mount.number) mounts) ≡ true
     → is_among nat_eq n (flat_map used_by_mount mounts ++ rest) ≡ true
 used_mount n [] rest m = absurd (true≢false (sym m))
 used_mount n (first ∷ mounts) rest m = by (nat_eq n first.number) m (used_mount n mounts rest)
   where
     by : (b : Bool) → (b || is_among nat_eq n (map (λ (mount : Mount ℕ). mount.number) mounts)) ≡ true
-        → (is_among nat_eq n (map (λ (mount : Mount ℕ). mount.number) mounts) ≡ true → is_among nat_eq n (flat_map used_by_mount mounts ++ rest) ≡ true)
-        → (b || is_among nat_eq n ((option_to_list (source_of first.propagation) ++ flat_map used_by_mount mounts) ++ rest)) ≡ true
+        → (is_among nat_eq n (map (λ (mount : Mount ℕ). mount.number) mounts) ≡ true
+        → is_among nat_eq n (flat_map used_by_mount mounts ++ rest) ≡ true)
+        → (b || is_among nat_eq n ((option_to_list (source_of first.propagation) ++ flat_map used_by_mount mounts)
+        ++ rest)) ≡ true
     by true e next = refl
-    by false e next = among_goes_on n (option_to_list (source_of first.propagation)) (flat_map used_by_mount mounts) rest (next e)
+    by false e next = among_goes_on n (option_to_list (source_of first.propagation))
+        (flat_map used_by_mount mounts) rest (next e)
 
 among_first : (n : ℕ) (a b : List ℕ) → is_among nat_eq n a ≡ true → is_among nat_eq n (a ++ b) ≡ true
 among_first n [] b m = absurd (true≢false (sym m))
 among_first n (x ∷ a) b m = by (nat_eq n x) m (among_first n a b)
   where
-    by : (c : Bool) → (c || is_among nat_eq n a) ≡ true → (is_among nat_eq n a ≡ true → is_among nat_eq n (a ++ b) ≡ true)
+    by : (c : Bool) → (c || is_among nat_eq n a) ≡ true
+        → (is_among nat_eq n a ≡ true → is_among nat_eq n (a ++ b) ≡ true)
         → (c || is_among nat_eq n (a ++ b)) ≡ true
     by true e next = refl
     by false e next = next e
@@ -149,7 +163,8 @@ pub two_left_out : (next : ℕ) → LeavesOutTwo (is_counted_before next)
 two_left_out next = (3, 7, (λ same. cc), refl, refl)
 
 pub mount_named : (value : WorldValue) → IsHeld value → (number : ℕ)
-    → is_among nat_eq number (map (λ (mount : Mount ℕ). mount.number) (world_of value).mounts) ≡ true → is_counted_before value.next number ≡ true
+    → is_among nat_eq number (map (λ (mount : Mount ℕ). mount.number) (world_of value).mounts) ≡ true
+    → is_counted_before value.next number ≡ true
 mount_named value held number there =
     used_numbers_are_named (is_counted_before value.next) (world_of value) held.given (two_left_out value.next) number
     (among_first number
@@ -169,7 +184,8 @@ pub record IsLocated (value : WorldValue) (at : Location) : Type 0 where
 pub located : (value : WorldValue) → IsHeld value → (at : Location) → at.node.slot < 18446744073709551616
     → is_located_well nat_eq (world_of value) (location_of at) ≡ true → IsLocated value at
 located value held at small there =
-    let parts = and_parts (is_among nat_eq (counted at.mount.count) (map (λ (mount : Mount ℕ). mount.number) (world_of value).mounts)) _ there in
+    let parts = and_parts (is_among nat_eq (counted at.mount.count)
+    (map (λ (mount : Mount ℕ). mount.number) (world_of value).mounts)) _ there in
     let seen = seen_in value.filesystems held.own_inodes (mount_at nat_eq (world_of value) (location_of at)).filesystem
     (inode_number at.node.filesystem.count at.node.slot) parts.1 in
     let slot = slot_of seen.entry.count (inode_number at.node.filesystem.count at.node.slot) seen.own in
@@ -195,7 +211,8 @@ located_filesystem value at seen =
 pub located_inodes : (value : WorldValue) (at : Location) (seen : IsLocated value at)
     → inodes_at value.filesystems at.node.filesystem.count ≡ inodes_seen seen.entry
 located_inodes value at seen =
-    ap (inodes_at value.filesystems) (sym seen.count_is) ∙ ap (λ found. inodes_seen (unwrap_or found (no_entry seen.entry.count))) seen.found
+    ap (inodes_at value.filesystems) (sym seen.count_is)
+    ∙ ap (λ found. inodes_seen (unwrap_or found (no_entry seen.entry.count))) seen.found
 
 -- another inode of that filesystem
 pub also_there : (value : WorldValue) → IsHeld value → (at : Location) (seen : IsLocated value at) (object : NodeRef)
@@ -203,7 +220,8 @@ pub also_there : (value : WorldValue) → IsHeld value → (at : Location) (seen
     → is_some ((filesystem_at nat_eq (world_of value) (location_of at)).files.tree.node (number_of object)) ≡ true
     → object.filesystem ≡ at.node.filesystem
 also_there value held at seen object small there =
-    let own = seen_in value.filesystems held.own_inodes (mount_at nat_eq (world_of value) (location_of at)).filesystem (number_of object) there in
+    let own = seen_in value.filesystems held.own_inodes (mount_at nat_eq (world_of value) (location_of at)).filesystem
+    (number_of object) there in
     let slot = slot_of own.entry.count (number_of object) own.own in
     let same : object.filesystem.count ≡ at.node.filesystem.count =
     (inode_same object.filesystem.count own.entry.count object.slot slot.0 small slot.1 slot.2).0
@@ -215,18 +233,23 @@ also_there value held at seen object small there =
 pub tree_of_entry : (value : WorldValue) → IsHeld value → (entry : FilesystemEntry) → Among entry value.filesystems
     → IsTree (filesystem_seen entry).files.tree
 tree_of_entry value held entry m =
-    among_from_all (λ (filesystem : Filesystem ℕ). IsTree filesystem.files.tree) (world_of value).filesystems held.in_world.files.trees
+    among_from_all (λ (filesystem : Filesystem ℕ). IsTree filesystem.files.tree)
+    (world_of value).filesystems held.in_world.files.trees
     (filesystem_seen entry) (among-map filesystem_seen value.filesystems entry m)
 
 -- what is at a location, as the definitions look and as code does
 pub looked_node : (value : WorldValue) → IsHeld value → (at : Location) → at.node.slot < 18446744073709551616
     → is_some (node_at nat_eq (world_of value) (location_of at)) ≡ true
-    → (files_at value.filesystems at.node.filesystem.count).tree.node (number_of at.node) ≡ node_at nat_eq (world_of value) (location_of at)
+    → (files_at value.filesystems at.node.filesystem.count).tree.node (number_of at.node)
+    ≡ node_at nat_eq (world_of value) (location_of at)
 looked_node value held at small there =
-    let seen = seen_in value.filesystems held.own_inodes (mount_at nat_eq (world_of value) (location_of at)).filesystem (number_of at.node) there in
+    let seen = seen_in value.filesystems held.own_inodes (mount_at nat_eq (world_of value) (location_of at)).filesystem
+    (number_of at.node) there in
     let slot = slot_of seen.entry.count (number_of at.node) seen.own in
     let count_is : seen.entry.count ≡ at.node.filesystem.count =
     sym (inode_same at.node.filesystem.count seen.entry.count at.node.slot slot.0 small slot.1 slot.2).0 in
     ap (λ count. (files_at value.filesystems count).tree.node (number_of at.node)) (sym count_is)
-    ∙ ap (λ (filesystem : Filesystem ℕ). filesystem.files.tree.node (number_of at.node)) (sym (found_by_number value.filesystems seen.entry.count))
-    ∙ ap (λ number. (filesystem_numbered nat_eq (world_of value) number).files.tree.node (number_of at.node)) (sym seen.number_is)
+    ∙ ap (λ (filesystem : Filesystem ℕ). filesystem.files.tree.node (number_of at.node))
+    (sym (found_by_number value.filesystems seen.entry.count))
+    ∙ ap (λ number. (filesystem_numbered nat_eq (world_of value) number).files.tree.node (number_of at.node))
+    (sym seen.number_is)

@@ -13,13 +13,15 @@ use Rattle.vt_detach.specs.Held.{HasOwnInodes}
 -- the filesystem with a number, as the definitions find it
 abbrev pub found : Filesystems → ℕ → Filesystem ℕ
 found fs number =
-    unwrap_or (find (λ (filesystem : Filesystem ℕ). nat_eq number filesystem.number) (filesystems_seen fs)) (no_filesystem number)
+    unwrap_or (find (λ (filesystem : Filesystem ℕ). nat_eq number filesystem.number) (filesystems_seen fs))
+    (no_filesystem number)
 
 -- what is told of a filesystem that is found first, or further on
 abbrev found_if : Bool → FilesystemEntry → Filesystems → ℕ → Filesystem ℕ
 found_if b x fs number =
     unwrap_or
-    (cond b (Some (filesystem_seen x)) (find (λ (filesystem : Filesystem ℕ). nat_eq number filesystem.number) (filesystems_seen fs)))
+    (cond b (Some (filesystem_seen x))
+    (find (λ (filesystem : Filesystem ℕ). nat_eq number filesystem.number) (filesystems_seen fs)))
     (no_filesystem number)
 
 -- what holds of each filesystem, and of what stands for one that is not there, holds of the one that is found
@@ -29,7 +31,8 @@ holds_at P [] all count none = none
 holds_at P (x ∷ fs) all count none =
     by (nat_eq count x.count) (holds_at P fs (All-tail P (filesystem_seen x) (filesystems_seen fs) all) count none)
   where
-    by : (b : Bool) → P (filesystem_seen (entry_at fs count)) → P (filesystem_seen (unwrap_or (cond b (Some x) (entry_of fs count)) (no_entry count)))
+    by : (b : Bool) → P (filesystem_seen (entry_at fs count))
+        → P (filesystem_seen (unwrap_or (cond b (Some x) (entry_of fs count)) (no_entry count)))
     by true rest = All-head P (filesystem_seen x) (filesystems_seen fs) all
     by false rest = rest
 
@@ -38,7 +41,8 @@ pub found_number : (fs : Filesystems) (number : ℕ) → (found fs number).numbe
 found_number [] number = refl
 found_number (x ∷ fs) number = by (nat_eq number (counted x.count)) refl (found_number fs number)
   where
-    by : (b : Bool) → nat_eq number (counted x.count) ≡ b → (found fs number).number ≡ number → (found_if b x fs number).number ≡ number
+    by : (b : Bool) → nat_eq number (counted x.count) ≡ b → (found fs number).number ≡ number
+        → (found_if b x fs number).number ≡ number
     by true e rest = sym (eqb-true number (counted x.count) e)
     by false e rest = rest
 
@@ -64,8 +68,10 @@ own_filesystem (x ∷ fs) own number inode there =
     here false e there =
         absurd (true≢false (sym there ∙ ap (λ o. is_some (node_in o)) (All-head HasOwnInodes x fs own inode e)))
 
-    by : (b : Bool) → nat_eq number (counted x.count) ≡ b → is_some ((found_if b x fs number).files.tree.node inode) ≡ true
-        → (is_some ((found fs number).files.tree.node inode) ≡ true → (count : ℕ) × (number ≡ counted count) × (is_inode_of count inode ≡ true))
+    by : (b : Bool) → nat_eq number (counted x.count) ≡ b
+        → is_some ((found_if b x fs number).files.tree.node inode) ≡ true
+        → (is_some ((found fs number).files.tree.node inode) ≡ true
+        → (count : ℕ) × (number ≡ counted count) × (is_inode_of count inode ≡ true))
         → (count : ℕ) × (number ≡ counted count) × (is_inode_of count inode ≡ true)
     by true e there rest = (x.count, eqb-true number (counted x.count) e, here (is_inode_of x.count inode) refl there)
     by false e there rest = rest there
@@ -78,7 +84,8 @@ inode_of_one count filesystem slot small e =
 
 -- an inode of one filesystem is in no other
 pub in_no_other : (fs : Filesystems) → All HasOwnInodes fs → (number filesystem slot : ℕ) → slot < 18446744073709551616
-    → nat_eq number (counted filesystem) ≡ false → (found fs number).files.tree.node (inode_number filesystem slot) ≡ None
+    → nat_eq number (counted filesystem) ≡ false
+    → (found fs number).files.tree.node (inode_number filesystem slot) ≡ None
 in_no_other fs own number filesystem slot small other =
     by ((found fs number).files.tree.node (inode_number filesystem slot)) refl
   where
@@ -90,7 +97,8 @@ in_no_other fs own number filesystem slot small other =
         (place.1 ∙ ap counted (inode_of_one place.0 filesystem slot small place.2))) ∙ other))
 
 -- what is counted is no inode
-pub no_counted_inode : (fs : Filesystems) → All HasOwnInodes fs → (number count : ℕ) → (found fs number).files.tree.node (counted count) ≡ None
+pub no_counted_inode : (fs : Filesystems) → All HasOwnInodes fs → (number count : ℕ)
+    → (found fs number).files.tree.node (counted count) ≡ None
 no_counted_inode fs own number count = by ((found fs number).files.tree.node (counted count)) refl
   where
     by : (o : Option (Node ℕ)) → (found fs number).files.tree.node (counted count) ≡ o → o ≡ None

@@ -1,7 +1,6 @@
 -- The end of an event: the world that the sweep leaves has its invariants, and counts what is in it.
 use Rattle.std.proofs.Common.{◌≡◌, refl, sym, subst, ℕ, nat_eq, Bool, true, false, cond, List, [], ◌∷◌, Some}
 use Rattle.std.specs.Prelude.{All}
-use Rattle.std.specs.List.{list_all}
 use Rattle.vt_spec.specs.Language.Calls.{TaskName}
 use Rattle.vt_spec.specs.Lists.{Fresh, folded}
 use Rattle.vt_spec.specs.Machine.Apply.{apply}
@@ -28,7 +27,7 @@ use Rattle.vt_permit_laws.proofs.SameInUse.{same_worlds_are_worlds}
 use Rattle.vt_permit_laws.proofs.SameNumbers.{same_worlds_keep_to_numbers}
 use Rattle.vt_run_laws.specs.Handed.{is_counted_before}
 use Rattle.vt_detach.specs.Events.{supply_of}
-use Rattle.vt_detach.specs.Held.{CountsItsMounts, CountsItsUses, CountsWhatIsInIt, HasOwnInodes, IsHeld, is_ungrouped}
+use Rattle.vt_detach.specs.Held.{CountsItsMounts, CountsItsUses, CountsWhatIsInIt, HasOwnInodes, IsHeld}
 use Rattle.vt_detach.specs.WorldValue.{WorldValue, world_of}
 use Rattle.vt_detach.proofs.OwnInodesKept.{IsOwn, own_pinned, own_unpinned}
 use Rattle.vt_detach.proofs.Bridging.{IsSwept, swept_has, swept_is_counted, swept_is_same}
@@ -61,8 +60,10 @@ pub own_exchanged : (count : ℕ) (gained lost : List Inode) (inodes : Inodes �
 own_exchanged count gained lost inodes own =
     unpinned_own count lost (folded (pinned_if (counted count)) inodes gained) (pinned_own count gained inodes own)
 
--- a permit of a task, and the world that its event leaves before what nothing uses is gone, whatever numbers are handed in
-pub record IsApplied (value : WorldValue) (name : TaskName) (permit : Permit ℕ) (task : Task ℕ) (next : World ℕ) : Type 0 where
+-- a permit of a task, and the world that its event leaves before what nothing uses is gone, whatever numbers are handed
+-- in
+pub record IsApplied (value : WorldValue) (name : TaskName) (permit : Permit ℕ) (task : Task ℕ)
+    (next : World ℕ) : Type 0 where
   pub called : task_called (world_of value) name ≡ Some task
   pub given : IsGiven (supply_of value permit) (world_of value) task permit
   pub named : permit_named (is_counted_before value.next) permit ≡ true
@@ -70,15 +71,16 @@ pub record IsApplied (value : WorldValue) (name : TaskName) (permit : Permit ℕ
 
 -- what is counted beside inodes
 pub record CountsBeside (new : WorldValue) : Type 0 where
-  pub ungrouped : list_all (λ entry. is_ungrouped entry.mount.propagation) new.mounts ≡ true
   pub uses : All (CountsItsUses (world_of new)) new.mounts
-  pub mounts : (entry : FilesystemEntry) → Among entry new.filesystems → entry.mounts ≡ mounts_showing (world_of new) (counted entry.count)
+  pub mounts : (entry : FilesystemEntry) → Among entry new.filesystems
+      → entry.mounts ≡ mounts_showing (world_of new) (counted entry.count)
   pub namespaces : All (CountsWhatIsInIt (world_of new)) new.namespaces
 
 -- what is left is a world, so the code's world has its invariants
 module _ (value : WorldValue) (whole : IsHeld value) (next : World ℕ)
     (left : IsWorld nat_eq (settled nat_eq next) × IsPlain (settled nat_eq next)) where
-  pub swept_held : (gained lost : List Inode) (new : WorldValue) → IsSwept value next gained lost new → Has (settled nat_eq next) new.groups
+  pub swept_held : (gained lost : List Inode) (new : WorldValue) → IsSwept value next gained lost new
+      → Has (settled nat_eq next) new.groups
       → CountsBeside new → KeepsTo (is_counted_before new.next) (world_of new) → IsHeld new
   swept_held gained lost new swept has counts keeps =
       let same = swept_is_same value whole next gained lost new swept has left in
@@ -86,7 +88,6 @@ module _ (value : WorldValue) (whole : IsHeld value) (next : World ℕ)
       record {
         in_world = world.0;
         groups = swept_has value whole next gained lost new swept has left;
-        ungrouped = counts.ungrouped;
         given = keeps;
         mounts = counts.uses;
         filesystems = all_from_among (CountsItsMounts (world_of new)) new.filesystems (λ entry m. record {
@@ -101,22 +102,28 @@ module _ (value : WorldValue) (whole : IsHeld value) (next : World ℕ)
         namespaces = counts.namespaces;
       }
 
-module _ (value : WorldValue) (whole : IsHeld value) (name : TaskName) (permit : Permit ℕ) (task : Task ℕ) (next : World ℕ)
+module _ (value : WorldValue) (whole : IsHeld value) (name : TaskName) (permit : Permit ℕ) (task : Task ℕ)
+    (next : World ℕ)
     (is : IsApplied value name permit task next) where
   -- what is left is a world
   pub is_left : IsWorld nat_eq (settled nat_eq next) × IsPlain (settled nat_eq next)
   is_left =
-      subst (λ world. IsWorld nat_eq (settled nat_eq world) × IsPlain (settled nat_eq world)) (is.applied (supply_of value permit))
-      (given_permits_leave_worlds (world_of value) (supply_of value permit) task permit whole.in_world (world_is_plain value) is.given)
+      subst (λ world. IsWorld nat_eq (settled nat_eq world) × IsPlain (settled nat_eq world))
+      (is.applied (supply_of value permit))
+      (given_permits_leave_worlds (world_of value) (supply_of value permit) task permit whole.in_world
+      (world_is_plain value) is.given)
 
   pub keeps_left : KeepsTo (is_counted_before value.next) (settled nat_eq next)
   keeps_left =
       subst (λ world. KeepsTo (is_counted_before value.next) (settled nat_eq world)) (is.applied (λ k. 0))
-      (permits_keep_to_numbers (is_counted_before value.next) (λ k. 0) (world_of value) task permit is.given.called whole.given (λ k. refl) is.named)
+      (permits_keep_to_numbers (is_counted_before value.next) (λ k. 0)
+      (world_of value) task permit is.given.called whole.given (λ k. refl) is.named)
 
   -- the code's world is what is left of a world of which as much is left as of the policy's
-  pub finished_as : (after : World ℕ) → settled nat_eq next ≡ settled nat_eq after → (gained lost : List Inode) (new : WorldValue)
-      → IsSwept value after gained lost new → Has (settled nat_eq after) new.groups → CountsBeside new → new.next ≡ value.next
+  pub finished_as : (after : World ℕ) → settled nat_eq next ≡ settled nat_eq after
+      → (gained lost : List Inode) (new : WorldValue)
+      → IsSwept value after gained lost new → Has (settled nat_eq after) new.groups → CountsBeside new
+      → new.next ≡ value.next
       → IsDone value name permit new
   finished_as after alike gained lost new swept has counts same_next =
       let left = subst (λ (world : World ℕ). IsWorld nat_eq world × IsPlain world) alike is_left in
@@ -124,13 +131,15 @@ module _ (value : WorldValue) (whole : IsHeld value) (name : TaskName) (permit :
       record {
         held = swept_held value whole after left gained lost new swept has counts
             (subst (λ count. KeepsTo (is_counted_before count) (world_of new)) (sym same_next)
-            (same_worlds_keep_to_numbers (is_counted_before value.next) (settled nat_eq after) (world_of new) same left.1
+            (same_worlds_keep_to_numbers (is_counted_before value.next) (settled nat_eq after)
+            (world_of new) same left.1
             (subst (KeepsTo (is_counted_before value.next)) alike keeps_left)));
         becomes = becomes_so value name permit new task is.called
             (subst (λ one. SameWorlds (settled nat_eq one) (world_of new)) (sym (is.applied (supply_of value permit)))
             (subst (λ left. SameWorlds left (world_of new)) (sym alike) same));
       }
 
-  pub finished : (gained lost : List Inode) (new : WorldValue) → IsSwept value next gained lost new → Has (settled nat_eq next) new.groups
+  pub finished : (gained lost : List Inode) (new : WorldValue) → IsSwept value next gained lost new
+      → Has (settled nat_eq next) new.groups
       → CountsBeside new → new.next ≡ value.next → IsDone value name permit new
   finished = finished_as next refl

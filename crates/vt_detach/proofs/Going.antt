@@ -31,7 +31,7 @@ use Rattle.vt_location.specs.Numbers.{counted}
 use Rattle.vt_mount.specs.MountsValue.{MountEntry, mounts_in, without}
 use Rattle.vt_tasks.specs.TasksValue.{Tasks}
 use Rattle.vt_world_laws.proofs.RaisedInUse.{worlds_are_in_use}
-use Rattle.vt_detach.specs.Held.{CountsItsMounts, CountsItsUses, CountsWhatIsInIt, IsHeld, is_ungrouped}
+use Rattle.vt_detach.specs.Held.{CountsItsMounts, CountsItsUses, CountsWhatIsInIt, IsHeld}
 use Rattle.vt_detach.specs.Uses as meant
 use Rattle.vt_detach.specs.Uses.{Kept, kept, mounts_shown, released_if}
 use Rattle.vt_detach.specs.WorldValue.{WorldValue, world_of}
@@ -46,10 +46,12 @@ use Rattle.vt_detach.proofs.TreesLookedAt.{or_nothing}
 
 -- Lists
 
-pub map_filtered : {A B : Type 0} (f : A → B) (p : A → Bool) (q : B → Bool) → ((a : A) → q (f a) ≡ p a) → (xs : List A) → map f (filter p xs) ≡ filter q (map f xs)
+pub map_filtered : {A B : Type 0} (f : A → B) (p : A → Bool) (q : B → Bool) → ((a : A) → q (f a) ≡ p a) → (xs : List A)
+    → map f (filter p xs) ≡ filter q (map f xs)
 map_filtered f p q same [] = refl
 map_filtered f p q same (x ∷ xs) =
-    by (p x) (map_filtered f p q same xs) ∙ ap (λ b. cond b (f x ∷ filter q (map f xs)) (filter q (map f xs))) (sym (same x))
+    by (p x) (map_filtered f p q same xs)
+    ∙ ap (λ b. cond b (f x ∷ filter q (map f xs)) (filter q (map f xs))) (sym (same x))
   where
     by : (b : Bool) → map f (filter p xs) ≡ filter q (map f xs)
         → map f (cond b (x ∷ filter p xs) (filter p xs)) ≡ cond b (f x ∷ filter q (map f xs)) (filter q (map f xs))
@@ -60,15 +62,18 @@ pub or_all : (b : Bool) → (b || true) ≡ true
 or_all true = refl
 or_all false = refl
 
-module _ (value : WorldValue) (whole : IsHeld value) (tasks : Tasks) (more : List Use) (left_use : Use) (moves : Moves value tasks more (left_use ∷ []))
+module _ (value : WorldValue) (whole : IsHeld value) (tasks : Tasks) (more : List Use) (left_use : Use)
+    (moves : Moves value tasks more (left_use ∷ []))
     (mounts : List MountEntry) (filesystems : Filesystems) (mount : Mount ℕ)
     (found_so : mount_numbered nat_eq (world_of value) left_use.location.mount ≡ mount)
     (there : is_among nat_eq left_use.location.mount (map (λ x. x.number) (world_of value).mounts) ≡ true)
     (nowhere : is_some mount.namespace ≡ false)
     (unused : mount_uses (world_of (after value tasks)) left_use.location.mount ≡ 0)
-    (dead : without_dead_mounts nat_eq (world_of (after value tasks)) ≡ without_mount (world_of (after value tasks)) left_use.location.mount)
+    (dead : without_dead_mounts nat_eq (world_of (after value tasks))
+    ≡ without_mount (world_of (after value tasks)) left_use.location.mount)
     (is_kept : kept mounts filesystems
-    ≡ meant.without_mount left_use.location.mount mount (moved_kept (world_of value) more (left_use ∷ []) (kept value.mounts value.filesystems))) where
+    ≡ meant.without_mount left_use.location.mount mount
+    (moved_kept (world_of value) more (left_use ∷ []) (kept value.mounts value.filesystems))) where
   abbrev world : World ℕ
   world = world_of value
 
@@ -105,18 +110,22 @@ module _ (value : WorldValue) (whole : IsHeld value) (tasks : Tasks) (more : Lis
   same_mount entry = (released_counts less (folded hold_if entry more)).mount ∙ (held_counts more entry).mount
 
   entries_are : mounts ≡ without number (map moved_entry value.mounts)
-  entries_are = ap (λ k. k.mounts) is_kept ∙ ap (without number) (mounts_moved world more less (kept value.mounts value.filesystems))
+  entries_are = ap (λ k. k.mounts) is_kept
+      ∙ ap (without number) (mounts_moved world more less (kept value.mounts value.filesystems))
 
   pub mounts_are : mounts_in mounts ≡ mounted.mounts
   mounts_are =
       ap mounts_in entries_are
-      ∙ map_filtered (λ (entry : MountEntry). entry.mount) (λ entry. not (nat_eq number entry.mount.number)) (λ x. not (nat_eq x.number number))
+      ∙ map_filtered (λ (entry : MountEntry). entry.mount) (λ entry. not (nat_eq number entry.mount.number))
+      (λ x. not (nat_eq x.number number))
       (λ entry. ap not (swap_eq entry.mount.number number)) (map moved_entry value.mounts)
       ∙ ap (filter (λ x. not (nat_eq x.number number)))
       (map_twice (λ (entry : MountEntry). entry.mount) moved_entry value.mounts
-      ∙ map_alike (λ entry. (moved_entry entry).mount) (λ entry. entry.mount) value.mounts (λ entry m. same_mount entry))
+      ∙ map_alike (λ entry. (moved_entry entry).mount) (λ entry. entry.mount) value.mounts
+      (λ entry m. same_mount entry))
 
-  entry_was : (entry : MountEntry) → Among entry mounts → (was : MountEntry) × Among was value.mounts × (entry ≡ moved_entry was)
+  entry_was : (entry : MountEntry) → Among entry mounts
+      → (was : MountEntry) × Among was value.mounts × (entry ≡ moved_entry was)
   entry_was entry m =
       among-from_map moved_entry value.mounts entry
       (among-from_filter (λ (x : MountEntry). not (nat_eq number x.mount.number)) (map moved_entry value.mounts) entry
@@ -131,15 +140,23 @@ module _ (value : WorldValue) (whole : IsHeld value) (tasks : Tasks) (more : Lis
       ∙ ap (λ b. mounts_showing mounted n + cond b 1 0) (swap_eq n mount.filesystem)
 
   step_is : (was : FilesystemEntry) → Among was value.filesystems
-      → ((step (shown_entry was)).count ≡ was.count) × ((step (shown_entry was)).inodes ≡ (exchanged_shown gained lost (shown_entry was)).inodes)
+      → ((step (shown_entry was)).count ≡ was.count)
+      × ((step (shown_entry was)).inodes ≡ (exchanged_shown gained lost (shown_entry was)).inodes)
       × ((step (shown_entry was)).mounts ≡ mounts_showing mounted (counted was.count))
   step_is was m =
-      by (nat_eq mount.filesystem (counted was.count)) (among_from_all (CountsItsMounts world) value.filesystems whole.filesystems was m).mounts (takes (counted was.count))
+      by (nat_eq mount.filesystem (counted was.count))
+      (among_from_all (CountsItsMounts world) value.filesystems whole.filesystems was m).mounts
+      (takes (counted was.count))
     where
-      by : (b : Bool) → was.mounts ≡ mounts_showing world (counted was.count) → mounts_showing world (counted was.count) ≡ mounts_showing mounted (counted was.count) + cond b 1 0
-          → ((cond b (record (exchanged_shown gained lost (shown_entry was)) { mounts = was.mounts - 1 }) (exchanged_shown gained lost (shown_entry was))).count ≡ was.count)
-          × ((cond b (record (exchanged_shown gained lost (shown_entry was)) { mounts = was.mounts - 1 }) (exchanged_shown gained lost (shown_entry was))).inodes ≡ (exchanged_shown gained lost (shown_entry was)).inodes)
-          × ((cond b (record (exchanged_shown gained lost (shown_entry was)) { mounts = was.mounts - 1 }) (exchanged_shown gained lost (shown_entry was))).mounts ≡ mounts_showing mounted (counted was.count))
+      by : (b : Bool) → was.mounts ≡ mounts_showing world (counted was.count)
+          → mounts_showing world (counted was.count) ≡ mounts_showing mounted (counted was.count) + cond b 1 0
+          → ((cond b (record (exchanged_shown gained lost (shown_entry was)) { mounts = was.mounts - 1 })
+          (exchanged_shown gained lost (shown_entry was))).count ≡ was.count)
+          × ((cond b (record (exchanged_shown gained lost (shown_entry was)) { mounts = was.mounts - 1 })
+          (exchanged_shown gained lost (shown_entry was))).inodes
+          ≡ (exchanged_shown gained lost (shown_entry was)).inodes)
+          × ((cond b (record (exchanged_shown gained lost (shown_entry was)) { mounts = was.mounts - 1 })
+          (exchanged_shown gained lost (shown_entry was))).mounts ≡ mounts_showing mounted (counted was.count))
       by true counts took = (refl, refl, omega (arith, counts, took))
       by false counts took = (refl, refl, omega (arith, counts, took))
 
@@ -152,10 +169,14 @@ module _ (value : WorldValue) (whole : IsHeld value) (tasks : Tasks) (more : Lis
   shown_are : shown filesystems ≡ filter (λ (one : Shown). stays_numbered (counted one.count)) stepped
   shown_are =
       ap (λ k. k.filesystems) is_kept
-      ∙ ap (λ all. meant.let_go_filesystem mount.filesystem (meant.released_in mount.filesystem (meant.unpinned_in (mount.filesystem, mount.root) all)))
+      ∙ ap (λ all. meant.let_go_filesystem mount.filesystem
+      (meant.released_in mount.filesystem (meant.unpinned_in (mount.filesystem, mount.root) all)))
       (filesystems_moved world more less (kept value.mounts value.filesystems))
       ∙ ap (λ all. meant.let_go_filesystem mount.filesystem (meant.released_in mount.filesystem all))
-      (map_twice (λ (one : Shown). record one { inodes = unpinned_if (counted one.count) one.inodes (mount.filesystem, mount.root) })
+      (map_twice (λ (one : Shown). record one {
+        inodes = unpinned_if (counted one.count) one.inodes
+            (mount.filesystem, mount.root);
+      })
       (exchanged_shown gained (inode_at world left_use.location ∷ [])) (shown value.filesystems))
       ∙ ap (meant.let_go_filesystem mount.filesystem)
       (map_twice (released_if mount.filesystem) (exchanged_shown gained lost) (shown value.filesystems))
@@ -167,7 +188,8 @@ module _ (value : WorldValue) (whole : IsHeld value) (tasks : Tasks) (more : Lis
       by false = sym (filter_all (λ (one : Shown). true) stepped (λ one m. refl))
 
   shown_was : (entry : FilesystemEntry) → Among entry filesystems
-      → (was : FilesystemEntry) × Among was value.filesystems × (shown_entry entry ≡ step (shown_entry was)) × (stays_numbered (counted entry.count) ≡ true)
+      → (was : FilesystemEntry) × Among was value.filesystems × (shown_entry entry ≡ step (shown_entry was))
+      × (stays_numbered (counted entry.count) ≡ true)
   shown_was entry m =
       let kept_one = among-from_filter (λ (one : Shown). stays_numbered (counted one.count)) stepped (shown_entry entry)
       (subst (λ all. Among (shown_entry entry) all) shown_are (among-map shown_entry filesystems entry m)) in
@@ -175,7 +197,8 @@ module _ (value : WorldValue) (whole : IsHeld value) (tasks : Tasks) (more : Lis
       let first = among-from_map shown_entry value.filesystems from.0 from.1 in
       (first.0, first.1, from.2 ∙ ap step first.2, kept_one.1)
 
-  lives_is : (filesystem : Filesystem ℕ) → Among filesystem world.filesystems → filesystem_lives nat_eq mounted filesystem ≡ stays_numbered filesystem.number
+  lives_is : (filesystem : Filesystem ℕ) → Among filesystem world.filesystems
+      → filesystem_lives nat_eq mounted filesystem ≡ stays_numbered filesystem.number
   lives_is filesystem m =
       let from = among-from_map filesystem_seen value.filesystems filesystem m in
       ap (filesystem_lives nat_eq mounted) from.2
@@ -187,15 +210,20 @@ module _ (value : WorldValue) (whole : IsHeld value) (tasks : Tasks) (more : Lis
       ∙ by from.0 from.1 (nat_eq mount.filesystem (counted from.0.count)) refl
       ∙ ap (λ (f : Filesystem ℕ). stays_numbered f.number) (sym from.2)
     where
-      was_mounted : (was : FilesystemEntry) → Among was value.filesystems → not (nat_eq (mounts_showing world (counted was.count)) 0) ≡ true
+      was_mounted : (was : FilesystemEntry) → Among was value.filesystems
+          → not (nat_eq (mounts_showing world (counted was.count)) 0) ≡ true
       was_mounted was n =
-          sym (positive (mounts_showing world (counted was.count))) ∙ sym (mounted_while_counted world (counted was.count))
+          sym (positive (mounts_showing world (counted was.count)))
+          ∙ sym (mounted_while_counted world (counted was.count))
           ∙ sym (or_nothing (is_mounted nat_eq world (counted was.count)))
           ∙ sym (ap (λ b. is_mounted nat_eq world (counted was.count) || b)
           (no_layers (counted was.count) world world.filesystems (plain_of world (world_is_plain value))))
-          ∙ passes (filesystem_lives nat_eq world) world.filesystems (worlds_are_in_use world whole.in_world).filesystems (filesystem_seen was) (among-map filesystem_seen value.filesystems was n)
+          ∙ passes (filesystem_lives nat_eq world) world.filesystems
+          (worlds_are_in_use world whole.in_world).filesystems (filesystem_seen was)
+          (among-map filesystem_seen value.filesystems was n)
 
-      by : (was : FilesystemEntry) → Among was value.filesystems → (b : Bool) → nat_eq mount.filesystem (counted was.count) ≡ b
+      by : (was : FilesystemEntry) → Among was value.filesystems → (b : Bool)
+          → nat_eq mount.filesystem (counted was.count) ≡ b
           → not (nat_eq (mounts_showing mounted (counted was.count)) 0) ≡ stays_numbered (counted was.count)
       by was n true e =
           let same : mount.filesystem ≡ counted was.count = eqb-true mount.filesystem (counted was.count) e in
@@ -204,8 +232,10 @@ module _ (value : WorldValue) (whole : IsHeld value) (tasks : Tasks) (more : Lis
           let first = among-from_map shown_entry value.filesystems from.0 from.1 in
           let is = step_is first.0 first.1 in
           ap (λ (x : Shown). x.mounts) (from.2 ∙ ap step first.2) ∙ is.2
-          ∙ ap (λ count. mounts_showing mounted (counted count)) (sym is.0) ∙ ap (λ (x : Shown). mounts_showing mounted (counted x.count)) (sym (from.2 ∙ ap step first.2)))
-          (step (shown_entry was)) (among-map step (shown value.filesystems) (shown_entry was) (among-map shown_entry value.filesystems was n))
+          ∙ ap (λ count. mounts_showing mounted (counted count)) (sym is.0)
+          ∙ ap (λ (x : Shown). mounts_showing mounted (counted x.count)) (sym (from.2 ∙ ap step first.2)))
+          (step (shown_entry was)) (among-map step (shown value.filesystems) (shown_entry was)
+          (among-map shown_entry value.filesystems was n))
           (same ∙ ap counted (sym (step_is was n).0)) in
           ap (λ k. not (nat_eq (mounts_showing mounted k) 0)) (sym same)
           ∙ ap (λ k. not (nat_eq k 0)) (sym counts)
@@ -214,7 +244,8 @@ module _ (value : WorldValue) (whole : IsHeld value) (tasks : Tasks) (more : Lis
       by was n false e =
           let took : mounts_showing world (counted was.count) ≡ mounts_showing mounted (counted was.count) + 0 =
           takes (counted was.count) ∙ ap (λ b. mounts_showing mounted (counted was.count) + cond b 1 0) e in
-          let same : mounts_showing mounted (counted was.count) ≡ mounts_showing world (counted was.count) = omega (arith, took) in
+          let same : mounts_showing mounted (counted was.count)
+          ≡ mounts_showing world (counted was.count) = omega (arith, took) in
           ap (λ k. not (nat_eq k 0)) same ∙ was_mounted was n
           ∙ sym (or_all (not none_left)) ∙ ap (λ b. not none_left || not b) (sym e)
 
@@ -225,7 +256,8 @@ module _ (value : WorldValue) (whole : IsHeld value) (tasks : Tasks) (more : Lis
   living_is =
       ap (without_dead_filesystems nat_eq) dead
       ∙ ap (λ all. record mounted { filesystems = all })
-      (filter_alike (filesystem_lives nat_eq mounted) (λ (f : Filesystem ℕ). stays_numbered f.number) world.filesystems lives_is)
+      (filter_alike (filesystem_lives nat_eq mounted)
+      (λ (f : Filesystem ℕ). stays_numbered f.number) world.filesystems lives_is)
 
   -- Exchanges
 
@@ -235,19 +267,24 @@ module _ (value : WorldValue) (whole : IsHeld value) (tasks : Tasks) (more : Lis
 
   located : LocationsStand next
   located =
-      all_pass (λ location. is_among nat_eq location.mount (map (λ x. x.number) next.mounts)) (all_locations next) (λ location m.
+      all_pass (λ location. is_among nat_eq location.mount (map (λ x. x.number) next.mounts)) (all_locations next)
+      (λ location m.
       ⊎_elim
-      (λ f. old location (subst (λ all. Among location all) (sym moves.was) (among-append_left moves.front (locations less ++ moves.back) location f)))
+      (λ f. old location (subst (λ all. Among location all) (sym moves.was)
+      (among-append_left moves.front (locations less ++ moves.back) location f)))
       (λ rest. ⊎_elim
       (λ come. (and_parts (is_among nat_eq location.mount (map (λ x. x.number) next.mounts)) _
       (passes (is_located_well nat_eq world) (locations more) moves.there location come)).0)
       (λ b. old location (subst (λ all. Among location all) (sym moves.was)
-      (among-append_right moves.front (locations less ++ moves.back) location (among-append_right (locations less) moves.back location b))))
+      (among-append_right moves.front (locations less ++ moves.back) location
+      (among-append_right (locations less) moves.back location b))))
       (among-append (locations more) moves.back location rest))
       (among-append moves.front (locations more ++ moves.back) location (subst (λ all. Among location all) moves.is m)))
     where
-      old : (location : Location ℕ) → Among location (all_locations world) → is_among nat_eq location.mount (map (λ x. x.number) next.mounts) ≡ true
-      old location m = passes (λ location. is_among nat_eq location.mount (map (λ x. x.number) world.mounts)) (all_locations world)
+      old : (location : Location ℕ) → Among location (all_locations world)
+          → is_among nat_eq location.mount (map (λ x. x.number) next.mounts) ≡ true
+      old location m = passes (λ location. is_among nat_eq location.mount (map (λ x. x.number) world.mounts))
+          (all_locations world)
           (Roots.locations_of_worlds_stand world whole.in_world) location m
 
   unused_so : is_mount_used next number ≡ false
@@ -271,22 +308,29 @@ module _ (value : WorldValue) (whole : IsHeld value) (tasks : Tasks) (more : Lis
       let second = subst (λ (x : Mount ℕ). Exchanges [] ((x.filesystem, x.root) ∷ []) k next mounted) found_so
       (Roots.mounts_leave_their_roots next number stand located there unused_so k) in
       let third = others_use_nothing mounted remaining k plain_mounted plain_remaining refl refl
-      (found_unless (λ (f : Filesystem ℕ). stays_numbered f.number) world.filesystems k (λ x m e. ap stays_numbered e ∙ stays)) in
+      (found_unless (λ (f : Filesystem ℕ). stays_numbered f.number) world.filesystems k
+      (λ x m e. ap stays_numbered e ∙ stays)) in
       let all = exchanges_follow world mounted remaining (gained ++ []) lost [] [] k
-      (exchanges_follow world next mounted gained (inode_at world left_use.location ∷ []) [] ((mount.filesystem, mount.root) ∷ []) k first second) third in
+      (exchanges_follow world next mounted gained (inode_at world left_use.location ∷ []) []
+      ((mount.filesystem, mount.root) ∷ []) k first second) third in
       subst (Exchanges gained lost k world) (sym living_is)
-      (subst (λ all_gained. Exchanges all_gained lost k world remaining) (append-nil (gained ++ []) ∙ append-nil gained) all)
+      (subst (λ all_gained. Exchanges all_gained lost k world remaining)
+      (append-nil (gained ++ []) ∙ append-nil gained) all)
 
-  numbers_are : map (λ (f : Filesystem ℕ). f.number) remaining.filesystems ≡ map (λ (entry : FilesystemEntry). counted entry.count) filesystems
+  numbers_are : map (λ (f : Filesystem ℕ). f.number) remaining.filesystems
+      ≡ map (λ (entry : FilesystemEntry). counted entry.count) filesystems
   numbers_are =
-      map_filtered (λ (f : Filesystem ℕ). f.number) (λ (f : Filesystem ℕ). stays_numbered f.number) stays_numbered (λ f. refl) world.filesystems
+      map_filtered (λ (f : Filesystem ℕ). f.number) (λ (f : Filesystem ℕ). stays_numbered f.number) stays_numbered
+      (λ f. refl) world.filesystems
       ∙ ap (filter stays_numbered)
       (map_twice (λ (f : Filesystem ℕ). f.number) filesystem_seen value.filesystems
-      ∙ map_alike (λ (was : FilesystemEntry). counted was.count) (λ (was : FilesystemEntry). counted (step (shown_entry was)).count) value.filesystems
+      ∙ map_alike (λ (was : FilesystemEntry). counted was.count)
+      (λ (was : FilesystemEntry). counted (step (shown_entry was)).count) value.filesystems
       (λ was m. ap counted (sym (step_is was m).0))
       ∙ sym (map_twice (λ (one : Shown). counted (step one).count) shown_entry value.filesystems)
       ∙ sym (map_twice (λ (one : Shown). counted one.count) step (shown value.filesystems)))
-      ∙ sym (map_filtered (λ (one : Shown). counted one.count) (λ (one : Shown). stays_numbered (counted one.count)) stays_numbered (λ one. refl) stepped)
+      ∙ sym (map_filtered (λ (one : Shown). counted one.count)
+      (λ (one : Shown). stays_numbered (counted one.count)) stays_numbered (λ one. refl) stepped)
       ∙ sym (ap (map (λ (one : Shown). counted one.count)) shown_are)
       ∙ map_twice (λ (one : Shown). counted one.count) shown_entry filesystems
 
@@ -310,9 +354,11 @@ module _ (value : WorldValue) (whole : IsHeld value) (tasks : Tasks) (more : Lis
 
   -- Counts
 
-  same_in_namespace : (n : ℕ) → filter (λ (x : Mount ℕ). holds_of (nat_eq n) x.namespace) mounted.mounts ≡ filter (λ (x : Mount ℕ). holds_of (nat_eq n) x.namespace) world.mounts
+  same_in_namespace : (n : ℕ) → filter (λ (x : Mount ℕ). holds_of (nat_eq n) x.namespace) mounted.mounts
+      ≡ filter (λ (x : Mount ℕ). holds_of (nat_eq n) x.namespace) world.mounts
   same_in_namespace n =
-      filter_less (λ (x : Mount ℕ). holds_of (nat_eq n) x.namespace) (λ x. not (nat_eq x.number number)) world.mounts (λ x m gone.
+      filter_less (λ (x : Mount ℕ). holds_of (nat_eq n) x.namespace) (λ x. not (nat_eq x.number number)) world.mounts
+      (λ x m gone.
       none x.namespace
       (ap (λ (y : Mount ℕ). is_some y.namespace)
       (sym (found_itself world.mounts whole.in_world.mounts.one_number x m)
@@ -327,26 +373,29 @@ module _ (value : WorldValue) (whole : IsHeld value) (tasks : Tasks) (more : Lis
       turned true e = refl
       turned false e = absurd (true≢false e)
 
-  gone_counted : ((namespace : ℕ) → times (λ task. nat_eq namespace task.namespace) tasks ≡ times (λ task. nat_eq namespace task.namespace) value.tasks)
+  gone_counted : ((namespace : ℕ)
+      → times (λ task. nat_eq namespace task.namespace) tasks
+      ≡ times (λ task. nat_eq namespace task.namespace) value.tasks)
       → CountsBeside (remade value mounts filesystems tasks)
   gone_counted inside = record {
-    ungrouped = all_pass (λ entry. is_ungrouped entry.mount.propagation) mounts (λ entry m. let from = entry_was entry m in
-        ap (λ (one : MountEntry). is_ungrouped one.mount.propagation) from.2
-        ∙ ap (λ (x : Mount ℕ). is_ungrouped x.propagation) (same_mount from.0)
-        ∙ passes (λ one. is_ungrouped one.mount.propagation) value.mounts whole.ungrouped from.0 from.1);
-    uses = all_from_among (CountsItsUses (world_of (remade value mounts filesystems tasks))) mounts (λ entry m. let from = entry_was entry m in
-        let counts = subst (CountsItsUses next) (sym from.2) (entry_counts value whole tasks more less moves from.0 from.1) in
+    uses = all_from_among (CountsItsUses (world_of (remade value mounts filesystems tasks))) mounts
+        (λ entry m. let from = entry_was entry m in
+        let counts = subst (CountsItsUses next) (sym from.2)
+        (entry_counts value whole tasks more less moves from.0 from.1) in
         record { uses = counts.uses; writers = counts.writers });
     mounts = λ entry m. let from = shown_was entry m in let is = step_is from.0 from.1 in
         ap (λ (one : Shown). one.mounts) from.2 ∙ is.2
-        ∙ (λ i. times (λ (x : Mount ℕ). nat_eq (counted (sym (ap (λ (one : Shown). one.count) from.2 ∙ is.0) i)) x.filesystem) (sym mounts_are i));
-    namespaces = all_from_among (CountsWhatIsInIt (world_of (remade value mounts filesystems tasks))) value.namespaces (λ entry m.
+        ∙ (λ i. times (λ (x : Mount ℕ). nat_eq
+        (counted (sym (ap (λ (one : Shown). one.count) from.2 ∙ is.0) i)) x.filesystem) (sym mounts_are i));
+    namespaces = all_from_among (CountsWhatIsInIt (world_of (remade value mounts filesystems tasks))) value.namespaces
+        (λ entry m.
         let was = among_from_all (CountsWhatIsInIt world) value.namespaces whole.namespaces entry m in
         record { tasks = was.tasks ∙ sym (inside (counted entry.count)) });
   }
 
   pub gone_done : (name : TaskName) (permit : Permit ℕ) (task : Task ℕ) → IsApplied value name permit task next
-      → ((namespace : ℕ) → times (λ task. nat_eq namespace task.namespace) tasks ≡ times (λ task. nat_eq namespace task.namespace) value.tasks)
+      → ((namespace : ℕ) → times (λ task. nat_eq namespace task.namespace) tasks
+      ≡ times (λ task. nat_eq namespace task.namespace) value.tasks)
       → IsDone value name permit (remade value mounts filesystems tasks)
   gone_done name permit task is inside =
       finished value whole name permit task next is gained lost (remade value mounts filesystems tasks)

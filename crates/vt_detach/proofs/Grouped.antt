@@ -8,13 +8,11 @@ use Rattle.vt_spec.specs.Machine.Receives.{has_members}
 use Rattle.vt_spec.specs.Machine.Settled.{is_located, mount_lives, settled}
 use Rattle.vt_spec.specs.Machine.World.{World}
 use Rattle.vt_spec.specs.Machine.Invariants.{IsWorld, is_nowhere_or_attached, is_private}
-use Rattle.vt_count_laws.specs.Sweeping.{living}
-use Rattle.vt_group.specs.Grouping.{Grouping, Has, are_rising, master_in, no_groups, numbers_of, peers_of}
+use Rattle.vt_group.specs.Grouping.{Grouping, Has, are_rising, master_in, numbers_of, peers_of}
 use Rattle.vt_group.specs.Steps.{is_member}
 use Rattle.vt_group.proofs.Peers.{members-peers}
-use Rattle.vt_group.proofs.Showing.{has_one_grouping}
 use Rattle.vt_letting_go.proofs.Lists.{Among, among-from_map, passes}
-use Rattle.vt_mount.specs.MountsValue.{MountEntry, mounts_in}
+use Rattle.vt_mount.specs.MountsValue.{mounts_in}
 use Rattle.vt_detach.specs.Held.{IsHeld, is_ungrouped}
 use Rattle.vt_detach.specs.WorldValue.{WorldValue, world_of}
 
@@ -25,8 +23,10 @@ pub members_alike : (one other : List (Mount ℕ)) → peers_of one ≡ peers_of
 members_alike one other same group =
     sym (members-peers group one) ∙ ap (list_any (is_member group)) same ∙ members-peers group other
 
-pub alike_has : (world after : World ℕ) (groups : Grouping) → Has world groups → are_rising (numbers_of after.mounts) ≡ true
-    → peers_of after.mounts ≡ peers_of world.mounts → ((group : ℕ) → after.master group ≡ world.master group) → Has after groups
+pub alike_has : (world after : World ℕ) (groups : Grouping) → Has world groups
+    → are_rising (numbers_of after.mounts) ≡ true
+    → peers_of after.mounts ≡ peers_of world.mounts → ((group : ℕ) → after.master group ≡ world.master group)
+    → Has after groups
 alike_has world after groups has rising peers master = record {
   order = rising;
   peers = has.peers ∙ sym peers;
@@ -39,22 +39,26 @@ alike_has world after groups has rising peers master = record {
 pub same_has : (world after : World ℕ) (groups : Grouping) → Has world groups → after.mounts ≡ world.mounts
     → ((group : ℕ) → after.master group ≡ world.master group) → Has after groups
 same_has world after groups has mounts master =
-    alike_has world after groups has (ap (λ all. are_rising (numbers_of all)) mounts ∙ has.order) (ap peers_of mounts) master
+    alike_has world after groups has (ap (λ all. are_rising (numbers_of all)) mounts ∙ has.order)
+    (ap peers_of mounts) master
 
 -- Mounts that keep their numbers
 
-numbers_mapped : (change : Mount ℕ → Mount ℕ) → ((mount : Mount ℕ) → (change mount).number ≡ mount.number) → (mounts : List (Mount ℕ))
+numbers_mapped : (change : Mount ℕ → Mount ℕ) → ((mount : Mount ℕ) → (change mount).number ≡ mount.number)
+    → (mounts : List (Mount ℕ))
     → numbers_of (map change mounts) ≡ numbers_of mounts
 numbers_mapped change same [] = refl
 numbers_mapped change same (mount ∷ rest) = λ i. same mount i ∷ numbers_mapped change same rest i
 
-pub rising_mapped : (change : Mount ℕ → Mount ℕ) → ((mount : Mount ℕ) → (change mount).number ≡ mount.number) → (mounts : List (Mount ℕ))
+pub rising_mapped : (change : Mount ℕ → Mount ℕ) → ((mount : Mount ℕ) → (change mount).number ≡ mount.number)
+    → (mounts : List (Mount ℕ))
     → are_rising (numbers_of mounts) ≡ true → are_rising (numbers_of (map change mounts)) ≡ true
 rising_mapped change same mounts rising = ap are_rising (numbers_mapped change same mounts) ∙ rising
 
 -- What nothing uses goes
 
-above_kept : (number : ℕ) (p : Mount ℕ → Bool) (mounts : List (Mount ℕ)) → list_all (nat_lt number) (numbers_of mounts) ≡ true
+above_kept : (number : ℕ) (p : Mount ℕ → Bool) (mounts : List (Mount ℕ))
+    → list_all (nat_lt number) (numbers_of mounts) ≡ true
     → list_all (nat_lt number) (numbers_of (filter p mounts)) ≡ true
 above_kept number p [] all = refl
 above_kept number p (mount ∷ rest) all =
@@ -72,12 +76,13 @@ rising_kept p (mount ∷ rest) rising =
     let parts = and_parts (list_all (nat_lt mount.number) (numbers_of rest)) _ rising in
     by (p mount) (above_kept mount.number p rest parts.0) (rising_kept p rest parts.1)
   where
-    by : (b : Bool) → list_all (nat_lt mount.number) (numbers_of (filter p rest)) ≡ true → are_rising (numbers_of (filter p rest)) ≡ true
+    by : (b : Bool) → list_all (nat_lt mount.number) (numbers_of (filter p rest)) ≡ true
+        → are_rising (numbers_of (filter p rest)) ≡ true
         → are_rising (numbers_of (cond b (mount ∷ filter p rest) (filter p rest))) ≡ true
     by true first later = and_from _ _ first later
     by false first later = later
 
-no_source : (kind : Propagation ℕ) → is_ungrouped kind ≡ true → source_of kind ≡ None
+pub no_source : (kind : Propagation ℕ) → is_ungrouped kind ≡ true → source_of kind ≡ None
 no_source (Shared group) e = absurd (true≢false (sym e))
 no_source (Slave master) e = absurd (true≢false (sym e))
 no_source Private e = refl
@@ -87,7 +92,8 @@ no_source Unbindable e = refl
 pub no_peer : (mount : Mount ℕ) (rest : List (ℕ × Propagation ℕ)) → is_ungrouped mount.propagation ≡ true
     → cons_option (option_map (λ source. (mount.number, mount.propagation)) (source_of mount.propagation)) rest ≡ rest
 no_peer mount rest free =
-    ap (λ o. cons_option (option_map (λ (source : ℕ). (mount.number, mount.propagation)) o) rest) (no_source mount.propagation free)
+    ap (λ o. cons_option (option_map (λ (source : ℕ). (mount.number, mount.propagation)) o) rest)
+    (no_source mount.propagation free)
 
 peers_kept : (p : Mount ℕ → Bool) (mounts : List (Mount ℕ))
     → ((mount : Mount ℕ) → Among mount mounts → p mount ≡ false → is_ungrouped mount.propagation ≡ true)
@@ -97,12 +103,14 @@ peers_kept p (mount ∷ rest) free = by (p mount) refl (peers_kept p rest (λ ot
   where
     by : (b : Bool) → p mount ≡ b → peers_of (filter p rest) ≡ peers_of rest
         → peers_of (cond b (mount ∷ filter p rest) (filter p rest)) ≡ peers_of (mount ∷ rest)
-    by true e later = ap (cons_option (option_map (λ source. (mount.number, mount.propagation)) (source_of mount.propagation))) later
+    by true e later = ap (cons_option
+        (option_map (λ source. (mount.number, mount.propagation)) (source_of mount.propagation))) later
     by false e later = later ∙ sym (no_peer mount (peers_of rest) (free mount (inl refl) e))
 
 -- the groups stay as they are where the mounts that go are in none
 pub settled_has : (world : World ℕ) (groups : Grouping) → Has world groups
-    → ((mount : Mount ℕ) → Among mount world.mounts → mount_lives nat_eq world mount ≡ false → is_ungrouped mount.propagation ≡ true)
+    → ((mount : Mount ℕ) → Among mount world.mounts → mount_lives nat_eq world mount ≡ false
+    → is_ungrouped mount.propagation ≡ true)
     → Has (settled nat_eq world) groups
 settled_has world groups has free = record {
   order = rising_kept (mount_lives nat_eq world) world.mounts has.order;
@@ -128,10 +136,12 @@ private_is (Slave master) e = absurd (true≢false (sym e))
 private_is Private e = refl
 private_is Unbindable e = absurd (true≢false (sym e))
 
-nowhere_is_private : (mount : Mount ℕ) → is_nowhere_or_attached mount ≡ true → is_some mount.namespace ≡ false → mount.propagation ≡ Private
+nowhere_is_private : (mount : Mount ℕ) → is_nowhere_or_attached mount ≡ true → is_some mount.namespace ≡ false
+    → mount.propagation ≡ Private
 nowhere_is_private mount outside none =
     private_is mount.propagation
-    (and_parts _ _ (sym (ap (λ b. b || (not (is_some mount.mount_point) && is_private mount.propagation)) none) ∙ outside)).1
+    (and_parts _ _ (sym (ap (λ b. b || (not (is_some mount.mount_point) && is_private mount.propagation)) none)
+    ∙ outside)).1
 
 nowhere_is_free : (mount : Mount ℕ) → is_nowhere_or_attached mount ≡ true → is_some mount.namespace ≡ false
     → is_ungrouped mount.propagation ≡ true
@@ -139,7 +149,8 @@ nowhere_is_free mount outside none = ap is_ungrouped (nowhere_is_private mount o
 
 -- also once some mounts are detached
 pub stays_private : (mount : Mount ℕ) → is_nowhere_or_attached mount ≡ true → (gone : Bool)
-    → is_some (cond gone (detached mount) mount).namespace ≡ false → (cond gone (detached mount) mount).propagation ≡ Private
+    → is_some (cond gone (detached mount) mount).namespace ≡ false
+    → (cond gone (detached mount) mount).propagation ≡ Private
 stays_private mount outside true none = refl
 stays_private mount outside false none = nowhere_is_private mount outside none
 
@@ -151,9 +162,11 @@ not_attached false located dead = refl
 pub left_has : (value : WorldValue) → IsHeld value → (next : World ℕ) → next.mounts ≡ mounts_in value.mounts
     → ((group : ℕ) → next.master group ≡ master_in value.groups group) → Has (settled nat_eq next) value.groups
 left_has value held next mounts master =
-    settled_has next value.groups (same_has (world_of value) next value.groups held.groups mounts master) (λ mount m dead.
+    settled_has next value.groups (same_has (world_of value) next value.groups held.groups mounts master)
+    (λ mount m dead.
     nowhere_is_free mount
-    (passes is_nowhere_or_attached (mounts_in value.mounts) held.in_world.mounts.nowhere mount (subst (Among mount) mounts m))
+    (passes is_nowhere_or_attached (mounts_in value.mounts) held.in_world.mounts.nowhere mount
+    (subst (Among mount) mounts m))
     (not_attached (is_some mount.namespace) (is_located nat_eq next mount.number) dead))
 
 -- or mounts keep their numbers, their namespaces and their types
@@ -162,22 +175,28 @@ peers_mapped : (change : Mount ℕ → Mount ℕ) → ((mount : Mount ℕ) → (
     → peers_of (map change mounts) ≡ peers_of mounts
 peers_mapped change number kind [] = refl
 peers_mapped change number kind (mount ∷ rest) = λ i.
-    cons_option (option_map (λ source. (number mount i, kind mount i)) (source_of (kind mount i))) (peers_mapped change number kind rest i)
+    cons_option (option_map (λ source. (number mount i, kind mount i)) (source_of (kind mount i)))
+    (peers_mapped change number kind rest i)
 
 pub changed_has : (value : WorldValue) → IsHeld value → (next : World ℕ) (change : Mount ℕ → Mount ℕ)
-    → next.mounts ≡ map change (mounts_in value.mounts) → ((group : ℕ) → next.master group ≡ master_in value.groups group)
-    → ((mount : Mount ℕ) → (change mount).number ≡ mount.number) → ((mount : Mount ℕ) → (change mount).namespace ≡ mount.namespace)
+    → next.mounts ≡ map change (mounts_in value.mounts)
+    → ((group : ℕ) → next.master group ≡ master_in value.groups group)
+    → ((mount : Mount ℕ) → (change mount).number ≡ mount.number)
+    → ((mount : Mount ℕ) → (change mount).namespace ≡ mount.namespace)
     → ((mount : Mount ℕ) → (change mount).propagation ≡ mount.propagation) → Has (settled nat_eq next) value.groups
 changed_has value held next change mounts master number namespace kind =
     settled_has next value.groups
     (alike_has (world_of value) next value.groups held.groups
-    (ap (λ all. are_rising (numbers_of all)) mounts ∙ rising_mapped change number (mounts_in value.mounts) held.groups.order)
+    (ap (λ all. are_rising (numbers_of all)) mounts
+    ∙ rising_mapped change number (mounts_in value.mounts) held.groups.order)
     (ap peers_of mounts ∙ peers_mapped change number kind (mounts_in value.mounts)) master)
     (λ mount m dead.
     let from = among-from_map change (mounts_in value.mounts) mount (subst (Among mount) mounts m) in
     ap (λ (x : Mount ℕ). is_ungrouped x.propagation) from.2 ∙ ap is_ungrouped (kind from.0)
-    ∙ nowhere_is_free from.0 (passes is_nowhere_or_attached (mounts_in value.mounts) held.in_world.mounts.nowhere from.0 from.1)
-    (sym (namespace_is from.0 mount from.2) ∙ not_attached (is_some mount.namespace) (is_located nat_eq next mount.number) dead))
+    ∙ nowhere_is_free from.0 (passes is_nowhere_or_attached
+    (mounts_in value.mounts) held.in_world.mounts.nowhere from.0 from.1)
+    (sym (namespace_is from.0 mount from.2)
+    ∙ not_attached (is_some mount.namespace) (is_located nat_eq next mount.number) dead))
   where
     namespace_is : (was mount : Mount ℕ) → mount ≡ change was → is_some mount.namespace ≡ is_some was.namespace
     namespace_is was mount is = ap (λ (x : Mount ℕ). is_some x.namespace) is ∙ ap is_some (namespace was)
@@ -192,45 +211,3 @@ master_is world groups is has group =
     ∙ ap (λ (all : List (Mount ℕ)). cond (has_members nat_eq all group) (world.master group) None)
     (ap (λ (w : World ℕ). w.mounts) is.nothing_unused)
     ∙ sym (has.masters group)
-
--- Where no mount is in a group
-
-pub no_peers : (mounts : List (Mount ℕ)) → list_all (λ mount. is_ungrouped mount.propagation) mounts ≡ true → peers_of mounts ≡ []
-no_peers [] all = refl
-no_peers (mount ∷ rest) all =
-    let parts = and_parts (is_ungrouped mount.propagation) _ all in
-    no_peer mount (peers_of rest) parts.0 ∙ no_peers rest parts.1
-
-ungrouped_has : (world : World ℕ) → are_rising (numbers_of world.mounts) ≡ true
-    → list_all (λ (mount : Mount ℕ). is_ungrouped mount.propagation) world.mounts ≡ true → Has world no_groups
-ungrouped_has world rising free = record {
-  order = rising;
-  peers = sym (no_peers world.mounts free);
-  masters_order = refl;
-  masters = λ group. sym (ap (λ b. cond b (world.master group) None)
-      (sym (members-peers group world.mounts) ∙ ap (list_any (is_member group)) (no_peers world.mounts free)));
-}
-
-pub mounts_free : (entries : List MountEntry)
-    → list_all (λ (mount : Mount ℕ). is_ungrouped mount.propagation) (mounts_in entries)
-    ≡ list_all (λ (entry : MountEntry). is_ungrouped entry.mount.propagation) entries
-mounts_free [] = refl
-mounts_free (entry ∷ rest) = ap (λ b. is_ungrouped entry.mount.propagation && b) (mounts_free rest)
-
-pub held_has_none : (value : WorldValue) → IsHeld value → value.groups ≡ no_groups
-held_has_none value held =
-    has_one_grouping (world_of value) value.groups no_groups held.groups
-    (ungrouped_has (world_of value) held.groups.order (mounts_free value.mounts ∙ held.ungrouped))
-
-pub no_master : (value : WorldValue) → IsHeld value → (group : ℕ) → (world_of value).master group ≡ None
-no_master value held group = ap (λ groups. master_in groups group) (held_has_none value held)
-
--- an event leaves no mount in a group
-pub left_has_none : (value : WorldValue) → IsHeld value → (next : World ℕ) (entries : List MountEntry)
-    → are_rising (numbers_of next.mounts) ≡ true → (living next).mounts ≡ mounts_in entries
-    → list_all (λ (entry : MountEntry). is_ungrouped entry.mount.propagation) entries ≡ true
-    → Has (settled nat_eq next) value.groups
-left_has_none value held next entries rising mounts free =
-    subst (Has (settled nat_eq next)) (sym (held_has_none value held))
-    (ungrouped_has (settled nat_eq next) (rising_kept (mount_lives nat_eq next) next.mounts rising)
-    (ap (list_all (λ (mount : Mount ℕ). is_ungrouped mount.propagation)) mounts ∙ mounts_free entries ∙ free))

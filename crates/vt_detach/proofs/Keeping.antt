@@ -1,7 +1,8 @@
--- What code keeps of a world while mounts leave their namespaces, and what it keeps once one that nothing uses has gone.
+-- What code keeps of a world while mounts leave their namespaces, and what it keeps once one that nothing uses has
+-- gone.
 use Rattle.std.proofs.Common.{◌≡◌, refl, sym, ap, ◌∙◌, ℕ, nat_eq, eqb-true, Bool, true, false, cond, not, ◌||◌, List, [], ◌∷◌, ◌++◌, map, filter, find, Some, None, unwrap_or}
 use Rattle.std.specs.Prelude.{All, if◌then◌else◌, option_to_list, ◌<◌}
-use Rattle.std.specs.List.{list_all, list_any}
+use Rattle.std.specs.List.{list_any}
 use Rattle.std.proofs.lemmas.Bool.{or_parts}
 use Rattle.vt_spec.specs.Lists.{any_pair, folded, is_among}
 use Rattle.vt_spec.specs.Machine.Mounts.{Location as Place, Mount, detached, mount_in, no_mount}
@@ -25,7 +26,7 @@ use Rattle.vt_location.specs.declared.locations.Location.{Location}
 use Rattle.vt_location.specs.Locations.{location_of}
 use Rattle.vt_location.specs.Numbers.{counted}
 use Rattle.vt_mount.specs.MountsValue.{mounts_in}
-use Rattle.vt_detach.specs.Held.{CountsItsUses, is_ungrouped}
+use Rattle.vt_detach.specs.Held.{CountsItsUses}
 use Rattle.vt_detach.specs.Uses.{Kept}
 use Rattle.vt_detach.specs.WorldValue.{WorldValue, world_of}
 use Rattle.vt_detach.proofs.Moving.{swap_eq}
@@ -40,9 +41,11 @@ detached_in pending mount = if is_among nat_eq mount.number pending then detache
 abbrev pub points_lost : World ℕ → List (Mount ℕ) → List ℕ → List Inode
 points_lost world mounts [] = []
 points_lost world mounts (number ∷ pending) =
-    map (inode_at world) (option_to_list (mount_in nat_eq mounts number).mount_point) ++ points_lost world (map (detached_if number) mounts) pending
+    map (inode_at world) (option_to_list (mount_in nat_eq mounts number).mount_point)
+    ++ points_lost world (map (detached_if number) mounts) pending
 
--- A filesystem as it is kept: its inodes got uses and lost uses, and lose more with the mount points that are still to be left.
+-- A filesystem as it is kept: its inodes got uses and lost uses, and lose more with the mount points that are still to
+-- be left.
 pub record IsShownIn (old : WorldValue) (gained lost later : List Inode) (world : World ℕ) (one : Shown) : Type 0 where
   pub was : FilesystemEntry
   pub among : Among was old.filesystems
@@ -59,15 +62,17 @@ PointsAreSeen old mounts =
     → point.node.slot < 18446744073709551616
     → (mount_at nat_eq (world_of old) (location_of point)).filesystem ≡ counted point.node.filesystem.count
 
--- What is kept of a world in which the pending mounts are detached, while code has them still attached. Mounts but the losers
+-- What is kept of a world in which the pending mounts are detached, while code has them still attached. Mounts but the
+-- losers
 -- are in use.
-pub record IsKeptBut (old : WorldValue) (losers pending : List ℕ) (gained lost : List Inode) (world : World ℕ) (k : Kept) : Type 0 where
+pub record IsKeptBut (old : WorldValue) (losers pending : List ℕ) (gained lost : List Inode) (world : World ℕ)
+    (k : Kept) : Type 0 where
   pub mounts : world.mounts ≡ map (detached_in pending) (mounts_in k.mounts)
   pub uses : All (CountsItsUses world) k.mounts
-  pub numbers : map (λ (f : Filesystem ℕ). f.number) world.filesystems ≡ map (λ (one : Shown). counted one.count) k.filesystems
+  pub numbers : map (λ (f : Filesystem ℕ). f.number) world.filesystems
+      ≡ map (λ (one : Shown). counted one.count) k.filesystems
   pub filesystems : (one : Shown) → Among one k.filesystems
       → IsShownIn old gained lost (points_lost (world_of old) (mounts_in k.mounts) pending) world one
-  pub ungrouped : list_all (λ (mount : Mount ℕ). is_ungrouped mount.propagation) world.mounts ≡ true
   pub stand : MountsStand world
   pub located : LocationsStand world
   pub in_use : MountsInUseBut losers world
@@ -87,7 +92,8 @@ pub no_more : (inodes : List Inode) → inodes ++ [] ≡ inodes
 no_more [] = refl
 no_more (inode ∷ rest) = ap (λ others. inode ∷ others) (no_more rest)
 
-pub folded_append : {A B : Type 0} (add : B → A → B) (b : B) (xs ys : List A) → folded add b (xs ++ ys) ≡ folded add (folded add b xs) ys
+pub folded_append : {A B : Type 0} (add : B → A → B) (b : B) (xs ys : List A)
+    → folded add b (xs ++ ys) ≡ folded add (folded add b xs) ys
 folded_append add b [] ys = refl
 folded_append add b (x ∷ xs) ys = folded_append add (add b x) xs ys
 
@@ -95,45 +101,55 @@ pub append_three : {A : Type 0} (xs ys zs : List A) → (xs ++ ys) ++ zs ≡ xs 
 append_three [] ys zs = refl
 append_three (x ∷ xs) ys zs = ap (λ rest. x ∷ rest) (append_three xs ys zs)
 
-any_in_filter : {A : Type 0} (test p : A → Bool) (xs : List A) → list_any test xs ≡ false → list_any test (filter p xs) ≡ false
+any_in_filter : {A : Type 0} (test p : A → Bool) (xs : List A) → list_any test xs ≡ false
+    → list_any test (filter p xs) ≡ false
 any_in_filter test p [] none = refl
 any_in_filter test p (x ∷ xs) none = by (p x) (any_in_filter test p xs parts.1)
   where
     parts : (test x ≡ false) × (list_any test xs ≡ false)
     parts = or_parts (test x) (list_any test xs) none
 
-    by : (b : Bool) → list_any test (filter p xs) ≡ false → list_any test (cond b (x ∷ filter p xs) (filter p xs)) ≡ false
+    by : (b : Bool) → list_any test (filter p xs) ≡ false
+        → list_any test (cond b (x ∷ filter p xs) (filter p xs)) ≡ false
     by true later = ap (λ c. c || list_any test (filter p xs)) parts.0 ∙ later
     by false later = later
 
-pub pair_in_filter : {A : Type 0} (test : A → A → Bool) (p : A → Bool) (xs : List A) → any_pair test xs ≡ false → any_pair test (filter p xs) ≡ false
+pub pair_in_filter : {A : Type 0} (test : A → A → Bool) (p : A → Bool) (xs : List A) → any_pair test xs ≡ false
+    → any_pair test (filter p xs) ≡ false
 pair_in_filter test p [] none = refl
 pair_in_filter test p (x ∷ xs) none = by (p x) (pair_in_filter test p xs parts.1)
   where
     parts : (list_any (test x) xs ≡ false) × (any_pair test xs ≡ false)
     parts = or_parts (list_any (test x) xs) (any_pair test xs) none
 
-    by : (b : Bool) → any_pair test (filter p xs) ≡ false → any_pair test (cond b (x ∷ filter p xs) (filter p xs)) ≡ false
+    by : (b : Bool) → any_pair test (filter p xs) ≡ false
+        → any_pair test (cond b (x ∷ filter p xs) (filter p xs)) ≡ false
     by true later = ap (λ c. c || any_pair test (filter p xs)) (any_in_filter (test x) p xs parts.0) ∙ later
     by false later = later
 
 -- Filesystems of plain worlds live by their mounts
-pub lives_plainly : (world : World ℕ) → IsPlain world → (f : Filesystem ℕ) → filesystem_lives nat_eq world f ≡ is_mounted nat_eq world f.number
+pub lives_plainly : (world : World ℕ) → IsPlain world → (f : Filesystem ℕ)
+    → filesystem_lives nat_eq world f ≡ is_mounted nat_eq world f.number
 lives_plainly world plain f =
     ap (λ b. is_mounted nat_eq world f.number || b) (no_layers f.number world world.filesystems (plain_of world plain))
     ∙ or_nothing (is_mounted nat_eq world f.number)
 
 -- where a mount has no mount point, the inodes lost are the same without it
-found_none : (mounts : List (Mount ℕ)) (number : ℕ) → mount_in nat_eq (filter (λ mount. not (nat_eq mount.number number)) mounts) number ≡ no_mount number
+found_none : (mounts : List (Mount ℕ)) (number : ℕ)
+    → mount_in nat_eq (filter (λ mount. not (nat_eq mount.number number)) mounts) number ≡ no_mount number
 found_none [] number = refl
 found_none (first ∷ rest) number = by (nat_eq first.number number) refl (found_none rest number)
   where
-    by : (b : Bool) → nat_eq first.number number ≡ b → mount_in nat_eq (filter (λ mount. not (nat_eq mount.number number)) rest) number ≡ no_mount number
-        → mount_in nat_eq (cond (not b) (first ∷ filter (λ mount. not (nat_eq mount.number number)) rest) (filter (λ mount. not (nat_eq mount.number number)) rest)) number
+    by : (b : Bool) → nat_eq first.number number ≡ b
+        → mount_in nat_eq (filter (λ mount. not (nat_eq mount.number number)) rest) number ≡ no_mount number
+        → mount_in nat_eq (cond (not b) (first ∷ filter (λ mount. not (nat_eq mount.number number)) rest)
+        (filter (λ mount. not (nat_eq mount.number number)) rest)) number
         ≡ no_mount number
     by true e later = later
     by false e later =
-        ap (λ b. unwrap_or (cond b (Some first) (find (λ mount. nat_eq number mount.number) (filter (λ mount. not (nat_eq mount.number number)) rest))) (no_mount number))
+        ap (λ b. unwrap_or (cond b (Some first)
+        (find (λ mount. nat_eq number mount.number) (filter (λ mount. not (nat_eq mount.number number)) rest)))
+        (no_mount number))
         (swap_eq number first.number ∙ e) ∙ later
 
 pub same_number : (number : ℕ) (mount : Mount ℕ) → (detached_if number mount).number ≡ mount.number
@@ -147,13 +163,18 @@ no_point_still : (mounts : List (Mount ℕ)) (other number : ℕ) → (mount_in 
     → (mount_in nat_eq (map (detached_if other) mounts) number).mount_point ≡ None
 no_point_still [] other number none = refl
 no_point_still (first ∷ rest) other number none =
-    ap (λ n. (unwrap_or (cond (nat_eq number n) (Some (detached_if other first)) (find (λ mount. nat_eq number mount.number) (map (detached_if other) rest))) (no_mount number)).mount_point)
+    ap (λ n. (unwrap_or (cond (nat_eq number n) (Some (detached_if other first))
+    (find (λ mount. nat_eq number mount.number) (map (detached_if other) rest))) (no_mount number)).mount_point)
     (same_number other first)
     ∙ by (nat_eq number first.number) none (no_point_still rest other number)
   where
-    by : (b : Bool) → (unwrap_or (cond b (Some first) (find (λ mount. nat_eq number mount.number) rest)) (no_mount number)).mount_point ≡ None
-        → ((mount_in nat_eq rest number).mount_point ≡ None → (mount_in nat_eq (map (detached_if other) rest) number).mount_point ≡ None)
-        → (unwrap_or (cond b (Some (detached_if other first)) (find (λ mount. nat_eq number mount.number) (map (detached_if other) rest))) (no_mount number)).mount_point ≡ None
+    by : (b : Bool) → (unwrap_or (cond b (Some first) (find (λ mount. nat_eq number mount.number) rest))
+        (no_mount number)).mount_point ≡ None
+        → ((mount_in nat_eq rest number).mount_point ≡ None
+        → (mount_in nat_eq (map (detached_if other) rest) number).mount_point ≡ None)
+        → (unwrap_or (cond b (Some (detached_if other first))
+        (find (λ mount. nat_eq number mount.number) (map (detached_if other) rest))) (no_mount number)).mount_point
+        ≡ None
     by true h later = here (nat_eq first.number other)
       where
         here : (c : Bool) → (cond c (detached first) first).mount_point ≡ None
@@ -161,21 +182,27 @@ no_point_still (first ∷ rest) other number none =
         here false = h
     by false h later = later h
 
-pub points_without : (world : World ℕ) (pending : List ℕ) (mounts : List (Mount ℕ)) (number : ℕ) → (mount_in nat_eq mounts number).mount_point ≡ None
-    → points_lost world (filter (λ mount. not (nat_eq mount.number number)) mounts) pending ≡ points_lost world mounts pending
+pub points_without : (world : World ℕ) (pending : List ℕ) (mounts : List (Mount ℕ)) (number : ℕ)
+    → (mount_in nat_eq mounts number).mount_point ≡ None
+    → points_lost world (filter (λ mount. not (nat_eq mount.number number)) mounts) pending
+    ≡ points_lost world mounts pending
 points_without world [] mounts number none = refl
 points_without world (other ∷ pending) mounts number none =
     (λ i. map (inode_at world) (option_to_list (head (nat_eq other number) refl i))
-    ++ points_lost world (sym (filter-map (λ mount. not (nat_eq mount.number number)) (detached_if other) mounts (λ mount. ap (λ n. not (nat_eq n number)) (same_number other mount))) i) pending)
+    ++ points_lost world (sym (filter-map (λ mount. not (nat_eq mount.number number)) (detached_if other) mounts
+    (λ mount. ap (λ n. not (nat_eq n number)) (same_number other mount))) i) pending)
     ∙ ap (λ rest. map (inode_at world) (option_to_list (mount_in nat_eq mounts other).mount_point) ++ rest)
     (points_without world pending (map (detached_if other) mounts) number (no_point_still mounts other number none))
   where
     head : (b : Bool) → nat_eq other number ≡ b
-        → (mount_in nat_eq (filter (λ mount. not (nat_eq mount.number number)) mounts) other).mount_point ≡ (mount_in nat_eq mounts other).mount_point
+        → (mount_in nat_eq (filter (λ mount. not (nat_eq mount.number number)) mounts) other).mount_point
+        ≡ (mount_in nat_eq mounts other).mount_point
     head true e =
-        ap (λ n. (mount_in nat_eq (filter (λ mount. not (nat_eq mount.number number)) mounts) n).mount_point) (eqb-true other number e)
+        ap (λ n. (mount_in nat_eq (filter (λ mount. not (nat_eq mount.number number)) mounts) n).mount_point)
+        (eqb-true other number e)
         ∙ ap (λ (mount : Mount ℕ). mount.mount_point) (found_none mounts number) ∙ sym none
         ∙ ap (λ n. (mount_in nat_eq mounts n).mount_point) (sym (eqb-true other number e))
     head false e =
-        ap (λ (mount : Mount ℕ). mount.mount_point) (found_in_filter (λ mount. not (nat_eq mount.number number)) mounts other
+        ap (λ (mount : Mount ℕ). mount.mount_point)
+        (found_in_filter (λ mount. not (nat_eq mount.number number)) mounts other
         (λ mount m same. ap not (ap (λ n. nat_eq n number) same ∙ e)))

@@ -35,11 +35,13 @@ pub found_it : {A : Type 0} (p : A → Bool) (xs : List A) (x : A) → find p xs
 found_it p [] x e = absurd cc
 found_it p (y ∷ ys) x e = by (p y) refl e (found_it p ys x)
   where
-    by : (b : Bool) → p y ≡ b → cond b (Some y) (find p ys) ≡ Some x → (find p ys ≡ Some x → Among x ys × (p x ≡ true)) → Among x (y ∷ ys) × (p x ≡ true)
+    by : (b : Bool) → p y ≡ b → cond b (Some y) (find p ys) ≡ Some x → (find p ys ≡ Some x → Among x ys × (p x ≡ true))
+        → Among x (y ∷ ys) × (p x ≡ true)
     by true passed here later = let same : y ≡ x = cc in (inl (sym same), ap p (sym same) ∙ passed)
     by false passed here later = let found = later here in (inr found.0, found.1)
 
-pub none_among : (number : ℕ) (mounts : List (Mount ℕ)) → find (λ x. nat_eq number x.number) mounts ≡ None → is_among nat_eq number (map (λ x. x.number) mounts) ≡ false
+pub none_among : (number : ℕ) (mounts : List (Mount ℕ)) → find (λ x. nat_eq number x.number) mounts ≡ None
+    → is_among nat_eq number (map (λ x. x.number) mounts) ≡ false
 none_among number [] e = refl
 none_among number (x ∷ xs) e = by (nat_eq number x.number) e (none_among number xs)
   where
@@ -49,12 +51,16 @@ none_among number (x ∷ xs) e = by (nat_eq number x.number) e (none_among numbe
     by true here later = absurd cc
     by false here later = later here
 
-module _ (value : WorldValue) (whole : IsHeld value) (tasks : Tasks) (more : List Use) (left_use : Use) (moves : Moves value tasks more (left_use ∷ []))
+module _ (value : WorldValue) (whole : IsHeld value) (tasks : Tasks) (more : List Use) (left_use : Use)
+    (moves : Moves value tasks more (left_use ∷ []))
     (mounts : List MountEntry) (filesystems : Filesystems)
     (is_kept : kept mounts filesystems
-    ≡ meant.let_go_mount left_use.location.mount (moved_kept (world_of value) more (left_use ∷ []) (kept value.mounts value.filesystems)))
-    (name : TaskName) (permit : Permit ℕ) (task : Task ℕ) (is : IsApplied value name permit task (world_of (after value tasks)))
-    (inside : (namespace : ℕ) → times (λ task. nat_eq namespace task.namespace) tasks ≡ times (λ task. nat_eq namespace task.namespace) value.tasks) where
+    ≡ meant.let_go_mount left_use.location.mount
+    (moved_kept (world_of value) more (left_use ∷ []) (kept value.mounts value.filesystems)))
+    (name : TaskName) (permit : Permit ℕ) (task : Task ℕ)
+    (is : IsApplied value name permit task (world_of (after value tasks)))
+    (inside : (namespace : ℕ) → times (λ task. nat_eq namespace task.namespace) tasks
+    ≡ times (λ task. nat_eq namespace task.namespace) value.tasks) where
   abbrev world : World ℕ
   world = world_of value
 
@@ -71,24 +77,29 @@ module _ (value : WorldValue) (whole : IsHeld value) (tasks : Tasks) (more : Lis
   there =
       passes (λ location. is_among nat_eq location.mount (map (λ x. x.number) world.mounts)) (all_locations world)
       (Roots.locations_of_worlds_stand world whole.in_world) left_use.location
-      (subst (λ all. Among left_use.location all) (sym moves.was) (among-append_right moves.front ((left_use.location ∷ []) ++ moves.back) left_use.location (inl refl)))
+      (subst (λ all. Among left_use.location all) (sym moves.was)
+      (among-append_right moves.front ((left_use.location ∷ []) ++ moves.back) left_use.location (inl refl)))
 
   -- the sweep looks at that mount alone
   looked : without_dead_mounts nat_eq next
-      ≡ cond (is_some (mount_numbered nat_eq next number).namespace || nat_lt 0 (mount_uses next number)) next (without_mount next number)
+      ≡ cond (is_some (mount_numbered nat_eq next number).namespace || nat_lt 0 (mount_uses next number)) next
+      (without_mount next number)
   looked =
       mounts_go_one_by_one next (number ∷ [])
-      (mounts_but world tasks (left_use.location ∷ []) (worlds_are_in_use world whole.in_world) (mounts_of_worlds_stand world whole.in_world)
+      (mounts_but world tasks (left_use.location ∷ []) (worlds_are_in_use world whole.in_world)
+      (mounts_of_worlds_stand world whole.in_world)
       (only_left value whole tasks more (left_use ∷ []) moves))
       ∙ mount_goes_at_zero next number whole.in_world.mounts.one_number
 
   pub left_done : IsDone value name permit (remade value mounts filesystems tasks)
   left_done = by (entry_numbered moved.mounts number) refl
     where
-      by : (o : Option MountEntry) → entry_numbered moved.mounts number ≡ o → IsDone value name permit (remade value mounts filesystems tasks)
+      by : (o : Option MountEntry) → entry_numbered moved.mounts number ≡ o
+          → IsDone value name permit (remade value mounts filesystems tasks)
       by None e =
           absurd (true≢false (sym there ∙ none_among number world.mounts
-          (ap (find (λ x. nat_eq number x.number)) (sym (same_moved_mounts world more (left_use ∷ []) (kept value.mounts value.filesystems)))
+          (ap (find (λ x. nat_eq number x.number))
+          (sym (same_moved_mounts world more (left_use ∷ []) (kept value.mounts value.filesystems)))
           ∙ found_entry number moved.mounts ∙ ap (option_map (λ entry. entry.mount)) e)))
       by (Some entry) e = chosen (is_some entry.mount.namespace) refl (nat_eq entry.uses 0) refl
         where
@@ -100,14 +111,17 @@ module _ (value : WorldValue) (whole : IsHeld value) (tasks : Tasks) (more : Lis
 
           mount_is : mount_numbered nat_eq world number ≡ entry.mount
           mount_is = ap (λ o. unwrap_or o (no_mount number))
-              (ap (find (λ x. nat_eq number x.number)) (sym (same_moved_mounts world more (left_use ∷ []) (kept value.mounts value.filesystems)))
+              (ap (find (λ x. nat_eq number x.number))
+              (sym (same_moved_mounts world more (left_use ∷ []) (kept value.mounts value.filesystems)))
               ∙ found_entry number moved.mounts ∙ ap (option_map (λ entry. entry.mount)) e)
 
           uses_are : entry.uses ≡ mount_uses next number
           uses_are =
               let from = among-from_map (folded_entry more (left_use ∷ [])) value.mounts entry
-              (subst (λ all. Among entry all) (mounts_moved world more (left_use ∷ []) (kept value.mounts value.filesystems)) found.0) in
-              let counts = subst (CountsItsUses next) (sym from.2) (entry_counts value whole tasks more (left_use ∷ []) moves from.0 from.1) in
+              (subst (λ all. Among entry all)
+              (mounts_moved world more (left_use ∷ []) (kept value.mounts value.filesystems)) found.0) in
+              let counts = subst (CountsItsUses next) (sym from.2)
+              (entry_counts value whole tasks more (left_use ∷ []) moves from.0 from.1) in
               counts.uses ∙ ap (mount_uses next) (sym numbered)
 
           kept_so : (b c : Bool) → is_some entry.mount.namespace ≡ b → nat_eq entry.uses 0 ≡ c
@@ -120,16 +134,21 @@ module _ (value : WorldValue) (whole : IsHeld value) (tasks : Tasks) (more : Lis
               → without_dead_mounts nat_eq next ≡ cond (b || c) next (without_mount next number)
           looked_so b c f g =
               looked
-              ∙ (λ i. cond (is_some (mount_is i).namespace || nat_lt 0 (sym uses_are i)) next (without_mount next number))
+              ∙ (λ i. cond (is_some (mount_is i).namespace || nat_lt 0 (sym uses_are i)) next
+              (without_mount next number))
               ∙ (λ i. cond (f i || g i) next (without_mount next number))
 
           some_uses : nat_eq entry.uses 0 ≡ false → nat_lt 0 entry.uses ≡ true
-          some_uses g = let some : entry.uses ≢ 0 = eqb-false entry.uses 0 g in lt-ltb 0 entry.uses (omega (arith, some))
+          some_uses g = let some : entry.uses ≢ 0 = eqb-false entry.uses 0 g in lt-ltb 0 entry.uses
+              (omega (arith, some))
 
-          stays : without_dead_mounts nat_eq next ≡ next → kept mounts filesystems ≡ moved → IsDone value name permit (remade value mounts filesystems tasks)
-          stays stay same = remains_done value whole tasks more (left_use ∷ []) moves mounts filesystems same stay name permit task is inside
+          stays : without_dead_mounts nat_eq next ≡ next → kept mounts filesystems ≡ moved
+              → IsDone value name permit (remade value mounts filesystems tasks)
+          stays stay same = remains_done value whole tasks more
+              (left_use ∷ []) moves mounts filesystems same stay name permit task is inside
 
-          chosen : (b : Bool) → is_some entry.mount.namespace ≡ b → (c : Bool) → nat_eq entry.uses 0 ≡ c → IsDone value name permit (remade value mounts filesystems tasks)
+          chosen : (b : Bool) → is_some entry.mount.namespace ≡ b → (c : Bool) → nat_eq entry.uses 0 ≡ c
+              → IsDone value name permit (remade value mounts filesystems tasks)
           chosen true f c g = stays (looked_so true (nat_lt 0 entry.uses) f refl) (kept_so true c f g)
           chosen false f false g = stays (looked_so false true f (some_uses g)) (kept_so false false f g)
           chosen false f true g =

@@ -9,7 +9,6 @@ pub mod ChangedFiles
 pub mod FileEvents
 pub mod LocationsSeen
 pub mod Bridging
-pub mod Ungrouped
 pub mod Grouped
 pub mod TypedWorlds
 pub mod Showing
@@ -50,6 +49,7 @@ pub mod FollowedTypes
 pub mod NamespacesEnded
 pub mod TypedEvents
 pub mod NamespacesTyped
+pub mod LeavingNamespaces
 pub mod Departing
 pub mod Exiting
 pub mod UnbindableBelow

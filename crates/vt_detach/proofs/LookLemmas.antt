@@ -54,7 +54,8 @@ turned a b = by (nat_eq a b) (nat_eq b a) refl refl
     by false true e f = sym e ∙ eq-eqb a b (sym (eqb-true b a f))
 
 -- a list is filtered by a test that is another one, or none at all
-any_filtered : {A : Type 0} (seen : Bool) (on over test : A → Bool) (xs : List A) → ((x : A) → Among x xs → on x ≡ (seen && over x))
+any_filtered : {A : Type 0} (seen : Bool) (on over test : A → Bool) (xs : List A)
+    → ((x : A) → Among x xs → on x ≡ (seen && over x))
     → list_any test (filter on xs) ≡ (seen && list_any (λ x. over x && test x) xs)
 any_filtered {A = A} seen on over test [] same = sym (and_false seen)
 any_filtered {A = A} seen on over test (x ∷ xs) same =
@@ -71,19 +72,24 @@ any_filtered {A = A} seen on over test (x ∷ xs) same =
 -- the root of a tree is there, or is no inode's number
 abbrev RootIsThere : Filesystem ℕ → Type 0
 RootIsThere filesystem =
-    (owner slot : ℕ) → filesystem.files.tree.node (inode_number owner slot) ≡ None → inode_number owner slot ≢ filesystem.files.tree.root
+    (owner slot : ℕ) → filesystem.files.tree.node (inode_number owner slot) ≡ None
+    → inode_number owner slot ≢ filesystem.files.tree.root
 
 module _ (value : WorldValue) (held : IsHeld value) where
-  tree_is : (filesystem : Filesystem ℕ) → Among filesystem (filesystems_seen value.filesystems) → IsTree filesystem.files.tree
-  tree_is filesystem m = among_from_all (λ (x : Filesystem ℕ). IsTree x.files.tree) (filesystems_seen value.filesystems) held.in_world.files.trees filesystem m
+  tree_is : (filesystem : Filesystem ℕ) → Among filesystem (filesystems_seen value.filesystems)
+      → IsTree filesystem.files.tree
+  tree_is filesystem m = among_from_all (λ (x : Filesystem ℕ). IsTree x.files.tree)
+      (filesystems_seen value.filesystems) held.in_world.files.trees filesystem m
 
   -- in each tree directories are named by their parents
   pub parents_named_at : (count : ℕ) → ParentsAreNamed (files_at value.filesystems count).tree
   parents_named_at count =
       holds_at (λ filesystem. ParentsAreNamed filesystem.files.tree) value.filesystems
-      (all_from_among (λ (filesystem : Filesystem ℕ). ParentsAreNamed filesystem.files.tree) (filesystems_seen value.filesystems)
+      (all_from_among (λ (filesystem : Filesystem ℕ). ParentsAreNamed filesystem.files.tree)
+      (filesystems_seen value.filesystems)
       (λ filesystem m. parents_named filesystem.files.tree (tree_is filesystem m)
-      (among_from_all (λ (x : Filesystem ℕ). HasOwnParents x.files.tree) (filesystems_seen value.filesystems) held.in_world.files.own_parents filesystem m)))
+      (among_from_all (λ (x : Filesystem ℕ). HasOwnParents x.files.tree)
+      (filesystems_seen value.filesystems) held.in_world.files.own_parents filesystem m)))
       count
       (λ directory other. ap not (sym (eq-eqb directory directory refl)))
 
@@ -93,32 +99,39 @@ module _ (value : WorldValue) (held : IsHeld value) where
       holds_at RootIsThere value.filesystems
       (all_from_among RootIsThere (filesystems_seen value.filesystems)
       (λ filesystem m owner slot none same.
-      true≢false (sym (directory_there (filesystem.files.tree.node filesystem.files.tree.root) (tree_is filesystem m).root_directory)
+      true≢false (sym (directory_there (filesystem.files.tree.node filesystem.files.tree.root)
+      (tree_is filesystem m).root_directory)
       ∙ ap (λ n. is_some (filesystem.files.tree.node n)) (sym same) ∙ ap is_some none)))
       count
       (λ owner slot none same. counted_inode count owner slot (sym (same ∙ exchanged_back count (counted count))))
       owner slot none
 
   -- the filesystem that a mount shows is counted
-  pub shown_counted : (number : ℕ) → (count : ℕ) × ((mount_numbered nat_eq (world_of value) (counted number)).filesystem ≡ counted count)
+  pub shown_counted : (number : ℕ)
+      → (count : ℕ) × ((mount_numbered nat_eq (world_of value) (counted number)).filesystem ≡ counted count)
   shown_counted number =
       ⊎_elim
       (λ m.
       let mount = mount_numbered nat_eq (world_of value) (counted number) in
-      let shows = and_parts (is_directory_node ((filesystem_numbered nat_eq (world_of value) mount.filesystem).files.tree.node mount.root))
+      let shows = and_parts (is_directory_node
+      ((filesystem_numbered nat_eq (world_of value) mount.filesystem).files.tree.node mount.root))
       (list_all (is_directory_at nat_eq (world_of value)) (option_to_list mount.mount_point))
-      (among_from_list_all (has_its_root nat_eq (world_of value)) (mounts_in value.mounts) held.in_world.roots mount m) in
-      let place = own_filesystem value.filesystems held.own_inodes mount.filesystem mount.root (directory_there _ shows.0) in
+      (among_from_list_all (has_its_root nat_eq (world_of value))
+      (mounts_in value.mounts) held.in_world.roots mount m) in
+      let place = own_filesystem value.filesystems held.own_inodes mount.filesystem mount.root
+      (directory_there _ shows.0) in
       (place.0, place.1))
       (λ none. (number, ap (λ (mount : meant.Mount ℕ). mount.filesystem) none))
       (found_or_none (mounts_in value.mounts) (counted number))
 
   module _ (at : Location) (small : at.node.slot < 18446744073709551616) where
     pub seen_filesystem : is_seen value at ≡ true
-        → filesystem_at nat_eq (world_of value) (location_of at) ≡ filesystem_seen (entry_at value.filesystems at.node.filesystem.count)
+        → filesystem_at nat_eq (world_of value) (location_of at)
+        ≡ filesystem_seen (entry_at value.filesystems at.node.filesystem.count)
     seen_filesystem seen =
         ap (filesystem_numbered nat_eq (world_of value))
-        (eqb-true (mount_at nat_eq (world_of value) (location_of at)).filesystem (counted at.node.filesystem.count) seen)
+        (eqb-true (mount_at nat_eq (world_of value) (location_of at)).filesystem
+        (counted at.node.filesystem.count) seen)
         ∙ found_by_number value.filesystems at.node.filesystem.count
 
     pub unseen_node : is_seen value at ≡ false → node_at nat_eq (world_of value) (location_of at) ≡ None
@@ -130,25 +143,31 @@ module _ (value : WorldValue) (held : IsHeld value) where
     unseen_removed unseen =
         let shown = shown_counted at.mount.count in
         let is = ap (filesystem_numbered nat_eq (world_of value)) shown.1 ∙ found_by_number value.filesystems shown.0 in
-        let none = ap (λ (filesystem : Filesystem ℕ). filesystem.files.tree.node (number_of at.node)) (sym is) ∙ unseen_node unseen in
+        let none = ap (λ (filesystem : Filesystem ℕ). filesystem.files.tree.node (number_of at.node)) (sym is)
+        ∙ unseen_node unseen in
         ap (λ (filesystem : Filesystem ℕ). is_removed nat_eq filesystem.files.tree (number_of at.node)) is
         ∙ nowhere_removed (files_at value.filesystems shown.0).tree (number_of at.node) none
-        (ne_eqb (number_of at.node) (files_at value.filesystems shown.0).tree.root (root_there shown.0 at.node.filesystem.count at.node.slot none))
+        (ne_eqb (number_of at.node) (files_at value.filesystems shown.0).tree.root
+        (root_there shown.0 at.node.filesystem.count at.node.slot none))
 
     -- a directory lies under what is seen in another filesystem, or not seen, only where it is that itself
     pub under_another : (directory : NodeRef) → directory.slot < 18446744073709551616
         → (is_seen value at && nat_eq directory.filesystem.count at.node.filesystem.count) ≡ false
-        → is_directory_under nat_eq (filesystem_at nat_eq (world_of value) (location_of at)).files (number_of at.node) (number_of directory)
+        → is_directory_under nat_eq (filesystem_at nat_eq (world_of value) (location_of at)).files (number_of at.node)
+        (number_of directory)
         ≡ nat_eq (number_of at.node) (number_of directory)
     under_another directory directory_small apart =
         either_false (is_seen value at) (nat_eq directory.filesystem.count at.node.filesystem.count) apart _
-        (λ unseen. under_nowhere (filesystem_at nat_eq (world_of value) (location_of at)).files (number_of at.node) (number_of directory) (unseen_node unseen))
+        (λ unseen. under_nowhere (filesystem_at nat_eq (world_of value) (location_of at)).files (number_of at.node)
+        (number_of directory) (unseen_node unseen))
         (λ seen other.
-        nowhere_under (filesystem_at nat_eq (world_of value) (location_of at)).files (number_of at.node) (number_of directory)
+        nowhere_under (filesystem_at nat_eq (world_of value) (location_of at)).files (number_of at.node)
+        (number_of directory)
         (in_no_other value.filesystems held.own_inodes (mount_at nat_eq (world_of value) (location_of at)).filesystem
         directory.filesystem.count directory.slot directory_small
         (ap (λ n. nat_eq n (counted directory.filesystem.count))
-        (eqb-true (mount_at nat_eq (world_of value) (location_of at)).filesystem (counted at.node.filesystem.count) seen)
+        (eqb-true (mount_at nat_eq (world_of value) (location_of at)).filesystem
+        (counted at.node.filesystem.count) seen)
         ∙ counted_test at.node.filesystem.count directory.filesystem.count
         ∙ turned at.node.filesystem.count directory.filesystem.count ∙ other)))
 
@@ -158,61 +177,78 @@ module _ (value : WorldValue) (held : IsHeld value) where
     points_are =
         let shown = (mount_at nat_eq (world_of value) (location_of at)).filesystem in
         λ i. (found_number value.filesystems shown i, number_of at.node)
-        ∷ overlay_or [] (λ overlay. upper_points (world_of value) (found value.filesystems shown) overlay (number_of at.node))
+        ∷ overlay_or [] (λ overlay. upper_points (world_of value) (found value.filesystems shown) overlay
+        (number_of at.node))
         (found_plain value.filesystems shown i)
 
     pub point_seen : (mount : meant.Mount ℕ) → Among mount (mounts_in value.mounts)
-        → list_any (λ (point : ℕ × ℕ). is_point nat_eq (world_of value) point.0 point.1 mount) (points_of nat_eq (world_of value) (location_of at))
+        → list_any (λ (point : ℕ × ℕ). is_point nat_eq (world_of value) point.0 point.1 mount)
+        (points_of nat_eq (world_of value) (location_of at))
         ≡ (is_seen value at && stands_over (number_of at.node) mount)
     point_seen mount m =
         ap (list_any (λ (point : ℕ × ℕ). is_point nat_eq (world_of value) point.0 point.1 mount)) points_are
         ∙ or_nothing _
         ∙ by mount.mount_point
-        (and_parts (is_directory_node ((filesystem_numbered nat_eq (world_of value) mount.filesystem).files.tree.node mount.root))
+        (and_parts (is_directory_node ((filesystem_numbered nat_eq
+        (world_of value) mount.filesystem).files.tree.node mount.root))
         (list_all (is_directory_at nat_eq (world_of value)) (option_to_list mount.mount_point))
-        (among_from_list_all (has_its_root nat_eq (world_of value)) (mounts_in value.mounts) held.in_world.roots mount m)).1
+        (among_from_list_all (has_its_root nat_eq (world_of value))
+        (mounts_in value.mounts) held.in_world.roots mount m)).1
       where
-        there : (place : meant.Location ℕ) → is_some (node_at nat_eq (world_of value) place) ≡ true → (b : Bool) → nat_eq place.node (number_of at.node) ≡ b
-            → (b && nat_eq (mount_at nat_eq (world_of value) place).filesystem (mount_at nat_eq (world_of value) (location_of at)).filesystem)
+        there : (place : meant.Location ℕ) → is_some (node_at nat_eq (world_of value) place) ≡ true → (b : Bool)
+            → nat_eq place.node (number_of at.node) ≡ b
+            → (b && nat_eq (mount_at nat_eq (world_of value) place).filesystem
+            (mount_at nat_eq (world_of value) (location_of at)).filesystem)
             ≡ (is_seen value at && b)
         there place is false e = sym (and_false (is_seen value at))
         there place is true e =
-            let own = own_filesystem value.filesystems held.own_inodes (mount_at nat_eq (world_of value) place).filesystem place.node is in
+            let own = own_filesystem value.filesystems held.own_inodes
+            (mount_at nat_eq (world_of value) place).filesystem place.node is in
             let one = inode_of_one own.0 at.node.filesystem.count at.node.slot small
             (ap (is_inode_of own.0) (sym (eqb-true place.node (number_of at.node) e)) ∙ own.2) in
             ap (λ n. nat_eq n (mount_at nat_eq (world_of value) (location_of at)).filesystem) (own.1 ∙ ap counted one)
             ∙ turned (counted at.node.filesystem.count) (mount_at nat_eq (world_of value) (location_of at)).filesystem
             ∙ sym (and_true (is_seen value at))
 
-        by : (o : Option (meant.Location ℕ)) → list_all (is_directory_at nat_eq (world_of value)) (option_to_list o) ≡ true
+        by : (o : Option (meant.Location ℕ))
+            → list_all (is_directory_at nat_eq (world_of value)) (option_to_list o) ≡ true
             → holds_of (λ place. nat_eq place.node (number_of at.node)
-            && nat_eq (mount_at nat_eq (world_of value) place).filesystem (mount_at nat_eq (world_of value) (location_of at)).filesystem) o
+            && nat_eq (mount_at nat_eq (world_of value) place).filesystem
+            (mount_at nat_eq (world_of value) (location_of at)).filesystem) o
             ≡ (is_seen value at && holds_of (λ place. nat_eq place.node (number_of at.node)) o)
         by None e = sym (and_false (is_seen value at))
         by (Some place) e =
-            there place (directory_there (node_at nat_eq (world_of value) place) (and_parts (is_directory_at nat_eq (world_of value) place) true e).0)
+            there place (directory_there (node_at nat_eq (world_of value) place)
+            (and_parts (is_directory_at nat_eq (world_of value) place) true e).0)
             (nat_eq place.node (number_of at.node)) refl
 
     pub any_point : (test : meant.Mount ℕ → Bool)
         → list_any test (mounts_on nat_eq (world_of value) (location_of at))
-        ≡ (is_seen value at && list_any (λ mount. stands_over (number_of at.node) mount && test mount) (mounts_in value.mounts))
+        ≡ (is_seen value at && list_any (λ mount. stands_over (number_of at.node) mount && test mount)
+        (mounts_in value.mounts))
     any_point test =
         any_filtered (is_seen value at)
-        (λ mount. list_any (λ (point : ℕ × ℕ). is_point nat_eq (world_of value) point.0 point.1 mount) (points_of nat_eq (world_of value) (location_of at)))
+        (λ mount. list_any (λ (point : ℕ × ℕ). is_point nat_eq (world_of value) point.0 point.1 mount)
+        (points_of nat_eq (world_of value) (location_of at)))
         (stands_over (number_of at.node)) test (mounts_in value.mounts) point_seen
 
     -- the root of a mount that shows another filesystem is another inode
-    root_apart : is_seen value at ≡ false → nat_eq (mount_at nat_eq (world_of value) (location_of at)).root (number_of at.node) ≡ false
+    root_apart : is_seen value at ≡ false
+        → nat_eq (mount_at nat_eq (world_of value) (location_of at)).root (number_of at.node) ≡ false
     root_apart unseen =
         ne_eqb (mount_at nat_eq (world_of value) (location_of at)).root (number_of at.node)
         (⊎_elim
         (λ m same.
         let mount = mount_at nat_eq (world_of value) (location_of at) in
-        let shows = and_parts (is_directory_node ((filesystem_numbered nat_eq (world_of value) mount.filesystem).files.tree.node mount.root))
+        let shows = and_parts (is_directory_node
+        ((filesystem_numbered nat_eq (world_of value) mount.filesystem).files.tree.node mount.root))
         (list_all (is_directory_at nat_eq (world_of value)) (option_to_list mount.mount_point))
-        (among_from_list_all (has_its_root nat_eq (world_of value)) (mounts_in value.mounts) held.in_world.roots mount m) in
-        let own = own_filesystem value.filesystems held.own_inodes mount.filesystem mount.root (directory_there _ shows.0) in
-        let one = inode_of_one own.0 at.node.filesystem.count at.node.slot small (ap (is_inode_of own.0) (sym same) ∙ own.2) in
+        (among_from_list_all (has_its_root nat_eq (world_of value))
+        (mounts_in value.mounts) held.in_world.roots mount m) in
+        let own = own_filesystem value.filesystems held.own_inodes mount.filesystem mount.root
+        (directory_there _ shows.0) in
+        let one = inode_of_one own.0 at.node.filesystem.count at.node.slot small
+        (ap (is_inode_of own.0) (sym same) ∙ own.2) in
         true≢false (sym (eq-eqb mount.filesystem (counted at.node.filesystem.count) (own.1 ∙ ap counted one)) ∙ unseen))
         (λ none same.
         counted_inode at.mount.count at.node.filesystem.count at.node.slot
@@ -231,8 +267,11 @@ module _ (value : WorldValue) (held : IsHeld value) where
         → is_directory_under nat_eq (filesystem_at nat_eq (world_of value) (location_of at)).files
         (mount_at nat_eq (world_of value) (location_of at)).root (number_of at.node) ≡ false
     missing_root none =
-        ap (λ (mount : meant.Mount ℕ). is_directory_under nat_eq (filesystem_numbered nat_eq (world_of value) mount.filesystem).files
+        ap (λ (mount : meant.Mount ℕ). is_directory_under nat_eq
+        (filesystem_numbered nat_eq (world_of value) mount.filesystem).files
         mount.root (number_of at.node)) none
-        ∙ under_nowhere (found value.filesystems (counted at.mount.count)).files (counted at.mount.count) (number_of at.node)
+        ∙ under_nowhere (found value.filesystems (counted at.mount.count)).files (counted at.mount.count)
+        (number_of at.node)
         (no_counted_inode value.filesystems held.own_inodes (counted at.mount.count) at.mount.count)
-        ∙ ne_eqb (counted at.mount.count) (number_of at.node) (counted_inode at.mount.count at.node.filesystem.count at.node.slot)
+        ∙ ne_eqb (counted at.mount.count) (number_of at.node)
+        (counted_inode at.mount.count at.node.filesystem.count at.node.slot)

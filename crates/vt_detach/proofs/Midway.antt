@@ -1,4 +1,5 @@
--- Between the first and the last use that a task leaves: what code counts then. Uses are left and mounts are detached in
+-- Between the first and the last use that a task leaves: what code counts then. Uses are left and mounts are detached
+-- in
 -- whatever order; what is no longer used goes at once, and at the end that is gone which the sweep takes.
 use Rattle.std.proofs.Common.{◌≡◌, refl, sym, ap, subst, ◌∙◌, ℕ, ◌+◌, nat_eq, eqb-true, Bool, true, false, true≢false, cond, not, ◌||◌, List, [], ◌∷◌, ◌++◌, map, flat_map, Option, Some, None, option_map, is_some, append_assoc, arith}
 use Rattle.std.specs.Prelude.{IfSome, option_to_list, ◌<◌}
@@ -24,7 +25,7 @@ use Rattle.vt_location.specs.Locations.{location_of, number_of}
 use Rattle.vt_location.specs.Numbers.{counted}
 use Rattle.vt_mount.specs.MountsValue.{MountEntry, changed, entry_numbered, mounts_in, released}
 use Rattle.vt_letting_go.proofs.UpperUses.{times_append}
-use Rattle.vt_detach.specs.Held.{IsHeld, is_ungrouped, writes_of}
+use Rattle.vt_detach.specs.Held.{IsHeld, writes_of}
 use Rattle.vt_detach.specs.Uses as meant
 use Rattle.vt_detach.specs.Uses.{Kept, detached_entry, inode_of, is_unused, let_go_entry, let_go_filesystem, mounts_shown, released_if, released_in, unpinned_at, unpinned_in, without_filesystem}
 use Rattle.vt_detach.specs.WorldValue.{WorldValue, world_of}
@@ -56,7 +57,8 @@ pub record IsShown (value : WorldValue) (now : World ℕ) (gained lost : List In
   pub mounts : one.mounts ≡ mounts_showing now (counted one.count)
   pub mounted : nat_eq one.mounts 0 ≡ false
 
--- In `now` tasks have left the uses `left`, and mounts that `goes` tells are detached; code has yet to leave and detach them.
+-- In `now` tasks have left the uses `left`, and mounts that `goes` tells are detached; code has yet to leave and detach
+-- them.
 pub record Midway (value : WorldValue) (start : World ℕ) (gained : List Inode) (goes : Mount ℕ → Bool)
     (left : List Use) (now : World ℕ) (k : Kept) (lost : List Inode) : Type 0 where
   pub mounts : now.mounts ≡ map (gone_if goes) (mounts_in k.mounts)
@@ -66,11 +68,12 @@ pub record Midway (value : WorldValue) (start : World ℕ) (gained : List Inode)
       → entry.writers ≡ writes_of entry.mount.number now.tasks + times (writes_on_mount entry.mount.number) left
   pub well : (entry : MountEntry) → Among entry k.mounts → goes entry.mount ≡ true
       → list_all (is_located_well nat_eq (world_of value)) (option_to_list entry.mount.mount_point) ≡ true
-  pub ungrouped : (entry : MountEntry) → Among entry k.mounts → is_ungrouped entry.mount.propagation ≡ true
   pub shown : (one : Shown) → Among one k.filesystems → IsShown value now gained lost one
   pub exchanges : (one : Shown) → Among one k.filesystems
-      → Exchanges gained (lost ++ (inodes_of_uses (world_of value) left ++ points_left (world_of value) goes k.mounts)) (counted one.count) (world_of value) now
-  pub numbers : map (λ (f : Filesystem ℕ). f.number) now.filesystems ≡ map (λ (one : Shown). counted one.count) k.filesystems
+      → Exchanges gained (lost ++ (inodes_of_uses (world_of value) left ++ points_left (world_of value) goes k.mounts))
+      (counted one.count) (world_of value) now
+  pub numbers : map (λ (f : Filesystem ℕ). f.number) now.filesystems
+      ≡ map (λ (one : Shown). counted one.count) k.filesystems
   pub stand : MountsStand now
   pub located : LocationsStand now
   pub plain : IsPlain now
@@ -84,7 +87,8 @@ abbrev pub UnusedOnly : ℕ → Kept → Type 0
 UnusedOnly number k = (entry : MountEntry) → Among entry k.mounts → is_unused entry ≡ true → number ≡ entry.mount.number
 
 -- after some steps
-pub record Reached (value : WorldValue) (start : World ℕ) (gained : List Inode) (goes : Mount ℕ → Bool) (left : List Use) (k : Kept) : Type 0 where
+pub record Reached (value : WorldValue) (start : World ℕ) (gained : List Inode) (goes : Mount ℕ → Bool)
+    (left : List Use) (k : Kept) : Type 0 where
   pub now : World ℕ
   pub lost : List Inode
   pub midway : Midway value start gained goes left now k lost
@@ -97,10 +101,13 @@ gone_number goes mount = by (goes mount)
     by true = refl
     by false = refl
 
-pub one_number_kept : (goes : Mount ℕ → Bool) (mounts : List (Mount ℕ)) → OneNumber (map (gone_if goes) mounts) → OneNumber mounts
+pub one_number_kept : (goes : Mount ℕ → Bool) (mounts : List (Mount ℕ)) → OneNumber (map (gone_if goes) mounts)
+    → OneNumber mounts
 one_number_kept goes mounts one = sym (same mounts) ∙ one
   where
-    same_one : (x : Mount ℕ) (xs : List (Mount ℕ)) → list_any (λ b. nat_eq (gone_if goes x).number b.number) (map (gone_if goes) xs) ≡ list_any (λ b. nat_eq x.number b.number) xs
+    same_one : (x : Mount ℕ) (xs : List (Mount ℕ))
+        → list_any (λ b. nat_eq (gone_if goes x).number b.number) (map (gone_if goes) xs)
+        ≡ list_any (λ b. nat_eq x.number b.number) xs
     same_one x [] = refl
     same_one x (y ∷ ys) = λ i. nat_eq (gone_number goes x i) (gone_number goes y i) || same_one x ys i
 
@@ -110,9 +117,11 @@ one_number_kept goes mounts one = sym (same mounts) ∙ one
     same (x ∷ xs) = λ i. same_one x xs i || same xs i
 
 -- an entry that has no use and is in no namespace
-pub unused_parts : (entry : MountEntry) → is_unused entry ≡ true → (is_some entry.mount.namespace ≡ false) × (entry.uses ≡ 0)
+pub unused_parts : (entry : MountEntry) → is_unused entry ≡ true
+    → (is_some entry.mount.namespace ≡ false) × (entry.uses ≡ 0)
 unused_parts entry e =
-    let parts = and_parts (not (is_some entry.mount.namespace)) (nat_eq entry.uses 0) e in (turned (is_some entry.mount.namespace) parts.0, eqb-true entry.uses 0 parts.1)
+    let parts = and_parts (not (is_some entry.mount.namespace)) (nat_eq entry.uses 0) e in
+    (turned (is_some entry.mount.namespace) parts.0, eqb-true entry.uses 0 parts.1)
   where
     turned : (b : Bool) → not b ≡ true → b ≡ false
     turned true f = absurd (true≢false (sym f))
@@ -125,7 +134,8 @@ module _ (value : WorldValue) (whole : IsHeld value) (start : World ℕ) (gained
 
   -- A use is left
 
-  module _ (u : Use) (left : List Use) (now : World ℕ) (k : Kept) (lost : List Inode) (mid : Midway value start gained goes (u ∷ left) now k lost) where
+  module _ (u : Use) (left : List Use) (now : World ℕ) (k : Kept) (lost : List Inode)
+      (mid : Midway value start gained goes (u ∷ left) now k lost) where
     abbrev inode : Inode
     inode = inode_at world u.location
 
@@ -138,7 +148,8 @@ module _ (value : WorldValue) (whole : IsHeld value) (start : World ℕ) (gained
     abbrev unpinned_one : Shown → Shown
     unpinned_one one = record one { inodes = unpinned_if (counted one.count) one.inodes inode }
 
-    entry_was : (entry : MountEntry) → Among entry new.mounts → (was : MountEntry) × Among was k.mounts × (entry ≡ release_if was u)
+    entry_was : (entry : MountEntry) → Among entry new.mounts
+        → (was : MountEntry) × Among was k.mounts × (entry ≡ release_if was u)
     entry_was entry m = among-from_map (λ was. release_if was u) k.mounts entry m
 
     same_mount : (was : MountEntry) → (release_if was u).mount ≡ was.mount
@@ -148,32 +159,41 @@ module _ (value : WorldValue) (whole : IsHeld value) (start : World ℕ) (gained
     same_mounts = mounts_unchanged number (released u.writes) k.mounts (λ entry. refl)
 
     uses_are : (was : MountEntry) → Among was k.mounts
-        → (release_if was u).uses ≡ mount_uses now (release_if was u).mount.number + times (is_use_on (release_if was u).mount.number) left
+        → (release_if was u).uses ≡ mount_uses now (release_if was u).mount.number + times
+        (is_use_on (release_if was u).mount.number) left
     uses_are was m =
         let less = (released_counts (u ∷ []) was).uses in
         let had = mid.uses was m in
-        let one : (release_if was u).uses ≡ mount_uses now was.mount.number + times (is_use_on was.mount.number) left = omega (arith, less, had) in
+        let one : (release_if was u).uses
+        ≡ mount_uses now was.mount.number + times (is_use_on was.mount.number) left = omega (arith, less, had) in
         one ∙ ap (λ (x : Mount ℕ). mount_uses now x.number + times (is_use_on x.number) left) (sym (same_mount was))
 
     writers_are : (was : MountEntry) → Among was k.mounts
-        → (release_if was u).writers ≡ writes_of (release_if was u).mount.number now.tasks + times (writes_on_mount (release_if was u).mount.number) left
+        → (release_if was u).writers ≡ writes_of (release_if was u).mount.number now.tasks + times
+        (writes_on_mount (release_if was u).mount.number) left
     writers_are was m =
         let less = (released_counts (u ∷ []) was).writers in
         let had = mid.writers was m in
-        let one : (release_if was u).writers ≡ writes_of was.mount.number now.tasks + times (writes_on_mount was.mount.number) left = omega (arith, less, had) in
-        one ∙ ap (λ (x : Mount ℕ). writes_of x.number now.tasks + times (writes_on_mount x.number) left) (sym (same_mount was))
+        let one : (release_if was u).writers
+        ≡ writes_of was.mount.number now.tasks + times (writes_on_mount was.mount.number) left = omega
+        (arith, less, had) in
+        one ∙ ap (λ (x : Mount ℕ). writes_of x.number now.tasks + times (writes_on_mount x.number) left)
+        (sym (same_mount was))
 
-    shown_was : (one : Shown) → Among one new.filesystems → (was : Shown) × Among was k.filesystems × (one ≡ unpinned_one was)
+    shown_was : (one : Shown) → Among one new.filesystems
+        → (was : Shown) × Among was k.filesystems × (one ≡ unpinned_one was)
     shown_was one m = among-from_map unpinned_one k.filesystems one m
 
-    shown_is : (was : Shown) → Among was k.filesystems → IsShown value now gained (lost ++ (inode ∷ [])) (unpinned_one was)
+    shown_is : (was : Shown) → Among was k.filesystems
+        → IsShown value now gained (lost ++ (inode ∷ [])) (unpinned_one was)
     shown_is was m = let is = mid.shown was m in record {
       was = is.was;
       among = is.among;
       count = is.count;
       there = is.there;
       inodes = (λ i. unpinned_if (counted (is.count i)) (is.inodes i) inode)
-          ∙ sym (folded_append (unpinned_if (counted is.was.count)) (folded (pinned_if (counted is.was.count)) (inodes_seen is.was) gained) lost (inode ∷ []));
+          ∙ sym (folded_append (unpinned_if (counted is.was.count))
+          (folded (pinned_if (counted is.was.count)) (inodes_seen is.was) gained) lost (inode ∷ []));
       mounts = is.mounts;
       mounted = is.mounted;
     }
@@ -182,18 +202,22 @@ module _ (value : WorldValue) (whole : IsHeld value) (start : World ℕ) (gained
     use_left = record {
       mounts = mid.mounts ∙ ap (map (gone_if goes)) (sym same_mounts);
       uses = λ entry m. let from = entry_was entry m in
-          subst (λ (e : MountEntry). e.uses ≡ mount_uses now e.mount.number + times (is_use_on e.mount.number) left) (sym from.2) (uses_are from.0 from.1);
+          subst (λ (e : MountEntry). e.uses ≡ mount_uses now e.mount.number + times (is_use_on e.mount.number) left)
+          (sym from.2) (uses_are from.0 from.1);
       writers = λ entry m. let from = entry_was entry m in
-          subst (λ (e : MountEntry). e.writers ≡ writes_of e.mount.number now.tasks + times (writes_on_mount e.mount.number) left) (sym from.2) (writers_are from.0 from.1);
+          subst (λ (e : MountEntry). e.writers
+          ≡ writes_of e.mount.number now.tasks + times (writes_on_mount e.mount.number) left) (sym from.2)
+          (writers_are from.0 from.1);
       well = λ entry m. let from = entry_was entry m in
-          subst (λ (x : Mount ℕ). goes x ≡ true → list_all (is_located_well nat_eq world) (option_to_list x.mount_point) ≡ true)
+          subst (λ (x : Mount ℕ). goes x ≡ true
+          → list_all (is_located_well nat_eq world) (option_to_list x.mount_point) ≡ true)
           (sym (ap (λ (e : MountEntry). e.mount) from.2 ∙ same_mount from.0)) (mid.well from.0 from.1);
-      ungrouped = λ entry m. let from = entry_was entry m in
-          ap (λ (x : Mount ℕ). is_ungrouped x.propagation) (ap (λ (e : MountEntry). e.mount) from.2 ∙ same_mount from.0) ∙ mid.ungrouped from.0 from.1;
       shown = λ one m. let from = shown_was one m in
           subst (IsShown value now gained (lost ++ (inode ∷ []))) (sym from.2) (shown_is from.0 from.1);
       exchanges = λ one m. let from = shown_was one m in
-          subst (λ count. Exchanges gained ((lost ++ (inode ∷ [])) ++ (inodes_of_uses world left ++ points_left world goes new.mounts)) (counted count) world now)
+          subst (λ count. Exchanges gained
+          ((lost ++ (inode ∷ [])) ++ (inodes_of_uses world left ++ points_left world goes new.mounts))
+          (counted count) world now)
           (ap (λ (x : Shown). x.count) (sym from.2))
           (subst (λ all. Exchanges gained all (counted from.0.count) world now)
           ((λ i. lost ++ (inodes_of_uses world (u ∷ left) ++ flat_map (point_left world goes) (sym same_mounts i)))
@@ -212,7 +236,8 @@ module _ (value : WorldValue) (whole : IsHeld value) (start : World ℕ) (gained
         by from.0 from.1 (nat_eq number from.0.mount.number) refl (ap is_unused (sym from.2) ∙ unused)
         ∙ ap (λ (x : Mount ℕ). x.number) (sym (ap (λ (e : MountEntry). e.mount) from.2 ∙ same_mount from.0))
       where
-        by : (was : MountEntry) → Among was k.mounts → (b : Bool) → nat_eq number was.mount.number ≡ b → is_unused (cond b (released u.writes was) was) ≡ true → number ≡ was.mount.number
+        by : (was : MountEntry) → Among was k.mounts → (b : Bool) → nat_eq number was.mount.number ≡ b
+            → is_unused (cond b (released u.writes was) was) ≡ true → number ≡ was.mount.number
         by was n true e f = eqb-true number was.mount.number e
         by was n false e f = absurd (true≢false (sym f ∙ none was n))
 
@@ -221,7 +246,8 @@ module _ (value : WorldValue) (whole : IsHeld value) (start : World ℕ) (gained
   -- what a mount is at, in the world in which the call began
   abbrev pub IsGoing : Kept → ℕ → Option Place → MountEntry → Type 0
   IsGoing k number point entry =
-      (entry_numbered k.mounts number ≡ Some entry) × (goes entry.mount ≡ true) × (option_map location_of point ≡ entry.mount.mount_point)
+      (entry_numbered k.mounts number ≡ Some entry) × (goes entry.mount ≡ true)
+      × (option_map location_of point ≡ entry.mount.mount_point)
       × IfSome point (λ place. place.node.slot < 18446744073709551616)
 
   not_going_detached : (mount : Mount ℕ) → goes (detached mount) ≡ false
@@ -235,39 +261,50 @@ module _ (value : WorldValue) (whole : IsHeld value) (start : World ℕ) (gained
   points_are : (number : ℕ) (entries : List MountEntry) → OneNumber (mounts_in entries) → (entry : MountEntry)
       → entry_numbered entries number ≡ Some entry → goes entry.mount ≡ true → (test : Inode → Bool)
       → times test (points_left world goes entries)
-      ≡ times test (inodes_of_point world entry.mount) + times test (points_left world goes (changed number detached_entry entries))
+      ≡ times test (inodes_of_point world entry.mount) + times test
+      (points_left world goes (changed number detached_entry entries))
   points_are number [] one entry e going test = absurd cc
   points_are number (x ∷ xs) one entry e going test =
       let parts = or_parts (list_any (λ b. nat_eq x.mount.number b.number) (mounts_in xs))
       (any_pair (λ (a b : Mount ℕ). nat_eq a.number b.number) (mounts_in xs)) one in
       by parts.0 (nat_eq number x.mount.number) refl e (λ h. points_are number xs parts.1 entry h going test)
     where
-      by : list_any (λ b. nat_eq x.mount.number b.number) (mounts_in xs) ≡ false → (b : Bool) → nat_eq number x.mount.number ≡ b
+      by : list_any (λ b. nat_eq x.mount.number b.number) (mounts_in xs) ≡ false → (b : Bool)
+          → nat_eq number x.mount.number ≡ b
           → cond b (Some x) (entry_numbered xs number) ≡ Some entry
           → (entry_numbered xs number ≡ Some entry → times test (points_left world goes xs)
-          ≡ times test (inodes_of_point world entry.mount) + times test (points_left world goes (changed number detached_entry xs)))
+          ≡ times test (inodes_of_point world entry.mount) + times test
+          (points_left world goes (changed number detached_entry xs)))
           → times test (point_left world goes x.mount ++ points_left world goes xs)
           ≡ times test (inodes_of_point world entry.mount)
-          + times test (point_left world goes (cond b (detached_entry x) x).mount ++ points_left world goes (changed number detached_entry xs))
+          + times test (point_left world goes (cond b (detached_entry x) x).mount
+          ++ points_left world goes (changed number detached_entry xs))
       by others true t h next =
           let same : x ≡ entry = same_Some x entry h in
           let here : point_left world goes x.mount ≡ inodes_of_point world entry.mount =
-          (λ i. cond (goes (same i).mount) (inodes_of_point world (same i).mount) []) ∙ ap (λ b. cond b (inodes_of_point world entry.mount) []) going in
-          let gone : point_left world goes (detached x.mount) ≡ [] = ap (λ b. cond b (inodes_of_point world (detached x.mount)) []) (not_going_detached x.mount) in
+          (λ i. cond (goes (same i).mount) (inodes_of_point world (same i).mount) [])
+          ∙ ap (λ b. cond b (inodes_of_point world entry.mount) []) going in
+          let gone : point_left world goes (detached x.mount)
+          ≡ [] = ap (λ b. cond b (inodes_of_point world (detached x.mount)) []) (not_going_detached x.mount) in
           let still : changed number detached_entry xs ≡ xs = map_same
-          (λ (y : MountEntry). cond (nat_eq number y.mount.number) (detached_entry y) y) xs (λ y m. ap (λ b. cond b (detached_entry y) y)
+          (λ (y : MountEntry). cond (nat_eq number y.mount.number) (detached_entry y) y) xs
+          (λ y m. ap (λ b. cond b (detached_entry y) y)
           (ap (λ n. nat_eq n y.mount.number) (eqb-true number x.mount.number t)
-          ∙ fails (λ b. nat_eq x.mount.number b.number) (mounts_in xs) others y.mount (among-map (λ (one : MountEntry). one.mount) xs y m))) in
+          ∙ fails (λ b. nat_eq x.mount.number b.number) (mounts_in xs) others y.mount
+          (among-map (λ (one : MountEntry). one.mount) xs y m))) in
           (λ i. times test (here i ++ points_left world goes xs))
           ∙ times_append test (inodes_of_point world entry.mount) (points_left world goes xs)
-          ∙ (λ i. times test (inodes_of_point world entry.mount) + times test (sym gone i ++ points_left world goes (sym still i)))
+          ∙ (λ i. times test (inodes_of_point world entry.mount) + times test
+          (sym gone i ++ points_left world goes (sym still i)))
       by others false t h next =
           let later = next h in
           let one = times_append test (point_left world goes x.mount) (points_left world goes xs) in
-          let two = times_append test (point_left world goes x.mount) (points_left world goes (changed number detached_entry xs)) in
+          let two = times_append test (point_left world goes x.mount)
+          (points_left world goes (changed number detached_entry xs)) in
           omega (arith, later, one, two)
 
-  module _ (left : List Use) (now : World ℕ) (k : Kept) (lost : List Inode) (mid : Midway value start gained goes left now k lost)
+  module _ (left : List Use) (now : World ℕ) (k : Kept) (lost : List Inode)
+      (mid : Midway value start gained goes left now k lost)
       (number : ℕ) (point : Option Place) (entry : MountEntry) (going : IsGoing k number point entry) where
     abbrev lost_here : List Inode
     lost_here = inodes_of_point world entry.mount
@@ -283,57 +320,82 @@ module _ (value : WorldValue) (whole : IsHeld value) (start : World ℕ) (gained
 
     is_entry : (was : MountEntry) → Among was k.mounts → nat_eq number was.mount.number ≡ true → was ≡ entry
     is_entry was m e =
-        same_Some was entry (sym (entry_itself k.mounts one_number was m) ∙ ap (entry_numbered k.mounts) (sym (eqb-true number was.mount.number e)) ∙ going.0)
+        same_Some was entry (sym (entry_itself k.mounts one_number was m)
+        ∙ ap (entry_numbered k.mounts) (sym (eqb-true number was.mount.number e)) ∙ going.0)
 
     -- a detached mount is what it is to become
     same_gone : (was : MountEntry) → Among was k.mounts → gone_if goes (take was).mount ≡ gone_if goes was.mount
     same_gone was m = by (nat_eq number was.mount.number) refl
       where
-        by : (b : Bool) → nat_eq number was.mount.number ≡ b → gone_if goes (cond b (detached_entry was) was).mount ≡ gone_if goes was.mount
+        by : (b : Bool) → nat_eq number was.mount.number ≡ b
+            → gone_if goes (cond b (detached_entry was) was).mount ≡ gone_if goes was.mount
         by true e =
             ap (λ b. cond b (detached (detached was.mount)) (detached was.mount)) (not_going_detached was.mount)
-            ∙ sym (ap (λ b. cond b (detached was.mount) was.mount) (ap (λ (x : MountEntry). goes x.mount) (is_entry was m e) ∙ going.1))
+            ∙ sym (ap (λ b. cond b (detached was.mount) was.mount)
+            (ap (λ (x : MountEntry). goes x.mount) (is_entry was m e) ∙ going.1))
         by false e = refl
 
     same_now : now.mounts ≡ map (gone_if goes) (mounts_in taken.mounts)
     same_now =
         mid.mounts
         ∙ map_twice (gone_if goes) (λ (x : MountEntry). x.mount) k.mounts
-        ∙ map_alike (λ (x : MountEntry). gone_if goes x.mount) (λ (x : MountEntry). gone_if goes (take x).mount) k.mounts (λ was m. sym (same_gone was m))
+        ∙ map_alike (λ (x : MountEntry). gone_if goes x.mount)
+        (λ (x : MountEntry). gone_if goes (take x).mount) k.mounts (λ was m. sym (same_gone was m))
         ∙ sym (map_twice (λ (x : MountEntry). gone_if goes x.mount) take k.mounts)
         ∙ sym (map_twice (gone_if goes) (λ (x : MountEntry). x.mount) taken.mounts)
 
     -- the inodes that code unpins
     unpinned_are : unpinned_at point k.filesystems
-        ≡ map (λ (one : Shown). record one { inodes = folded (unpinned_if (counted one.count)) one.inodes lost_here }) k.filesystems
+        ≡ map (λ (one : Shown). record one {
+          inodes = folded
+              (unpinned_if (counted one.count)) one.inodes lost_here;
+        }) k.filesystems
     unpinned_are = by point going.2 going.3
       where
-        by : (o : Option Place) → option_map location_of o ≡ entry.mount.mount_point → IfSome o (λ place. place.node.slot < 18446744073709551616)
+        by : (o : Option Place) → option_map location_of o ≡ entry.mount.mount_point
+            → IfSome o (λ place. place.node.slot < 18446744073709551616)
             → unpinned_at o k.filesystems
-            ≡ map (λ (one : Shown). record one { inodes = folded (unpinned_if (counted one.count)) one.inodes lost_here }) k.filesystems
+            ≡ map (λ (one : Shown). record one {
+              inodes = folded
+                  (unpinned_if (counted one.count)) one.inodes lost_here;
+            }) k.filesystems
         by None is few =
             sym (map_same (λ (one : Shown). one) k.filesystems (λ one m. refl))
-            ∙ (λ i. map (λ (one : Shown). record one { inodes = folded (unpinned_if (counted one.count)) one.inodes (map (inode_at world) (option_to_list (is i))) }) k.filesystems)
+            ∙ (λ i. map (λ (one : Shown). record one {
+              inodes = folded (unpinned_if (counted one.count)) one.inodes
+                  (map (inode_at world) (option_to_list (is i)));
+            }) k.filesystems)
         by (Some place) is few =
-            let well = ap (λ o. list_all (is_located_well nat_eq world) (option_to_list o)) is ∙ mid.well entry (entry_found_at k.mounts number entry going.0).0 going.1 in
-            (λ i. unpinned_in (sym (seen_where_located value whole place few (and_parts _ _ well).0) i, number_of place.node) k.filesystems)
-            ∙ (λ i. map (λ (one : Shown). record one { inodes = folded (unpinned_if (counted one.count)) one.inodes (map (inode_at world) (option_to_list (is i))) }) k.filesystems)
+            let well = ap (λ o. list_all (is_located_well nat_eq world) (option_to_list o)) is
+            ∙ mid.well entry (entry_found_at k.mounts number entry going.0).0 going.1 in
+            (λ i. unpinned_in (
+              sym (seen_where_located value whole place few
+                  (and_parts _ _ well).0) i,
+              number_of place.node,
+            ) k.filesystems)
+            ∙ (λ i. map (λ (one : Shown). record one {
+              inodes = folded (unpinned_if (counted one.count)) one.inodes
+                  (map (inode_at world) (option_to_list (is i)));
+            }) k.filesystems)
 
     -- the filesystems with the uses of these inodes lost
     abbrev unpinned_here : Shown → Shown
     unpinned_here one = record one { inodes = folded (unpinned_if (counted one.count)) one.inodes lost_here }
 
-    shown_before : (one : Shown) → Among one taken.filesystems → (was : Shown) × Among was k.filesystems × (one ≡ unpinned_here was)
+    shown_before : (one : Shown) → Among one taken.filesystems
+        → (was : Shown) × Among was k.filesystems × (one ≡ unpinned_here was)
     shown_before one m = among-from_map unpinned_here k.filesystems one (subst (λ all. Among one all) unpinned_are m)
 
-    shown_here : (was : Shown) → Among was k.filesystems → IsShown value now gained (lost ++ lost_here) (unpinned_here was)
+    shown_here : (was : Shown) → Among was k.filesystems
+        → IsShown value now gained (lost ++ lost_here) (unpinned_here was)
     shown_here was m = let is = mid.shown was m in record {
       was = is.was;
       among = is.among;
       count = is.count;
       there = is.there;
       inodes = (λ i. folded (unpinned_if (counted (is.count i))) (is.inodes i) lost_here)
-          ∙ sym (folded_append (unpinned_if (counted is.was.count)) (folded (pinned_if (counted is.was.count)) (inodes_seen is.was) gained) lost lost_here);
+          ∙ sym (folded_append (unpinned_if (counted is.was.count))
+          (folded (pinned_if (counted is.was.count)) (inodes_seen is.was) gained) lost lost_here);
       mounts = is.mounts;
       mounted = is.mounted;
     }
@@ -344,7 +406,8 @@ module _ (value : WorldValue) (whole : IsHeld value) (start : World ℕ) (gained
     same_lost test =
         let a = times_append test lost (inodes_of_uses world left ++ points_left world goes k.mounts) in
         let b = times_append test (inodes_of_uses world left) (points_left world goes k.mounts) in
-        let c = times_append test (lost ++ lost_here) (inodes_of_uses world left ++ points_left world goes taken.mounts) in
+        let c = times_append test (lost ++ lost_here)
+        (inodes_of_uses world left ++ points_left world goes taken.mounts) in
         let d = times_append test lost lost_here in
         let e = times_append test (inodes_of_uses world left) (points_left world goes taken.mounts) in
         let p = points_are number k.mounts one_number entry going.0 going.1 test in
@@ -354,11 +417,14 @@ module _ (value : WorldValue) (whole : IsHeld value) (start : World ℕ) (gained
     entry_before e m = among-from_map take k.mounts e m
 
     -- what a detached entry keeps
-    take_keeps : (was : MountEntry) → ((take was).mount.number ≡ was.mount.number) × ((take was).uses ≡ was.uses) × ((take was).writers ≡ was.writers)
+    take_keeps : (was : MountEntry)
+        → ((take was).mount.number ≡ was.mount.number) × ((take was).uses ≡ was.uses)
+        × ((take was).writers ≡ was.writers)
     take_keeps was = by (nat_eq number was.mount.number)
       where
         by : (b : Bool) → ((cond b (detached_entry was) was).mount.number ≡ was.mount.number)
-            × ((cond b (detached_entry was) was).uses ≡ was.uses) × ((cond b (detached_entry was) was).writers ≡ was.writers)
+            × ((cond b (detached_entry was) was).uses ≡ was.uses)
+            × ((cond b (detached_entry was) was).writers ≡ was.writers)
         by true = (refl, refl, refl)
         by false = (refl, refl, refl)
 
@@ -367,37 +433,37 @@ module _ (value : WorldValue) (whole : IsHeld value) (start : World ℕ) (gained
     well_still was m = by (nat_eq number was.mount.number)
       where
         by : (b : Bool) → goes (cond b (detached_entry was) was).mount ≡ true
-            → list_all (is_located_well nat_eq world) (option_to_list (cond b (detached_entry was) was).mount.mount_point) ≡ true
+            → list_all (is_located_well nat_eq world)
+            (option_to_list (cond b (detached_entry was) was).mount.mount_point) ≡ true
         by true e = refl
         by false e = mid.well was m e
-
-    ungrouped_still : (was : MountEntry) → Among was k.mounts → is_ungrouped (take was).mount.propagation ≡ true
-    ungrouped_still was m = by (nat_eq number was.mount.number)
-      where
-        by : (b : Bool) → is_ungrouped (cond b (detached_entry was) was).mount.propagation ≡ true
-        by true = refl
-        by false = mid.ungrouped was m
 
     pub mount_taken : Midway value start gained goes left now taken (lost ++ lost_here)
     mount_taken = record {
       mounts = same_now;
       uses = λ e m. let from = entry_before e m in let keeps = take_keeps from.0 in
-          subst (λ (x : MountEntry). x.uses ≡ mount_uses now x.mount.number + times (is_use_on x.mount.number) left) (sym from.2)
+          subst (λ (x : MountEntry). x.uses ≡ mount_uses now x.mount.number + times (is_use_on x.mount.number) left)
+          (sym from.2)
           (keeps.1 ∙ mid.uses from.0 from.1 ∙ ap (λ n. mount_uses now n + times (is_use_on n) left) (sym keeps.0));
       writers = λ e m. let from = entry_before e m in let keeps = take_keeps from.0 in
-          subst (λ (x : MountEntry). x.writers ≡ writes_of x.mount.number now.tasks + times (writes_on_mount x.mount.number) left) (sym from.2)
-          (keeps.2 ∙ mid.writers from.0 from.1 ∙ ap (λ n. writes_of n now.tasks + times (writes_on_mount n) left) (sym keeps.0));
+          subst (λ (x : MountEntry). x.writers
+          ≡ writes_of x.mount.number now.tasks + times (writes_on_mount x.mount.number) left) (sym from.2)
+          (keeps.2 ∙ mid.writers from.0 from.1
+          ∙ ap (λ n. writes_of n now.tasks + times (writes_on_mount n) left) (sym keeps.0));
       well = λ e m. let from = entry_before e m in
-          subst (λ (x : MountEntry). goes x.mount ≡ true → list_all (is_located_well nat_eq world) (option_to_list x.mount.mount_point) ≡ true) (sym from.2)
+          subst (λ (x : MountEntry). goes x.mount ≡ true
+          → list_all (is_located_well nat_eq world) (option_to_list x.mount.mount_point) ≡ true) (sym from.2)
           (well_still from.0 from.1);
-      ungrouped = λ e m. let from = entry_before e m in
-          subst (λ (x : MountEntry). is_ungrouped x.mount.propagation ≡ true) (sym from.2) (ungrouped_still from.0 from.1);
-      shown = λ one m. let from = shown_before one m in subst (IsShown value now gained (lost ++ lost_here)) (sym from.2) (shown_here from.0 from.1);
+      shown = λ one m. let from = shown_before one m in subst (IsShown value now gained (lost ++ lost_here))
+          (sym from.2) (shown_here from.0 from.1);
       exchanges = λ one m. let from = shown_before one m in
-          subst (λ count. Exchanges gained ((lost ++ lost_here) ++ (inodes_of_uses world left ++ points_left world goes taken.mounts)) (counted count) world now)
+          subst (λ count. Exchanges gained
+          ((lost ++ lost_here) ++ (inodes_of_uses world left ++ points_left world goes taken.mounts))
+          (counted count) world now)
           (ap (λ (x : Shown). x.count) (sym from.2))
           (lost_alike gained (lost ++ (inodes_of_uses world left ++ points_left world goes k.mounts))
-          ((lost ++ lost_here) ++ (inodes_of_uses world left ++ points_left world goes taken.mounts)) (counted from.0.count) world now
+          ((lost ++ lost_here) ++ (inodes_of_uses world left ++ points_left world goes taken.mounts))
+          (counted from.0.count) world now
           (λ n. same_lost (is_inode (counted from.0.count) n)) (mid.exchanges from.0 from.1));
       numbers = mid.numbers ∙ sym (map_twice (λ (one : Shown). counted one.count) unpinned_here k.filesystems)
           ∙ sym (ap (map (λ (one : Shown). counted one.count)) unpinned_are);
@@ -410,8 +476,10 @@ module _ (value : WorldValue) (whole : IsHeld value) (start : World ℕ) (gained
     pub taken_alone : NoneUnused k → UnusedOnly number taken
     taken_alone none e m unused =
         let from = entry_before e m in
-        by from.0 from.1 (nat_eq number from.0.mount.number) refl (ap is_unused (sym from.2) ∙ unused) ∙ sym (ap (λ (x : MountEntry). x.mount.number) from.2 ∙ (take_keeps from.0).0)
+        by from.0 from.1 (nat_eq number from.0.mount.number) refl (ap is_unused (sym from.2) ∙ unused)
+        ∙ sym (ap (λ (x : MountEntry). x.mount.number) from.2 ∙ (take_keeps from.0).0)
       where
-        by : (was : MountEntry) → Among was k.mounts → (b : Bool) → nat_eq number was.mount.number ≡ b → is_unused (cond b (detached_entry was) was) ≡ true → number ≡ was.mount.number
+        by : (was : MountEntry) → Among was k.mounts → (b : Bool) → nat_eq number was.mount.number ≡ b
+            → is_unused (cond b (detached_entry was) was) ≡ true → number ≡ was.mount.number
         by was n true t f = eqb-true number was.mount.number t
         by was n false t f = absurd (true≢false (sym f ∙ none was n))

@@ -1,35 +1,32 @@
 -- The steps by which tasks leave uses and namespaces, and the world after the last of them.
 use Rattle.std.proofs.Common.{◌≡◌, refl, sym, ap, subst, ◌∙◌, ℕ, nat_eq, Bool, true, false, true≢false, cond, not, ◌&&◌, ◌||◌, List, [], ◌∷◌, ◌++◌, map, flat_map, Option, Some, is_some, arith}
 use Rattle.std.specs.Prelude.{All}
-use Rattle.std.specs.List.{list_all}
 use Rattle.std.proofs.lemmas.List.{append-nil}
 use Rattle.vt_spec.specs.Lists.{folded}
 use Rattle.vt_spec.specs.Machine.Mounts.{Location, Mount, detached}
 use Rattle.vt_spec.specs.Machine.SameWorlds.{without_changes}
-use Rattle.vt_spec.specs.Machine.Settled.{filesystem_lives, is_located, is_mounted, mount_lives, settled, without_dead_filesystems, without_dead_mounts}
+use Rattle.vt_spec.specs.Machine.Settled.{filesystem_lives, is_located, is_mounted, mount_lives, without_dead_filesystems, without_dead_mounts}
 use Rattle.vt_spec.specs.Machine.World.{Filesystem, Task, World}
 use Rattle.vt_count_laws.specs.Counted.{IsPlain}
 use Rattle.vt_count_laws.specs.Sweeping.{living}
 use Rattle.vt_count_laws.specs.Using.{Exchanges}
 use Rattle.vt_count_laws.proofs.Swept.{plain_of}
 use Rattle.vt_fs.specs.FilesystemsValue.{FilesystemEntry, Shown, shown_entry}
-use Rattle.vt_group.specs.Grouping.{Has, are_rising, numbers_of}
 use Rattle.vt_letting_go.specs.Counts.{mount_uses, mounts_showing}
 use Rattle.vt_letting_go.specs.OneByOne.{Inode}
 use Rattle.vt_letting_go.specs.Mounting.{inode_at}
-use Rattle.vt_letting_go.proofs.Lists.{Among, all_from_among, all_pass, among-from_map, among-map, filter_all, flat_map_none, map_same, map_twice}
+use Rattle.vt_letting_go.proofs.Lists.{Among, all_from_among, among-from_map, among-map, filter_all, flat_map_none, map_same, map_twice}
 use Rattle.vt_letting_go.proofs.PlacesLeft.{no_layers}
 use Rattle.vt_letting_go.proofs.UsesCounted.{located_while_counted, mounted_while_counted}
 use Rattle.vt_location.specs.declared.locations.Location.{Location as Place}
 use Rattle.vt_location.specs.Numbers.{counted}
 use Rattle.vt_mount.specs.MountsValue.{MountEntry, mounts_in}
-use Rattle.vt_detach.specs.Held.{CountsItsUses, CountsWhatIsInIt, IsHeld, is_ungrouped, writes_of}
+use Rattle.vt_detach.specs.Held.{CountsItsUses, CountsWhatIsInIt, IsHeld, writes_of}
 use Rattle.vt_detach.specs.NamespacesLeft.{AreDetached, Detached}
 use Rattle.vt_detach.specs.Uses.{Kept, kept, without_attachment, without_use}
 use Rattle.vt_detach.specs.WorldValue.{WorldValue, world_of}
 use Rattle.vt_detach.proofs.Bridging.{IsSwept}
 use Rattle.vt_detach.proofs.Finishing.{CountsBeside}
-use Rattle.vt_detach.proofs.Grouped.{left_has_none}
 use Rattle.vt_detach.proofs.Midway.{IsGoing, IsShown, Midway, NoneUnused, Reached, gone_if, left_alone, mount_taken, point_left, points_left, taken_alone, use_left}
 use Rattle.vt_detach.proofs.MidwayGoes.{mount_looked_at}
 use Rattle.vt_detach.proofs.Moving.{Use, inodes_of_uses}
@@ -80,7 +77,8 @@ or_none : (b : Bool) → (b || false) ≡ b
 or_none true = refl
 or_none false = refl
 
-module _ (value : WorldValue) (start : World ℕ) (gained : List Inode) (goes : Mount ℕ → Bool) (k : Kept) (at : Reached value start gained goes [] k)
+module _ (value : WorldValue) (start : World ℕ) (gained : List Inode) (goes : Mount ℕ → Bool) (k : Kept)
+    (at : Reached value start gained goes [] k)
     (all_gone : (entry : MountEntry) → Among entry k.mounts → goes entry.mount ≡ false)
     (new : WorldValue) (is_kept : kept new.mounts new.filesystems ≡ k) (same_tasks : start.tasks ≡ new.tasks) where
   abbrev now : World ℕ
@@ -92,7 +90,8 @@ module _ (value : WorldValue) (start : World ℕ) (gained : List Inode) (goes : 
   mounts_are : now.mounts ≡ mounts_in new.mounts
   mounts_are =
       mid.mounts
-      ∙ map_same (gone_if goes) (mounts_in k.mounts) (λ x m. let from = among-from_map (λ (e : MountEntry). e.mount) k.mounts x m in
+      ∙ map_same (gone_if goes) (mounts_in k.mounts)
+      (λ x m. let from = among-from_map (λ (e : MountEntry). e.mount) k.mounts x m in
       ap (λ b. cond b (detached x) x) (ap goes from.2 ∙ all_gone from.0 from.1))
       ∙ ap (λ (one : Kept). mounts_in one.mounts) (sym is_kept)
 
@@ -105,8 +104,10 @@ module _ (value : WorldValue) (start : World ℕ) (gained : List Inode) (goes : 
   nothing_rests : rest_lost ≡ at.lost
   nothing_rests =
       ap (λ points. at.lost ++ points)
-      (flat_map_none (point_left (world_of value) goes) (mounts_in k.mounts) (λ x m. let from = among-from_map (λ (e : MountEntry). e.mount) k.mounts x m in
-      ap (λ b. cond b (Rattle.vt_detach.proofs.Midway.inodes_of_point (world_of value) x) []) (ap goes from.2 ∙ all_gone from.0 from.1)))
+      (flat_map_none (point_left (world_of value) goes) (mounts_in k.mounts)
+      (λ x m. let from = among-from_map (λ (e : MountEntry). e.mount) k.mounts x m in
+      ap (λ b. cond b (Rattle.vt_detach.proofs.Midway.inodes_of_point (world_of value) x) [])
+      (ap goes from.2 ∙ all_gone from.0 from.1)))
       ∙ append-nil at.lost
 
   -- all is in use
@@ -114,14 +115,17 @@ module _ (value : WorldValue) (start : World ℕ) (gained : List Inode) (goes : 
   mount_is_used x m =
       let from = among-from_map (gone_if goes) (mounts_in k.mounts) x (subst (λ all. Among x all) mid.mounts m) in
       let entry = among-from_map (λ (e : MountEntry). e.mount) k.mounts from.0 from.1 in
-      let is : x ≡ entry.0.mount = from.2 ∙ ap (gone_if goes) entry.2 ∙ ap (λ b. cond b (detached entry.0.mount) entry.0.mount) (all_gone entry.0 entry.1) in
+      let is : x ≡ entry.0.mount = from.2 ∙ ap (gone_if goes) entry.2
+      ∙ ap (λ b. cond b (detached entry.0.mount) entry.0.mount) (all_gone entry.0 entry.1) in
       ap (mount_lives nat_eq now) is
       ∙ lives entry.0 entry.1
     where
-      lives : (entry : MountEntry) → Among entry k.mounts → (is_some entry.mount.namespace || is_located nat_eq now entry.mount.number) ≡ true
+      lives : (entry : MountEntry) → Among entry k.mounts
+          → (is_some entry.mount.namespace || is_located nat_eq now entry.mount.number) ≡ true
       lives entry m = by (is_some entry.mount.namespace) (nat_eq entry.uses 0) refl (at.none entry m)
         where
-          by : (b c : Bool) → nat_eq entry.uses 0 ≡ c → (not b && c) ≡ false → (b || is_located nat_eq now entry.mount.number) ≡ true
+          by : (b c : Bool) → nat_eq entry.uses 0 ≡ c → (not b && c) ≡ false
+              → (b || is_located nat_eq now entry.mount.number) ≡ true
           by true c e f = refl
           by false true e f = absurd (true≢false f)
           by false false e f =
@@ -133,7 +137,8 @@ module _ (value : WorldValue) (start : World ℕ) (gained : List Inode) (goes : 
   filesystem_is_used : (f : Filesystem ℕ) → Among f now.filesystems → filesystem_lives nat_eq now f ≡ true
   filesystem_is_used f m =
       let from = among-from_map (λ (one : Shown). counted one.count) k.filesystems f.number
-      (subst (λ all. Among f.number all) mid.numbers (among-map (λ (x : Filesystem ℕ). x.number) now.filesystems f m)) in
+      (subst (λ all. Among f.number all) mid.numbers
+      (among-map (λ (x : Filesystem ℕ). x.number) now.filesystems f m)) in
       let is = mid.shown from.0 from.1 in
       ap (λ b. is_mounted nat_eq now f.number || b) (no_layers f.number now now.filesystems (plain_of now mid.plain))
       ∙ or_none (is_mounted nat_eq now f.number)
@@ -146,23 +151,20 @@ module _ (value : WorldValue) (start : World ℕ) (gained : List Inode) (goes : 
   living_is =
       sym mid.same
       ∙ ap (without_dead_filesystems nat_eq) still
-      ∙ (λ i. record now { filesystems = filter_all (filesystem_lives nat_eq now) now.filesystems filesystem_is_used i })
+      ∙ (λ i. record now {
+        filesystems = filter_all
+            (filesystem_lives nat_eq now) now.filesystems filesystem_is_used i;
+      })
     where
       still : without_dead_mounts nat_eq now ≡ now
       still = λ i. record now { mounts = filter_all (mount_lives nat_eq now) now.mounts mount_is_used i }
 
   shown_of : (entry : FilesystemEntry) → Among entry new.filesystems → Among (shown_entry entry) k.filesystems
-  shown_of entry m = subst (λ (one : Kept). Among (shown_entry entry) one.filesystems) is_kept (among-map shown_entry new.filesystems entry m)
+  shown_of entry m = subst (λ (one : Kept). Among (shown_entry entry) one.filesystems) is_kept
+      (among-map shown_entry new.filesystems entry m)
 
   entry_of : (entry : MountEntry) → Among entry new.mounts → Among entry k.mounts
   entry_of entry m = subst (λ (one : Kept). Among entry one.mounts) is_kept m
-
-  free : list_all (λ (entry : MountEntry). is_ungrouped entry.mount.propagation) new.mounts ≡ true
-  free = all_pass (λ entry. is_ungrouped entry.mount.propagation) new.mounts (λ entry m. mid.ungrouped entry (entry_of entry m))
-
-  pub reached_has_none : IsHeld value → are_rising (numbers_of start.mounts) ≡ true → Has (settled nat_eq start) value.groups
-  reached_has_none held rising =
-      left_has_none value held start new.mounts rising (ap (λ (w : World ℕ). w.mounts) living_is ∙ mounts_are) free
 
   pub reached_swept : IsPlain start
       → (without_changes start).namespaces ≡ (without_changes (world_of new)).namespaces
@@ -181,7 +183,8 @@ module _ (value : WorldValue) (start : World ℕ) (gained : List Inode) (goes : 
       inodes = is.inodes;
       exchanges = subst (λ count. Exchanges gained at.lost (counted count) (world_of value) (living start)) is.count
           (subst (λ w. Exchanges gained at.lost (counted entry.count) (world_of value) w) (sym living_is)
-          (subst (λ lost. Exchanges gained lost (counted entry.count) (world_of value) now) nothing_rests (mid.exchanges (shown_entry entry) (shown_of entry m))));
+          (subst (λ lost. Exchanges gained lost (counted entry.count) (world_of value) now) nothing_rests
+          (mid.exchanges (shown_entry entry) (shown_of entry m))));
     };
     namespaces = namespaces;
     tasks = ap (map (λ (task : Task ℕ). record task { change = 0 })) same_tasks;
@@ -189,18 +192,19 @@ module _ (value : WorldValue) (start : World ℕ) (gained : List Inode) (goes : 
 
   pub reached_counted : All (CountsWhatIsInIt (world_of new)) new.namespaces → CountsBeside new
   reached_counted namespaces = record {
-    ungrouped = free;
     uses = all_from_among (CountsItsUses (world_of new)) new.mounts (λ entry m.
         let uses = mid.uses entry (entry_of entry m) in
         let writers = mid.writers entry (entry_of entry m) in
         let all : entry.uses ≡ mount_uses now entry.mount.number = omega (arith, uses) in
         let written : entry.writers ≡ writes_of entry.mount.number now.tasks = omega (arith, writers) in
         record {
-          uses = all ∙ ap (λ tasks. Rattle.vt_letting_go.specs.Counts.times (λ (location : Location ℕ). nat_eq entry.mount.number location.mount)
+          uses = all ∙ ap (λ tasks. Rattle.vt_letting_go.specs.Counts.times
+              (λ (location : Location ℕ). nat_eq entry.mount.number location.mount)
               (flat_map Rattle.vt_spec.specs.Machine.World.locations_of tasks)) tasks_are;
           writers = written ∙ ap (writes_of entry.mount.number) tasks_are;
         });
     mounts = λ entry m. let is = mid.shown (shown_entry entry) (shown_of entry m) in
-        is.mounts ∙ ap (Rattle.vt_letting_go.specs.Counts.times (λ (x : Mount ℕ). nat_eq (counted entry.count) x.filesystem)) mounts_are;
+        is.mounts ∙ ap (Rattle.vt_letting_go.specs.Counts.times
+        (λ (x : Mount ℕ). nat_eq (counted entry.count) x.filesystem)) mounts_are;
     namespaces = namespaces;
   }

@@ -1,4 +1,5 @@
--- A mount that nothing uses any more goes, and its filesystem with its last mount, between the first and the last use that a
+-- A mount that nothing uses any more goes, and its filesystem with its last mount, between the first and the last use
+-- that a
 -- task leaves.
 use Rattle.std.proofs.Common.{◌≡◌, refl, sym, ap, subst, ◌∙◌, ℕ, ◌+◌, ◌-◌, nat_eq, eqb-true, eq-eqb, Bool, true, false, true≢false, cond, not, ◌&&◌, ◌||◌, List, [], ◌∷◌, ◌++◌, map, filter, find, flat_map, Option, Some, None, is_some, arith}
 use Rattle.std.specs.Prelude.{nat_lt, option_to_list}
@@ -40,15 +41,21 @@ use Rattle.vt_detach.proofs.Moving.{Use, inodes_of_uses, swap_eq}
 -- What the sweep leaves when a dead mount and filesystems that no mount shows are gone already
 
 module _ (now : World ℕ) (number : ℕ) (stays : ℕ → Bool) (plain : IsPlain now)
-    (dead : (mount : Mount ℕ) → Among mount now.mounts → not (nat_eq mount.number number) ≡ false → mount_lives nat_eq now mount ≡ false)
-    (bare : (f : Filesystem ℕ) → Among f now.filesystems → stays f.number ≡ false → is_mounted nat_eq (without_mount now number) f.number ≡ false) where
+    (dead : (mount : Mount ℕ) → Among mount now.mounts → not (nat_eq mount.number number) ≡ false
+    → mount_lives nat_eq now mount ≡ false)
+    (bare : (f : Filesystem ℕ) → Among f now.filesystems → stays f.number ≡ false
+    → is_mounted nat_eq (without_mount now number) f.number ≡ false) where
   abbrev pub second : World ℕ
-  second = record (without_mount now number) { filesystems = filter (λ (f : Filesystem ℕ). stays f.number) now.filesystems }
+  second = record (without_mount now number) {
+    filesystems = filter
+        (λ (f : Filesystem ℕ). stays f.number) now.filesystems;
+  }
 
   abbrev mounts_left : List (Mount ℕ)
   mounts_left = filter (mount_lives nat_eq now) now.mounts
 
-  same_left : filter (mount_lives nat_eq now) (filter (λ mount. not (nat_eq mount.number number)) now.mounts) ≡ mounts_left
+  same_left : filter (mount_lives nat_eq now) (filter (λ mount. not (nat_eq mount.number number)) now.mounts)
+      ≡ mounts_left
   same_left = filter_less (mount_lives nat_eq now) (λ mount. not (nat_eq mount.number number)) now.mounts dead
 
   abbrev showing : List (Mount ℕ) → ℕ → Bool
@@ -60,28 +67,37 @@ module _ (now : World ℕ) (number : ℕ) (stays : ℕ → Bool) (plain : IsPlai
 
   lives_is : (v : World ℕ) → IsPlain v → (f : Filesystem ℕ) → filesystem_lives nat_eq v f ≡ is_mounted nat_eq v f.number
   lives_is v is f =
-      ap (λ b. is_mounted nat_eq v f.number || b) (no_layers f.number v v.filesystems (plain_of v is)) ∙ or_none (is_mounted nat_eq v f.number)
+      ap (λ b. is_mounted nat_eq v f.number || b) (no_layers f.number v v.filesystems (plain_of v is))
+      ∙ or_none (is_mounted nat_eq v f.number)
 
   plain_second : IsPlain second
   plain_second =
       all_from_among (λ f. is_overlay f ≡ false) second.filesystems (λ f m.
-      among_from_all (λ f. is_overlay f ≡ false) now.filesystems plain f (among-from_filter (λ (f : Filesystem ℕ). stays f.number) now.filesystems f m).0)
+      among_from_all (λ f. is_overlay f ≡ false) now.filesystems plain f
+      (among-from_filter (λ (f : Filesystem ℕ). stays f.number) now.filesystems f m).0)
 
-  not_shown : (f : Filesystem ℕ) → Among f now.filesystems → stays f.number ≡ false → showing mounts_left f.number ≡ false
+  not_shown : (f : Filesystem ℕ) → Among f now.filesystems → stays f.number ≡ false
+      → showing mounts_left f.number ≡ false
   not_shown f m gone =
       ap (λ mounts. showing mounts f.number) (sym same_left)
       ∙ none_passes (λ (mount : Mount ℕ). nat_eq f.number mount.filesystem)
       (filter (mount_lives nat_eq now) (filter (λ mount. not (nat_eq mount.number number)) now.mounts))
-      (λ mount n. fails (λ (mount : Mount ℕ). nat_eq f.number mount.filesystem) (filter (λ mount. not (nat_eq mount.number number)) now.mounts)
-      (bare f m gone) mount (among-from_filter (mount_lives nat_eq now) (filter (λ mount. not (nat_eq mount.number number)) now.mounts) mount n).0)
+      (λ mount n. fails (λ (mount : Mount ℕ). nat_eq f.number mount.filesystem)
+      (filter (λ mount. not (nat_eq mount.number number)) now.mounts)
+      (bare f m gone) mount (among-from_filter (mount_lives nat_eq now)
+      (filter (λ mount. not (nat_eq mount.number number)) now.mounts) mount n).0)
 
   same_filesystems : filter (filesystem_lives nat_eq (without_dead_mounts nat_eq second)) second.filesystems
       ≡ filter (filesystem_lives nat_eq (without_dead_mounts nat_eq now)) now.filesystems
   same_filesystems =
-      filter_alike (filesystem_lives nat_eq (without_dead_mounts nat_eq second)) (λ (f : Filesystem ℕ). showing mounts_left f.number) second.filesystems
-      (λ f m. lives_is (without_dead_mounts nat_eq second) plain_second f ∙ ap (λ mounts. showing mounts f.number) same_left)
-      ∙ filter_less (λ (f : Filesystem ℕ). showing mounts_left f.number) (λ (f : Filesystem ℕ). stays f.number) now.filesystems not_shown
-      ∙ filter_alike (λ (f : Filesystem ℕ). showing mounts_left f.number) (filesystem_lives nat_eq (without_dead_mounts nat_eq now)) now.filesystems
+      filter_alike (filesystem_lives nat_eq (without_dead_mounts nat_eq second))
+      (λ (f : Filesystem ℕ). showing mounts_left f.number) second.filesystems
+      (λ f m. lives_is (without_dead_mounts nat_eq second) plain_second f
+      ∙ ap (λ mounts. showing mounts f.number) same_left)
+      ∙ filter_less (λ (f : Filesystem ℕ). showing mounts_left f.number)
+      (λ (f : Filesystem ℕ). stays f.number) now.filesystems not_shown
+      ∙ filter_alike (λ (f : Filesystem ℕ). showing mounts_left f.number)
+      (filesystem_lives nat_eq (without_dead_mounts nat_eq now)) now.filesystems
       (λ f m. sym (lives_is (without_dead_mounts nat_eq now) plain f))
 
   pub living_alike : living second ≡ living now
@@ -92,14 +108,16 @@ module _ (now : World ℕ) (number : ℕ) (stays : ℕ → Bool) (plain : IsPlai
 
 module _ (value : WorldValue) (whole : IsHeld value) (start : World ℕ) (gained : List Inode) (goes : Mount ℕ → Bool)
     (attached : (mount : Mount ℕ) → goes mount ≡ true → is_some mount.namespace ≡ true)
-    (number : ℕ) (left : List Use) (now : World ℕ) (k : Kept) (lost : List Inode) (mid : Midway value start gained goes left now k lost) where
+    (number : ℕ) (left : List Use) (now : World ℕ) (k : Kept) (lost : List Inode)
+    (mid : Midway value start gained goes left now k lost) where
   abbrev world : World ℕ
   world = world_of value
 
   one_number : OneNumber (mounts_in k.mounts)
   one_number = one_number_kept goes (mounts_in k.mounts) (subst OneNumber mid.mounts mid.stand.one_number)
 
-  module _ (entry : MountEntry) (found : entry_numbered k.mounts number ≡ Some entry) (unused : is_unused entry ≡ true) where
+  module _ (entry : MountEntry) (found : entry_numbered k.mounts number ≡ Some entry)
+      (unused : is_unused entry ≡ true) where
     abbrev mount : Mount ℕ
     mount = entry.mount
 
@@ -117,20 +135,24 @@ module _ (value : WorldValue) (whole : IsHeld value) (start : World ℕ) (gained
         by false e = refl
 
     is_entry : (other : MountEntry) → Among other k.mounts → other.mount.number ≡ number → other ≡ entry
-    is_entry other m e = same_Some other entry (sym (entry_itself k.mounts one_number other m) ∙ ap (entry_numbered k.mounts) e ∙ found)
+    is_entry other m e = same_Some other entry
+        (sym (entry_itself k.mounts one_number other m) ∙ ap (entry_numbered k.mounts) e ∙ found)
 
     in_now : Among mount now.mounts
     in_now =
         subst (λ all. Among mount all) (sym mid.mounts)
-        (subst (λ one. Among one (map (gone_if goes) (mounts_in k.mounts))) (ap (λ b. cond b (detached mount) mount) not_going)
-        (among-map (gone_if goes) (mounts_in k.mounts) mount (among-map (λ (one : MountEntry). one.mount) k.mounts entry among.0)))
+        (subst (λ one. Among one (map (gone_if goes) (mounts_in k.mounts)))
+        (ap (λ b. cond b (detached mount) mount) not_going)
+        (among-map (gone_if goes) (mounts_in k.mounts) mount
+        (among-map (λ (one : MountEntry). one.mount) k.mounts entry among.0)))
 
     mount_is : mount_numbered nat_eq now number ≡ mount
     mount_is = ap (mount_numbered nat_eq now) among.1 ∙ found_itself now.mounts mid.stand.one_number mount in_now
 
     there : is_among nat_eq number (map (λ x. x.number) now.mounts) ≡ true
     there = is_among_numbers number (map (λ x. x.number) now.mounts)
-        (subst (λ n. Among n (map (λ (x : Mount ℕ). x.number) now.mounts)) (sym among.1) (among-map (λ (x : Mount ℕ). x.number) now.mounts mount in_now))
+        (subst (λ n. Among n (map (λ (x : Mount ℕ). x.number) now.mounts)) (sym among.1)
+        (among-map (λ (x : Mount ℕ). x.number) now.mounts mount in_now))
 
     no_uses : mount_uses now number ≡ 0
     no_uses =
@@ -147,10 +169,12 @@ module _ (value : WorldValue) (whole : IsHeld value) (start : World ℕ) (gained
         ap (λ (x : Mount ℕ). is_some x.namespace || is_located nat_eq now number) mount_is
         ∙ ap (λ b. b || is_located nat_eq now number) nowhere ∙ not_located
 
-    dead : (other : Mount ℕ) → Among other now.mounts → not (nat_eq other.number number) ≡ false → mount_lives nat_eq now other ≡ false
+    dead : (other : Mount ℕ) → Among other now.mounts → not (nat_eq other.number number) ≡ false
+        → mount_lives nat_eq now other ≡ false
     dead other m e =
         let same : other.number ≡ number = eqb-true other.number number (turned (nat_eq other.number number) e) in
-        let is : other ≡ mount = sym (found_itself now.mounts mid.stand.one_number other m) ∙ ap (mount_numbered nat_eq now) same ∙ mount_is in
+        let is : other ≡ mount = sym (found_itself now.mounts mid.stand.one_number other m)
+        ∙ ap (mount_numbered nat_eq now) same ∙ mount_is in
         ap (mount_lives nat_eq now) is
         ∙ ap (λ n. is_some mount.namespace || is_located nat_eq now n) (sym among.1)
         ∙ ap (λ b. b || is_located nat_eq now number) nowhere ∙ not_located
@@ -190,16 +214,38 @@ module _ (value : WorldValue) (whole : IsHeld value) (start : World ℕ) (gained
 
     step_is : (was : Shown) → Among was k.filesystems
         → ((step was).count ≡ was.count) × ((step was).inodes ≡ unpinned_if (counted was.count) was.inodes root)
-        × ((step was).mounts ≡ mounts_showing first (counted was.count)) × (nat_eq f (counted was.count) ≡ false → (step was).mounts ≡ was.mounts)
+        × ((step was).mounts ≡ mounts_showing first (counted was.count))
+        × (nat_eq f (counted was.count) ≡ false → (step was).mounts ≡ was.mounts)
     step_is was m = by (nat_eq f (counted was.count)) (mid.shown was m).mounts (takes (counted was.count))
       where
-        by : (b : Bool) → was.mounts ≡ mounts_showing now (counted was.count) → mounts_showing now (counted was.count) ≡ mounts_showing first (counted was.count) + cond b 1 0
-            → ((cond b (record was { inodes = unpinned_if (counted was.count) was.inodes root; mounts = was.mounts - 1 }) (record was { inodes = unpinned_if (counted was.count) was.inodes root })).count ≡ was.count)
-            × ((cond b (record was { inodes = unpinned_if (counted was.count) was.inodes root; mounts = was.mounts - 1 }) (record was { inodes = unpinned_if (counted was.count) was.inodes root })).inodes
+        by : (b : Bool) → was.mounts ≡ mounts_showing now (counted was.count)
+            → mounts_showing now (counted was.count) ≡ mounts_showing first (counted was.count) + cond b 1 0
+            → ((cond b (record was {
+              inodes = unpinned_if
+                  (counted was.count) was.inodes root;
+              mounts = was.mounts - 1;
+            })
+            (record was { inodes = unpinned_if (counted was.count) was.inodes root })).count ≡ was.count)
+            × ((cond b (record was {
+              inodes = unpinned_if
+                  (counted was.count) was.inodes root;
+              mounts = was.mounts - 1;
+            })
+            (record was { inodes = unpinned_if (counted was.count) was.inodes root })).inodes
             ≡ unpinned_if (counted was.count) was.inodes root)
-            × ((cond b (record was { inodes = unpinned_if (counted was.count) was.inodes root; mounts = was.mounts - 1 }) (record was { inodes = unpinned_if (counted was.count) was.inodes root })).mounts
+            × ((cond b (record was {
+              inodes = unpinned_if
+                  (counted was.count) was.inodes root;
+              mounts = was.mounts - 1;
+            })
+            (record was { inodes = unpinned_if (counted was.count) was.inodes root })).mounts
             ≡ mounts_showing first (counted was.count))
-            × (b ≡ false → (cond b (record was { inodes = unpinned_if (counted was.count) was.inodes root; mounts = was.mounts - 1 }) (record was { inodes = unpinned_if (counted was.count) was.inodes root })).mounts ≡ was.mounts)
+            × (b ≡ false → (cond b (record was {
+              inodes = unpinned_if
+                  (counted was.count) was.inodes root;
+              mounts = was.mounts - 1;
+            })
+            (record was { inodes = unpinned_if (counted was.count) was.inodes root })).mounts ≡ was.mounts)
         by true counts took = (refl, refl, omega (arith, counts, took), (λ e. absurd (true≢false e)))
         by false counts took = (refl, refl, omega (arith, counts, took), (λ e. refl))
 
@@ -208,24 +254,30 @@ module _ (value : WorldValue) (whole : IsHeld value) (start : World ℕ) (gained
     stepped_counts one m =
         let from = among-from_map step k.filesystems one m in let is = step_is from.0 from.1 in
         ap (λ (x : Shown). x.mounts) from.2 ∙ is.2
-        ∙ ap (λ count. mounts_showing first (counted count)) (sym is.0) ∙ ap (λ (x : Shown). mounts_showing first (counted x.count)) (sym from.2)
+        ∙ ap (λ count. mounts_showing first (counted count)) (sym is.0)
+        ∙ ap (λ (x : Shown). mounts_showing first (counted x.count)) (sym from.2)
 
-    shown_here : (one : Shown) → Among one stepped → f ≡ counted one.count → mounts_shown f stepped ≡ mounts_showing first f
+    shown_here : (one : Shown) → Among one stepped → f ≡ counted one.count
+        → mounts_shown f stepped ≡ mounts_showing first f
     shown_here one m same = shown_by_rule f (mounts_showing first) stepped stepped_counts one m same
 
     -- each filesystem of the world is shown
-    shown_of : (g : Filesystem ℕ) → Among g now.filesystems → (one : Shown) × Among one k.filesystems × (g.number ≡ counted one.count)
+    shown_of : (g : Filesystem ℕ) → Among g now.filesystems
+        → (one : Shown) × Among one k.filesystems × (g.number ≡ counted one.count)
     shown_of g m =
         among-from_map (λ (one : Shown). counted one.count) k.filesystems g.number
         (subst (λ all. Among g.number all) mid.numbers (among-map (λ (x : Filesystem ℕ). x.number) now.filesystems g m))
 
-    bare : (g : Filesystem ℕ) → Among g now.filesystems → stays g.number ≡ false → is_mounted nat_eq first g.number ≡ false
+    bare : (g : Filesystem ℕ) → Among g now.filesystems → stays g.number ≡ false
+        → is_mounted nat_eq first g.number ≡ false
     bare g m gone =
         let from = shown_of g m in
         let parts = both none_left (nat_eq f g.number) gone in
         let same : f ≡ g.number = eqb-true f g.number parts.1 in
-        let counts = shown_here (step from.0) (among-map step k.filesystems from.0 from.1) (same ∙ from.2 ∙ ap counted (sym (step_is from.0 from.1).0)) in
-        let none : mounts_showing first g.number ≡ 0 = ap (mounts_showing first) (sym same) ∙ sym counts ∙ eqb-true (mounts_shown f stepped) 0 parts.0 in
+        let counts = shown_here (step from.0) (among-map step k.filesystems from.0 from.1)
+        (same ∙ from.2 ∙ ap counted (sym (step_is from.0 from.1).0)) in
+        let none : mounts_showing first g.number ≡ 0 = ap (mounts_showing first) (sym same) ∙ sym counts
+        ∙ eqb-true (mounts_shown f stepped) 0 parts.0 in
         mounted_while_counted first g.number ∙ ap (nat_lt 0) none
       where
         both : (a b : Bool) → (not a || not b) ≡ false → (a ≡ true) × (b ≡ true)
@@ -241,44 +293,69 @@ module _ (value : WorldValue) (whole : IsHeld value) (start : World ℕ) (gained
     stand_first : MountsStand first
     stand_first = record {
       one_number = one_number_less (λ other. not (nat_eq other.number number)) now.mounts mid.stand.one_number;
-      nowhere = all_pass is_nowhere_or_attached first.mounts (λ x m. passes is_nowhere_or_attached now.mounts mid.stand.nowhere x (was x m).0);
-      on_attached = all_pass (stands_on_attached first) first.mounts (λ x m. still x.mount_point (passes (stands_on_attached now) now.mounts mid.stand.on_attached x (was x m).0));
+      nowhere = all_pass is_nowhere_or_attached first.mounts
+          (λ x m. passes is_nowhere_or_attached now.mounts mid.stand.nowhere x (was x m).0);
+      on_attached = all_pass (stands_on_attached first) first.mounts
+          (λ x m. still x.mount_point (passes (stands_on_attached now) now.mounts mid.stand.on_attached x (was x m).0));
     }
       where
         was : (x : Mount ℕ) → Among x first.mounts → Among x now.mounts × (not (nat_eq x.number number) ≡ true)
         was x m = among-from_filter (λ other. not (nat_eq other.number number)) now.mounts x m
 
         found_alike : (mounts : List (Mount ℕ)) (n : ℕ) → nat_eq n number ≡ false
-            → mount_in nat_eq (filter (λ (other : Mount ℕ). not (nat_eq other.number number)) mounts) n ≡ mount_in nat_eq mounts n
+            → mount_in nat_eq (filter (λ (other : Mount ℕ). not (nat_eq other.number number)) mounts) n
+            ≡ mount_in nat_eq mounts n
         found_alike [] n apart = refl
-        found_alike (x ∷ xs) n apart = by (nat_eq x.number number) refl (nat_eq n x.number) refl (found_alike xs n apart)
+        found_alike (x ∷ xs) n apart = by (nat_eq x.number number) refl (nat_eq n x.number) refl
+            (found_alike xs n apart)
           where
             by : (b : Bool) → nat_eq x.number number ≡ b → (c : Bool) → nat_eq n x.number ≡ c
-                → mount_in nat_eq (filter (λ (other : Mount ℕ). not (nat_eq other.number number)) xs) n ≡ mount_in nat_eq xs n
-                → mount_in nat_eq (cond (not b) (x ∷ filter (λ (other : Mount ℕ). not (nat_eq other.number number)) xs) (filter (λ (other : Mount ℕ). not (nat_eq other.number number)) xs)) n
-                ≡ Rattle.std.specs.Prelude.unwrap_or (cond c (Some x) (find (λ mount. nat_eq n mount.number) xs)) (Rattle.vt_spec.specs.Machine.Mounts.no_mount n)
-            by true e true g later = absurd (true≢false (sym (ap (λ k. nat_eq k number) (eqb-true n x.number g) ∙ e) ∙ apart))
+                → mount_in nat_eq (filter (λ (other : Mount ℕ). not (nat_eq other.number number)) xs) n
+                ≡ mount_in nat_eq xs n
+                → mount_in nat_eq (cond (not b) (x ∷ filter (λ (other : Mount ℕ). not (nat_eq other.number number)) xs)
+                (filter (λ (other : Mount ℕ). not (nat_eq other.number number)) xs)) n
+                ≡ Rattle.std.specs.Prelude.unwrap_or (cond c (Some x) (find (λ mount. nat_eq n mount.number) xs))
+                (Rattle.vt_spec.specs.Machine.Mounts.no_mount n)
+            by true e true g later = absurd
+                (true≢false (sym (ap (λ k. nat_eq k number) (eqb-true n x.number g) ∙ e) ∙ apart))
             by true e false g later = later
-            by false e true g later = ap (λ d. Rattle.std.specs.Prelude.unwrap_or (cond d (Some x) (find (λ mount. nat_eq n mount.number) (filter (λ (other : Mount ℕ). not (nat_eq other.number number)) xs))) (Rattle.vt_spec.specs.Machine.Mounts.no_mount n)) g
-            by false e false g later = ap (λ d. Rattle.std.specs.Prelude.unwrap_or (cond d (Some x) (find (λ mount. nat_eq n mount.number) (filter (λ (other : Mount ℕ). not (nat_eq other.number number)) xs))) (Rattle.vt_spec.specs.Machine.Mounts.no_mount n)) g ∙ later
+            by false e true g later = ap (λ d.
+                Rattle.std.specs.Prelude.unwrap_or
+                (cond d (Some x) (find (λ mount. nat_eq n mount.number)
+                (filter (λ (other : Mount ℕ). not (nat_eq other.number number)) xs)))
+                (Rattle.vt_spec.specs.Machine.Mounts.no_mount n)) g
+            by false e false g later = ap (λ d.
+                Rattle.std.specs.Prelude.unwrap_or
+                (cond d (Some x) (find (λ mount. nat_eq n mount.number)
+                (filter (λ (other : Mount ℕ). not (nat_eq other.number number)) xs)))
+                (Rattle.vt_spec.specs.Machine.Mounts.no_mount n)) g ∙ later
 
         -- what a mount stands on is in a namespace, so it stays
-        still : (o : Option (Location ℕ)) → list_all (λ place. is_some (mount_at nat_eq now place).namespace) (option_to_list o) ≡ true
+        still : (o : Option (Location ℕ))
+            → list_all (λ place. is_some (mount_at nat_eq now place).namespace) (option_to_list o) ≡ true
             → list_all (λ place. is_some (mount_at nat_eq first place).namespace) (option_to_list o) ≡ true
         still None e = refl
         still (Some place) e =
             let on : is_some (mount_at nat_eq now place).namespace ≡ true = (and_parts _ _ e).0 in
-            ap (λ (x : Mount ℕ). is_some x.namespace && true) (found_alike now.mounts place.mount (apart place.mount on (nat_eq place.mount number) refl)) ∙ ap (λ b. b && true) on
+            ap (λ (x : Mount ℕ). is_some x.namespace && true)
+            (found_alike now.mounts place.mount (apart place.mount on (nat_eq place.mount number) refl))
+            ∙ ap (λ b. b && true) on
           where
-            apart : (n : ℕ) → is_some (mount_numbered nat_eq now n).namespace ≡ true → (b : Bool) → nat_eq n number ≡ b → b ≡ false
-            apart n on true e = absurd (true≢false (sym on ∙ ap (λ m. is_some (mount_numbered nat_eq now m).namespace) (eqb-true n number e) ∙ ap (λ (x : Mount ℕ). is_some x.namespace) mount_is ∙ nowhere))
+            apart : (n : ℕ) → is_some (mount_numbered nat_eq now n).namespace ≡ true → (b : Bool) → nat_eq n number ≡ b
+                → b ≡ false
+            apart n on true e = absurd (true≢false
+                (sym on ∙ ap (λ m. is_some (mount_numbered nat_eq now m).namespace) (eqb-true n number e)
+                ∙ ap (λ (x : Mount ℕ). is_some x.namespace) mount_is ∙ nowhere))
             apart n on false e = refl
 
     located_first : LocationsStand first
     located_first =
-        all_pass (λ location. is_among nat_eq location.mount (map (λ x. x.number) first.mounts)) (all_locations now) (λ location m.
-        let on = passes (λ location. is_among nat_eq location.mount (map (λ x. x.number) now.mounts)) (all_locations now) mid.located location m in
-        let from = among-from_map (λ (x : Mount ℕ). x.number) now.mounts location.mount (among_numbers location.mount (map (λ x. x.number) now.mounts) on) in
+        all_pass (λ location. is_among nat_eq location.mount (map (λ x. x.number) first.mounts)) (all_locations now)
+        (λ location m.
+        let on = passes (λ location. is_among nat_eq location.mount (map (λ x. x.number) now.mounts))
+        (all_locations now) mid.located location m in
+        let from = among-from_map (λ (x : Mount ℕ). x.number) now.mounts location.mount
+        (among_numbers location.mount (map (λ x. x.number) now.mounts) on) in
         let apart = fails (λ (l : Location ℕ). nat_eq number l.mount) (all_locations now) not_located location m in
         is_among_numbers location.mount (map (λ x. x.number) first.mounts)
         (subst (λ n. Among n (map (λ (x : Mount ℕ). x.number) first.mounts)) (sym from.2)
@@ -287,12 +364,17 @@ module _ (value : WorldValue) (whole : IsHeld value) (start : World ℕ) (gained
         (ap not (ap (λ n. nat_eq n number) (sym from.2) ∙ swap_eq location.mount number ∙ apart))))))
 
     abbrev kept_left : Kept
-    kept_left = record { mounts = without number k.mounts; filesystems = filter (λ (one : Shown). stays (counted one.count)) stepped }
+    kept_left = record {
+      mounts = without number k.mounts;
+      filesystems = filter
+          (λ (one : Shown). stays (counted one.count)) stepped;
+    }
 
     kept_is : kept_left ≡ meant.without_mount number mount k
     kept_is = λ i. record { mounts = without number k.mounts; filesystems = so i }
       where
-        by : (b : Bool) → filter (λ (one : Shown). not b || not (nat_eq f (counted one.count))) stepped ≡ cond b (meant.without_filesystem f stepped) stepped
+        by : (b : Bool) → filter (λ (one : Shown). not b || not (nat_eq f (counted one.count))) stepped
+            ≡ cond b (meant.without_filesystem f stepped) stepped
         by true = refl
         by false = filter_all (λ (one : Shown). true) stepped (λ one m. refl)
 
@@ -300,15 +382,20 @@ module _ (value : WorldValue) (whole : IsHeld value) (start : World ℕ) (gained
             ≡ meant.let_go_filesystem f (meant.released_in f (meant.unpinned_in root k.filesystems))
         so =
             by none_left
-            ∙ ap (meant.let_go_filesystem f) (sym (map_twice (released_if f) (λ (one : Shown). record one { inodes = unpinned_if (counted one.count) one.inodes root }) k.filesystems))
+            ∙ ap (meant.let_go_filesystem f)
+            (sym (map_twice (released_if f)
+            (λ (one : Shown). record one { inodes = unpinned_if (counted one.count) one.inodes root }) k.filesystems))
 
     same_points : points_left world goes (without number k.mounts) ≡ points_left world goes k.mounts
     same_points =
         ap (flat_map (point_left world goes))
-        (sym (filter-map (λ (x : Mount ℕ). not (nat_eq number x.number)) (λ (e : MountEntry). e.mount) k.mounts (λ e. refl)))
-        ∙ flat_map_less (point_left world goes) (λ (x : Mount ℕ). not (nat_eq number x.number)) (mounts_in k.mounts) (λ x m gone.
+        (sym (filter-map (λ (x : Mount ℕ). not (nat_eq number x.number)) (λ (e : MountEntry). e.mount) k.mounts
+        (λ e. refl)))
+        ∙ flat_map_less (point_left world goes) (λ (x : Mount ℕ). not (nat_eq number x.number)) (mounts_in k.mounts)
+        (λ x m gone.
         let from = among-from_map (λ (e : MountEntry). e.mount) k.mounts x m in
-        let same : from.0.mount.number ≡ number = ap (λ (y : Mount ℕ). y.number) (sym from.2) ∙ sym (eqb-true number x.number (turned (nat_eq number x.number) gone)) in
+        let same : from.0.mount.number ≡ number = ap (λ (y : Mount ℕ). y.number) (sym from.2)
+        ∙ sym (eqb-true number x.number (turned (nat_eq number x.number) gone)) in
         ap (λ b. cond b (Rattle.vt_detach.proofs.Midway.inodes_of_point world x) [])
         (ap goes (from.2 ∙ ap (λ (e : MountEntry). e.mount) (is_entry from.0 from.1 same)) ∙ not_going))
       where
@@ -319,9 +406,11 @@ module _ (value : WorldValue) (whole : IsHeld value) (start : World ℕ) (gained
     same_mounts : after.mounts ≡ map (gone_if goes) (mounts_in (without number k.mounts))
     same_mounts =
         ap (filter (λ x. not (nat_eq x.number number))) mid.mounts
-        ∙ filter-map (λ (x : Mount ℕ). not (nat_eq x.number number)) (gone_if goes) (mounts_in k.mounts) (λ x. ap (λ n. not (nat_eq n number)) (gone_number goes x))
+        ∙ filter-map (λ (x : Mount ℕ). not (nat_eq x.number number)) (gone_if goes) (mounts_in k.mounts)
+        (λ x. ap (λ n. not (nat_eq n number)) (gone_number goes x))
         ∙ ap (map (gone_if goes))
-        (filter-map (λ (x : Mount ℕ). not (nat_eq x.number number)) (λ (e : MountEntry). e.mount) k.mounts (λ e. ap not (swap_eq e.mount.number number)))
+        (filter-map (λ (x : Mount ℕ). not (nat_eq x.number number)) (λ (e : MountEntry). e.mount) k.mounts
+        (λ e. ap not (swap_eq e.mount.number number)))
 
     abbrev lost_now : List Inode
     lost_now = lost ++ (root ∷ [])
@@ -333,11 +422,13 @@ module _ (value : WorldValue) (whole : IsHeld value) (start : World ℕ) (gained
         let from = among-from_map step k.filesystems one kept_one.0 in
         (from.0, from.1, from.2, kept_one.1)
 
-    still_mounted : (was : Shown) → Among was k.filesystems → stays (counted (step was).count) ≡ true → nat_eq (step was).mounts 0 ≡ false
+    still_mounted : (was : Shown) → Among was k.filesystems → stays (counted (step was).count) ≡ true
+        → nat_eq (step was).mounts 0 ≡ false
     still_mounted was m stay = by (nat_eq f (counted was.count)) refl
       where
         is : ((step was).count ≡ was.count) × ((step was).inodes ≡ unpinned_if (counted was.count) was.inodes root)
-            × ((step was).mounts ≡ mounts_showing first (counted was.count)) × (nat_eq f (counted was.count) ≡ false → (step was).mounts ≡ was.mounts)
+            × ((step was).mounts ≡ mounts_showing first (counted was.count))
+            × (nat_eq f (counted was.count) ≡ false → (step was).mounts ≡ was.mounts)
         is = step_is was m
 
         some : (a : Bool) → (not a || false) ≡ true → a ≡ false
@@ -348,40 +439,51 @@ module _ (value : WorldValue) (whole : IsHeld value) (start : World ℕ) (gained
         by true e =
             let same : f ≡ counted (step was).count = eqb-true f (counted was.count) e ∙ ap counted (sym is.0) in
             ap (λ n. nat_eq n 0)
-            (is.2 ∙ ap (mounts_showing first) (sym (eqb-true f (counted was.count) e)) ∙ sym (shown_here (step was) (among-map step k.filesystems was m) same))
-            ∙ some none_left (ap (λ b. not none_left || not b) (sym (ap (λ n. nat_eq f n) (ap counted is.0) ∙ e)) ∙ stay)
+            (is.2 ∙ ap (mounts_showing first) (sym (eqb-true f (counted was.count) e))
+            ∙ sym (shown_here (step was) (among-map step k.filesystems was m) same))
+            ∙ some none_left (ap (λ b. not none_left || not b) (sym (ap (λ n. nat_eq f n) (ap counted is.0) ∙ e))
+            ∙ stay)
         by false e = ap (λ n. nat_eq n 0) (is.3 e) ∙ (mid.shown was m).mounted
 
-    shown_is : (was : Shown) → Among was k.filesystems → stays (counted (step was).count) ≡ true → IsShown value after gained lost_now (step was)
+    shown_is : (was : Shown) → Among was k.filesystems → stays (counted (step was).count) ≡ true
+        → IsShown value after gained lost_now (step was)
     shown_is was m stay = let had = mid.shown was m in let is = step_is was m in record {
       was = had.was;
       among = had.among;
       count = is.0 ∙ had.count;
       there = had.there;
       inodes = is.1 ∙ (λ i. unpinned_if (counted (had.count i)) (had.inodes i) root)
-          ∙ sym (folded_append (unpinned_if (counted had.was.count)) (folded (pinned_if (counted had.was.count)) (inodes_seen had.was) gained) lost (root ∷ []));
+          ∙ sym (folded_append (unpinned_if (counted had.was.count))
+          (folded (pinned_if (counted had.was.count)) (inodes_seen had.was) gained) lost (root ∷ []));
       mounts = is.2 ∙ ap (λ count. mounts_showing first (counted count)) (sym is.0);
       mounted = still_mounted was m stay;
     }
 
     -- Exchanges
 
-    exchanges_on : (c : ℕ) → stays c ≡ true → Exchanges gained (lost ++ (inodes_of_uses world left ++ points_left world goes k.mounts)) c world now
-        → Exchanges gained (lost_now ++ (inodes_of_uses world left ++ points_left world goes (without number k.mounts))) c world after
+    exchanges_on : (c : ℕ) → stays c ≡ true
+        → Exchanges gained (lost ++ (inodes_of_uses world left ++ points_left world goes k.mounts)) c world now
+        → Exchanges gained (lost_now ++
+        (inodes_of_uses world left ++ points_left world goes (without number k.mounts))) c world after
     exchanges_on c stay before =
         let rest = inodes_of_uses world left ++ points_left world goes k.mounts in
-        let root_is : Exchanges [] (root ∷ []) c now first = subst (λ (x : Mount ℕ). Exchanges [] ((x.filesystem, x.root) ∷ []) c now first) mount_is
+        let root_is : Exchanges [] (root ∷ []) c now first = subst
+        (λ (x : Mount ℕ). Exchanges [] ((x.filesystem, x.root) ∷ []) c now first) mount_is
         (Roots.mounts_leave_their_roots now number mid.stand mid.located there not_used c) in
-        let gone = others_use_nothing first after c mid.plain (second_is_plain now number stays mid.plain dead bare) refl refl
+        let gone = others_use_nothing first after c mid.plain
+        (second_is_plain now number stays mid.plain dead bare) refl refl
         (found_unless (λ (g : Filesystem ℕ). stays g.number) now.filesystems c (λ x m e. ap stays e ∙ stay)) in
         let all = exchanges_follow world first after (gained ++ []) ((lost ++ rest) ++ (root ∷ [])) [] [] c
         (exchanges_follow world now first gained (lost ++ rest) [] (root ∷ []) c before root_is) gone in
-        subst (λ points. Exchanges gained (lost_now ++ (inodes_of_uses world left ++ points)) c world after) (sym same_points)
+        subst (λ points. Exchanges gained (lost_now ++ (inodes_of_uses world left ++ points)) c world after)
+        (sym same_points)
         (lost_alike gained (((lost ++ rest) ++ (root ∷ [])) ++ []) (lost_now ++ rest) c world after
         (λ n. counts_alike (is_inode c n) rest)
-        (subst (λ all_gained. Exchanges all_gained (((lost ++ rest) ++ (root ∷ [])) ++ []) c world after) (append-nil (gained ++ []) ∙ append-nil gained) all))
+        (subst (λ all_gained. Exchanges all_gained (((lost ++ rest) ++ (root ∷ [])) ++ []) c world after)
+        (append-nil (gained ++ []) ∙ append-nil gained) all))
       where
-        counts_alike : (test : Inode → Bool) (rest : List Inode) → times test (((lost ++ rest) ++ (root ∷ [])) ++ []) ≡ times test (lost_now ++ rest)
+        counts_alike : (test : Inode → Bool) (rest : List Inode)
+            → times test (((lost ++ rest) ++ (root ∷ [])) ++ []) ≡ times test (lost_now ++ rest)
         counts_alike test rest =
             let a = times_append test ((lost ++ rest) ++ (root ∷ [])) [] in
             let b = times_append test (lost ++ rest) (root ∷ []) in
@@ -390,16 +492,19 @@ module _ (value : WorldValue) (whole : IsHeld value) (start : World ℕ) (gained
             let e = times_append test lost (root ∷ []) in
             omega (arith, a, b, c, d, e)
 
-    numbers_are : map (λ (g : Filesystem ℕ). g.number) after.filesystems ≡ map (λ (one : Shown). counted one.count) kept_left.filesystems
+    numbers_are : map (λ (g : Filesystem ℕ). g.number) after.filesystems
+        ≡ map (λ (one : Shown). counted one.count) kept_left.filesystems
     numbers_are =
         sym (filter-map stays (λ (g : Filesystem ℕ). g.number) now.filesystems (λ g. refl))
         ∙ ap (filter stays)
         (mid.numbers
-        ∙ map_alike (λ (one : Shown). counted one.count) (λ (one : Shown). counted (step one).count) k.filesystems (λ one m. ap counted (sym (step_is one m).0))
+        ∙ map_alike (λ (one : Shown). counted one.count) (λ (one : Shown). counted (step one).count) k.filesystems
+        (λ one m. ap counted (sym (step_is one m).0))
         ∙ sym (map_twice (λ (one : Shown). counted one.count) step k.filesystems))
         ∙ filter-map stays (λ (one : Shown). counted one.count) stepped (λ one. refl)
 
-    still_there : (e : MountEntry) → Among e (without number k.mounts) → Among e k.mounts × (not (nat_eq number e.mount.number) ≡ true)
+    still_there : (e : MountEntry) → Among e (without number k.mounts)
+        → Among e k.mounts × (not (nat_eq number e.mount.number) ≡ true)
     still_there e m = among-from_filter (λ (x : MountEntry). not (nat_eq number x.mount.number)) k.mounts e m
 
     gone_midway : Midway value start gained goes left after kept_left lost_now
@@ -408,14 +513,14 @@ module _ (value : WorldValue) (whole : IsHeld value) (start : World ℕ) (gained
       uses = λ e m. mid.uses e (still_there e m).0;
       writers = λ e m. mid.writers e (still_there e m).0;
       well = λ e m. mid.well e (still_there e m).0;
-      ungrouped = λ e m. mid.ungrouped e (still_there e m).0;
       shown = λ one m. let from = shown_was one m in
           subst (IsShown value after gained lost_now) (sym from.2)
           (shown_is from.0 from.1 (ap (λ (x : Shown). stays (counted x.count)) (sym from.2) ∙ from.3));
       exchanges = λ one m. let from = shown_was one m in
           let count : one.count ≡ from.0.count = ap (λ (x : Shown). x.count) from.2 ∙ (step_is from.0 from.1).0 in
           exchanges_on (counted one.count) from.3
-          (subst (λ c. Exchanges gained (lost ++ (inodes_of_uses world left ++ points_left world goes k.mounts)) (counted c) world now) (sym count)
+          (subst (λ c. Exchanges gained (lost ++ (inodes_of_uses world left ++ points_left world goes k.mounts))
+          (counted c) world now) (sym count)
           (mid.exchanges from.0 from.1));
       numbers = numbers_are;
       stand = record { one_number = stand_first.one_number; nowhere = stand_first.nowhere; on_attached = stand_first.on_attached };
@@ -434,26 +539,31 @@ module _ (value : WorldValue) (whole : IsHeld value) (start : World ℕ) (gained
             absurd (true≢false (sym from.1 ∙ ap not (eq-eqb number e.mount.number (only e from.0 h))))
 
     pub unused_goes : UnusedOnly number k → Reached value start gained goes left (meant.without_mount number mount k)
-    unused_goes only = subst (Reached value start gained goes left) kept_is (record { now = after; lost = lost_now; midway = gone_midway; none = gone_none only })
+    unused_goes only = subst (Reached value start gained goes left) kept_is
+        (record { now = after; lost = lost_now; midway = gone_midway; none = gone_none only })
 
   -- the mount goes, if it is to go
   pub mount_looked_at : UnusedOnly number k → Reached value start gained goes left (meant.let_go_mount number k)
   mount_looked_at only = by (entry_numbered k.mounts number) refl
     where
-      stays_as_it_is : ((e : MountEntry) → Among e k.mounts → is_unused e ≡ true → Some e ≡ entry_numbered k.mounts number → true ≡ false) → Reached value start gained goes left k
+      stays_as_it_is : ((e : MountEntry) → Among e k.mounts → is_unused e ≡ true
+          → Some e ≡ entry_numbered k.mounts number → true ≡ false) → Reached value start gained goes left k
       stays_as_it_is never = record { now = now; lost = lost; midway = mid; none = λ e m. one e m (is_unused e) refl }
         where
           one : (e : MountEntry) → Among e k.mounts → (b : Bool) → is_unused e ≡ b → b ≡ false
           one e m false h = refl
-          one e m true h = never e m h (sym (entry_itself k.mounts one_number e m) ∙ ap (entry_numbered k.mounts) (sym (only e m h)))
+          one e m true h = never e m h (sym (entry_itself k.mounts one_number e m)
+              ∙ ap (entry_numbered k.mounts) (sym (only e m h)))
 
-      by : (o : Option MountEntry) → entry_numbered k.mounts number ≡ o → Reached value start gained goes left (let_go_entry number k o)
+      by : (o : Option MountEntry) → entry_numbered k.mounts number ≡ o
+          → Reached value start gained goes left (let_go_entry number k o)
       by None e = stays_as_it_is (λ x m h f. some_none x (f ∙ e))
         where
           some_none : (x : MountEntry) → Some x ≡ None → true ≡ false
           some_none x f = absurd cc
       by (Some entry) e = chosen (is_unused entry) refl
         where
-          chosen : (b : Bool) → is_unused entry ≡ b → Reached value start gained goes left (cond b (meant.without_mount number entry.mount k) k)
+          chosen : (b : Bool) → is_unused entry ≡ b
+              → Reached value start gained goes left (cond b (meant.without_mount number entry.mount k) k)
           chosen true h = unused_goes entry e h only
           chosen false h = stays_as_it_is (λ x m u f. sym u ∙ ap is_unused (same_Some x entry (f ∙ e)) ∙ h)

@@ -1,4 +1,5 @@
--- A mount that has left its namespace is looked at: it goes if nothing is on it, and its filesystem with its last mount.
+-- A mount that has left its namespace is looked at: it goes if nothing is on it, and its filesystem with its last
+-- mount.
 use Rattle.std.proofs.Common.{◌≡◌, ◌≢◌, refl, sym, ap, subst, ◌∙◌, inl, ⊎_elim, ℕ, ◌+◌, ◌-◌, nat_eq, eqb-true, Bool, true, false, true≢false, cond, not, ◌&&◌, ◌||◌, List, [], ◌∷◌, ◌++◌, map, filter, find, Option, Some, None, option_map, is_some, unwrap_or, arith}
 use Rattle.std.specs.Prelude.{nat_lt, option_to_list}
 use Rattle.std.proofs.lemmas.Bool.{eqb-false, lt-ltb}
@@ -25,7 +26,7 @@ use Rattle.vt_letting_go.proofs.UpperUses.{times_append}
 use Rattle.vt_letting_go.proofs.UsesCounted.{located_while_counted, mounted_while_counted}
 use Rattle.vt_location.specs.Numbers.{counted}
 use Rattle.vt_mount.specs.MountsValue.{MountEntry, entry_numbered, mounts_in, without}
-use Rattle.vt_detach.specs.Held.{CountsItsUses, is_ungrouped}
+use Rattle.vt_detach.specs.Held.{CountsItsUses}
 use Rattle.vt_detach.specs.Uses as meant
 use Rattle.vt_detach.specs.Uses.{Kept, mounts_shown, released_if}
 use Rattle.vt_detach.specs.WorldValue.{WorldValue, world_of}
@@ -39,27 +40,35 @@ use Rattle.vt_detach.proofs.TreesLookedAt.{or_nothing}
 
 -- Mounts that are changed, by their numbers
 
-pub found_mapped : (change : Mount ℕ → Mount ℕ) → ((mount : Mount ℕ) → (change mount).number ≡ mount.number) → (mounts : List (Mount ℕ)) (number : ℕ)
-    → find (λ (mount : Mount ℕ). nat_eq number mount.number) (map change mounts) ≡ option_map change (find (λ (mount : Mount ℕ). nat_eq number mount.number) mounts)
+pub found_mapped : (change : Mount ℕ → Mount ℕ) → ((mount : Mount ℕ) → (change mount).number ≡ mount.number)
+    → (mounts : List (Mount ℕ)) (number : ℕ)
+    → find (λ (mount : Mount ℕ). nat_eq number mount.number) (map change mounts)
+    ≡ option_map change (find (λ (mount : Mount ℕ). nat_eq number mount.number) mounts)
 found_mapped change same [] number = refl
 found_mapped change same (first ∷ rest) number =
-    ap (λ n. cond (nat_eq number n) (Some (change first)) (find (λ (mount : Mount ℕ). nat_eq number mount.number) (map change rest))) (same first)
+    ap (λ n. cond (nat_eq number n) (Some (change first))
+    (find (λ (mount : Mount ℕ). nat_eq number mount.number) (map change rest))) (same first)
     ∙ by (nat_eq number first.number) (found_mapped change same rest number)
   where
-    by : (b : Bool) → find (λ (mount : Mount ℕ). nat_eq number mount.number) (map change rest) ≡ option_map change (find (λ (mount : Mount ℕ). nat_eq number mount.number) rest)
+    by : (b : Bool) → find (λ (mount : Mount ℕ). nat_eq number mount.number) (map change rest)
+        ≡ option_map change (find (λ (mount : Mount ℕ). nat_eq number mount.number) rest)
         → cond b (Some (change first)) (find (λ (mount : Mount ℕ). nat_eq number mount.number) (map change rest))
         ≡ option_map change (cond b (Some first) (find (λ (mount : Mount ℕ). nat_eq number mount.number) rest))
     by true later = refl
     by false later = later
 
 -- where none is found by a number, none has it
-pub none_numbered : (number : ℕ) (mounts : List (Mount ℕ)) → find (λ (x : Mount ℕ). nat_eq number x.number) mounts ≡ None
+pub none_numbered : (number : ℕ) (mounts : List (Mount ℕ))
+    → find (λ (x : Mount ℕ). nat_eq number x.number) mounts ≡ None
     → (x : Mount ℕ) → Among x mounts → nat_eq x.number number ≡ false
 none_numbered number [] none x m = absurd m
-none_numbered number (first ∷ rest) none x m = by (nat_eq number first.number) refl none m (λ h later. none_numbered number rest h x later)
+none_numbered number (first ∷ rest) none x m = by (nat_eq number first.number) refl none m
+    (λ h later. none_numbered number rest h x later)
   where
-    by : (b : Bool) → nat_eq number first.number ≡ b → cond b (Some first) (find (λ (y : Mount ℕ). nat_eq number y.number) rest) ≡ None
-        → Among x (first ∷ rest) → (find (λ (y : Mount ℕ). nat_eq number y.number) rest ≡ None → Among x rest → nat_eq x.number number ≡ false)
+    by : (b : Bool) → nat_eq number first.number ≡ b
+        → cond b (Some first) (find (λ (y : Mount ℕ). nat_eq number y.number) rest) ≡ None
+        → Among x (first ∷ rest) → (find (λ (y : Mount ℕ). nat_eq number y.number) rest ≡ None → Among x rest
+        → nat_eq x.number number ≡ false)
         → nat_eq x.number number ≡ false
     by true f h n next = absurd cc
     by false f h n next =
@@ -67,7 +76,8 @@ none_numbered number (first ∷ rest) none x m = by (nat_eq number first.number)
 
 -- one that is pending keeps what it shows
 module _ (pending : List ℕ) (mount : Mount ℕ) where
-  still : {A : Type 0} (part : Mount ℕ → A) → part (detached mount) ≡ part mount → part (detached_in pending mount) ≡ part mount
+  still : {A : Type 0} (part : Mount ℕ → A) → part (detached mount) ≡ part mount
+      → part (detached_in pending mount) ≡ part mount
   still part same = by (is_among nat_eq mount.number pending)
     where
       by : (b : Bool) → part (cond b (detached mount) mount) ≡ part mount
@@ -111,19 +121,22 @@ module _ (old : WorldValue) (number : ℕ) (pending : List ℕ) (gained lost : L
   later = points_lost (world_of old) (mounts_in k.mounts) pending
 
   -- where the mount is used, or there is none of that number
-  mount_stays : Looks.let_go_mount world number ≡ world → IsKeptBut old pending pending gained lost (looked_at world number) k
+  mount_stays : Looks.let_go_mount world number ≡ world
+      → IsKeptBut old pending pending gained lost (looked_at world number) k
   mount_stays stay = subst (λ one. IsKeptBut old pending pending gained lost one k) (sym same) (record {
     mounts = is.mounts;
     uses = is.uses;
     numbers = is.numbers;
     filesystems = is.filesystems;
-    ungrouped = is.ungrouped;
     stand = is.stand;
     located = is.located;
-    in_use = all_pass (λ mount. is_among nat_eq mount.number pending || mount_lives nat_eq world mount) world.mounts (λ mount m.
+    in_use = all_pass (λ mount. is_among nat_eq mount.number pending || mount_lives nat_eq world mount) world.mounts
+        (λ mount m.
         both (nat_eq mount.number number) (is_among nat_eq mount.number pending) (mount_lives nat_eq world mount)
-        (passes (λ mount. is_among nat_eq mount.number (number ∷ pending) || mount_lives nat_eq world mount) world.mounts is.in_use mount m)
-        (among-from_filter (λ mount. not (nat_eq mount.number number) || mount_lives nat_eq world mount) world.mounts mount
+        (passes (λ mount. is_among nat_eq mount.number (number ∷ pending)
+        || mount_lives nat_eq world mount) world.mounts is.in_use mount m)
+        (among-from_filter (λ mount. not (nat_eq mount.number number)
+        || mount_lives nat_eq world mount) world.mounts mount
         (subst (λ all. Among mount all) (sym (ap (λ (one : World ℕ). one.mounts) stay)) m)).1);
     mounted = is.mounted;
     plain = is.plain;
@@ -135,13 +148,15 @@ module _ (old : WorldValue) (number : ℕ) (pending : List ℕ) (gained lost : L
       same =
           ap (without_dead_filesystems nat_eq) stay
           ∙ ap (λ all. record world { filesystems = all })
-          (filter_all (filesystem_lives nat_eq world) world.filesystems (λ f m. passes (filesystem_lives nat_eq world) world.filesystems is.mounted f m))
+          (filter_all (filesystem_lives nat_eq world) world.filesystems
+          (λ f m. passes (filesystem_lives nat_eq world) world.filesystems is.mounted f m))
 
       both : (a b c : Bool) → ((a || b) || c) ≡ true → (not a || c) ≡ true → (b || c) ≡ true
       both true b c h g = or_second b c g
       both false b c h g = h
 
-  module _ (entry : MountEntry) (e : entry_numbered k.mounts number ≡ Some entry) (nowhere : is_some entry.mount.namespace ≡ false)
+  module _ (entry : MountEntry) (e : entry_numbered k.mounts number ≡ Some entry)
+      (nowhere : is_some entry.mount.namespace ≡ false)
       (unplaced : entry.mount.mount_point ≡ None) where
     abbrev mount : Mount ℕ
     mount = entry.mount
@@ -159,7 +174,8 @@ module _ (old : WorldValue) (number : ℕ) (pending : List ℕ) (gained lost : L
     mount_is = ap (λ o. unwrap_or o (no_mount number))
         (ap (find (λ x. nat_eq number x.number)) is.mounts
         ∙ found_mapped (detached_in pending) (pending_number pending) (mounts_in k.mounts) number
-        ∙ ap (option_map (detached_in pending)) (found_entry number k.mounts ∙ ap (option_map (λ (one : MountEntry). one.mount)) e))
+        ∙ ap (option_map (detached_in pending))
+        (found_entry number k.mounts ∙ ap (option_map (λ (one : MountEntry). one.mount)) e))
 
     shows : (mount_numbered nat_eq world number).filesystem ≡ mount.filesystem
     shows = ap (λ (x : Mount ℕ). x.filesystem) mount_is ∙ pending_filesystem pending mount
@@ -168,9 +184,11 @@ module _ (old : WorldValue) (number : ℕ) (pending : List ℕ) (gained lost : L
     nowhere_so = ap (λ (x : Mount ℕ). is_some x.namespace) mount_is ∙ pending_nowhere pending mount nowhere
 
     uses_are : entry.uses ≡ mount_uses world number
-    uses_are = (among_from_all (CountsItsUses world) k.mounts is.uses entry found.0).uses ∙ ap (mount_uses world) (sym numbered)
+    uses_are = (among_from_all (CountsItsUses world) k.mounts is.uses entry found.0).uses
+        ∙ ap (mount_uses world) (sym numbered)
 
-    looked : (c : Bool) → nat_lt 0 entry.uses ≡ c → Looks.let_go_mount world number ≡ cond c world (without_mount world number)
+    looked : (c : Bool) → nat_lt 0 entry.uses ≡ c
+        → Looks.let_go_mount world number ≡ cond c world (without_mount world number)
     looked c f =
         mount_goes_at_zero world number is.stand.one_number
         ∙ (λ i. cond (nowhere_so i || nat_lt 0 (sym uses_are i)) world (without_mount world number))
@@ -184,13 +202,16 @@ module _ (old : WorldValue) (number : ℕ) (pending : List ℕ) (gained lost : L
     there : is_among nat_eq number (map (λ x. x.number) world.mounts) ≡ true
     there =
         is_among_numbers number (map (λ (x : Mount ℕ). x.number) world.mounts)
-        (subst (λ n. Among n (map (λ (x : Mount ℕ). x.number) world.mounts)) (pending_number pending mount ∙ sym numbered)
+        (subst (λ n. Among n (map (λ (x : Mount ℕ). x.number) world.mounts))
+        (pending_number pending mount ∙ sym numbered)
         (among-map (λ (x : Mount ℕ). x.number) world.mounts seen
         (subst (λ all. Among seen all) (sym is.mounts)
-        (among-map (detached_in pending) (mounts_in k.mounts) mount (among-map (λ (x : MountEntry). x.mount) k.mounts entry found.0)))))
+        (among-map (detached_in pending) (mounts_in k.mounts) mount
+        (among-map (λ (x : MountEntry). x.mount) k.mounts entry found.0)))))
 
     -- where nothing is on it
-    module _ (unused : mount_uses world number ≡ 0) (dead : Looks.let_go_mount world number ≡ without_mount world number) where
+    module _ (unused : mount_uses world number ≡ 0)
+        (dead : Looks.let_go_mount world number ≡ without_mount world number) where
       abbrev mounted : World ℕ
       mounted = without_mount world number
 
@@ -220,7 +241,8 @@ module _ (old : WorldValue) (number : ℕ) (pending : List ℕ) (gained lost : L
 
       shown_are : kept_now.filesystems ≡ filter (λ (one : Shown). stays_numbered (counted one.count)) stepped
       shown_are =
-          ap (meant.let_go_filesystem mount.filesystem) (map_twice (released_if mount.filesystem) unpinned_one k.filesystems)
+          ap (meant.let_go_filesystem mount.filesystem)
+          (map_twice (released_if mount.filesystem) unpinned_one k.filesystems)
           ∙ by none_left
         where
           by : (b : Bool) → cond b (meant.without_filesystem mount.filesystem stepped) stepped
@@ -237,24 +259,29 @@ module _ (old : WorldValue) (number : ℕ) (pending : List ℕ) (gained lost : L
       step_is : (one : Shown) → Among one k.filesystems
           → ((step one).count ≡ one.count) × ((step one).inodes ≡ unpinned_if (counted one.count) one.inodes root)
           × ((step one).mounts ≡ mounts_showing mounted (counted one.count))
-      step_is one m = by (nat_eq mount.filesystem (counted one.count)) (is.filesystems one m).mounts (takes (counted one.count))
+      step_is one m = by (nat_eq mount.filesystem (counted one.count)) (is.filesystems one m).mounts
+          (takes (counted one.count))
         where
           by : (b : Bool) → one.mounts ≡ mounts_showing world (counted one.count)
               → mounts_showing world (counted one.count) ≡ mounts_showing mounted (counted one.count) + cond b 1 0
               → ((cond b (record (unpinned_one one) { mounts = one.mounts - 1 }) (unpinned_one one)).count ≡ one.count)
-              × ((cond b (record (unpinned_one one) { mounts = one.mounts - 1 }) (unpinned_one one)).inodes ≡ unpinned_if (counted one.count) one.inodes root)
-              × ((cond b (record (unpinned_one one) { mounts = one.mounts - 1 }) (unpinned_one one)).mounts ≡ mounts_showing mounted (counted one.count))
+              × ((cond b (record (unpinned_one one) { mounts = one.mounts - 1 }) (unpinned_one one)).inodes
+              ≡ unpinned_if (counted one.count) one.inodes root)
+              × ((cond b (record (unpinned_one one) { mounts = one.mounts - 1 }) (unpinned_one one)).mounts
+              ≡ mounts_showing mounted (counted one.count))
           by true counts took = (refl, refl, omega (arith, counts, took))
           by false counts took = (refl, refl, omega (arith, counts, took))
 
       shown_was : (new : Shown) → Among new kept_now.filesystems
           → (one : Shown) × Among one k.filesystems × (new ≡ step one) × (stays_numbered (counted new.count) ≡ true)
       shown_was new m =
-          let kept_one = among-from_filter (λ (one : Shown). stays_numbered (counted one.count)) stepped new (subst (λ all. Among new all) shown_are m) in
+          let kept_one = among-from_filter (λ (one : Shown). stays_numbered (counted one.count)) stepped new
+          (subst (λ all. Among new all) shown_are m) in
           let from = among-from_map step k.filesystems new kept_one.0 in
           (from.0, from.1, from.2, kept_one.1)
 
-      lives_is : (f : Filesystem ℕ) → Among f world.filesystems → filesystem_lives nat_eq mounted f ≡ stays_numbered f.number
+      lives_is : (f : Filesystem ℕ) → Among f world.filesystems
+          → filesystem_lives nat_eq mounted f ≡ stays_numbered f.number
       lives_is f m =
           lives_plainly mounted is.plain f
           ∙ mounted_while_counted mounted f.number
@@ -263,7 +290,8 @@ module _ (old : WorldValue) (number : ℕ) (pending : List ℕ) (gained lost : L
         where
           shown_one : (one : Shown) × Among one k.filesystems × (f.number ≡ counted one.count)
           shown_one = among-from_map (λ (one : Shown). counted one.count) k.filesystems f.number
-              (subst (λ all. Among f.number all) is.numbers (among-map (λ (g : Filesystem ℕ). g.number) world.filesystems f m))
+              (subst (λ all. Among f.number all) is.numbers
+              (among-map (λ (g : Filesystem ℕ). g.number) world.filesystems f m))
 
           was_mounted : not (nat_eq (mounts_showing world f.number) 0) ≡ true
           was_mounted =
@@ -271,14 +299,16 @@ module _ (old : WorldValue) (number : ℕ) (pending : List ℕ) (gained lost : L
               ∙ sym (lives_plainly world is.plain f)
               ∙ passes (filesystem_lives nat_eq world) world.filesystems is.mounted f m
 
-          by : (b : Bool) → nat_eq mount.filesystem f.number ≡ b → not (nat_eq (mounts_showing mounted f.number) 0) ≡ stays_numbered f.number
+          by : (b : Bool) → nat_eq mount.filesystem f.number ≡ b
+              → not (nat_eq (mounts_showing mounted f.number) 0) ≡ stays_numbered f.number
           by true h =
               let same : mount.filesystem ≡ f.number = eqb-true mount.filesystem f.number h in
               let counts = shown_by_rule mount.filesystem (mounts_showing mounted) stepped
               (λ one o. let from = among-from_map step k.filesystems one o in
               let s = step_is from.0 from.1 in
               ap (λ (x : Shown). x.mounts) from.2 ∙ s.2
-              ∙ ap (λ count. mounts_showing mounted (counted count)) (sym s.0) ∙ ap (λ (x : Shown). mounts_showing mounted (counted x.count)) (sym from.2))
+              ∙ ap (λ count. mounts_showing mounted (counted count)) (sym s.0)
+              ∙ ap (λ (x : Shown). mounts_showing mounted (counted x.count)) (sym from.2))
               (step shown_one.0) (among-map step k.filesystems shown_one.0 shown_one.1)
               (same ∙ shown_one.2 ∙ ap counted (sym (step_is shown_one.0 shown_one.1).0)) in
               ap (λ n. not (nat_eq (mounts_showing mounted n) 0)) (sym same)
@@ -293,13 +323,17 @@ module _ (old : WorldValue) (number : ℕ) (pending : List ℕ) (gained lost : L
               ∙ sym (or_all (not none_left)) ∙ ap (λ b. not none_left || not b) (sym h)
 
       abbrev remaining : World ℕ
-      remaining = record mounted { filesystems = filter (λ (f : Filesystem ℕ). stays_numbered f.number) world.filesystems }
+      remaining = record mounted {
+        filesystems = filter
+            (λ (f : Filesystem ℕ). stays_numbered f.number) world.filesystems;
+      }
 
       looked_is : looked_at world number ≡ remaining
       looked_is =
           ap (without_dead_filesystems nat_eq) dead
           ∙ ap (λ all. record mounted { filesystems = all })
-          (filter_alike (filesystem_lives nat_eq mounted) (λ (f : Filesystem ℕ). stays_numbered f.number) world.filesystems lives_is)
+          (filter_alike (filesystem_lives nat_eq mounted)
+          (λ (f : Filesystem ℕ). stays_numbered f.number) world.filesystems lives_is)
 
       plain_remaining : IsPlain remaining
       plain_remaining =
@@ -314,27 +348,32 @@ module _ (old : WorldValue) (number : ℕ) (pending : List ℕ) (gained lost : L
       unused_so = ap (λ b. b || is_located nat_eq world number) nowhere_so ∙ not_located
 
       root_is : root_inode world number ≡ root
-      root_is = (λ i. ((mount_is i).filesystem, (mount_is i).root)) ∙ (λ i. (pending_filesystem pending mount i, pending_root pending mount i))
+      root_is = (λ i. ((mount_is i).filesystem, (mount_is i).root))
+          ∙ (λ i. (pending_filesystem pending mount i, pending_root pending mount i))
 
       root_goes : (n : ℕ) → stays_numbered n ≡ true → Exchanges [] (root ∷ []) n world remaining
       root_goes n stays =
           let first = subst (λ inode. Exchanges [] (inode ∷ []) n world mounted) root_is
           (Roots.mounts_leave_their_roots world number is.stand is.located there unused_so n) in
           let second = others_use_nothing mounted remaining n is.plain plain_remaining refl refl
-          (found_unless (λ (f : Filesystem ℕ). stays_numbered f.number) world.filesystems n (λ x m f. ap stays_numbered f ∙ stays)) in
+          (found_unless (λ (f : Filesystem ℕ). stays_numbered f.number) world.filesystems n
+          (λ x m f. ap stays_numbered f ∙ stays)) in
           record {
             same = second.same ∙ first.same;
             uses = λ one. let a = first.uses one in let b = second.uses one in omega (arith, a, b);
           }
 
       -- a place that stays
-      stays_there : (n : ℕ) → is_some (mount_numbered nat_eq world n).namespace ≡ true → mount_numbered nat_eq remaining n ≡ mount_numbered nat_eq world n
+      stays_there : (n : ℕ) → is_some (mount_numbered nat_eq world n).namespace ≡ true
+          → mount_numbered nat_eq remaining n ≡ mount_numbered nat_eq world n
       stays_there n attached =
           found_in_filter is_other world.mounts n (λ x m same. by x same (nat_eq x.number number) refl)
         where
           by : (x : Mount ℕ) → x.number ≡ n → (b : Bool) → nat_eq x.number number ≡ b → not b ≡ true
           by x same true h =
-              absurd (true≢false (sym attached ∙ ap (λ one. is_some (mount_numbered nat_eq world one).namespace) (sym same ∙ eqb-true x.number number h) ∙ nowhere_so))
+              absurd (true≢false (sym attached
+              ∙ ap (λ one. is_some (mount_numbered nat_eq world one).namespace)
+              (sym same ∙ eqb-true x.number number h) ∙ nowhere_so))
           by x same false h = refl
 
       place_attached : (x : Mount ℕ) → Among x world.mounts → (place : Place ℕ) → x.mount_point ≡ Some place
@@ -346,22 +385,29 @@ module _ (old : WorldValue) (number : ℕ) (pending : List ℕ) (gained lost : L
 
       stand_still : MountsStand remaining
       stand_still = record {
-        one_number = pair_in_filter (λ (a b : Mount ℕ). nat_eq a.number b.number) is_other world.mounts is.stand.one_number;
+        one_number = pair_in_filter (λ
+            (a b : Mount ℕ). nat_eq a.number b.number) is_other world.mounts is.stand.one_number;
         nowhere = all_pass is_nowhere_or_attached remaining.mounts (λ x m.
-            passes is_nowhere_or_attached world.mounts is.stand.nowhere x (among-from_filter is_other world.mounts x m).0);
+            passes is_nowhere_or_attached world.mounts is.stand.nowhere x
+            (among-from_filter is_other world.mounts x m).0);
         on_attached = all_pass (stands_on_attached remaining) remaining.mounts (λ x m.
-            all_pass (λ place. is_some (mount_at nat_eq remaining place).namespace) (option_to_list x.mount_point) (λ place p.
-            let attached = passes (λ place. is_some (mount_at nat_eq world place).namespace) (option_to_list x.mount_point)
-            (passes (stands_on_attached world) world.mounts is.stand.on_attached x (among-from_filter is_other world.mounts x m).0) place p in
+            all_pass (λ place. is_some (mount_at nat_eq remaining place).namespace) (option_to_list x.mount_point)
+            (λ place p.
+            let attached = passes (λ place. is_some (mount_at nat_eq world place).namespace)
+            (option_to_list x.mount_point)
+            (passes (stands_on_attached world) world.mounts is.stand.on_attached x
+            (among-from_filter is_other world.mounts x m).0) place p in
             ap (λ (one : Mount ℕ). is_some one.namespace) (stays_there place.mount attached) ∙ attached));
       }
 
       located_still : LocationsStand remaining
       located_still =
-          all_pass (λ location. is_among nat_eq location.mount (map (λ mount. mount.number) remaining.mounts)) (all_locations world) (λ location m.
+          all_pass (λ location. is_among nat_eq location.mount (map (λ mount. mount.number) remaining.mounts))
+          (all_locations world) (λ location m.
           let from = among-from_map (λ (x : Mount ℕ). x.number) world.mounts location.mount
           (among_numbers location.mount (map (λ (x : Mount ℕ). x.number) world.mounts)
-          (passes (λ location. is_among nat_eq location.mount (map (λ mount. mount.number) world.mounts)) (all_locations world) is.located location m)) in
+          (passes (λ location. is_among nat_eq location.mount (map (λ mount. mount.number) world.mounts))
+          (all_locations world) is.located location m)) in
           is_among_numbers location.mount (map (λ (x : Mount ℕ). x.number) remaining.mounts)
           (subst (λ n. Among n (map (λ (x : Mount ℕ). x.number) remaining.mounts)) (sym from.2)
           (among-map (λ (x : Mount ℕ). x.number) remaining.mounts from.0
@@ -374,17 +420,20 @@ module _ (old : WorldValue) (number : ℕ) (pending : List ℕ) (gained lost : L
 
       mounts_are : mounts_in kept_mounts ≡ filter is_other (mounts_in k.mounts)
       mounts_are =
-          map_filtered (λ (one : MountEntry). one.mount) (λ (one : MountEntry). not (nat_eq number one.mount.number)) is_other
+          map_filtered (λ (one : MountEntry). one.mount)
+          (λ (one : MountEntry). not (nat_eq number one.mount.number)) is_other
           (λ one. ap not (swap_eq one.mount.number number)) k.mounts
 
       later_is : points_lost (world_of old) (mounts_in kept_mounts) pending ≡ later
       later_is =
           ap (λ all. points_lost (world_of old) all pending) mounts_are
           ∙ points_without (world_of old) pending (mounts_in k.mounts) number
-          (ap (λ o. (unwrap_or o (no_mount number)).mount_point) (found_entry number k.mounts ∙ ap (option_map (λ (one : MountEntry). one.mount)) e) ∙ unplaced)
+          (ap (λ o. (unwrap_or o (no_mount number)).mount_point)
+          (found_entry number k.mounts ∙ ap (option_map (λ (one : MountEntry). one.mount)) e) ∙ unplaced)
 
       shown_now : (new : Shown) → Among new kept_now.filesystems
-          → IsShownIn old gained (lost ++ root ∷ []) (points_lost (world_of old) (mounts_in kept_mounts) pending) remaining new
+          → IsShownIn old gained (lost ++ root ∷ [])
+          (points_lost (world_of old) (mounts_in kept_mounts) pending) remaining new
       shown_now new m =
           let from = shown_was new m in
           let was = is.filesystems from.0 from.1 in
@@ -397,82 +446,106 @@ module _ (old : WorldValue) (number : ℕ) (pending : List ℕ) (gained lost : L
             there = was.there;
             inodes = ap (λ (x : Shown). x.inodes) from.2 ∙ s.1
                 ∙ (λ i. unpinned_if (counted (was.count i)) (was.inodes i) root)
-                ∙ sym (folded_append (unpinned_if (counted was.was.count)) (folded (pinned_if (counted was.was.count)) (inodes_seen was.was) gained) lost (root ∷ []));
-            exchanges = subst (λ rest. Exchanges gained ((lost ++ root ∷ []) ++ rest) (counted was.was.count) (world_of old) remaining) (sym later_is)
-                (exchanges_between (world_of old) world remaining gained lost later (root ∷ []) (counted was.was.count) was.exchanges
-                (root_goes (counted was.was.count) (ap (λ n. stays_numbered (counted n)) (sym (count ∙ was.count)) ∙ from.3)));
-            mounts = ap (λ (x : Shown). x.mounts) from.2 ∙ s.2 ∙ ap (λ n. mounts_showing mounted (counted n)) (sym count);
+                ∙ sym (folded_append (unpinned_if (counted was.was.count))
+                (folded (pinned_if (counted was.was.count)) (inodes_seen was.was) gained) lost (root ∷ []));
+            exchanges = subst (λ rest. Exchanges gained ((lost ++ root ∷ []) ++ rest) (counted was.was.count)
+                (world_of old) remaining) (sym later_is)
+                (exchanges_between (world_of old) world remaining gained lost later (root ∷ [])
+                (counted was.was.count) was.exchanges
+                (root_goes (counted was.was.count)
+                (ap (λ n. stays_numbered (counted n)) (sym (count ∙ was.count)) ∙ from.3)));
+            mounts = ap (λ (x : Shown). x.mounts) from.2 ∙ s.2
+                ∙ ap (λ n. mounts_showing mounted (counted n)) (sym count);
           }
 
       remaining_kept : IsKeptBut old pending pending gained (lost ++ root ∷ []) remaining kept_now
       remaining_kept = record {
         mounts = ap (filter is_other) is.mounts
-            ∙ filter-map is_other (detached_in pending) (mounts_in k.mounts) (λ x. ap (λ n. not (nat_eq n number)) (pending_number pending x))
+            ∙ filter-map is_other (detached_in pending) (mounts_in k.mounts)
+            (λ x. ap (λ n. not (nat_eq n number)) (pending_number pending x))
             ∙ ap (map (detached_in pending)) (sym mounts_are);
         uses = all_from_among (CountsItsUses remaining) kept_mounts (λ one m.
-            let counts = among_from_all (CountsItsUses world) k.mounts is.uses one (among-from_filter (λ (x : MountEntry). not (nat_eq number x.mount.number)) k.mounts one m).0 in
+            let counts = among_from_all (CountsItsUses world) k.mounts is.uses one
+            (among-from_filter (λ (x : MountEntry). not (nat_eq number x.mount.number)) k.mounts one m).0 in
             record { uses = counts.uses; writers = counts.writers });
-        numbers = map_filtered (λ (f : Filesystem ℕ). f.number) (λ (f : Filesystem ℕ). stays_numbered f.number) stays_numbered (λ f. refl) world.filesystems
+        numbers = map_filtered (λ (f : Filesystem ℕ). f.number)
+            (λ (f : Filesystem ℕ). stays_numbered f.number) stays_numbered (λ f. refl) world.filesystems
             ∙ ap (filter stays_numbered)
             (is.numbers
-            ∙ map_alike (λ (one : Shown). counted one.count) (λ (one : Shown). counted (step one).count) k.filesystems (λ one m. ap counted (sym (step_is one m).0))
+            ∙ map_alike (λ (one : Shown). counted one.count) (λ (one : Shown). counted (step one).count) k.filesystems
+            (λ one m. ap counted (sym (step_is one m).0))
             ∙ sym (map_twice (λ (one : Shown). counted one.count) step k.filesystems))
-            ∙ sym (map_filtered (λ (one : Shown). counted one.count) (λ (one : Shown). stays_numbered (counted one.count)) stays_numbered (λ one. refl) stepped)
+            ∙ sym (map_filtered (λ (one : Shown). counted one.count)
+            (λ (one : Shown). stays_numbered (counted one.count)) stays_numbered (λ one. refl) stepped)
             ∙ sym (ap (map (λ (one : Shown). counted one.count)) shown_are);
         filesystems = shown_now;
-        ungrouped = all_pass (λ (x : Mount ℕ). is_ungrouped x.propagation) remaining.mounts (λ x m.
-            passes (λ (x : Mount ℕ). is_ungrouped x.propagation) world.mounts is.ungrouped x (among-from_filter is_other world.mounts x m).0);
         stand = stand_still;
         located = located_still;
         in_use = all_pass (λ x. is_among nat_eq x.number pending || mount_lives nat_eq world x) remaining.mounts (λ x m.
             let from = among-from_filter is_other world.mounts x m in
             other (nat_eq x.number number) (is_among nat_eq x.number pending) (mount_lives nat_eq world x)
-            (passes (λ x. is_among nat_eq x.number (number ∷ pending) || mount_lives nat_eq world x) world.mounts is.in_use x from.0) from.1);
+            (passes (λ x. is_among nat_eq x.number (number ∷ pending)
+            || mount_lives nat_eq world x) world.mounts is.in_use x from.0) from.1);
         mounted = all_pass (filesystem_lives nat_eq remaining) remaining.filesystems (λ f m.
             let from = among-from_filter (λ (f : Filesystem ℕ). stays_numbered f.number) world.filesystems f m in
-            lives_plainly remaining plain_remaining f ∙ sym (lives_plainly mounted is.plain f) ∙ lives_is f from.0 ∙ from.1);
+            lives_plainly remaining plain_remaining f ∙ sym (lives_plainly mounted is.plain f) ∙ lives_is f from.0
+            ∙ from.1);
         plain = plain_remaining;
         points = λ x m point p few.
-            is.points x (among-from_filter is_other (mounts_in k.mounts) x (subst (λ all. Among x all) mounts_are m)).0 point p few;
+            is.points x (among-from_filter is_other (mounts_in k.mounts) x
+            (subst (λ all. Among x all) mounts_are m)).0 point p few;
         places = λ x m place p.
             let from = (among-from_filter is_other world.mounts x m).0 in
-            ap (λ (one : Mount ℕ). one.filesystem) (stays_there place.mount (place_attached x from place p)) ∙ is.places x from place p;
+            ap (λ (one : Mount ℕ). one.filesystem) (stays_there place.mount (place_attached x from place p))
+            ∙ is.places x from place p;
       }
         where
           other : (a b c : Bool) → ((a || b) || c) ≡ true → not a ≡ true → (b || c) ≡ true
           other true b c h g = absurd (true≢false (sym g))
           other false b c h g = h
 
-    entry_looked_at : (now : List Inode) × IsKeptBut old pending pending gained now (looked_at world number) (meant.let_go_mount number k)
+    entry_looked_at : (now : List Inode)
+        × IsKeptBut old pending pending gained now (looked_at world number) (meant.let_go_mount number k)
     entry_looked_at = by (nat_eq entry.uses 0) refl
       where
-        by : (c : Bool) → nat_eq entry.uses 0 ≡ c → (now : List Inode) × IsKeptBut old pending pending gained now (looked_at world number) (meant.let_go_mount number k)
+        by : (c : Bool) → nat_eq entry.uses 0 ≡ c
+            → (now : List Inode) × IsKeptBut old pending pending gained now (looked_at world number)
+            (meant.let_go_mount number k)
         by true g =
             let zero : entry.uses ≡ 0 = eqb-true entry.uses 0 g in
             let unused : mount_uses world number ≡ 0 = sym uses_are ∙ zero in
             let dead = looked false (ap (nat_lt 0) zero) in (
               lost ++ (mount.filesystem, mount.root) ∷ [],
-              subst (λ one. IsKeptBut old pending pending gained (lost ++ (mount.filesystem, mount.root) ∷ []) one (meant.let_go_mount number k)) (sym (looked_is unused dead))
-                  (subst (λ one. IsKeptBut old pending pending gained (lost ++ (mount.filesystem, mount.root) ∷ []) (remaining unused dead) one) (sym (kept_is false true nowhere g))
+              subst (λ one. IsKeptBut old pending pending gained (lost ++ (mount.filesystem, mount.root) ∷ []) one
+                  (meant.let_go_mount number k)) (sym (looked_is unused dead))
+                  (subst (λ one. IsKeptBut old pending pending gained (lost ++ (mount.filesystem, mount.root) ∷ [])
+                  (remaining unused dead) one) (sym (kept_is false true nowhere g))
                   (remaining_kept unused dead)),
             )
         by false g =
             let some : entry.uses ≢ 0 = eqb-false entry.uses 0 g in (
               lost,
-              subst (λ one. IsKeptBut old pending pending gained lost (looked_at world number) one) (sym (kept_is false false nowhere g))
+              subst (λ one. IsKeptBut old pending pending gained lost (looked_at world number) one)
+                  (sym (kept_is false false nowhere g))
                   (mount_stays (looked true (lt-ltb 0 entry.uses (omega (arith, some))))),
             )
 
   -- where there is no such mount
-  none_looked_at : entry_numbered k.mounts number ≡ None → (now : List Inode) × IsKeptBut old pending pending gained now (looked_at world number) (meant.let_go_mount number k)
-  none_looked_at e =
-      (lost, subst (λ one. IsKeptBut old pending pending gained lost (looked_at world number) one) (sym (ap (meant.let_go_entry number k) e)) (mount_stays nothing))
+  none_looked_at : entry_numbered k.mounts number ≡ None
+      → (now : List Inode) × IsKeptBut old pending pending gained now (looked_at world number)
+      (meant.let_go_mount number k)
+  none_looked_at e = (
+    lost,
+    subst (λ one. IsKeptBut old pending pending gained lost (looked_at world number) one)
+        (sym (ap (meant.let_go_entry number k) e)) (mount_stays nothing),
+  )
     where
       absent : find (λ (x : Mount ℕ). nat_eq number x.number) world.mounts ≡ None
       absent =
           ap (find (λ (x : Mount ℕ). nat_eq number x.number)) is.mounts
           ∙ found_mapped (detached_in pending) (pending_number pending) (mounts_in k.mounts) number
-          ∙ ap (option_map (detached_in pending)) (found_entry number k.mounts ∙ ap (option_map (λ (one : MountEntry). one.mount)) e)
+          ∙ ap (option_map (detached_in pending))
+          (found_entry number k.mounts ∙ ap (option_map (λ (one : MountEntry). one.mount)) e)
 
       nothing : Looks.let_go_mount world number ≡ world
       nothing = ap (λ all. record world { mounts = all })
@@ -482,10 +555,12 @@ module _ (old : WorldValue) (number : ℕ) (pending : List ℕ) (gained lost : L
   -- The mount is in no namespace, if it is there: then it is looked at, as the definitions do.
   pub mount_looked_at : ((entry : MountEntry) → entry_numbered k.mounts number ≡ Some entry
       → (is_some entry.mount.namespace ≡ false) × (entry.mount.mount_point ≡ None))
-      → (now : List Inode) × IsKeptBut old pending pending gained now (looked_at world number) (meant.let_go_mount number k)
+      → (now : List Inode) × IsKeptBut old pending pending gained now (looked_at world number)
+      (meant.let_go_mount number k)
   mount_looked_at apart = by (entry_numbered k.mounts number) refl
     where
       by : (o : Option MountEntry) → entry_numbered k.mounts number ≡ o
-          → (now : List Inode) × IsKeptBut old pending pending gained now (looked_at world number) (meant.let_go_mount number k)
+          → (now : List Inode) × IsKeptBut old pending pending gained now (looked_at world number)
+          (meant.let_go_mount number k)
       by None e = none_looked_at e
       by (Some entry) e = entry_looked_at entry e (apart entry e).0 (apart entry e).1

@@ -7,7 +7,7 @@ use Rattle.std.proofs.lemmas.List.{append-nil}
 use Rattle.vt_spec.specs.Language.Calls.{TaskName}
 use Rattle.vt_spec.specs.Lists.{Fresh, any_pair, folded}
 use Rattle.vt_spec.specs.Machine.Attach.{Copies, Twig, attach, copies_from, masters_with, twig_master}
-use Rattle.vt_spec.specs.Machine.Mounts.{Location, Mount, Propagation, children, mount_tree, no_mount, replaced_if_same, tree_from, with_mount}
+use Rattle.vt_spec.specs.Machine.Mounts.{Location, Mount, Propagation, children, group_of, is_shared, mount_tree, no_mount, replaced_if_same, tree_from, with_mount}
 use Rattle.vt_spec.specs.Machine.Mounts.Propagation.{Private, Shared, Slave, Unbindable}
 use Rattle.vt_spec.specs.Machine.Permits.Permit.{ToMove}
 use Rattle.vt_spec.specs.Machine.World.{Filesystem, World, filesystem_numbered, is_directory_at, mount_at, mount_numbered, node_at}
@@ -27,7 +27,7 @@ use Rattle.vt_letting_go.proofs.PlacesLeft.{found_is_there}
 use Rattle.vt_location.specs.declared.locations.Location.{Location as At}
 use Rattle.vt_location.specs.Locations.{location_of, number_of}
 use Rattle.vt_location.specs.Numbers.{counted}
-use Rattle.vt_mount.specs.MountsValue.{MountEntry, changed, mounts_in}
+use Rattle.vt_mount.specs.MountsValue.{changed, mounts_in}
 use Rattle.vt_mount_laws.proofs.MountsFound.{number_found}
 use Rattle.vt_mount_laws.proofs.MountsReplaced.{found_itself, numbers-with_mount, one_number_by_numbers}
 use Rattle.vt_mount_laws.proofs.MovingRoots.{tree_placed}
@@ -36,7 +36,7 @@ use Rattle.vt_permit_laws.proofs.TakenAttached.{at_destination, copy_by, group_b
 use Rattle.vt_world_laws.specs.Worlds.Permits.{MayMoveTo}
 use Rattle.vt_world_laws.proofs.Roots.{directory_there}
 use Rattle.vt_detach.specs.Events.{Permits}
-use Rattle.vt_detach.specs.Held.{IsHeld, is_ungrouped}
+use Rattle.vt_detach.specs.Held.{IsHeld}
 use Rattle.vt_detach.specs.Uses.{inode_of, pinned_in, unpinned_at, unpinned_in}
 use Rattle.vt_detach.specs.WorldValue.{WorldValue, world_of}
 use Rattle.vt_detach.proofs.Bridging.{found_filesystem}
@@ -48,9 +48,8 @@ use Rattle.vt_detach.proofs.MountsChanged.{KeepsWhatItShows, attached_entry, kin
 use Rattle.vt_detach.proofs.Places.{located_is_named}
 use Rattle.vt_detach.proofs.Remaining.{remade}
 use Rattle.vt_detach.proofs.Staying.{IsDone}
-use Rattle.vt_detach.proofs.TypesSet.{attached_free, attached_named}
+use Rattle.vt_detach.proofs.TypesSet.{attached_named}
 use Rattle.vt_detach.proofs.UnbindableBelow.{in_tree}
-use Rattle.vt_detach.proofs.Ungrouped.{no_group}
 
 -- the mount of a location stands at another mount point
 abbrev pub placed_at : Location ℕ → Mount ℕ → Mount ℕ
@@ -62,10 +61,10 @@ places_keep place = record {
   namespace = λ mount. refl;
   filesystem = λ mount. refl;
   root = λ mount. refl;
-  ungrouped = λ mount free. free;
 }
 
-tree_begins : (fuel : ℕ) (mounts : List (Mount ℕ)) (top : Mount ℕ) → (rest : List (Mount ℕ)) × (tree_from nat_eq fuel mounts top ≡ top ∷ rest)
+tree_begins : (fuel : ℕ) (mounts : List (Mount ℕ)) (top : Mount ℕ)
+    → (rest : List (Mount ℕ)) × (tree_from nat_eq fuel mounts top ≡ top ∷ rest)
 tree_begins zero mounts top = ([], refl)
 tree_begins (suc fuel) mounts top = (flat_map (tree_from nat_eq fuel mounts) (children nat_eq mounts top.number), refl)
 
@@ -73,13 +72,16 @@ tree_begins (suc fuel) mounts top = (flat_map (tree_from nat_eq fuel mounts) (ch
 
 module _ (mounts : List (Mount ℕ)) (one : any_pair (λ (a b : Mount ℕ). nat_eq a.number b.number) mounts ≡ false) where
   put_itself : (mount : Mount ℕ) → spec.Among mount mounts → with_mount nat_eq mounts mount ≡ mounts
-  put_itself mount m = spec.map_same (replaced_if_same nat_eq mount) mounts (λ old n. by old n (nat_eq mount.number old.number) refl)
+  put_itself mount m = spec.map_same (replaced_if_same nat_eq mount) mounts
+      (λ old n. by old n (nat_eq mount.number old.number) refl)
     where
-      by : (old : Mount ℕ) → spec.Among old mounts → (b : Bool) → nat_eq mount.number old.number ≡ b → cond b mount old ≡ old
+      by : (old : Mount ℕ) → spec.Among old mounts → (b : Bool) → nat_eq mount.number old.number ≡ b
+          → cond b mount old ≡ old
       by old n false e = refl
       by old n true e =
           sym (found_itself mounts one mount m)
-          ∙ ap (λ k. unwrap_or (find (λ (x : Mount ℕ). nat_eq k x.number) mounts) (no_mount k)) (eqb-true mount.number old.number e)
+          ∙ ap (λ k. unwrap_or (find (λ (x : Mount ℕ). nat_eq k x.number) mounts) (no_mount k))
+          (eqb-true mount.number old.number e)
           ∙ found_itself mounts one old n
 
   pub puts_themselves : (some : List (Mount ℕ)) → ((mount : Mount ℕ) → spec.Among mount some → spec.Among mount mounts)
@@ -110,22 +112,28 @@ module _ (value : WorldValue) (held : IsHeld value) (number namespace : ℕ) (pl
   one : any_pair (λ (a b : Mount ℕ). nat_eq a.number b.number) (mounts_in value.mounts) ≡ false
   one = held.in_world.mounts.one_number
 
-  first_put : with_mount nat_eq (mounts_in value.mounts) put ≡ map (one_changed number (placed_at place)) (mounts_in value.mounts)
+  first_put : with_mount nat_eq (mounts_in value.mounts) put
+      ≡ map (one_changed number (placed_at place)) (mounts_in value.mounts)
   first_put =
       spec-map_alike (replaced_if_same nat_eq put) (one_changed number (placed_at place)) mounts (λ mount m.
-      ap (λ n. cond (nat_eq n mount.number) put mount) (number_found mounts number) ∙ by mount m (nat_eq number mount.number) refl)
+      ap (λ n. cond (nat_eq n mount.number) put mount) (number_found mounts number)
+      ∙ by mount m (nat_eq number mount.number) refl)
     where
-      spec-map_alike : {A B : Type 0} (f g : A → B) (xs : List A) → ((x : A) → spec.Among x xs → f x ≡ g x) → map f xs ≡ map g xs
+      spec-map_alike : {A B : Type 0} (f g : A → B) (xs : List A) → ((x : A) → spec.Among x xs → f x ≡ g x)
+          → map f xs ≡ map g xs
       spec-map_alike f g [] same = refl
       spec-map_alike f g (x ∷ xs) same = λ i. same x (inl refl) i ∷ spec-map_alike f g xs (λ y m. same y (inr m)) i
 
       by : (mount : Mount ℕ) → spec.Among mount (mounts_in value.mounts) → (b : Bool) → nat_eq number mount.number ≡ b
           → cond b put mount ≡ cond b (placed_at place mount) mount
       by mount m true e =
-          ap (placed_at place) (ap (mount_numbered nat_eq world) (eqb-true number mount.number e) ∙ found_itself mounts one mount m)
+          ap (placed_at place) (ap (mount_numbered nat_eq world) (eqb-true number mount.number e)
+          ∙ found_itself mounts one mount m)
       by mount m false e = refl
 
-  module _ (rest : List (Mount ℕ)) (is_tree : mount_tree nat_eq (mounts_in value.mounts) (mount_numbered nat_eq (world_of value) number) ≡ mount_numbered nat_eq (world_of value) number ∷ rest)
+  module _ (rest : List (Mount ℕ))
+      (is_tree : mount_tree nat_eq (mounts_in value.mounts) (mount_numbered nat_eq (world_of value) number)
+      ≡ mount_numbered nat_eq (world_of value) number ∷ rest)
       (new : Copies ℕ) where
     abbrev tree : List (Mount ℕ)
     tree = mount_numbered nat_eq (world_of value) number ∷ rest
@@ -134,7 +142,8 @@ module _ (value : WorldValue) (held : IsHeld value) (number namespace : ℕ) (pl
     twig mount = record { origin = mount; propagation = mount.propagation }
 
     abbrev copy : Mount ℕ → Mount ℕ
-    copy mount = copy_by (world_of value) place (mount_numbered nat_eq (world_of value) number ∷ rest) true true new (twig mount)
+    copy mount = copy_by (world_of value) place (mount_numbered nat_eq (world_of value) number ∷ rest) true true new
+        (twig mount)
 
     in_rest : (mount : Mount ℕ) → spec.Among mount rest
         → spec.Among mount (mount_tree nat_eq (mounts_in value.mounts) (mount_numbered nat_eq (world_of value) number))
@@ -150,7 +159,8 @@ module _ (value : WorldValue) (held : IsHeld value) (number namespace : ℕ) (pl
     top_copied : copy top ≡ put
     top_copied = λ i. record top {
       namespace = (there ∙ sym inside) i;
-      mount_point = Some (cond (eq-eqb top.number top.number refl i) (record { mount = number_found mounts place.mount i; node = place.node })
+      mount_point = Some (cond (eq-eqb top.number top.number refl i)
+          (record { mount = number_found mounts place.mount i; node = place.node })
           (unwrap_or (option_map (λ (at : Location ℕ). record { mount = at.mount; node = at.node }) top.mount_point) place));
     }
 
@@ -165,15 +175,21 @@ module _ (value : WorldValue) (held : IsHeld value) (number namespace : ℕ) (pl
         ∙ stays mount.mount_point (tree_placed (length mounts) mounts top mount placed (in_rest mount m))
       where
         stays : (o : Option (Location ℕ)) → is_some o ≡ true
-            → record mount { mount_point = Some (unwrap_or (option_map (λ (at : Location ℕ). record { mount = at.mount; node = at.node }) o) place) }
+            → record mount {
+              mount_point = Some
+                  (unwrap_or (option_map (λ (at : Location ℕ). record { mount = at.mount; node = at.node }) o) place);
+            }
             ≡ record mount { mount_point = o }
         stays None e = absurd (true≢false (sym e))
         stays (Some at) e = refl
 
-    all_copied : map (copy_by (world_of value) place tree true true new) (twigs (world_of value) place tree) ≡ put ∷ rest
-    all_copied = λ i. top_copied i ∷ (map_twice (copy_by world place tree true true new) twig rest ∙ spec.map_same copy rest rest_copied) i
+    all_copied : map (copy_by (world_of value) place tree true true new) (twigs (world_of value) place tree)
+        ≡ put ∷ rest
+    all_copied = λ i. top_copied i
+        ∷ (map_twice (copy_by world place tree true true new) twig rest ∙ spec.map_same copy rest rest_copied) i
 
-    pub mounts_after : folded (with_mount nat_eq) (mounts_in value.mounts) (map (copy_by (world_of value) place tree true true new) (twigs (world_of value) place tree))
+    pub mounts_after : folded (with_mount nat_eq) (mounts_in value.mounts)
+        (map (copy_by (world_of value) place tree true true new) (twigs (world_of value) place tree))
         ≡ map (one_changed number (placed_at place)) (mounts_in value.mounts)
     mounts_after =
         ap (folded (with_mount nat_eq) mounts) all_copied
@@ -181,75 +197,82 @@ module _ (value : WorldValue) (held : IsHeld value) (number namespace : ℕ) (pl
         (one_number_by_numbers mounts (with_mount nat_eq mounts put) (numbers-with_mount put mounts) one)
         rest (λ mount m.
         subst (λ x. spec.Among x (with_mount nat_eq mounts put)) (ap (λ b. cond b put mount) (another mount m))
-        (spec.among-map (replaced_if_same nat_eq put) mounts mount (in_tree value held number namespace inside mount (in_rest mount m)).0))
+        (spec.among-map (replaced_if_same nat_eq put) mounts mount
+        (in_tree value held number namespace inside mount (in_rest mount m)).0))
         ∙ first_put
 
     -- no group is made
-    made_none : (list : List (Mount ℕ)) → ((mount : Mount ℕ) → spec.Among mount list → is_ungrouped mount.propagation ≡ true)
+    made_none : (list : List (Mount ℕ))
         → filter_map (group_by (world_of value) place tree true new) (map twig list) ≡ []
-    made_none [] free = refl
-    made_none (mount ∷ list) free =
-        (λ i. cons_option (no_group mount.propagation (free mount (inl refl)) i) (made_none list (λ other m. free other (inr m)) i))
+    made_none [] = refl
+    made_none (mount ∷ list) = λ i. cons_option (no_group_made mount.propagation i) (made_none list i)
       where
-        no_group : (kind : Propagation ℕ) → is_ungrouped kind ≡ true
+        no_group_made : (kind : Propagation ℕ)
             → twig_master (record { origin = record mount { propagation = kind }; propagation = kind }) ≡ None
-        no_group (Shared group) e = absurd (true≢false (sym e))
-        no_group (Slave master) e = absurd (true≢false (sym e))
-        no_group Private e = refl
-        no_group Unbindable e = refl
-
-  free_in : (mount : Mount ℕ) → spec.Among mount (mounts_in value.mounts) → is_ungrouped mount.propagation ≡ true
-  free_in mount m =
-      let from = spec.among-from_map (λ (entry : MountEntry). entry.mount) value.mounts mount m in
-      ap (λ (x : Mount ℕ). is_ungrouped x.propagation) from.2
-      ∙ spec.among_from_list_all (λ (entry : MountEntry). is_ungrouped entry.mount.propagation) value.mounts held.ungrouped from.0 from.1
+        no_group_made (Shared group) = refl
+        no_group_made (Slave master) = refl
+        no_group_made Private = refl
+        no_group_made Unbindable = refl
 
   map_itself : (list : List (Mount ℕ)) → map (λ (mount : Mount ℕ). mount) list ≡ list
   map_itself [] = refl
   map_itself (mount ∷ list) = ap (λ others. mount ∷ others) (map_itself list)
 
-  pub tree_moved : (fresh : Fresh ℕ)
-      → attach nat_eq (world_of value) fresh place true (mount_tree nat_eq (mounts_in value.mounts) (mount_numbered nat_eq (world_of value) number))
+  -- where the destination's mount is not shared
+  pub tree_moved : (fresh : Fresh ℕ) → group_of (mount_at nat_eq (world_of value) place).propagation ≡ None
+      → attach nat_eq (world_of value) fresh place true
+      (mount_tree nat_eq (mounts_in value.mounts) (mount_numbered nat_eq (world_of value) number))
       ≡ next_of value held number (placed_at place) (places_keep place)
-  tree_moved fresh =
+  tree_moved fresh alone =
       let begins = tree_begins (length mounts) mounts top in
-      let free_dest = no_group (mount_at nat_eq world place).propagation (attached_free value held place.mount namespace there) in
       let new = copies_from nat_eq fresh (mount_at nat_eq world place ∷ []) (top ∷ begins.0) in
       ap (λ list. attach nat_eq world fresh place true list) begins.1
-      ∙ at_destination world place (top ∷ begins.0) free_dest true fresh
+      ∙ at_destination world place (top ∷ begins.0) alone true fresh
       ∙ (λ i. record world {
-        mounts = (append-nil _ ∙ append-nil _ ∙ map_itself _ ∙ mounts_after begins.0 begins.1 new ∙ sym (mounts_changed number (placed_at place) value.mounts)) i;
-        master = folded (masters_with nat_eq) world.master (made_none begins.0 begins.1 new (top ∷ begins.0) (λ mount m.
-            free_in mount (in_tree value held number namespace inside mount (subst (spec.Among mount) (sym begins.1) m)).0) i ++ []);
+        mounts = (append-nil _ ∙ append-nil _ ∙ map_itself _ ∙ mounts_after begins.0 begins.1 new
+            ∙ sym (mounts_changed number (placed_at place) value.mounts)) i;
+        master = folded (masters_with nat_eq) world.master
+            (made_none begins.0 begins.1 new (top ∷ begins.0) i ++ []);
       })
+
+none_is : {A : Type 0} (o : Option A) → is_some o ≡ false → o ≡ None
+none_is None e = refl
+none_is (Some a) e = absurd (true≢false e)
 
 -- a mount point is there
 pub mount_point_located : (value : WorldValue) → IsHeld value → (number namespace : ℕ) (point : Location ℕ)
     → (mount_numbered nat_eq (world_of value) number).namespace ≡ Some namespace
-    → (mount_numbered nat_eq (world_of value) number).mount_point ≡ Some point → is_located_well nat_eq (world_of value) point ≡ true
+    → (mount_numbered nat_eq (world_of value) number).mount_point ≡ Some point
+    → is_located_well nat_eq (world_of value) point ≡ true
 mount_point_located value held number namespace point inside is =
     let world = world_of value in
     let mounts = mounts_in value.mounts in
     let mount = mount_numbered nat_eq world number in
     let m = found_is_there mounts number (ap is_some inside) in
     let stands = and_parts (is_some (mount_at nat_eq world point).namespace) true
-    (ap (λ o. list_all (λ place. is_some (mount_at nat_eq (world_of value) place).namespace) (option_to_list o)) (sym is)
+    (ap (λ o. list_all (λ place. is_some (mount_at nat_eq (world_of value) place).namespace) (option_to_list o))
+    (sym is)
     ∙ passes (stands_on_attached world) mounts (mounts_of_worlds_stand world held.in_world).on_attached mount m) in
-    let roots = and_parts (is_directory_node ((filesystem_numbered nat_eq world mount.filesystem).files.tree.node mount.root)) _
+    let roots = and_parts (is_directory_node
+    ((filesystem_numbered nat_eq world mount.filesystem).files.tree.node mount.root)) _
     (passes (has_its_root nat_eq world) mounts held.in_world.roots mount m) in
     let directory = and_parts (is_directory_at nat_eq world point) true
     (ap (λ o. list_all (is_directory_at nat_eq (world_of value)) (option_to_list o)) (sym is) ∙ roots.1) in
     (λ i.
     is_among_numbers point.mount (map (λ (x : Mount ℕ). x.number) mounts)
     (subst (λ n. Among n (map (λ (x : Mount ℕ). x.number) mounts)) (number_found mounts point.mount)
-    (among-map (λ (x : Mount ℕ). x.number) mounts (mount_at nat_eq world point) (found_is_there mounts point.mount stands.0))) i
+    (among-map (λ (x : Mount ℕ). x.number) mounts (mount_at nat_eq world point)
+    (found_is_there mounts point.mount stands.0))) i
     && directory_there (node_at nat_eq world point) directory.0 i)
 
 -- The event
 
-module _ (value : WorldValue) (whole : IsHeld value) (name : TaskName) (number : ℕ) (place : At) (left : Option At) (filesystems : Filesystems)
+module _ (value : WorldValue) (whole : IsHeld value) (name : TaskName) (number : ℕ) (place : At) (left : Option At)
+    (filesystems : Filesystems)
     (permits : Permits value name (ToMove number (location_of place)))
-    (small : place.node.slot < 18446744073709551616) (small_left : (point : At) → left ≡ Some point → point.node.slot < 18446744073709551616)
+    (unshared : is_shared (mount_at nat_eq (world_of value) (location_of place)).propagation ≡ false)
+    (small : place.node.slot < 18446744073709551616)
+    (small_left : (point : At) → left ≡ Some point → point.node.slot < 18446744073709551616)
     (left_is : option_map location_of left ≡ (mount_numbered nat_eq (world_of value) number).mount_point)
     (shown_is : shown filesystems ≡ unpinned_at left (pinned_in (inode_of place.node) (shown value.filesystems))) where
   abbrev there_world : World ℕ
@@ -272,18 +295,22 @@ module _ (value : WorldValue) (whole : IsHeld value) (name : TaskName) (number :
 
   shown_moved : (o : Option At) → option_map location_of o ≡ (mount_numbered nat_eq (world_of value) number).mount_point
       → ((point : At) → o ≡ Some point → point.node.slot < 18446744073709551616)
-      → unpinned_at o (pinned_in (inode_of place.node) (shown value.filesystems)) ≡ map (exchanged_shown gained lost) (shown value.filesystems)
+      → unpinned_at o (pinned_in (inode_of place.node) (shown value.filesystems))
+      ≡ map (exchanged_shown gained lost) (shown value.filesystems)
   shown_moved None is few = absurd (true≢false (sym (ap is_some is ∙ may.placed)))
   shown_moved (Some point) is few =
-      let point_well = mount_point_located value whole number permits.task.namespace (location_of point) may.own (sym is) in
+      let point_well = mount_point_located value whole number permits.task.namespace (location_of point) may.own
+      (sym is) in
       let point_inode : inode_of point.node ≡ inode_at (world_of value) (location_of point) =
       λ i. (sym (seen_where_located value whole point (few point refl) point_well) i, number_of point.node) in
       (λ i. unpinned_in (point_inode i) (pinned_in (place_inode i) (shown value.filesystems)))
       ∙ map_twice _ _ (shown value.filesystems)
-      ∙ ap (λ o. map (exchanged_shown gained (map (inode_at (world_of value)) (option_to_list o))) (shown value.filesystems)) is
+      ∙ ap (λ o. map (exchanged_shown gained (map (inode_at (world_of value)) (option_to_list o)))
+      (shown value.filesystems)) is
 
   -- the inode at the new mount point is there
-  gained_is_there : (was : FilesystemEntry) → Among was value.filesystems → AreThere (counted was.count) (inodes_seen was) gained
+  gained_is_there : (was : FilesystemEntry) → Among was value.filesystems
+      → AreThere (counted was.count) (inodes_seen was) gained
   gained_is_there was m =
       ap (λ b. b && true)
       (by (nat_eq (counted was.count) (mount_at nat_eq (world_of value) (location_of place)).filesystem) refl)
@@ -298,24 +325,38 @@ module _ (value : WorldValue) (whole : IsHeld value) (name : TaskName) (number :
       by true e =
           sym (some_inode ((inodes_seen was).inode (number_of place.node)))
           ∙ ap (λ (f : Filesystem ℕ). is_some (f.files.tree.node (number_of place.node)))
-          (sym (found_filesystem there_world.filesystems whole.in_world.files.one_filesystem (filesystem_seen was) (among-map filesystem_seen value.filesystems was m))
+          (sym (found_filesystem there_world.filesystems whole.in_world.files.one_filesystem (filesystem_seen was)
+          (among-map filesystem_seen value.filesystems was m))
           ∙ ap (filesystem_numbered nat_eq there_world) (eqb-true _ _ e))
           ∙ (and_parts _ _ well).1
 
   pub mount_is_moved : IsDone value name (ToMove number (location_of place))
-      (remade value (changed number (λ entry. record entry { mount = record entry.mount { mount_point = Some (location_of place) } }) value.mounts) filesystems value.tasks)
+      (remade value (changed number (λ entry.
+      record entry {
+        mount = record entry.mount {
+          mount_point = Some
+              (location_of place);
+        };
+      }) value.mounts) filesystems value.tasks)
   mount_is_moved =
       let entry = attached_entry value number permits.task.namespace may.own in
-      mount_is_changed value whole number (placed_at (location_of place)) (places_keep (location_of place)) gained lost filesystems
+      mount_is_changed value whole number (placed_at (location_of place))
+      (places_keep (location_of place)) gained lost filesystems
       (shown_is ∙ shown_moved left left_is small_left)
-      (λ filesystem. subst (λ (mount : Mount ℕ). Exchanges gained (map (inode_at there_world) (option_to_list mount.mount_point)) filesystem there_world
+      (λ filesystem. subst (λ (mount : Mount ℕ). Exchanges gained
+      (map (inode_at there_world) (option_to_list mount.mount_point)) filesystem there_world
       (next_of value whole number (placed_at (location_of place)) (places_keep (location_of place)))) (sym entry.2)
-      (places_exchanged value whole number (placed_at (location_of place)) (places_keep (location_of place)) entry.0 entry.1 filesystem))
+      (places_exchanged value whole number (placed_at (location_of place))
+      (places_keep (location_of place)) entry.0 entry.1 filesystem))
       gained_is_there name (ToMove number (location_of place)) permits.task
       (record {
         called = permits.called;
         given = permits.given;
-        named = λ i. attached_named value whole number permits.task.namespace may.own i && located_is_named value whole (location_of place) well i;
-        applied = tree_moved value whole number permits.task.namespace (location_of place) may.own may.destination.own may.placed;
+        named = λ i. attached_named value whole number permits.task.namespace may.own i
+            && located_is_named value whole (location_of place) well i;
+        applied = λ fresh.
+            tree_moved value whole number permits.task.namespace
+            (location_of place) may.own may.destination.own may.placed fresh
+            (none_is (group_of (mount_at nat_eq (world_of value) (location_of place)).propagation) unshared);
       })
       (kind_kept value whole number (placed_at (location_of place)) (places_keep (location_of place)) (λ mount. refl))

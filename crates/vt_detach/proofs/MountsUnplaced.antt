@@ -6,10 +6,12 @@ use Rattle.vt_mount.specs.MountsValue.{MountEntry, changed, entry_numbered, moun
 use Rattle.vt_detach.specs.Uses.{Kept, detached_entry, point_of, without_attachment}
 use Rattle.vt_detach.proofs.Shown.{found_entry, let_go_none}
 
-pub point_seen : (mounts : List MountEntry) (number : ℕ) (found : Option (Mount ℕ)) → find (λ mount. nat_eq number mount.number) (mounts_in mounts) ≡ found
+pub point_seen : (mounts : List MountEntry) (number : ℕ) (found : Option (Mount ℕ))
+    → find (λ mount. nat_eq number mount.number) (mounts_in mounts) ≡ found
     → point_of number mounts ≡ option_and_then (λ mount. mount.mount_point) found
 point_seen mounts number found is =
-    by (entry_numbered mounts number) ∙ ap (option_and_then (λ (mount : Mount ℕ). mount.mount_point)) (sym (found_entry number mounts) ∙ is)
+    by (entry_numbered mounts number)
+    ∙ ap (option_and_then (λ (mount : Mount ℕ). mount.mount_point)) (sym (found_entry number mounts) ∙ is)
   where
     by : (o : Option MountEntry) → option_and_then (λ entry. entry.mount.mount_point) o
         ≡ option_and_then (λ (mount : Mount ℕ). mount.mount_point) (option_map (λ entry. entry.mount) o)
@@ -17,20 +19,25 @@ point_seen mounts number found is =
     by (Some entry) = refl
 
 -- no mount has the number
-pub changed_none : (number : ℕ) (change : MountEntry → MountEntry) (mounts : List MountEntry) → entry_numbered mounts number ≡ None → changed number change mounts ≡ mounts
+pub changed_none : (number : ℕ) (change : MountEntry → MountEntry) (mounts : List MountEntry)
+    → entry_numbered mounts number ≡ None → changed number change mounts ≡ mounts
 changed_none number change [] none = refl
-changed_none number change (first ∷ rest) none = by (nat_eq number first.mount.number) none (changed_none number change rest)
+changed_none number change (first ∷ rest) none = by (nat_eq number first.mount.number) none
+    (changed_none number change rest)
   where
-    by : (b : Bool) → cond b (Some first) (entry_numbered rest number) ≡ None → (entry_numbered rest number ≡ None → changed number change rest ≡ rest)
+    by : (b : Bool) → cond b (Some first) (entry_numbered rest number) ≡ None
+        → (entry_numbered rest number ≡ None → changed number change rest ≡ rest)
         → cond b (change first) first ∷ changed number change rest ≡ first ∷ rest
     by true h later = absurd cc
     by false h later = ap (λ others. first ∷ others) (later h)
 
-pub detach_none : (number : ℕ) (k : Kept) → find (λ mount. nat_eq number mount.number) (mounts_in k.mounts) ≡ None → k ≡ without_attachment number None k
+pub detach_none : (number : ℕ) (k : Kept) → find (λ mount. nat_eq number mount.number) (mounts_in k.mounts) ≡ None
+    → k ≡ without_attachment number None k
 detach_none number k none =
     let_go_none number k none
     ∙ ap (λ mounts. Rattle.vt_detach.specs.Uses.let_go_mount number (record k { mounts = mounts }))
-    (sym (changed_none number detached_entry k.mounts (by (entry_numbered k.mounts number) (sym (found_entry number k.mounts) ∙ none))))
+    (sym (changed_none number detached_entry k.mounts
+    (by (entry_numbered k.mounts number) (sym (found_entry number k.mounts) ∙ none))))
   where
     by : (o : Option MountEntry) → option_map (λ entry. entry.mount) o ≡ None → o ≡ None
     by None e = refl

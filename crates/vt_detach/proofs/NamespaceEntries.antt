@@ -15,14 +15,16 @@ abbrev pub Entries : Type 0
 Entries = List (NamespaceId × Namespace)
 
 pub entry_found : (count : ℕ) (es : Entries) (o : Option Namespace) → lookup (is_id count) es ≡ o
-    → find (λ entry. nat_eq count entry.count) (entries_of es) ≡ option_map (λ (one : Namespace). record { count = count; tasks = one.tasks }) o
+    → find (λ entry. nat_eq count entry.count) (entries_of es)
+    ≡ option_map (λ (one : Namespace). record { count = count; tasks = one.tasks }) o
 entry_found count [] None e = refl
 entry_found count [] (Some x) e = absurd cc
 entry_found count (e ∷ es) o is = by (nat_eq count e.0.count) refl is (entry_found count es o)
   where
     by : (b : Bool) → nat_eq count e.0.count ≡ b → cond b (Some e.1) (lookup (is_id count) es) ≡ o
         → (lookup (is_id count) es ≡ o
-        → find (λ entry. nat_eq count entry.count) (entries_of es) ≡ option_map (λ (one : Namespace). record { count = count; tasks = one.tasks }) o)
+        → find (λ entry. nat_eq count entry.count) (entries_of es)
+        ≡ option_map (λ (one : Namespace). record { count = count; tasks = one.tasks }) o)
         → cond b (Some (entry_of e)) (find (λ entry. nat_eq count entry.count) (entries_of es))
         ≡ option_map (λ (one : Namespace). record { count = count; tasks = one.tasks }) o
     by true here found later =
@@ -34,46 +36,59 @@ abbrev pub same_namespace : NamespaceId → NamespaceId → Bool
 same_namespace a b = nat_eq a.count b.count
 
 -- the entries of the others stay
-others_stay : (count : ℕ) (change : NamespaceEntry → NamespaceEntry) (first : NamespaceId) (es : Entries) → nat_eq count first.count ≡ true
+others_stay : (count : ℕ) (change : NamespaceEntry → NamespaceEntry) (first : NamespaceId) (es : Entries)
+    → nat_eq count first.count ≡ true
     → AllByRecursion (λ other. same_namespace first other ≡ false) (keys_of es)
-    → map (λ (entry : NamespaceEntry). cond (nat_eq count entry.count) (change entry) entry) (entries_of es) ≡ entries_of es
+    → map (λ (entry : NamespaceEntry). cond (nat_eq count entry.count) (change entry) entry) (entries_of es)
+    ≡ entries_of es
 others_stay count change first [] here apart = refl
 others_stay count change first (e ∷ es) here apart =
-    λ i. cond ((ap (λ n. nat_eq n e.0.count) (eqb-true count first.count here) ∙ apart.0) i) (change (entry_of e)) (entry_of e) ∷ others_stay count change first es here apart.1 i
+    λ i. cond ((ap (λ n. nat_eq n e.0.count) (eqb-true count first.count here) ∙ apart.0) i) (change (entry_of e))
+    (entry_of e) ∷ others_stay count change first es here apart.1 i
 
-pub entries_written : (count : ℕ) (change : NamespaceEntry → NamespaceEntry) (es : Entries) (old new : Namespace) → IsDistinct same_namespace (keys_of es)
+pub entries_written : (count : ℕ) (change : NamespaceEntry → NamespaceEntry) (es : Entries) (old new : Namespace)
+    → IsDistinct same_namespace (keys_of es)
     → lookup (is_id count) es ≡ Some old → ((id : NamespaceId) → entry_of (id, new) ≡ change (entry_of (id, old)))
-    → entries_of (set_value (is_id count) es new) ≡ map (λ (entry : NamespaceEntry). cond (nat_eq count entry.count) (change entry) entry) (entries_of es)
+    → entries_of (set_value (is_id count) es new)
+    ≡ map (λ (entry : NamespaceEntry). cond (nat_eq count entry.count) (change entry) entry) (entries_of es)
 entries_written count change [] old new distinct found same = absurd cc
 entries_written count change (e ∷ es) old new distinct found same =
-    by (nat_eq count e.0.count) refl found (λ f. entries_written count change es old new (IsDistinct-tail same_namespace e.0 (keys_of es) distinct) f same)
+    by (nat_eq count e.0.count) refl found
+    (λ f. entries_written count change es old new (IsDistinct-tail same_namespace e.0 (keys_of es) distinct) f same)
   where
     by : (b : Bool) → nat_eq count e.0.count ≡ b → cond b (Some e.1) (lookup (is_id count) es) ≡ Some old
         → (lookup (is_id count) es ≡ Some old
-        → entries_of (set_value (is_id count) es new) ≡ map (λ (entry : NamespaceEntry). cond (nat_eq count entry.count) (change entry) entry) (entries_of es))
+        → entries_of (set_value (is_id count) es new)
+        ≡ map (λ (entry : NamespaceEntry). cond (nat_eq count entry.count) (change entry) entry) (entries_of es))
         → entries_of (cond b ((e.0, new) ∷ es) (e ∷ set_value (is_id count) es new))
-        ≡ cond b (change (entry_of e)) (entry_of e) ∷ map (λ (entry : NamespaceEntry). cond (nat_eq count entry.count) (change entry) entry) (entries_of es)
+        ≡ cond b (change (entry_of e)) (entry_of e)
+        ∷ map (λ (entry : NamespaceEntry). cond (nat_eq count entry.count) (change entry) entry) (entries_of es)
     by true t f later =
         (λ i. (same e.0 ∙ ap (λ n. change (entry_of (e.0, n))) (sym (same_Some e.1 old f))) i
         ∷ sym (others_stay count change e.0 es t (IsDistinct-head same_namespace e.0 (keys_of es) distinct)) i)
     by false t f later = ap (λ rest. entry_of e ∷ rest) (later f)
 
 -- where no namespace has the count, no entry is changed
-pub none_written : (count : ℕ) (change : NamespaceEntry → NamespaceEntry) (es : Entries) → lookup (is_id count) es ≡ None
-    → map (λ (entry : NamespaceEntry). cond (nat_eq count entry.count) (change entry) entry) (entries_of es) ≡ entries_of es
+pub none_written : (count : ℕ) (change : NamespaceEntry → NamespaceEntry) (es : Entries)
+    → lookup (is_id count) es ≡ None
+    → map (λ (entry : NamespaceEntry). cond (nat_eq count entry.count) (change entry) entry) (entries_of es)
+    ≡ entries_of es
 none_written count change [] none = refl
 none_written count change (e ∷ es) none = by (nat_eq count e.0.count) none (none_written count change es)
   where
     by : (b : Bool) → cond b (Some e.1) (lookup (is_id count) es) ≡ None
         → (lookup (is_id count) es ≡ None
-        → map (λ (entry : NamespaceEntry). cond (nat_eq count entry.count) (change entry) entry) (entries_of es) ≡ entries_of es)
-        → cond b (change (entry_of e)) (entry_of e) ∷ map (λ (entry : NamespaceEntry). cond (nat_eq count entry.count) (change entry) entry) (entries_of es)
+        → map (λ (entry : NamespaceEntry). cond (nat_eq count entry.count) (change entry) entry) (entries_of es)
+        ≡ entries_of es)
+        → cond b (change (entry_of e)) (entry_of e)
+        ∷ map (λ (entry : NamespaceEntry). cond (nat_eq count entry.count) (change entry) entry) (entries_of es)
         ≡ entry_of e ∷ entries_of es
     by true f later = absurd cc
     by false f later = ap (λ rest. entry_of e ∷ rest) (later f)
 
 -- an entry that is written back as it was
-pub written_back : (count : ℕ) (es : Entries) (namespace : Namespace) → lookup (is_id count) es ≡ Some namespace → set_value (is_id count) es namespace ≡ es
+pub written_back : (count : ℕ) (es : Entries) (namespace : Namespace) → lookup (is_id count) es ≡ Some namespace
+    → set_value (is_id count) es namespace ≡ es
 written_back count [] namespace found = refl
 written_back count (e ∷ es) namespace found = by (nat_eq count e.0.count) found (written_back count es namespace)
   where
@@ -89,24 +104,33 @@ none_filtered count [] none = refl
 none_filtered count (e ∷ es) none = by (nat_eq count e.0.count) none (none_filtered count es)
   where
     by : (b : Bool) → cond b (Some e.1) (lookup (is_id count) es) ≡ None
-        → (lookup (is_id count) es ≡ None → filter (λ (other : NamespaceEntry). not (nat_eq count other.count)) (entries_of es) ≡ entries_of es)
-        → cond (not b) (entry_of e ∷ filter (λ (other : NamespaceEntry). not (nat_eq count other.count)) (entries_of es))
+        → (lookup (is_id count) es ≡ None
+        → filter (λ (other : NamespaceEntry). not (nat_eq count other.count)) (entries_of es) ≡ entries_of es)
+        → cond (not b) (entry_of e ∷ filter (λ (other : NamespaceEntry). not (nat_eq count other.count))
+        (entries_of es))
         (filter (λ (other : NamespaceEntry). not (nat_eq count other.count)) (entries_of es)) ≡ entries_of (e ∷ es)
     by true f later = absurd cc
     by false f later = ap (λ rest. entry_of e ∷ rest) (later f)
 
 pub entries_removed : (count : ℕ) (es : Entries) → lookup (is_id count) (remove_entry (is_id count) es) ≡ None
-    → entries_of (remove_entry (is_id count) es) ≡ filter (λ (other : NamespaceEntry). not (nat_eq count other.count)) (entries_of es)
+    → entries_of (remove_entry (is_id count) es)
+    ≡ filter (λ (other : NamespaceEntry). not (nat_eq count other.count)) (entries_of es)
 entries_removed count [] absent = refl
-entries_removed count (e ∷ es) absent = by (nat_eq count e.0.count) refl absent (none_filtered count es) (entries_removed count es)
+entries_removed count (e ∷ es) absent = by (nat_eq count e.0.count) refl absent (none_filtered count es)
+    (entries_removed count es)
   where
-    by : (b : Bool) → nat_eq count e.0.count ≡ b → lookup (is_id count) (cond b es (e ∷ remove_entry (is_id count) es)) ≡ None
-        → (lookup (is_id count) es ≡ None → filter (λ (other : NamespaceEntry). not (nat_eq count other.count)) (entries_of es) ≡ entries_of es)
+    by : (b : Bool) → nat_eq count e.0.count ≡ b
+        → lookup (is_id count) (cond b es (e ∷ remove_entry (is_id count) es)) ≡ None
+        → (lookup (is_id count) es ≡ None
+        → filter (λ (other : NamespaceEntry). not (nat_eq count other.count)) (entries_of es) ≡ entries_of es)
         → (lookup (is_id count) (remove_entry (is_id count) es) ≡ None
-        → entries_of (remove_entry (is_id count) es) ≡ filter (λ (other : NamespaceEntry). not (nat_eq count other.count)) (entries_of es))
+        → entries_of (remove_entry (is_id count) es)
+        ≡ filter (λ (other : NamespaceEntry). not (nat_eq count other.count)) (entries_of es))
         → entries_of (cond b es (e ∷ remove_entry (is_id count) es))
-        ≡ cond (not b) (entry_of e ∷ filter (λ (other : NamespaceEntry). not (nat_eq count other.count)) (entries_of es))
+        ≡ cond (not b) (entry_of e ∷ filter (λ (other : NamespaceEntry). not (nat_eq count other.count))
+        (entries_of es))
         (filter (λ (other : NamespaceEntry). not (nat_eq count other.count)) (entries_of es))
     by true t f none later = sym (none f)
     by false t f none later =
-        ap (λ rest. entry_of e ∷ rest) (later (sym (ap (λ b. cond b (Some e.1) (lookup (is_id count) (remove_entry (is_id count) es))) t) ∙ f))
+        ap (λ rest. entry_of e ∷ rest)
+        (later (sym (ap (λ b. cond b (Some e.1) (lookup (is_id count) (remove_entry (is_id count) es))) t) ∙ f))

@@ -32,17 +32,20 @@ module _ (p : Mount ℕ → Bool) (nowhere : (mount : Mount ℕ) → is_some mou
       by (Some entry) e = chosen (is_unused entry) refl
         where
           chosen : (b : Bool) → is_unused entry ≡ b
-              → filter p (mounts_in (cond b (without_mount number entry.mount k) k).mounts) ≡ filter p (mounts_in k.mounts)
+              → filter p (mounts_in (cond b (without_mount number entry.mount k) k).mounts)
+              ≡ filter p (mounts_in k.mounts)
           chosen false unused = refl
           chosen true unused =
-              ap (filter p) (map_filtered (λ (x : MountEntry). x.mount) (λ (x : MountEntry). not (nat_eq number x.mount.number))
+              ap (filter p) (map_filtered (λ (x : MountEntry). x.mount)
+              (λ (x : MountEntry). not (nat_eq number x.mount.number))
               (λ (x : Mount ℕ). not (nat_eq number x.number)) (λ x. refl) k.mounts)
               ∙ filter_less p (λ (x : Mount ℕ). not (nat_eq number x.number)) (mounts_in k.mounts) (λ x m its.
               let from = among-from_map (λ (y : MountEntry). y.mount) k.mounts x m in
               let same : from.0 ≡ entry = same_Some from.0 entry
               (sym (entry_itself k.mounts one from.0 from.1)
               ∙ ap (λ (y : Mount ℕ). entry_numbered k.mounts y.number) (sym from.2)
-              ∙ ap (entry_numbered k.mounts) (sym (eqb-true number x.number (turned (nat_eq number x.number) its))) ∙ e) in
+              ∙ ap (entry_numbered k.mounts) (sym (eqb-true number x.number (turned (nat_eq number x.number) its)))
+              ∙ e) in
               ap p (from.2 ∙ ap (λ (y : MountEntry). y.mount) same) ∙ nowhere entry.mount (unused_parts entry unused).0)
 
   module _ (value : WorldValue) (whole : IsHeld value) (start : World ℕ) (gained : List Inode) (goes : Mount ℕ → Bool)
@@ -54,7 +57,8 @@ module _ (p : Mount ℕ → Bool) (nowhere : (mount : Mount ℕ) → is_some mou
     inside_stays (u ∷ left) k at =
         let same : mounts_in (lose (world_of value) k u).mounts ≡ mounts_in k.mounts =
         mounts_unchanged u.location.mount (released u.writes) k.mounts (λ entry. refl) in
-        inside_stays left (leave_use (world_of value) k u) (leaves_one value whole start gained goes attached u left k at)
+        inside_stays left (leave_use (world_of value) k u)
+        (leaves_one value whole start gained goes attached u left k at)
         ∙ inside_kept u.location.mount (lose (world_of value) k u)
         (subst OneNumber (sym same)
         (one_number_kept goes (mounts_in k.mounts) (subst OneNumber at.midway.mounts at.midway.stand.one_number)))

@@ -4,12 +4,11 @@ use Rattle.std.specs.Prelude.{All, nat_le, option_map, option_to_list}
 use Rattle.std.specs.List.{list_all, list_any}
 use Rattle.std.proofs.lemmas.Bool.{and_parts, leb-false, leb-true, lt-ltb}
 use Rattle.std.proofs.lemmas.Option.{same_Some}
-use Rattle.vt_spec.specs.Lists.{chain, holds_of, is_among, last_or}
+use Rattle.vt_spec.specs.Lists.{chain, holds_of, last_or}
 use Rattle.vt_spec.specs.Machine.Detach.{after_going, is_going, mount_point_left, mount_point_of_parent, taken_away}
-use Rattle.vt_spec.specs.Machine.Mounts.{Location, Mount, Propagation, detached, mount_in, source_of}
-use Rattle.vt_spec.specs.Machine.Mounts.Propagation.{Private, Shared, Slave, Unbindable}
+use Rattle.vt_spec.specs.Machine.Mounts.{Location, Mount, detached, mount_in}
 use Rattle.vt_spec.specs.Machine.Namespaces.{has_tasks, is_in_ended}
-use Rattle.vt_spec.specs.Machine.Receives.{is_lost_group, lost_a_group, regrouped, regrouped_by}
+use Rattle.vt_spec.specs.Machine.Receives.{regrouped}
 use Rattle.vt_spec.specs.Machine.World.{Namespace, Task, World, mount_at, mount_numbered, with_mounts}
 use Rattle.vt_spec.specs.Machine.Invariants.{is_listed}
 use Rattle.vt_letting_go.specs.Counts.{times}
@@ -17,29 +16,18 @@ use Rattle.vt_letting_go.proofs.Lists.{Among, all_from_among, among-append, amon
 use Rattle.vt_letting_go.proofs.PlacesLeft.{found_itself}
 use Rattle.vt_location.specs.Numbers.{counted}
 use Rattle.vt_tasks.specs.TasksValue.{Tasks}
-use Rattle.vt_detach.specs.Held.{CountsWhatIsInIt, is_ungrouped}
+use Rattle.vt_detach.specs.Held.{CountsWhatIsInIt}
 use Rattle.vt_detach.specs.NamespacesLeft.{entries_left, has_one_task, left_if, namespace_entry, one_task_less, with_one_task_less}
 use Rattle.vt_detach.specs.WorldValue.{NamespaceEntry, namespace_of}
 use Rattle.vt_detach.proofs.LostUses.{OneNumber, positive}
 use Rattle.vt_detach.proofs.Midway.{gone_if}
 use Rattle.vt_detach.proofs.Shown.{counted_eq}
 
--- Where no mount is grouped, no group is lost
-
-pub regrouped_nothing : (world : World ℕ) → ((mount : Mount ℕ) → Among mount world.mounts → is_ungrouped mount.propagation ≡ true) → regrouped nat_eq world ≡ world
-regrouped_nothing world plain = ap (λ b. regrouped_by nat_eq b world) (none_passes (lost_a_group nat_eq world) world.mounts (λ mount m. none mount.propagation (plain mount m)))
-  where
-    none : (kind : Propagation ℕ) → is_ungrouped kind ≡ true
-        → (is_lost_group nat_eq world (source_of kind) || is_lost_group nat_eq world (Rattle.vt_spec.specs.Lists.then_some (source_of kind) world.master)) ≡ false
-    none (Shared group) e = absurd (true≢false (sym e))
-    none (Slave master) e = absurd (true≢false (sym e))
-    none Private e = refl
-    none Unbindable e = refl
-
 -- Mounts that are taken away, and no mount that stays is on them
 
 module _ (world : World ℕ) (one : OneNumber world.mounts) (goes : Mount ℕ → Bool)
-    (stays : (mount : Mount ℕ) → Among mount world.mounts → goes mount ≡ false → (place : Location ℕ) → mount.mount_point ≡ Some place
+    (stays : (mount : Mount ℕ) → Among mount world.mounts → goes mount ≡ false → (place : Location ℕ)
+    → mount.mount_point ≡ Some place
     → goes (mount_at nat_eq world place) ≡ false) where
   abbrev gone : List ℕ
   gone = map (λ (mount : Mount ℕ). mount.number) (filter goes world.mounts)
@@ -50,15 +38,18 @@ module _ (world : World ℕ) (one : OneNumber world.mounts) (goes : Mount ℕ �
       by : (b : Bool) → goes mount ≡ b → is_going nat_eq gone mount.number ≡ b
       by true e =
           is_among_numbers mount.number gone
-          (among-map (λ (x : Mount ℕ). x.number) (filter goes world.mounts) mount (Rattle.vt_letting_go.proofs.Lists.among-filter goes world.mounts mount m e))
+          (among-map (λ (x : Mount ℕ). x.number) (filter goes world.mounts) mount
+          (Rattle.vt_letting_go.proofs.Lists.among-filter goes world.mounts mount m e))
       by false e = none (is_going nat_eq gone mount.number) refl
         where
           none : (b : Bool) → is_going nat_eq gone mount.number ≡ b → b ≡ false
           none false f = refl
           none true f =
-              let from = among-from_map (λ (x : Mount ℕ). x.number) (filter goes world.mounts) mount.number (among_numbers mount.number gone f) in
+              let from = among-from_map (λ (x : Mount ℕ). x.number) (filter goes world.mounts) mount.number
+              (among_numbers mount.number gone f) in
               let was = among-from_filter goes world.mounts from.0 from.1 in
-              let same : from.0 ≡ mount = sym (found_itself world.mounts one from.0 was.0) ∙ ap (mount_in nat_eq world.mounts) (sym from.2) ∙ found_itself world.mounts one mount m in
+              let same : from.0 ≡ mount = sym (found_itself world.mounts one from.0 was.0)
+              ∙ ap (mount_in nat_eq world.mounts) (sym from.2) ∙ found_itself world.mounts one mount m in
               sym was.1 ∙ ap goes same ∙ e
 
   -- what is not there is not taken away
@@ -68,11 +59,14 @@ module _ (world : World ℕ) (one : OneNumber world.mounts) (goes : Mount ℕ �
       by : (b : Bool) → is_going nat_eq gone number ≡ b → b ≡ false
       by false f = refl
       by true f =
-          let from = among-from_map (λ (x : Mount ℕ). x.number) (filter goes world.mounts) number (among_numbers number gone f) in
+          let from = among-from_map (λ (x : Mount ℕ). x.number) (filter goes world.mounts) number
+          (among_numbers number gone f) in
           let was = among-from_filter goes world.mounts from.0 from.1 in
-          sym was.1 ∙ ap goes (sym (found_itself world.mounts one from.0 was.0) ∙ ap (mount_numbered nat_eq world) (sym from.2)) ∙ e
+          sym was.1 ∙ ap goes (sym (found_itself world.mounts one from.0 was.0)
+          ∙ ap (mount_numbered nat_eq world) (sym from.2)) ∙ e
 
-  place_stays : (place : Location ℕ) → is_going nat_eq gone place.mount ≡ false → mount_point_left nat_eq world gone place ≡ place
+  place_stays : (place : Location ℕ) → is_going nat_eq gone place.mount ≡ false
+      → mount_point_left nat_eq world gone place ≡ place
   place_stays place e = by (Rattle.std.proofs.Common.length world.mounts)
     where
       by : (n : ℕ) → last_or place (chain n (mount_point_of_parent nat_eq world gone) place) ≡ place
@@ -84,44 +78,36 @@ module _ (world : World ℕ) (one : OneNumber world.mounts) (goes : Mount ℕ �
 
   taken_so : map (after_going nat_eq world gone) world.mounts ≡ map (gone_if goes) world.mounts
   taken_so = map_alike (after_going nat_eq world gone) (gone_if goes) world.mounts (λ mount m.
-      ap (λ b. cond b (detached mount) (record mount { mount_point = option_map (mount_point_left nat_eq world gone) mount.mount_point })) (going_is mount m)
+      ap (λ b. cond b (detached mount)
+      (record mount { mount_point = option_map (mount_point_left nat_eq world gone) mount.mount_point }))
+      (going_is mount m)
       ∙ by mount m (goes mount) refl)
     where
-      same : (mount : Mount ℕ) → Among mount world.mounts → goes mount ≡ false → (o : Option (Location ℕ)) → mount.mount_point ≡ o
+      same : (mount : Mount ℕ) → Among mount world.mounts → goes mount ≡ false → (o : Option (Location ℕ))
+          → mount.mount_point ≡ o
           → option_map (mount_point_left nat_eq world gone) o ≡ o
       same mount m e None f = refl
       same mount m e (Some place) f = ap Some (place_stays place (not_going place.mount (stays mount m e place f)))
 
       by : (mount : Mount ℕ) → Among mount world.mounts → (b : Bool) → goes mount ≡ b
-          → cond b (detached mount) (record mount { mount_point = option_map (mount_point_left nat_eq world gone) mount.mount_point }) ≡ cond b (detached mount) mount
+          → cond b (detached mount) (record mount {
+            mount_point = option_map
+                (mount_point_left nat_eq world gone) mount.mount_point;
+          }) ≡ cond b (detached mount) mount
       by mount m true e = refl
       by mount m false e = λ i. record mount { mount_point = same mount m e mount.mount_point refl i }
 
   -- they are detached, and then the groups without members end
-  pub taken_regrouped : taken_away nat_eq world gone ≡ regrouped nat_eq (with_mounts world (map (gone_if goes) world.mounts))
+  pub taken_regrouped : taken_away nat_eq world gone
+      ≡ regrouped nat_eq (with_mounts world (map (gone_if goes) world.mounts))
   taken_regrouped = ap (λ mounts. regrouped nat_eq (with_mounts world mounts)) taken_so
-
--- where no mount is in a group, none ends
-pub taken_alone_away : (world : World ℕ) → OneNumber world.mounts
-    → ((mount : Mount ℕ) → Among mount world.mounts → is_ungrouped mount.propagation ≡ true) → (goes : Mount ℕ → Bool)
-    → ((mount : Mount ℕ) → Among mount world.mounts → goes mount ≡ false → (place : Location ℕ) → mount.mount_point ≡ Some place
-    → goes (mount_at nat_eq world place) ≡ false)
-    → taken_away nat_eq world (map (λ (mount : Mount ℕ). mount.number) (filter goes world.mounts)) ≡ with_mounts world (map (gone_if goes) world.mounts)
-taken_alone_away world one plain goes stays =
-    taken_regrouped world one goes stays
-    ∙ regrouped_nothing (with_mounts world (map (gone_if goes) world.mounts)) (λ mount m.
-    let from = among-from_map (gone_if goes) world.mounts mount m in
-    ap (λ (x : Mount ℕ). is_ungrouped x.propagation) from.2 ∙ ungrouped from.0 (goes from.0) (plain from.0 from.1))
-  where
-    ungrouped : (mount : Mount ℕ) (b : Bool) → is_ungrouped mount.propagation ≡ true → is_ungrouped (cond b (detached mount) mount).propagation ≡ true
-    ungrouped mount true e = refl
-    ungrouped mount false e = e
 
 -- Entries of namespaces, where one task less is in one of them
 
 -- each counts the tasks in it, and that of this count one more
 pub record CountsOneMore (count : ℕ) (tasks : Tasks) (entry : NamespaceEntry) : Type 0 where
-  pub inside : entry.tasks ≡ times (λ task. nat_eq (counted entry.count) task.namespace) tasks + cond (nat_eq count entry.count) 1 0
+  pub inside : entry.tasks ≡ times (λ task. nat_eq (counted entry.count) task.namespace) tasks + cond
+      (nat_eq count entry.count) 1 0
   pub some : nat_eq entry.tasks 0 ≡ false
 
 -- a namespace with tasks counts some
@@ -131,14 +117,20 @@ tasks_counted number [] e = absurd (true≢false (sym e))
 tasks_counted number (task ∷ all) e = by (nat_eq number task.namespace) e (tasks_counted number all)
   where
     by : (b : Bool) → (b || list_any (λ (task : Task ℕ). nat_eq number task.namespace) all) ≡ true
-        → (list_any (λ (task : Task ℕ). nat_eq number task.namespace) all ≡ true → nat_eq (times (λ (task : Task ℕ). nat_eq number task.namespace) all) 0 ≡ false)
+        → (list_any (λ (task : Task ℕ). nat_eq number task.namespace) all ≡ true
+        → nat_eq (times (λ (task : Task ℕ). nat_eq number task.namespace) all) 0 ≡ false)
         → nat_eq (cond b 1 0 + times (λ (task : Task ℕ). nat_eq number task.namespace) all) 0 ≡ false
-    by true f later = Rattle.std.proofs.Common.ne_eqb (1 + times (λ (task : Task ℕ). nat_eq number task.namespace) all) 0 (λ z. let zero : 1 + times (λ (task : Task ℕ). nat_eq number task.namespace) all ≡ 0 = z in absurd (omega (arith, zero)))
+    by true f later = Rattle.std.proofs.Common.ne_eqb
+        (1 + times (λ (task : Task ℕ). nat_eq number task.namespace) all) 0
+        (λ z. let zero : 1 + times (λ (task : Task ℕ). nat_eq number task.namespace) all
+        ≡ 0 = z in absurd (omega (arith, zero)))
     by false f later =
-        let same : 0 + times (λ (task : Task ℕ). nat_eq number task.namespace) all ≡ times (λ (task : Task ℕ). nat_eq number task.namespace) all = omega arith in
+        let same : 0 + times (λ (task : Task ℕ). nat_eq number task.namespace) all
+        ≡ times (λ (task : Task ℕ). nat_eq number task.namespace) all = omega arith in
         ap (λ n. nat_eq n 0) same ∙ later f
 
-module _ (count : ℕ) (tasks : Tasks) (entries : List NamespaceEntry) (counts : (entry : NamespaceEntry) → Among entry entries → CountsOneMore count tasks entry) where
+module _ (count : ℕ) (tasks : Tasks) (entries : List NamespaceEntry)
+    (counts : (entry : NamespaceEntry) → Among entry entries → CountsOneMore count tasks entry) where
   abbrev in_it : NamespaceEntry → ℕ
   in_it entry = times (λ (task : Task ℕ). nat_eq (counted entry.count) task.namespace) tasks
 
@@ -152,7 +144,8 @@ module _ (count : ℕ) (tasks : Tasks) (entries : List NamespaceEntry) (counts :
 
   -- where it is found or not
   found_in : (all : List NamespaceEntry) (o : Option NamespaceEntry) → namespace_entry count all ≡ o
-      → ((e : NamespaceEntry) → o ≡ Some e → Among e all × (nat_eq count e.count ≡ true)) × (o ≡ None → (e : NamespaceEntry) → Among e all → nat_eq count e.count ≡ false)
+      → ((e : NamespaceEntry) → o ≡ Some e → Among e all × (nat_eq count e.count ≡ true))
+      × (o ≡ None → (e : NamespaceEntry) → Among e all → nat_eq count e.count ≡ false)
   found_in [] o is = ((λ e f. absurd (none e (is ∙ f))), (λ f e m. absurd m))
     where
       none : (e : NamespaceEntry) → None ≡ Some e → ⊥
@@ -165,7 +158,8 @@ module _ (count : ℕ) (tasks : Tasks) (entries : List NamespaceEntry) (counts :
           → ((e : NamespaceEntry) → o ≡ Some e → Among e (x ∷ xs) × (nat_eq count e.count ≡ true))
           × (o ≡ None → (e : NamespaceEntry) → Among e (x ∷ xs) → nat_eq count e.count ≡ false)
       by true t h later = (
-        (λ e f. let same : x ≡ e = same_Some x e (h ∙ f) in (inl (sym same), ap (λ (y : NamespaceEntry). nat_eq count y.count) (sym same) ∙ t)),
+        (λ e f. let same : x ≡ e = same_Some x e (h ∙ f) in
+            (inl (sym same), ap (λ (y : NamespaceEntry). nat_eq count y.count) (sym same) ∙ t)),
         (λ f e m. absurd (none (h ∙ f))),
       )
         where
@@ -173,11 +167,13 @@ module _ (count : ℕ) (tasks : Tasks) (entries : List NamespaceEntry) (counts :
           none f = cc
       by false t h later = (
         (λ e f. let from = later.0 e (h ∙ f) in (inr from.0, from.1)),
-        (λ f e m. ⊎_elim (λ same. ap (λ (y : NamespaceEntry). nat_eq count y.count) same ∙ t) (λ n. later.1 (h ∙ f) e n) m),
+        (λ f e m. ⊎_elim (λ same. ap (λ (y : NamespaceEntry). nat_eq count y.count) same ∙ t)
+            (λ n. later.1 (h ∙ f) e n) m),
       )
 
   -- who has no task afterwards
-  ended_is : (o : Option NamespaceEntry) → namespace_entry count entries ≡ o → (entry : NamespaceEntry) → Among entry entries
+  ended_is : (o : Option NamespaceEntry) → namespace_entry count entries ≡ o → (entry : NamespaceEntry)
+      → Among entry entries
       → nat_eq (in_it entry) 0 ≡ (ends_by o && nat_eq count entry.count)
   ended_is o is entry m = by o is (nat_eq count entry.count) refl (counts entry m)
     where
@@ -191,18 +187,22 @@ module _ (count : ℕ) (tasks : Tasks) (entries : List NamespaceEntry) (counts :
       nothing true = refl
       nothing false = refl
 
-      by : (o : Option NamespaceEntry) → namespace_entry count entries ≡ o → (b : Bool) → nat_eq count entry.count ≡ b → CountsOneMore count tasks entry
+      by : (o : Option NamespaceEntry) → namespace_entry count entries ≡ o → (b : Bool) → nat_eq count entry.count ≡ b
+          → CountsOneMore count tasks entry
           → nat_eq (in_it entry) 0 ≡ (ends_by o && b)
       by None f b e c = other ((found_in entries None f).1 refl entry m) c
       by (Some one) f false e c = other e c ∙ sym (nothing (has_one_task one))
       by (Some one) f true e c =
           let from = (found_in entries (Some one) f).0 one refl in
-          let same_count : entry.count ≡ one.count = sym (eqb-true count entry.count e) ∙ eqb-true count one.count from.1 in
+          let same_count : entry.count ≡ one.count = sym (eqb-true count entry.count e)
+          ∙ eqb-true count one.count from.1 in
           let here = (counts one from.0).inside ∙ ap (λ b. in_it one + cond b 1 0) from.1 in
-          let so : one.tasks ≡ in_it entry + 1 = here ∙ ap (λ n. times (λ (task : Task ℕ). nat_eq (counted n) task.namespace) tasks + 1) (sym same_count) in
+          let so : one.tasks ≡ in_it entry + 1 = here
+          ∙ ap (λ n. times (λ (task : Task ℕ). nat_eq (counted n) task.namespace) tasks + 1) (sym same_count) in
           ends_when (nat_le one.tasks 1) refl so
         where
-          ends_when : (b : Bool) → nat_le one.tasks 1 ≡ b → one.tasks ≡ in_it entry + 1 → nat_eq (in_it entry) 0 ≡ (b && true)
+          ends_when : (b : Bool) → nat_le one.tasks 1 ≡ b → one.tasks ≡ in_it entry + 1
+              → nat_eq (in_it entry) 0 ≡ (b && true)
           ends_when true l so =
               let few = leb-true one.tasks 1 l in
               let zero : in_it entry ≡ 0 = omega (arith, few, so) in eq-eqb (in_it entry) 0 zero
@@ -215,26 +215,33 @@ module _ (count : ℕ) (tasks : Tasks) (entries : List NamespaceEntry) (counts :
   abbrev new : List NamespaceEntry
   new = with_one_task_less count entries
 
-  new_counts : (o : Option NamespaceEntry) → namespace_entry count entries ≡ o → (entry : NamespaceEntry) → Among entry (entries_left count entries o) → entry.tasks ≡ in_it entry
+  new_counts : (o : Option NamespaceEntry) → namespace_entry count entries ≡ o → (entry : NamespaceEntry)
+      → Among entry (entries_left count entries o) → entry.tasks ≡ in_it entry
   new_counts None f entry m =
       let c = counts entry m in
-      let same = c.inside ∙ ap (λ b. in_it entry + cond b 1 0) ((found_in entries None f).1 refl entry m) in omega (arith, same)
+      let same = c.inside ∙ ap (λ b. in_it entry + cond b 1 0) ((found_in entries None f).1 refl entry m) in omega
+      (arith, same)
   new_counts (Some one) f entry m = by (has_one_task one) m
     where
-      by : (b : Bool) → Among entry (cond b (filter (λ (other : NamespaceEntry). not (nat_eq count other.count)) entries) (map (left_if count) entries)) → entry.tasks ≡ in_it entry
+      by : (b : Bool) → Among entry (cond b
+          (filter (λ (other : NamespaceEntry). not (nat_eq count other.count)) entries) (map (left_if count) entries))
+          → entry.tasks ≡ in_it entry
       by true n =
           let from = among-from_filter (λ (other : NamespaceEntry). not (nat_eq count other.count)) entries entry n in
           let c = counts entry from.0 in
-          let same = c.inside ∙ ap (λ b. in_it entry + cond b 1 0) (turned (nat_eq count entry.count) from.1) in omega (arith, same)
+          let same = c.inside ∙ ap (λ b. in_it entry + cond b 1 0) (turned (nat_eq count entry.count) from.1) in omega
+          (arith, same)
         where
           turned : (b : Bool) → not b ≡ true → b ≡ false
           turned true e = absurd (true≢false (sym e))
           turned false e = refl
       by false n =
           let from = among-from_map (left_if count) entries entry n in
-          subst (λ (e : NamespaceEntry). e.tasks ≡ in_it e) (sym from.2) (less from.0 (nat_eq count from.0.count) (counts from.0 from.1).inside)
+          subst (λ (e : NamespaceEntry). e.tasks ≡ in_it e) (sym from.2)
+          (less from.0 (nat_eq count from.0.count) (counts from.0 from.1).inside)
         where
-          less : (e : NamespaceEntry) (b : Bool) → e.tasks ≡ in_it e + cond b 1 0 → (cond b (one_task_less e) e).tasks ≡ in_it (cond b (one_task_less e) e)
+          less : (e : NamespaceEntry) (b : Bool) → e.tasks ≡ in_it e + cond b 1 0
+              → (cond b (one_task_less e) e).tasks ≡ in_it (cond b (one_task_less e) e)
           less e true c = omega (arith, c)
           less e false c = omega (arith, c)
 
@@ -246,20 +253,29 @@ module _ (count : ℕ) (tasks : Tasks) (entries : List NamespaceEntry) (counts :
       })
 
   -- the namespaces that still have tasks are those of the entries
-  module _ (world : World ℕ) (same_tasks : world.tasks ≡ tasks) (same_namespaces : world.namespaces ≡ map namespace_of entries) where
-    counted_tasks : (number : ℕ) (all : Tasks) → list_any (λ (task : Task ℕ). nat_eq number task.namespace) all ≡ nat_lt 0 (times (λ (task : Task ℕ). nat_eq number task.namespace) all)
+  module _ (world : World ℕ) (same_tasks : world.tasks ≡ tasks)
+      (same_namespaces : world.namespaces ≡ map namespace_of entries) where
+    counted_tasks : (number : ℕ) (all : Tasks)
+        → list_any (λ (task : Task ℕ). nat_eq number task.namespace) all
+        ≡ nat_lt 0 (times (λ (task : Task ℕ). nat_eq number task.namespace) all)
     counted_tasks number [] = refl
     counted_tasks number (task ∷ all) = by (nat_eq number task.namespace) (counted_tasks number all)
       where
-        by : (b : Bool) → list_any (λ (task : Task ℕ). nat_eq number task.namespace) all ≡ nat_lt 0 (times (λ (task : Task ℕ). nat_eq number task.namespace) all)
-            → (b || list_any (λ (task : Task ℕ). nat_eq number task.namespace) all) ≡ nat_lt 0 (cond b 1 0 + times (λ (task : Task ℕ). nat_eq number task.namespace) all)
+        by : (b : Bool) → list_any (λ (task : Task ℕ). nat_eq number task.namespace) all
+            ≡ nat_lt 0 (times (λ (task : Task ℕ). nat_eq number task.namespace) all)
+            → (b || list_any (λ (task : Task ℕ). nat_eq number task.namespace) all)
+            ≡ nat_lt 0 (cond b 1 0 + times (λ (task : Task ℕ). nat_eq number task.namespace) all)
         by true e = sym (lt-ltb 0 (1 + times (λ (task : Task ℕ). nat_eq number task.namespace) all) (omega arith))
-        by false e = e ∙ ap (nat_lt 0) (let same : times (λ (task : Task ℕ). nat_eq number task.namespace) all ≡ 0 + times (λ (task : Task ℕ). nat_eq number task.namespace) all = omega arith in same)
+        by false e = e ∙ ap (nat_lt 0)
+            (let same : times (λ (task : Task ℕ). nat_eq number task.namespace) all
+            ≡ 0 + times (λ (task : Task ℕ). nat_eq number task.namespace) all = omega arith in same)
 
-    pub has_tasks_is : (entry : NamespaceEntry) → Among entry entries → has_tasks nat_eq world (namespace_of entry) ≡ not (ends && nat_eq count entry.count)
+    pub has_tasks_is : (entry : NamespaceEntry) → Among entry entries
+        → has_tasks nat_eq world (namespace_of entry) ≡ not (ends && nat_eq count entry.count)
     has_tasks_is entry m =
         ap (list_any (λ (task : Task ℕ). nat_eq (counted entry.count) task.namespace)) same_tasks
-        ∙ counted_tasks (counted entry.count) tasks ∙ positive (in_it entry) ∙ ap not (ended_is (namespace_entry count entries) refl entry m)
+        ∙ counted_tasks (counted entry.count) tasks ∙ positive (in_it entry)
+        ∙ ap not (ended_is (namespace_entry count entries) refl entry m)
 
     pub namespaces_are : filter (has_tasks nat_eq world) world.namespaces ≡ map namespace_of new
     namespaces_are =
@@ -267,16 +283,24 @@ module _ (count : ℕ) (tasks : Tasks) (entries : List NamespaceEntry) (counts :
         ∙ filter-at entries (λ entry m. has_tasks_is entry m)
         ∙ by (namespace_entry count entries)
       where
-        filter-at : (all : List NamespaceEntry) → ((entry : NamespaceEntry) → Among entry all → has_tasks nat_eq world (namespace_of entry) ≡ not (ends && nat_eq count entry.count))
-            → filter (has_tasks nat_eq world) (map namespace_of all) ≡ map namespace_of (filter (λ (entry : NamespaceEntry). not (ends && nat_eq count entry.count)) all)
+        filter-at : (all : List NamespaceEntry)
+            → ((entry : NamespaceEntry) → Among entry all
+            → has_tasks nat_eq world (namespace_of entry) ≡ not (ends && nat_eq count entry.count))
+            → filter (has_tasks nat_eq world) (map namespace_of all)
+            ≡ map namespace_of (filter (λ (entry : NamespaceEntry). not (ends && nat_eq count entry.count)) all)
         filter-at [] each = refl
         filter-at (x ∷ xs) each =
-            ap (λ b. cond b (namespace_of x ∷ filter (has_tasks nat_eq world) (map namespace_of xs)) (filter (has_tasks nat_eq world) (map namespace_of xs))) (each x (inl refl))
+            ap (λ b. cond b (namespace_of x ∷ filter (has_tasks nat_eq world) (map namespace_of xs))
+            (filter (has_tasks nat_eq world) (map namespace_of xs))) (each x (inl refl))
             ∙ one (not (ends && nat_eq count x.count)) (filter-at xs (λ e n. each e (inr n)))
           where
-            one : (b : Bool) → filter (has_tasks nat_eq world) (map namespace_of xs) ≡ map namespace_of (filter (λ (entry : NamespaceEntry). not (ends && nat_eq count entry.count)) xs)
-                → cond b (namespace_of x ∷ filter (has_tasks nat_eq world) (map namespace_of xs)) (filter (has_tasks nat_eq world) (map namespace_of xs))
-                ≡ map namespace_of (cond b (x ∷ filter (λ (entry : NamespaceEntry). not (ends && nat_eq count entry.count)) xs) (filter (λ (entry : NamespaceEntry). not (ends && nat_eq count entry.count)) xs))
+            one : (b : Bool) → filter (has_tasks nat_eq world) (map namespace_of xs)
+                ≡ map namespace_of (filter (λ (entry : NamespaceEntry). not (ends && nat_eq count entry.count)) xs)
+                → cond b (namespace_of x ∷ filter (has_tasks nat_eq world) (map namespace_of xs))
+                (filter (has_tasks nat_eq world) (map namespace_of xs))
+                ≡ map namespace_of (cond b (x ∷ filter
+                (λ (entry : NamespaceEntry). not (ends && nat_eq count entry.count)) xs)
+                (filter (λ (entry : NamespaceEntry). not (ends && nat_eq count entry.count)) xs))
             one true later = ap (λ rest. namespace_of x ∷ rest) later
             one false later = later
 
@@ -289,14 +313,18 @@ module _ (count : ℕ) (tasks : Tasks) (entries : List NamespaceEntry) (counts :
             one false = refl
 
         by : (o : Option NamespaceEntry)
-            → map namespace_of (filter (λ (entry : NamespaceEntry). not (ends_by o && nat_eq count entry.count)) entries) ≡ map namespace_of (entries_left count entries o)
+            → map namespace_of (filter (λ (entry : NamespaceEntry). not
+            (ends_by o && nat_eq count entry.count)) entries) ≡ map namespace_of (entries_left count entries o)
         by None = ap (map namespace_of) (filter_all (λ (entry : NamespaceEntry). true) entries (λ entry m. refl))
         by (Some one) = chosen (has_one_task one)
           where
-            chosen : (b : Bool) → map namespace_of (filter (λ (entry : NamespaceEntry). not (b && nat_eq count entry.count)) entries)
-                ≡ map namespace_of (cond b (filter (λ (other : NamespaceEntry). not (nat_eq count other.count)) entries) (map (left_if count) entries))
+            chosen : (b : Bool) → map namespace_of
+                (filter (λ (entry : NamespaceEntry). not (b && nat_eq count entry.count)) entries)
+                ≡ map namespace_of (cond b (filter (λ (other : NamespaceEntry). not (nat_eq count other.count)) entries)
+                (map (left_if count) entries))
             chosen true = refl
-            chosen false = ap (map namespace_of) (filter_all (λ (entry : NamespaceEntry). true) entries (λ entry m. refl)) ∙ left_same entries
+            chosen false = ap (map namespace_of)
+                (filter_all (λ (entry : NamespaceEntry). true) entries (λ entry m. refl)) ∙ left_same entries
 
     -- the mounts of the namespace that ends are those of namespaces without tasks
     pub in_ended_is : (mount : Mount ℕ) → list_all (is_listed nat_eq world) (option_to_list mount.namespace) ≡ true
@@ -308,13 +336,16 @@ module _ (count : ℕ) (tasks : Tasks) (entries : List NamespaceEntry) (counts :
         nothing false = refl
 
         by : (o : Option ℕ) → list_all (is_listed nat_eq world) (option_to_list o) ≡ true
-            → holds_of (λ number. not (list_any (λ namespace. nat_eq number namespace.number && has_tasks nat_eq world namespace) world.namespaces)) o
+            → holds_of (λ number. not (list_any
+            (λ namespace. nat_eq number namespace.number && has_tasks nat_eq world namespace) world.namespaces)) o
             ≡ (ends && holds_of (nat_eq (counted count)) o)
         by None h = sym (nothing ends)
         by (Some number) h =
             let there = (and_parts (is_listed nat_eq world number) true h).0 in
-            let from = among-from_map (λ (n : Namespace ℕ). n.number) world.namespaces number (among_numbers number (map (λ (n : Namespace ℕ). n.number) world.namespaces) there) in
-            let entry = among-from_map namespace_of entries from.0 (subst (λ all. Among from.0 all) same_namespaces from.1) in
+            let from = among-from_map (λ (n : Namespace ℕ). n.number) world.namespaces number
+            (among_numbers number (map (λ (n : Namespace ℕ). n.number) world.namespaces) there) in
+            let entry = among-from_map namespace_of entries from.0
+            (subst (λ all. Among from.0 all) same_namespaces from.1) in
             let is : number ≡ counted entry.0.count = from.2 ∙ ap (λ (n : Namespace ℕ). n.number) entry.2 in
             ap not (lives number entry.0 entry.1 from.0 from.1 is entry.2 (ends && nat_eq count entry.0.count) refl)
             ∙ not_twice (ends && nat_eq count entry.0.count)
@@ -324,18 +355,25 @@ module _ (count : ℕ) (tasks : Tasks) (entries : List NamespaceEntry) (counts :
             not_twice true = refl
             not_twice false = refl
 
-            lives : (number : ℕ) (entry : NamespaceEntry) → Among entry entries → (namespace : Namespace ℕ) → Among namespace world.namespaces
-                → number ≡ counted entry.count → namespace ≡ namespace_of entry → (b : Bool) → (ends && nat_eq count entry.count) ≡ b
-                → list_any (λ namespace. nat_eq number namespace.number && has_tasks nat_eq world namespace) world.namespaces ≡ not b
+            lives : (number : ℕ) (entry : NamespaceEntry) → Among entry entries → (namespace : Namespace ℕ)
+                → Among namespace world.namespaces
+                → number ≡ counted entry.count → namespace ≡ namespace_of entry → (b : Bool)
+                → (ends && nat_eq count entry.count) ≡ b
+                → list_any (λ namespace. nat_eq number namespace.number
+                && has_tasks nat_eq world namespace) world.namespaces ≡ not b
             lives number entry m namespace n is same false e =
                 any_passes (λ x. nat_eq number x.number && has_tasks nat_eq world x) world.namespaces namespace n
-                (ap (λ b. b && has_tasks nat_eq world namespace) (eq-eqb number namespace.number (is ∙ ap (λ (x : Namespace ℕ). x.number) (sym same)))
+                (ap (λ b. b && has_tasks nat_eq world namespace)
+                (eq-eqb number namespace.number (is ∙ ap (λ (x : Namespace ℕ). x.number) (sym same)))
                 ∙ ap (has_tasks nat_eq world) same ∙ has_tasks_is entry m ∙ ap not e)
             lives number entry m namespace n is same true e =
-                none_passes (λ x. nat_eq number x.number && has_tasks nat_eq world x) world.namespaces (λ x k. one x (nat_eq number x.number) refl)
+                none_passes (λ x. nat_eq number x.number && has_tasks nat_eq world x) world.namespaces
+                (λ x k. one x (nat_eq number x.number) refl)
               where
-                one : (x : Namespace ℕ) (b : Bool) → nat_eq number x.number ≡ b → (b && has_tasks nat_eq world x) ≡ false
+                one : (x : Namespace ℕ) (b : Bool) → nat_eq number x.number ≡ b
+                    → (b && has_tasks nat_eq world x) ≡ false
                 one x false f = refl
                 one x true f =
-                    ap (λ k. list_any (λ (task : Task ℕ). nat_eq k task.namespace) world.tasks) (sym (eqb-true number x.number f) ∙ is)
+                    ap (λ k. list_any (λ (task : Task ℕ). nat_eq k task.namespace) world.tasks)
+                    (sym (eqb-true number x.number f) ∙ is)
                     ∙ has_tasks_is entry m ∙ ap not e

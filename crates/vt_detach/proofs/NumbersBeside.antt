@@ -25,16 +25,19 @@ below_none k slot (None ∷ rest) low = below_none k (slot + 1) rest (omega arit
 below_none k slot (Some inode ∷ rest) low =
     (λ i. ne_eqb k slot (λ e. omega (arith, e, low)) i || below_none k (slot + 1) rest (omega arith) i)
 
-among-filled : (slot j : ℕ) (slots : Slots) → is_among nat_eq (slot + j) (filled_from slot slots) ≡ is_some (slice_index_or slots j None)
+among-filled : (slot j : ℕ) (slots : Slots)
+    → is_among nat_eq (slot + j) (filled_from slot slots) ≡ is_some (slice_index_or slots j None)
 among-filled slot j [] = refl
 among-filled slot zero (None ∷ rest) = below_none (slot + 0) (slot + 1) rest (omega arith)
-among-filled slot zero (Some inode ∷ rest) = ap (λ b. b || is_among nat_eq (slot + 0) (filled_from (slot + 1) rest)) (eq-eqb (slot + 0) slot (omega arith))
+among-filled slot zero (Some inode ∷ rest) = ap (λ b. b || is_among nat_eq (slot + 0) (filled_from (slot + 1) rest))
+    (eq-eqb (slot + 0) slot (omega arith))
 among-filled slot (suc j) (None ∷ rest) =
     let next : slot + suc j ≡ (slot + 1) + j = omega arith in
     ap (λ n. is_among nat_eq n (filled_from (slot + 1) rest)) next ∙ among-filled (slot + 1) j rest
 among-filled slot (suc j) (Some inode ∷ rest) =
     let next : slot + suc j ≡ (slot + 1) + j = omega arith in
-    ap (λ b. b || is_among nat_eq (slot + suc j) (filled_from (slot + 1) rest)) (ne_eqb (slot + suc j) slot (λ e. omega (arith, e)))
+    ap (λ b. b || is_among nat_eq (slot + suc j) (filled_from (slot + 1) rest))
+    (ne_eqb (slot + suc j) slot (λ e. omega (arith, e)))
     ∙ ap (λ n. is_among nat_eq n (filled_from (slot + 1) rest)) next ∙ among-filled (slot + 1) j rest
 
 module _ (f : ℕ) where
@@ -44,14 +47,16 @@ module _ (f : ℕ) where
       (λ e. eq-eqb (exchanged f a) b (ap (exchanged f) (eqb-true a (exchanged f b) e) ∙ exchanged_back f b))
       (λ e. eq-eqb a (exchanged f b) (sym (exchanged_back f a) ∙ ap (exchanged f) (eqb-true (exchanged f a) b e)))
 
-  among-numbers : (number : ℕ) (list : List ℕ) → is_among nat_eq number (map (exchanged f) list) ≡ is_among nat_eq (exchanged f number) list
+  among-numbers : (number : ℕ) (list : List ℕ)
+      → is_among nat_eq number (map (exchanged f) list) ≡ is_among nat_eq (exchanged f number) list
   among-numbers number [] = refl
   among-numbers number (n ∷ rest) = λ i. same_test number n i || among-numbers number rest i
 
   apart-numbers : (list : List ℕ) → any_pair nat_eq list ≡ false → any_pair nat_eq (map (exchanged f) list) ≡ false
   apart-numbers [] e = refl
   apart-numbers (n ∷ rest) e =
-      (λ i. (among-numbers (exchanged f n) rest ∙ ap (λ k. is_among nat_eq k rest) (exchanged_back f n) ∙ first (is_among nat_eq n rest) _ e) i
+      (λ i. (among-numbers (exchanged f n) rest ∙ ap (λ k. is_among nat_eq k rest) (exchanged_back f n)
+      ∙ first (is_among nat_eq n rest) _ e) i
       || apart-numbers rest (second (is_among nat_eq n rest) _ e) i)
     where
       first : (a b : Bool) → (a || b) ≡ false → a ≡ false
@@ -71,7 +76,8 @@ numbers_listed entry number =
     ∙ among-filled 0 slot entry.tree.slots
     ∙ by (slice_index_or entry.tree.slots slot None)
   where
-    by : (o : Option (Inode ℕ)) → is_some o ≡ is_some (node_in (option_map (renamed_inode (exchanged entry.count) (exchanged entry.count)) o))
+    by : (o : Option (Inode ℕ)) → is_some o
+        ≡ is_some (node_in (option_map (renamed_inode (exchanged entry.count) (exchanged entry.count)) o))
     by None = refl
     by (Some inode) = refl
 
@@ -80,7 +86,8 @@ numbers_listed entry number =
 apart-filled : (slot : ℕ) (slots : Slots) → any_pair nat_eq (filled_from slot slots) ≡ false
 apart-filled slot [] = refl
 apart-filled slot (None ∷ rest) = apart-filled (slot + 1) rest
-apart-filled slot (Some inode ∷ rest) = (λ i. below_none slot (slot + 1) rest (omega arith) i || apart-filled (slot + 1) rest i)
+apart-filled slot (Some inode ∷ rest) =
+    (λ i. below_none slot (slot + 1) rest (omega arith) i || apart-filled (slot + 1) rest i)
 
 pub numbers_apart_each : NumbersAreApart
 numbers_apart_each entry = apart-numbers entry.count (filled_from 0 entry.tree.slots) (apart-filled 0 entry.tree.slots)
@@ -91,21 +98,39 @@ pub found_by_number : FilesystemsAreFound
 found_by_number fs count = found fs
   where
     nowhere : no_filesystem (counted count) ≡ filesystem_seen (no_entry count)
-    nowhere = λ i. record { number = counted count; files = record { tree = record { root = sym (exchanged_back count (counted count)) i; node = λ n. None }; numbers = [] }; overlay = None; change = 0 }
+    nowhere = λ i. record {
+      number = counted count;
+      files = record {
+        tree = record {
+          root = sym
+              (exchanged_back count (counted count)) i;
+          node = λ n. None;
+        };
+        numbers = [];
+      };
+      overlay = None;
+      change = 0;
+    }
 
     found : (fs : Filesystems)
-        → unwrap_or (find (λ (filesystem : Filesystem ℕ). nat_eq (counted count) filesystem.number) (filesystems_seen fs)) (no_filesystem (counted count))
+        → unwrap_or (find (λ (filesystem : Filesystem ℕ). nat_eq (counted count) filesystem.number)
+        (filesystems_seen fs)) (no_filesystem (counted count))
         ≡ filesystem_seen (unwrap_or (entry_of fs count) (no_entry count))
     found [] = nowhere
     found (x ∷ fs) =
-        ap (λ b. unwrap_or (cond b (Some (filesystem_seen x)) (find (λ (filesystem : Filesystem ℕ). nat_eq (counted count) filesystem.number) (filesystems_seen fs))) (no_filesystem (counted count)))
+        ap (λ b. unwrap_or (cond b (Some (filesystem_seen x))
+        (find (λ (filesystem : Filesystem ℕ). nat_eq (counted count) filesystem.number) (filesystems_seen fs)))
+        (no_filesystem (counted count)))
         (counted_test count x.count)
         ∙ by (nat_eq count x.count) (found fs)
       where
         by : (b : Bool)
-            → unwrap_or (find (λ (filesystem : Filesystem ℕ). nat_eq (counted count) filesystem.number) (filesystems_seen fs)) (no_filesystem (counted count))
+            → unwrap_or (find (λ (filesystem : Filesystem ℕ). nat_eq (counted count) filesystem.number)
+            (filesystems_seen fs)) (no_filesystem (counted count))
             ≡ filesystem_seen (unwrap_or (entry_of fs count) (no_entry count))
-            → unwrap_or (cond b (Some (filesystem_seen x)) (find (λ (filesystem : Filesystem ℕ). nat_eq (counted count) filesystem.number) (filesystems_seen fs))) (no_filesystem (counted count))
+            → unwrap_or (cond b (Some (filesystem_seen x))
+            (find (λ (filesystem : Filesystem ℕ). nat_eq (counted count) filesystem.number) (filesystems_seen fs)))
+            (no_filesystem (counted count))
             ≡ filesystem_seen (unwrap_or (cond b (Some x) (entry_of fs count)) (no_entry count))
         by true rest = refl
         by false rest = rest

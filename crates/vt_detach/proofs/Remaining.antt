@@ -11,12 +11,12 @@ use Rattle.vt_count_laws.specs.Using.{Exchanges}
 use Rattle.vt_fs.specs.FilesystemsValue.{FilesystemEntry, Filesystems, Shown, filesystem_seen, shown, shown_entry}
 use Rattle.vt_letting_go.specs.Counts.{times}
 use Rattle.vt_letting_go.specs.OneByOne.{Inode}
-use Rattle.vt_letting_go.proofs.Lists.{Among, all_from_among, all_pass, among-from_map, among-map, among_from_all, filter_all, map_alike, map_twice, passes}
+use Rattle.vt_letting_go.proofs.Lists.{Among, all_from_among, among-from_map, among-map, among_from_all, filter_all, map_alike, map_twice, passes}
 use Rattle.vt_location.specs.Numbers.{counted}
 use Rattle.vt_mount.specs.MountsValue.{MountEntry, mounts_in}
 use Rattle.vt_tasks.specs.TasksValue.{Tasks}
 use Rattle.vt_world_laws.proofs.RaisedInUse.{worlds_are_in_use}
-use Rattle.vt_detach.specs.Held.{CountsItsMounts, CountsItsUses, CountsWhatIsInIt, IsHeld, is_ungrouped}
+use Rattle.vt_detach.specs.Held.{CountsItsMounts, CountsItsUses, CountsWhatIsInIt, IsHeld}
 use Rattle.vt_detach.specs.Uses.{kept}
 use Rattle.vt_detach.specs.WorldValue.{WorldValue, world_of}
 use Rattle.vt_detach.proofs.Bridging.{IsSwept}
@@ -29,9 +29,11 @@ use Rattle.vt_detach.proofs.Staying.{IsDone, after, world_is_plain}
 abbrev pub remade : WorldValue → List MountEntry → Filesystems → Tasks → WorldValue
 remade value mounts filesystems tasks = record value { mounts = mounts; filesystems = filesystems; tasks = tasks }
 
-module _ (value : WorldValue) (whole : IsHeld value) (tasks : Tasks) (more less : List Use) (moves : Moves value tasks more less)
+module _ (value : WorldValue) (whole : IsHeld value) (tasks : Tasks) (more less : List Use)
+    (moves : Moves value tasks more less)
     (mounts : List MountEntry) (filesystems : Filesystems)
-    (is_kept : kept mounts filesystems ≡ moved_kept (world_of value) more less (kept value.mounts value.filesystems)) where
+    (is_kept : kept mounts filesystems
+    ≡ moved_kept (world_of value) more less (kept value.mounts value.filesystems)) where
   abbrev next : World ℕ
   next = world_of (after value tasks)
 
@@ -45,10 +47,12 @@ module _ (value : WorldValue) (whole : IsHeld value) (tasks : Tasks) (more less 
   lost = inodes_of_uses (world_of value) less
 
   pub entries_are : mounts ≡ map moved_entry value.mounts
-  entries_are = ap (λ k. k.mounts) is_kept ∙ mounts_moved (world_of value) more less (kept value.mounts value.filesystems)
+  entries_are = ap (λ k. k.mounts) is_kept
+      ∙ mounts_moved (world_of value) more less (kept value.mounts value.filesystems)
 
   pub shown_are : shown filesystems ≡ map (exchanged_shown gained lost) (shown value.filesystems)
-  shown_are = ap (λ k. k.filesystems) is_kept ∙ filesystems_moved (world_of value) more less (kept value.mounts value.filesystems)
+  shown_are = ap (λ k. k.filesystems) is_kept
+      ∙ filesystems_moved (world_of value) more less (kept value.mounts value.filesystems)
 
   pub same_mount : (entry : MountEntry) → (moved_entry entry).mount ≡ entry.mount
   same_mount entry = (released_counts less (folded hold_if entry more)).mount ∙ (held_counts more entry).mount
@@ -59,18 +63,21 @@ module _ (value : WorldValue) (whole : IsHeld value) (tasks : Tasks) (more less 
       ∙ map_alike (λ entry. (moved_entry entry).mount) (λ entry. entry.mount) value.mounts (λ entry m. same_mount entry)
 
   -- each entry was one
-  pub entry_was : (entry : MountEntry) → Among entry mounts → (was : MountEntry) × Among was value.mounts × (entry ≡ moved_entry was)
+  pub entry_was : (entry : MountEntry) → Among entry mounts
+      → (was : MountEntry) × Among was value.mounts × (entry ≡ moved_entry was)
   entry_was entry m = among-from_map moved_entry value.mounts entry (subst (λ all. Among entry all) entries_are m)
 
   pub shown_was : (entry : FilesystemEntry) → Among entry filesystems
-      → (was : FilesystemEntry) × Among was value.filesystems × (shown_entry entry ≡ exchanged_shown gained lost (shown_entry was))
+      → (was : FilesystemEntry) × Among was value.filesystems
+      × (shown_entry entry ≡ exchanged_shown gained lost (shown_entry was))
   shown_was entry m =
       let from = among-from_map (exchanged_shown gained lost) (shown value.filesystems) (shown_entry entry)
       (subst (λ all. Among (shown_entry entry) all) shown_are (among-map shown_entry filesystems entry m)) in
       let first = among-from_map shown_entry value.filesystems from.0 from.1 in
       (first.0, first.1, from.2 ∙ ap (exchanged_shown gained lost) first.2)
 
-  pub same_numbers : map (λ f. f.number) (world_of value).filesystems ≡ map (λ (entry : FilesystemEntry). counted entry.count) filesystems
+  pub same_numbers : map (λ f. f.number) (world_of value).filesystems
+      ≡ map (λ (entry : FilesystemEntry). counted entry.count) filesystems
   same_numbers =
       map_twice (λ (f : Filesystem ℕ). f.number) filesystem_seen value.filesystems
       ∙ sym (map_twice (λ (one : Shown). counted one.count) shown_entry value.filesystems)
@@ -85,13 +92,15 @@ module _ (value : WorldValue) (whole : IsHeld value) (tasks : Tasks) (more less 
         ap (without_dead_filesystems nat_eq) stay
         ∙ ap (λ all. record next { filesystems = all })
         (filter_all (filesystem_lives nat_eq next) next.filesystems (λ f m.
-        passes (filesystem_lives nat_eq (world_of value)) (world_of value).filesystems (worlds_are_in_use (world_of value) whole.in_world).filesystems f m))
+        passes (filesystem_lives nat_eq (world_of value)) (world_of value).filesystems
+        (worlds_are_in_use (world_of value) whole.in_world).filesystems f m))
 
     pub remains_swept : IsSwept value next gained lost (remade value mounts filesystems tasks)
     remains_swept = record {
       plain = world_is_plain value;
       mounts = ap (λ (world : World ℕ). world.mounts) living_is ∙ sym same_mounts;
-      numbers = ap (λ (world : World ℕ). map (λ (f : Filesystem ℕ). f.number) world.filesystems) living_is ∙ same_numbers;
+      numbers = ap (λ (world : World ℕ). map (λ (f : Filesystem ℕ). f.number) world.filesystems) living_is
+          ∙ same_numbers;
       entries = λ entry m. let from = shown_was entry m in record {
         was = from.0;
         among = from.1;
@@ -105,29 +114,34 @@ module _ (value : WorldValue) (whole : IsHeld value) (tasks : Tasks) (more less 
       tasks = refl;
     }
 
-    pub remains_counted : ((namespace : ℕ) → times (λ task. nat_eq namespace task.namespace) tasks ≡ times (λ task. nat_eq namespace task.namespace) value.tasks)
+    pub remains_counted : ((namespace : ℕ)
+        → times (λ task. nat_eq namespace task.namespace) tasks
+        ≡ times (λ task. nat_eq namespace task.namespace) value.tasks)
         → CountsBeside (remade value mounts filesystems tasks)
     remains_counted inside = record {
-      ungrouped = all_pass (λ entry. is_ungrouped entry.mount.propagation) mounts (λ entry m. let from = entry_was entry m in
-          ap (λ (one : MountEntry). is_ungrouped one.mount.propagation) from.2
-          ∙ ap (λ (mount : Mount ℕ). is_ungrouped mount.propagation) (same_mount from.0)
-          ∙ passes (λ one. is_ungrouped one.mount.propagation) value.mounts whole.ungrouped from.0 from.1);
-      uses = all_from_among (CountsItsUses (world_of (remade value mounts filesystems tasks))) mounts (λ entry m. let from = entry_was entry m in
-          let counts = subst (CountsItsUses next) (sym from.2) (entry_counts value whole tasks more less moves from.0 from.1) in
+      uses = all_from_among (CountsItsUses (world_of (remade value mounts filesystems tasks))) mounts
+          (λ entry m. let from = entry_was entry m in
+          let counts = subst (CountsItsUses next) (sym from.2)
+          (entry_counts value whole tasks more less moves from.0 from.1) in
           record { uses = counts.uses; writers = counts.writers });
       mounts = λ entry m. let from = shown_was entry m in
           ap (λ (one : Shown). one.mounts) from.2
           ∙ (among_from_all (CountsItsMounts (world_of value)) value.filesystems whole.filesystems from.0 from.1).mounts
-          ∙ (λ i. times (λ (mount : Mount ℕ). nat_eq (counted (sym (ap (λ (one : Shown). one.count) from.2) i)) mount.filesystem) (sym same_mounts i));
-      namespaces = all_from_among (CountsWhatIsInIt (world_of (remade value mounts filesystems tasks))) value.namespaces (λ entry m.
+          ∙ (λ i. times (λ (mount : Mount ℕ). nat_eq
+          (counted (sym (ap (λ (one : Shown). one.count) from.2) i)) mount.filesystem) (sym same_mounts i));
+      namespaces = all_from_among (CountsWhatIsInIt (world_of (remade value mounts filesystems tasks))) value.namespaces
+          (λ entry m.
           let was = among_from_all (CountsWhatIsInIt (world_of value)) value.namespaces whole.namespaces entry m in
-          subst (λ all. CountsWhatIsInIt (record (world_of (remade value mounts filesystems tasks)) { mounts = all }) entry) (sym same_mounts) (record {
+          subst (λ all. CountsWhatIsInIt
+          (record (world_of (remade value mounts filesystems tasks)) { mounts = all }) entry) (sym same_mounts)
+          (record {
             tasks = was.tasks ∙ sym (inside (counted entry.count));
           }));
     }
 
     pub remains_done : (name : TaskName) (permit : Permit ℕ) (task : Task ℕ) → IsApplied value name permit task next
-        → ((namespace : ℕ) → times (λ task. nat_eq namespace task.namespace) tasks ≡ times (λ task. nat_eq namespace task.namespace) value.tasks)
+        → ((namespace : ℕ) → times (λ task. nat_eq namespace task.namespace) tasks
+        ≡ times (λ task. nat_eq namespace task.namespace) value.tasks)
         → IsDone value name permit (remade value mounts filesystems tasks)
     remains_done name permit task is inside =
         finished value whole name permit task next is gained lost (remade value mounts filesystems tasks)

@@ -1,4 +1,5 @@
--- The code's world is one of the definitions: the same mounts, namespaces and tasks, and filesystems whose counted inodes are
+-- The code's world is one of the definitions: the same mounts, namespaces and tasks, and filesystems whose counted
+-- inodes are
 -- counted there.
 use Rattle.std.proofs.Common.{◌≡◌, refl, sym, ap, subst, ◌∙◌, ⊎_elim, inl, inr, ℕ, nat_eq, eqb-true, eq-eqb, Bool, true, false, true≢false, cond, List, [], ◌∷◌, map, find, Option, Some, None, is_some, unwrap_or}
 use Rattle.std.specs.List.{list_any}
@@ -21,14 +22,18 @@ use Rattle.vt_detach.proofs.NumbersBeside.{numbers_apart_each, numbers_listed}
 
 -- Filesystems by their numbers
 
-pub found_filesystem : (filesystems : List (Filesystem ℕ)) → any_pair (λ (a b : Filesystem ℕ). nat_eq a.number b.number) filesystems ≡ false
-    → (f : Filesystem ℕ) → Among f filesystems → unwrap_or (find (λ x. nat_eq f.number x.number) filesystems) (no_filesystem f.number) ≡ f
+pub found_filesystem : (filesystems : List (Filesystem ℕ))
+    → any_pair (λ (a b : Filesystem ℕ). nat_eq a.number b.number) filesystems ≡ false
+    → (f : Filesystem ℕ) → Among f filesystems
+    → unwrap_or (find (λ x. nat_eq f.number x.number) filesystems) (no_filesystem f.number) ≡ f
 found_filesystem [] one f m = absurd m
 found_filesystem (first ∷ rest) one f m =
-    let parts = or_parts (list_any (λ b. nat_eq first.number b.number) rest) (any_pair (λ (a b : Filesystem ℕ). nat_eq a.number b.number) rest) one in
+    let parts = or_parts (list_any (λ b. nat_eq first.number b.number) rest)
+    (any_pair (λ (a b : Filesystem ℕ). nat_eq a.number b.number) rest) one in
     by parts.0 (nat_eq f.number first.number) refl m (λ n. found_filesystem rest parts.1 f n)
   where
-    by : list_any (λ b. nat_eq first.number b.number) rest ≡ false → (b : Bool) → nat_eq f.number first.number ≡ b → Among f (first ∷ rest)
+    by : list_any (λ b. nat_eq first.number b.number) rest ≡ false → (b : Bool) → nat_eq f.number first.number ≡ b
+        → Among f (first ∷ rest)
         → (Among f rest → unwrap_or (find (λ x. nat_eq f.number x.number) rest) (no_filesystem f.number) ≡ f)
         → unwrap_or (cond b (Some first) (find (λ x. nat_eq f.number x.number) rest)) (no_filesystem f.number) ≡ f
     by others true e n next =
@@ -42,7 +47,8 @@ found_filesystem (first ∷ rest) one f m =
 -- filesystems with the same numbers are the same, one after the other
 same_filesystems : (filesystems : List (Filesystem ℕ)) (entries : Filesystems)
     → map (λ f. f.number) filesystems ≡ map (λ entry. counted entry.count) entries
-    → ((f : Filesystem ℕ) → Among f filesystems → (entry : FilesystemEntry) → Among entry entries → f.number ≡ counted entry.count
+    → ((f : Filesystem ℕ) → Among f filesystems → (entry : FilesystemEntry) → Among entry entries
+    → f.number ≡ counted entry.count
     → SameFilesystem f (filesystem_seen entry))
     → SameFilesystems filesystems (filesystems_seen entries)
 same_filesystems [] [] numbers same = tt
@@ -50,8 +56,11 @@ same_filesystems [] (entry ∷ entries) numbers same = absurd cc
 same_filesystems (f ∷ filesystems) [] numbers same = absurd cc
 same_filesystems (f ∷ filesystems) (entry ∷ entries) numbers same =
     let heads : f.number ≡ counted entry.count = cc in
-    let tails : map (λ g. g.number) filesystems ≡ map (λ other. counted other.count) entries = cc in
-    (same f (inl refl) entry (inl refl) heads, same_filesystems filesystems entries tails (λ g m other n. same g (inr m) other (inr n)))
+    let tails : map (λ g. g.number) filesystems ≡ map (λ other. counted other.count) entries = cc in (
+      same f (inl refl) entry (inl refl) heads,
+      same_filesystems filesystems entries tails
+          (λ g m other n. same g (inr m) other (inr n)),
+    )
 
 -- What code keeps, against a world of plain filesystems
 pub record ShowsAs (world : World ℕ) (new : WorldValue) : Type 0 where
@@ -72,20 +81,25 @@ module _ (world : World ℕ) (new : WorldValue) (shows : ShowsAs world new) (is_
       by None e = refl
       by (Some overlay) e = absurd (true≢false e)
 
-  same_one : (f : Filesystem ℕ) → Among f world.filesystems → (entry : FilesystemEntry) → Among entry new.filesystems → f.number ≡ counted entry.count
+  same_one : (f : Filesystem ℕ) → Among f world.filesystems → (entry : FilesystemEntry) → Among entry new.filesystems
+      → f.number ≡ counted entry.count
       → SameFilesystem f (filesystem_seen entry)
   same_one f m entry n same =
       let is : IsCounted world f (inodes_seen entry) =
       subst (λ g. IsCounted world g (inodes_seen entry))
-      (ap (filesystem_numbered nat_eq world) (sym same) ∙ found_filesystem world.filesystems is_world.files.one_filesystem f m)
+      (ap (filesystem_numbered nat_eq world) (sym same)
+      ∙ found_filesystem world.filesystems is_world.files.one_filesystem f m)
       (shows.inodes entry n) in
-      let tree_is : f.files.tree ≡ (filesystem_seen entry).files.tree = λ i. record { root = sym is.root i; node = λ number. sym (is.node number) i } in
+      let tree_is : f.files.tree ≡ (filesystem_seen entry).files.tree = λ i.
+      record { root = sym is.root i; node = λ number. sym (is.node number) i } in
       record {
         number = same;
         files = record {
           tree = tree_is;
-          numbers = same_numbers_are_permuted f.files.numbers (filesystem_seen entry).files.numbers is.once (numbers_apart_each entry)
-              (λ number. among_from_all (λ g. ListsNumbers nat_eq g.files) world.filesystems is_world.files.numbers f m number
+          numbers = same_numbers_are_permuted f.files.numbers (filesystem_seen entry).files.numbers is.once
+              (numbers_apart_each entry)
+              (λ number. among_from_all (λ g.
+              ListsNumbers nat_eq g.files) world.filesystems is_world.files.numbers f m number
               ∙ ap (λ tree. is_some (tree.node number)) tree_is ∙ sym (numbers_listed entry number));
         };
         overlay = no_overlay f m;
@@ -112,5 +126,7 @@ module _ (world : World ℕ) (new : WorldValue) (shows : ShowsAs world new) (is_
       → IsCounted (world_of new) (filesystem_seen entry) (inodes_seen entry)
   shown_is_counted entry m is =
       subst (λ f. IsCounted (world_of new) f (inodes_seen entry))
-      (found_filesystem (world_of new).filesystems is.files.one_filesystem (filesystem_seen entry) (among-map filesystem_seen new.filesystems entry m))
-      (same_worlds_count_alike world (world_of new) (counted entry.count) (inodes_seen entry) shown_is_same shows.plain (shows.inodes entry m))
+      (found_filesystem (world_of new).filesystems is.files.one_filesystem (filesystem_seen entry)
+      (among-map filesystem_seen new.filesystems entry m))
+      (same_worlds_count_alike world (world_of new) (counted entry.count) (inodes_seen entry) shown_is_same shows.plain
+      (shows.inodes entry m))

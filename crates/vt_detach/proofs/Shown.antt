@@ -13,7 +13,8 @@ counted_eq a b = by (nat_eq a b) refl
   where
     by : (t : Bool) → nat_eq a b ≡ t → nat_eq (counted a) (counted b) ≡ t
     by true e = eq-eqb (counted a) (counted b) (ap counted (eqb-true a b e))
-    by false e = ne_eqb (counted a) (counted b) (λ same. true≢false (sym (eq-eqb a b (let s : 4 * a + 1 ≡ 4 * b + 1 = same in omega (arith, s))) ∙ e))
+    by false e = ne_eqb (counted a) (counted b)
+        (λ same. true≢false (sym (eq-eqb a b (let s : 4 * a + 1 ≡ 4 * b + 1 = same in omega (arith, s))) ∙ e))
 
 pub counted_eq_back : (a b : ℕ) → nat_eq (counted a) (counted b) ≡ nat_eq b a
 counted_eq_back a b = counted_eq a b ∙ by (nat_eq a b) refl
@@ -24,36 +25,47 @@ counted_eq_back a b = counted_eq a b ∙ by (nat_eq a b) refl
 
 -- uses of an inode that come and go
 changed_inodes : (count : ℕ) (change : Inodes ℕ → Inodes ℕ) (changed_so : ℕ → Inodes ℕ → Inodes ℕ)
-    → ((other : ℕ) (inodes : Inodes ℕ) → changed_so (counted other) inodes ≡ cond (nat_eq count other) (change inodes) inodes)
-    → (all : List Shown) → shown_with count change all ≡ map (λ (one : Shown). record one { inodes = changed_so (counted one.count) one.inodes }) all
+    → ((other : ℕ) (inodes : Inodes ℕ)
+    → changed_so (counted other) inodes ≡ cond (nat_eq count other) (change inodes) inodes)
+    → (all : List Shown) → shown_with count change all
+    ≡ map (λ (one : Shown). record one { inodes = changed_so (counted one.count) one.inodes }) all
 changed_inodes count change changed_so same [] = refl
 changed_inodes count change changed_so same (one ∷ rest) =
-    λ i. (by (nat_eq count one.count) ∙ (λ j. record one { inodes = sym (same one.count one.inodes) j })) i ∷ changed_inodes count change changed_so same rest i
+    λ i. (by (nat_eq count one.count) ∙ (λ j. record one { inodes = sym (same one.count one.inodes) j })) i
+    ∷ changed_inodes count change changed_so same rest i
   where
-    by : (b : Bool) → cond b (record one { inodes = change one.inodes }) one ≡ record one { inodes = cond b (change one.inodes) one.inodes }
+    by : (b : Bool) → cond b (record one { inodes = change one.inodes }) one
+        ≡ record one { inodes = cond b (change one.inodes) one.inodes }
     by true = refl
     by false = refl
 
-pub pins : (count number : ℕ) (old new : Filesystems) → ChangesInodes count (λ inodes. pinned nat_eq inodes number) old new
+pub pins : (count number : ℕ) (old new : Filesystems)
+    → ChangesInodes count (λ inodes. pinned nat_eq inodes number) old new
     → shown new ≡ pinned_in (counted count, number) (shown old)
 pins count number old new changes =
     changes.changed
-    ∙ changed_inodes count (λ inodes. pinned nat_eq inodes number) (λ filesystem inodes. pinned_if filesystem inodes (counted count, number))
+    ∙ changed_inodes count (λ inodes. pinned nat_eq inodes number)
+    (λ filesystem inodes. pinned_if filesystem inodes (counted count, number))
     (λ other inodes. ap (λ b. cond b (pinned nat_eq inodes number) inodes) (counted_eq_back other count)) (shown old)
 
-pub unpins : (count number : ℕ) (old new : Filesystems) → ChangesInodes count (λ inodes. unpinned nat_eq inodes number) old new
+pub unpins : (count number : ℕ) (old new : Filesystems)
+    → ChangesInodes count (λ inodes. unpinned nat_eq inodes number) old new
     → shown new ≡ unpinned_in (counted count, number) (shown old)
 unpins count number old new changes =
     changes.changed
-    ∙ changed_inodes count (λ inodes. unpinned nat_eq inodes number) (λ filesystem inodes. unpinned_if filesystem inodes (counted count, number))
+    ∙ changed_inodes count (λ inodes. unpinned nat_eq inodes number)
+    (λ filesystem inodes. unpinned_if filesystem inodes (counted count, number))
     (λ other inodes. ap (λ b. cond b (unpinned nat_eq inodes number) inodes) (counted_eq_back other count)) (shown old)
 
 -- mounts of a filesystem
 pub releases : (count : ℕ) (old : Filesystems)
-    → shown (with_changed count (λ entry. record entry { mounts = entry.mounts - 1 }) old) ≡ released_in (counted count) (shown old)
+    → shown (with_changed count (λ entry. record entry { mounts = entry.mounts - 1 }) old)
+    ≡ released_in (counted count) (shown old)
 releases count [] = refl
 releases count (entry ∷ rest) =
-    λ i. (by (nat_eq count entry.count) ∙ ap (λ b. cond b (record (shown_entry entry) { mounts = entry.mounts - 1 }) (shown_entry entry)) (sym (counted_eq count entry.count))) i
+    λ i. (by (nat_eq count entry.count)
+    ∙ ap (λ b. cond b (record (shown_entry entry) { mounts = entry.mounts - 1 }) (shown_entry entry))
+    (sym (counted_eq count entry.count))) i
     ∷ releases count rest i
   where
     by : (b : Bool) → shown_entry (cond b (record entry { mounts = entry.mounts - 1 }) entry)
@@ -61,63 +73,78 @@ releases count (entry ∷ rest) =
     by true = refl
     by false = refl
 
-pub removes : (count : ℕ) (old : Filesystems) → shown (without count old) ≡ without_filesystem (counted count) (shown old)
+pub removes : (count : ℕ) (old : Filesystems)
+    → shown (without count old) ≡ without_filesystem (counted count) (shown old)
 removes count [] = refl
 removes count (entry ∷ rest) =
     by (nat_eq count entry.count) (removes count rest)
-    ∙ ap (λ b. cond (not b) (shown_entry entry ∷ without_filesystem (counted count) (shown rest)) (without_filesystem (counted count) (shown rest))) (sym (counted_eq count entry.count))
+    ∙ ap (λ b. cond (not b) (shown_entry entry ∷ without_filesystem (counted count) (shown rest))
+    (without_filesystem (counted count) (shown rest))) (sym (counted_eq count entry.count))
   where
     by : (b : Bool) → shown (without count rest) ≡ without_filesystem (counted count) (shown rest)
         → shown (cond (not b) (entry ∷ without count rest) (without count rest))
-        ≡ cond (not b) (shown_entry entry ∷ without_filesystem (counted count) (shown rest)) (without_filesystem (counted count) (shown rest))
+        ≡ cond (not b) (shown_entry entry ∷ without_filesystem (counted count) (shown rest))
+        (without_filesystem (counted count) (shown rest))
     by true later = later
     by false later = ap (λ others. shown_entry entry ∷ others) later
 
-pub mounts_are_shown : (count : ℕ) (filesystems : Filesystems) → (entry_at filesystems count).mounts ≡ mounts_shown (counted count) (shown filesystems)
+pub mounts_are_shown : (count : ℕ) (filesystems : Filesystems)
+    → (entry_at filesystems count).mounts ≡ mounts_shown (counted count) (shown filesystems)
 mounts_are_shown count [] = refl
 mounts_are_shown count (entry ∷ rest) =
     by (nat_eq count entry.count) (mounts_are_shown count rest)
-    ∙ ap (λ b. unwrap_or (option_map (λ one. one.mounts) (cond b (Some (shown_entry entry)) (find (λ one. nat_eq (counted count) (counted one.count)) (shown rest)))) 0) (sym (counted_eq count entry.count))
+    ∙ ap (λ b. unwrap_or (option_map (λ one. one.mounts)
+    (cond b (Some (shown_entry entry)) (find (λ one. nat_eq (counted count) (counted one.count)) (shown rest)))) 0)
+    (sym (counted_eq count entry.count))
   where
-    by : (b : Bool) → (unwrap_or (entry_of rest count) (no_entry count)).mounts ≡ mounts_shown (counted count) (shown rest)
+    by : (b : Bool) → (unwrap_or (entry_of rest count) (no_entry count)).mounts
+        ≡ mounts_shown (counted count) (shown rest)
         → (unwrap_or (cond b (Some entry) (entry_of rest count)) (no_entry count)).mounts
-        ≡ unwrap_or (option_map (λ one. one.mounts) (cond b (Some (shown_entry entry)) (find (λ one. nat_eq (counted count) (counted one.count)) (shown rest)))) 0
+        ≡ unwrap_or (option_map (λ one. one.mounts)
+        (cond b (Some (shown_entry entry)) (find (λ one. nat_eq (counted count) (counted one.count)) (shown rest)))) 0
     by true later = refl
     by false later = later
 
 -- mounts by their numbers
 pub found_entry : (number : ℕ) (entries : List MountEntry)
-    → find (λ mount. nat_eq number mount.number) (mounts_in entries) ≡ option_map (λ entry. entry.mount) (entry_numbered entries number)
+    → find (λ mount. nat_eq number mount.number) (mounts_in entries)
+    ≡ option_map (λ entry. entry.mount) (entry_numbered entries number)
 found_entry number [] = refl
 found_entry number (entry ∷ rest) = by (nat_eq number entry.mount.number) (found_entry number rest)
   where
-    by : (b : Bool) → find (λ mount. nat_eq number mount.number) (mounts_in rest) ≡ option_map (λ entry. entry.mount) (entry_numbered rest number)
-        → cond b (Some entry.mount) (find (λ mount. nat_eq number mount.number) (mounts_in rest)) ≡ option_map (λ other. other.mount) (cond b (Some entry) (entry_numbered rest number))
+    by : (b : Bool) → find (λ mount. nat_eq number mount.number) (mounts_in rest)
+        ≡ option_map (λ entry. entry.mount) (entry_numbered rest number)
+        → cond b (Some entry.mount) (find (λ mount. nat_eq number mount.number) (mounts_in rest))
+        ≡ option_map (λ other. other.mount) (cond b (Some entry) (entry_numbered rest number))
     by true later = refl
     by false later = later
 
 -- What functions of uses leave
 
 pub filesystem_goes : (count : ℕ) (old held new : Filesystems) (n : ℕ)
-    → held ≡ with_changed count (λ entry. record entry { mounts = entry.mounts - 1 }) old → n ≡ (entry_at held count).mounts → n ≡ 0
+    → held ≡ with_changed count (λ entry. record entry { mounts = entry.mounts - 1 }) old
+    → n ≡ (entry_at held count).mounts → n ≡ 0
     → new ≡ without count held → shown new ≡ let_go_filesystem (counted count) (released_in (counted count) (shown old))
 filesystem_goes count old held new n is_held is zero gone =
     let seen : shown held ≡ released_in (counted count) (shown old) = ap shown is_held ∙ releases count old in
     let none : mounts_shown (counted count) (released_in (counted count) (shown old)) ≡ 0 =
     sym (ap (mounts_shown (counted count)) seen) ∙ sym (mounts_are_shown count held) ∙ sym is ∙ zero in
     ap shown gone ∙ removes count held ∙ ap (without_filesystem (counted count)) seen
-    ∙ sym (ap (λ b. cond b (without_filesystem (counted count) (released_in (counted count) (shown old))) (released_in (counted count) (shown old)))
+    ∙ sym (ap (λ b. cond b (without_filesystem (counted count) (released_in (counted count) (shown old)))
+    (released_in (counted count) (shown old)))
     (eq-eqb _ 0 none))
 
 pub filesystem_stays : (count : ℕ) (old held : Filesystems) (n : ℕ)
-    → held ≡ with_changed count (λ entry. record entry { mounts = entry.mounts - 1 }) old → n ≡ (entry_at held count).mounts → n ≢ 0
+    → held ≡ with_changed count (λ entry. record entry { mounts = entry.mounts - 1 }) old
+    → n ≡ (entry_at held count).mounts → n ≢ 0
     → shown held ≡ let_go_filesystem (counted count) (released_in (counted count) (shown old))
 filesystem_stays count old held n is_held is some =
     let seen : shown held ≡ released_in (counted count) (shown old) = ap shown is_held ∙ releases count old in
     let same : n ≡ mounts_shown (counted count) (released_in (counted count) (shown old)) =
     is ∙ mounts_are_shown count held ∙ ap (mounts_shown (counted count)) seen in
     seen
-    ∙ sym (ap (λ b. cond b (without_filesystem (counted count) (released_in (counted count) (shown old))) (released_in (counted count) (shown old)))
+    ∙ sym (ap (λ b. cond b (without_filesystem (counted count) (released_in (counted count) (shown old)))
+    (released_in (counted count) (shown old)))
     (ne_eqb _ 0 (λ none. some (same ∙ none))))
 
 module _ (number : ℕ) (k : Kept) where
@@ -131,32 +158,41 @@ module _ (number : ℕ) (k : Kept) where
       by None e = refl
       by (Some entry) e = absurd cc
 
-  pub let_go_used : (mount : Mount ℕ) → found ≡ Some mount → (is_some mount.namespace ≡ true) ⊎ (0 < uses_of k.mounts number) → k ≡ let_go_mount number k
+  pub let_go_used : (mount : Mount ℕ) → found ≡ Some mount
+      → (is_some mount.namespace ≡ true) ⊎ (0 < uses_of k.mounts number) → k ≡ let_go_mount number k
   let_go_used mount is used = by (entry_numbered k.mounts number) (sym (found_entry number k.mounts) ∙ is) used
     where
       by : (o : Option MountEntry) → option_map (λ entry. entry.mount) o ≡ Some mount
-          → (is_some mount.namespace ≡ true) ⊎ (0 < unwrap_or (option_map (λ entry. entry.uses) o) 0) → k ≡ let_go_entry number k o
+          → (is_some mount.namespace ≡ true) ⊎ (0 < unwrap_or (option_map (λ entry. entry.uses) o) 0)
+          → k ≡ let_go_entry number k o
       by None e u = refl
       by (Some entry) e u =
           let same : entry.mount ≡ mount = cc in
           ⊎_elim
-          (λ attached. ap (λ b. cond (not b && nat_eq entry.uses 0) (without_mount number entry.mount k) k) (sym (ap (λ x. is_some x.namespace) same ∙ attached)))
-          (λ some. (here (is_some entry.mount.namespace) (ne_eqb entry.uses 0 (λ zero. absurd (omega (arith, some, zero)))))) u
+          (λ attached. ap (λ b. cond (not b && nat_eq entry.uses 0) (without_mount number entry.mount k) k)
+          (sym (ap (λ x. is_some x.namespace) same ∙ attached)))
+          (λ some. (here (is_some entry.mount.namespace)
+          (ne_eqb entry.uses 0 (λ zero. absurd (omega (arith, some, zero)))))) u
         where
-          here : (b : Bool) → nat_eq entry.uses 0 ≡ false → k ≡ cond (not b && nat_eq entry.uses 0) (without_mount number entry.mount k) k
+          here : (b : Bool) → nat_eq entry.uses 0 ≡ false
+              → k ≡ cond (not b && nat_eq entry.uses 0) (without_mount number entry.mount k) k
           here true zero = refl
           here false zero = ap (λ z. cond z (without_mount number entry.mount k) k) (sym zero)
 
-  pub let_go_unused : (mount : Mount ℕ) → found ≡ Some mount → is_some mount.namespace ≡ false → uses_of k.mounts number ≡ 0
+  pub let_go_unused : (mount : Mount ℕ) → found ≡ Some mount → is_some mount.namespace ≡ false
+      → uses_of k.mounts number ≡ 0
       → let_go_mount number k ≡ without_mount number mount k
-  let_go_unused mount is nowhere unused = by (entry_numbered k.mounts number) (sym (found_entry number k.mounts) ∙ is) unused
+  let_go_unused mount is nowhere unused = by (entry_numbered k.mounts number)
+      (sym (found_entry number k.mounts) ∙ is) unused
     where
-      by : (o : Option MountEntry) → option_map (λ entry. entry.mount) o ≡ Some mount → unwrap_or (option_map (λ entry. entry.uses) o) 0 ≡ 0
+      by : (o : Option MountEntry) → option_map (λ entry. entry.mount) o ≡ Some mount
+          → unwrap_or (option_map (λ entry. entry.uses) o) 0 ≡ 0
           → let_go_entry number k o ≡ without_mount number mount k
       by None e u = absurd cc
       by (Some entry) e u =
           let same : entry.mount ≡ mount = cc in
-          ap (λ b. cond (not b && nat_eq entry.uses 0) (without_mount number entry.mount k) k) (ap (λ x. is_some x.namespace) same ∙ nowhere)
+          ap (λ b. cond (not b && nat_eq entry.uses 0) (without_mount number entry.mount k) k)
+          (ap (λ x. is_some x.namespace) same ∙ nowhere)
           ∙ ap (λ z. cond z (without_mount number entry.mount k) k) (eq-eqb entry.uses 0 u)
           ∙ ap (λ x. without_mount number x k) same
 

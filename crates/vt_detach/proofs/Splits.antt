@@ -20,13 +20,15 @@ pub record IsSplit (task new : Task ℕ) (tasks after : Tasks) : Type 0 where
   pub was : tasks ≡ front ++ (task ∷ back)
   pub is : after ≡ front ++ (new ∷ back)
 
-put_nobody : (name : TaskName) (new : Task ℕ) (tasks : Tasks) → list_any (λ task. same_name name task.name) tasks ≡ false → put name new tasks ≡ tasks
+put_nobody : (name : TaskName) (new : Task ℕ) (tasks : Tasks)
+    → list_any (λ task. same_name name task.name) tasks ≡ false → put name new tasks ≡ tasks
 put_nobody name new [] none = refl
 put_nobody name new (task ∷ tasks) none =
     let parts = or_parts (same_name name task.name) _ none in
     λ i. cond (parts.0 i) new task ∷ put_nobody name new tasks parts.1 i
 
-nobody_behind : (name : TaskName) (first : Task ℕ) (tasks : Tasks) → AreNamedApart (first ∷ tasks) → same_name name first.name ≡ true
+nobody_behind : (name : TaskName) (first : Task ℕ) (tasks : Tasks) → AreNamedApart (first ∷ tasks)
+    → same_name name first.name ≡ true
     → list_any (λ task. same_name name task.name) tasks ≡ false
 nobody_behind name first tasks apart is =
     ap (λ own. list_any (λ (task : Task ℕ). same_name own task.name) tasks) (same_names name first.name is)
@@ -37,7 +39,8 @@ put_split : (name : TaskName) (tasks : Tasks) (task new : Task ℕ) → AreNamed
 put_split name [] task new apart found = absurd cc
 put_split name (first ∷ tasks) task new apart found =
     by (same_name name first.name) refl found
-    (put_split name tasks task new (or_parts (list_any (λ (other : Task ℕ). same_name first.name other.name) tasks) _ apart).1)
+    (put_split name tasks task new
+    (or_parts (list_any (λ (other : Task ℕ). same_name first.name other.name) tasks) _ apart).1)
   where
     by : (b : Bool) → same_name name first.name ≡ b → cond b (Some first) (called name tasks) ≡ Some task
         → (called name tasks ≡ Some task → IsSplit task new tasks (put name new tasks))
@@ -56,7 +59,8 @@ put_split name (first ∷ tasks) task new apart found =
     }
 
 -- the task of a name is replaced in its place
-pub replaced_split : (name : TaskName) (tasks : Tasks) (task new : Task ℕ) → AreNamedApart tasks → called name tasks ≡ Some task
+pub replaced_split : (name : TaskName) (tasks : Tasks) (task new : Task ℕ) → AreNamedApart tasks
+    → called name tasks ≡ Some task
     → new.name ≡ task.name → IsSplit task new tasks (replaced new tasks)
 replaced_split name tasks task new apart found same =
     let own : new.name ≡ name = same ∙ name-of-called name tasks task found in
@@ -74,7 +78,8 @@ pub locations_around : (front : Tasks) (task : Task ℕ) (back : Tasks)
 locations_around front task back = flat_map-append locations_of front (task ∷ back)
 
 -- where a task is replaced by one with the same locations, all locations stay
-pub locations_stay : (task new : Task ℕ) (tasks after : Tasks) → IsSplit task new tasks after → locations_of new ≡ locations_of task
+pub locations_stay : (task new : Task ℕ) (tasks after : Tasks) → IsSplit task new tasks after
+    → locations_of new ≡ locations_of task
     → locations_in after ≡ locations_in tasks
 locations_stay task new tasks after split same =
     ap locations_in split.is ∙ locations_around split.front new split.back
@@ -91,15 +96,19 @@ pub writes_total : (mount : ℕ) (tasks : Tasks) → writes_of mount tasks ≡ t
 writes_total mount [] = refl
 writes_total mount (task ∷ tasks) = ap (λ rest. writes_of_task mount task + rest) (writes_total mount tasks)
 
-module _ (name : TaskName) (tasks : Tasks) (task new : Task ℕ) (apart : AreNamedApart tasks) (found : called name tasks ≡ Some task)
+module _ (name : TaskName) (tasks : Tasks) (task new : Task ℕ) (apart : AreNamedApart tasks)
+    (found : called name tasks ≡ Some task)
     (same : new.name ≡ task.name) where
-  pub times_replaced : (test : Task ℕ → Bool) → times test (replaced new tasks) + one_if (test task) ≡ times test tasks + one_if (test new)
+  pub times_replaced : (test : Task ℕ → Bool)
+      → times test (replaced new tasks) + one_if (test task) ≡ times test tasks + one_if (test new)
   times_replaced test =
       let all = total-replaced (λ other. one_if (test other)) name tasks task new apart found same in
       let was = times_total test tasks in let is = times_total test (replaced new tasks) in omega (arith, all, was, is)
 
   pub writes_replaced : (mount : ℕ)
-      → writes_of mount (replaced new tasks) + writes_of_task mount task ≡ writes_of mount tasks + writes_of_task mount new
+      → writes_of mount (replaced new tasks) + writes_of_task mount task
+      ≡ writes_of mount tasks + writes_of_task mount new
   writes_replaced mount =
       let all = total-replaced (writes_of_task mount) name tasks task new apart found same in
-      let was = writes_total mount tasks in let is = writes_total mount (replaced new tasks) in omega (arith, all, was, is)
+      let was = writes_total mount tasks in let is = writes_total mount (replaced new tasks) in omega
+      (arith, all, was, is)

@@ -58,34 +58,43 @@ held_is_settled value is = record {
 
 -- Where all locations are as they were, all counts are.
 
-module _ (value : WorldValue) (tasks : Tasks) (same : all_locations (world_of (after value tasks)) ≡ all_locations (world_of value)) where
-  same_located : (number : ℕ) → located_in nat_eq (world_of (after value tasks)) number ≡ located_in nat_eq (world_of value) number
+module _ (value : WorldValue) (tasks : Tasks)
+    (same : all_locations (world_of (after value tasks)) ≡ all_locations (world_of value)) where
+  same_located : (number : ℕ) → located_in nat_eq (world_of (after value tasks)) number
+      ≡ located_in nat_eq (world_of value) number
   same_located number = λ i. map (λ location. location.node)
       (filter (λ location. nat_eq number (mount_at nat_eq (world_of value) location).filesystem)
-      (same i ++ map root_of (world_of value).mounts ++ filter_map (λ mount. mount.mount_point) (world_of value).mounts))
+      (same i ++ map root_of (world_of value).mounts
+      ++ filter_map (λ mount. mount.mount_point) (world_of value).mounts))
 
   same_uses : (filesystem : Filesystem ℕ) (number : ℕ)
       → inode_uses (world_of value) filesystem number ≡ inode_uses (world_of (after value tasks)) filesystem number
-  same_uses filesystem number = λ i. times (nat_eq number) (filesystem.files.tree.root ∷ (named_in filesystem.files ++ sym (same_located filesystem.number) i
-      ++ layers_in nat_eq (world_of value) filesystem.number ++ flat_map (objects_of_overlay nat_eq filesystem.number) (world_of value).filesystems))
+  same_uses filesystem number = λ i.
+      times (nat_eq number) (filesystem.files.tree.root
+      ∷ (named_in filesystem.files ++ sym (same_located filesystem.number) i
+      ++ layers_in nat_eq (world_of value) filesystem.number
+      ++ flat_map (objects_of_overlay nat_eq filesystem.number) (world_of value).filesystems))
 
   pub stays_held : IsHeld value
       → ((mount : ℕ) → writes_of mount tasks ≡ writes_of mount value.tasks)
-      → ((namespace : ℕ) → times (λ task. nat_eq namespace task.namespace) tasks ≡ times (λ task. nat_eq namespace task.namespace) value.tasks)
-      → IsWorld nat_eq (world_of (after value tasks)) → KeepsTo (is_counted_before value.next) (world_of (after value tasks))
+      → ((namespace : ℕ) → times (λ task. nat_eq namespace task.namespace) tasks
+      ≡ times (λ task. nat_eq namespace task.namespace) value.tasks)
+      → IsWorld nat_eq (world_of (after value tasks))
+      → KeepsTo (is_counted_before value.next) (world_of (after value tasks))
       → IsHeld (after value tasks)
   stays_held held writes inside is keeps = record {
     in_world = is;
     groups = same_has (world_of value) (world_of (after value tasks)) value.groups held.groups refl (λ group. refl);
-    ungrouped = held.ungrouped;
     given = keeps;
     mounts = all_from_among (CountsItsUses (world_of (after value tasks))) value.mounts (λ entry m.
         let was = among_from_all (CountsItsUses (world_of value)) value.mounts held.mounts entry m in record {
-          uses = was.uses ∙ ap (λ locations. times (λ (location : Location ℕ). nat_eq entry.mount.number location.mount) locations) (sym same);
+          uses = was.uses ∙ ap (λ locations.
+              times (λ (location : Location ℕ). nat_eq entry.mount.number location.mount) locations) (sym same);
           writers = was.writers ∙ sym (writes entry.mount.number);
         });
     filesystems = all_from_among (CountsItsMounts (world_of (after value tasks))) value.filesystems (λ entry m.
-        let was = among_from_all (CountsItsMounts (world_of value)) value.filesystems held.filesystems entry m in record {
+        let was = among_from_all (CountsItsMounts
+        (world_of value)) value.filesystems held.filesystems entry m in record {
           mounts = was.mounts;
           inodes = record {
             root = was.inodes.root;
@@ -97,7 +106,8 @@ module _ (value : WorldValue) (tasks : Tasks) (same : all_locations (world_of (a
         });
     own_inodes = held.own_inodes;
     namespaces = all_from_among (CountsWhatIsInIt (world_of (after value tasks))) value.namespaces (λ entry m.
-        let was = among_from_all (CountsWhatIsInIt (world_of value)) value.namespaces held.namespaces entry m in record {
+        let was = among_from_all (CountsWhatIsInIt
+        (world_of value)) value.namespaces held.namespaces entry m in record {
           tasks = was.tasks ∙ sym (inside (counted entry.count));
         });
   }
@@ -105,9 +115,11 @@ module _ (value : WorldValue) (tasks : Tasks) (same : all_locations (world_of (a
   -- no location is left
   pub none_left : only_these_are_left (world_of value) tasks [] ≡ true
   none_left =
-      all_pass (λ location. is_location_among (all_locations (world_of (after value tasks))) location || is_location_among [] location)
+      all_pass (λ location. is_location_among (all_locations (world_of (after value tasks))) location
+      || is_location_among [] location)
       (all_locations (world_of value))
-      (λ location m. or_first _ _ (any_passes (same_location nat_eq location) (all_locations (world_of (after value tasks))) location
+      (λ location m. or_first _ _ (any_passes (same_location nat_eq location)
+      (all_locations (world_of (after value tasks))) location
       (subst (λ locations. Among location locations) (sym same) m)
       (λ i. eq-eqb location.mount location.mount refl i && eq-eqb location.node location.node refl i)))
 
@@ -117,7 +129,8 @@ pub record IsStaying (value : WorldValue) (name : TaskName) (permit : Permit ℕ
   pub called : task_called (world_of value) name ≡ Some task
   pub given : IsGiven (supply_of value permit) (world_of value) task permit
   pub named : permit_named (is_counted_before value.next) permit ≡ true
-  pub applied : (fresh : Fresh ℕ) → (apply nat_eq fresh (world_of value) task permit).world ≡ with_task (world_of value) new
+  pub applied : (fresh : Fresh ℕ)
+      → (apply nat_eq fresh (world_of value) task permit).world ≡ with_task (world_of value) new
   pub same_name : new.name ≡ task.name
   pub same_places : locations_of new ≡ locations_of task
   pub same_namespace : new.namespace ≡ task.namespace
@@ -133,28 +146,37 @@ module _ (value : WorldValue) (name : TaskName) (permit : Permit ℕ) (task new 
       locations_stay task new value.tasks tasks_after
       (replaced_split name value.tasks task new held.in_world.tasks.one_task stays.called stays.same_name) stays.same_places
 
-  pub stayed_exactly : (fresh : Fresh ℕ) → settled nat_eq (apply nat_eq fresh (world_of value) task permit).world ≡ world_of (after value tasks_after)
+  pub stayed_exactly : (fresh : Fresh ℕ)
+      → settled nat_eq (apply nat_eq fresh (world_of value) task permit).world ≡ world_of (after value tasks_after)
   stayed_exactly fresh =
       ap (settled nat_eq) (stays.applied fresh)
-      ∙ staying_keeps_all (world_of value) tasks_after (held_is_settled value held.in_world) (none_left value tasks_after places_stay)
+      ∙ staying_keeps_all (world_of value) tasks_after (held_is_settled value held.in_world)
+      (none_left value tasks_after places_stay)
 
   pub stayed_becomes : SameWorlds (left_by value task permit) (world_of (after value tasks_after))
   stayed_becomes =
-      subst (λ world. SameWorlds world (world_of (after value tasks_after))) (sym (stayed_exactly (supply_of value permit)))
+      subst (λ world. SameWorlds world (world_of (after value tasks_after)))
+      (sym (stayed_exactly (supply_of value permit)))
       (sameness_is_an_equivalence.itself (world_of (after value tasks_after)))
 
   pub stayed_held : IsHeld (after value tasks_after)
   stayed_held =
       stays_held value tasks_after places_stay held
       (λ mount. let moved = writes_replaced name value.tasks task new held.in_world.tasks.one_task stays.called stays.same_name mount in
-      let own : writes_of_task mount new ≡ writes_of_task mount task = ap (times (writes_on mount)) stays.same_descriptors in omega (arith, moved, own))
+      let own : writes_of_task mount new
+      ≡ writes_of_task mount task = ap (times (writes_on mount)) stays.same_descriptors in omega
+      (arith, moved, own))
       (λ namespace. let moved = times_replaced name value.tasks task new held.in_world.tasks.one_task stays.called stays.same_name (λ one. nat_eq namespace one.namespace) in
-      let own : one_if (nat_eq namespace new.namespace) ≡ one_if (nat_eq namespace task.namespace) = ap (λ number. one_if (nat_eq namespace number)) stays.same_namespace in
+      let own : one_if (nat_eq namespace new.namespace)
+      ≡ one_if (nat_eq namespace task.namespace) = ap
+      (λ number. one_if (nat_eq namespace number)) stays.same_namespace in
       omega (arith, moved, own))
       (subst (IsWorld nat_eq) (stayed_exactly (supply_of value permit))
-      (given_permits_leave_worlds (world_of value) (supply_of value permit) task permit held.in_world (world_is_plain value) stays.given).0)
+      (given_permits_leave_worlds (world_of value) (supply_of value permit) task permit held.in_world
+      (world_is_plain value) stays.given).0)
       (subst (KeepsTo (is_counted_before value.next)) (stayed_exactly (λ k. 0))
-      (permits_keep_to_numbers (is_counted_before value.next) (λ k. 0) (world_of value) task permit stays.given.called held.given (λ k. refl) stays.named))
+      (permits_keep_to_numbers (is_counted_before value.next) (λ k. 0)
+      (world_of value) task permit stays.given.called held.given (λ k. refl) stays.named))
 
 -- an event that leaves the invariants and does what its permit says
 pub record IsDone (value : WorldValue) (name : TaskName) (permit : Permit ℕ) (new : WorldValue) : Type 0 where
@@ -167,8 +189,10 @@ pub becomes_so : (value : WorldValue) (name : TaskName) (permit : Permit ℕ) (n
 becomes_so value name permit new task found same other called =
     subst (λ one. SameWorlds (left_by value one permit) (world_of new)) (same_Some task other (sym found ∙ called)) same
 
-pub staying_is_done : (value : WorldValue) (name : TaskName) (permit : Permit ℕ) (task new : Task ℕ) (tasks : Tasks) → IsHeld value
-    → IsStaying value name permit task new → tasks ≡ replaced new value.tasks → IsDone value name permit (after value tasks)
+pub staying_is_done : (value : WorldValue) (name : TaskName) (permit : Permit ℕ) (task new : Task ℕ) (tasks : Tasks)
+    → IsHeld value
+    → IsStaying value name permit task new → tasks ≡ replaced new value.tasks
+    → IsDone value name permit (after value tasks)
 staying_is_done value name permit task new tasks held stays is =
     subst (λ others. IsDone value name permit (after value others)) (sym is) (record {
       held = stayed_held value name permit task new held stays;
@@ -179,7 +203,8 @@ staying_is_done value name permit task new tasks held stays is =
 -- The events
 
 pub umask_is_set : (value : WorldValue) (name : TaskName) (umask : ℕ) (tasks : Tasks) → IsHeld value
-    → Permits value name (ToSetUmask umask) → tasks ≡ changed_called name (λ task. record task { umask = umask }) value.tasks
+    → Permits value name (ToSetUmask umask)
+    → tasks ≡ changed_called name (λ task. record task { umask = umask }) value.tasks
     → IsDone value name (ToSetUmask umask) (after value tasks)
 umask_is_set value name umask tasks held permits is =
     staying_is_done value name (ToSetUmask umask) permits.task (record permits.task { umask = umask }) tasks held
@@ -200,7 +225,8 @@ pub caps_are_dropped : (value : WorldValue) (name : TaskName) (bits : ℕ) (task
     → tasks ≡ changed_called name (λ task. record task { credentials = with_dropped task.credentials bits }) value.tasks
     → IsDone value name (ToSetCredentials (with_dropped (credentials_called value name) bits)) (after value tasks)
 caps_are_dropped value name bits tasks held permits is =
-    staying_is_done value name (ToSetCredentials credentials) permits.task (record permits.task { credentials = credentials }) tasks held
+    staying_is_done value name (ToSetCredentials credentials) permits.task
+    (record permits.task { credentials = credentials }) tasks held
     (record {
       called = permits.called;
       given = permits.given;
@@ -213,7 +239,8 @@ caps_are_dropped value name bits tasks held permits is =
     })
     (is ∙ ap (changed_by (λ task. record task { credentials = with_dropped task.credentials bits }) value.tasks) permits.called
     ∙ ap (λ own. replaced (record permits.task { credentials = with_dropped own bits }) value.tasks)
-    (sym (ap (λ found. unwrap_or (option_map (λ (task : Task ℕ). task.credentials) found) first_credentials) permits.called)))
+    (sym (ap (λ found. unwrap_or (option_map
+    (λ (task : Task ℕ). task.credentials) found) first_credentials) permits.called)))
   where
     credentials : Credentials
     credentials = with_dropped (credentials_called value name) bits

@@ -1,64 +1,27 @@
 -- Events after which mounts have the types of other groups: they are done if they are but for the types.
-use Rattle.std.proofs.Common.{◌≡◌, refl, sym, ap, subst, ◌∙◌, ℕ, nat_eq, Bool, true, false, cond, ◌&&◌, List, [], ◌∷◌, None, map, is_some}
-use Rattle.std.specs.List.{list_all}
+use Rattle.std.proofs.Common.{◌≡◌, sym, ap, subst, ◌∙◌, ℕ, nat_eq, false, List, map, is_some}
 use Rattle.vt_spec.specs.Language.Calls.{TaskName}
-use Rattle.vt_spec.specs.Machine.Mounts.{Mount, is_unbindable}
-use Rattle.vt_spec.specs.Machine.Mounts.Propagation.{Private, Unbindable}
+use Rattle.vt_spec.specs.Machine.Mounts.{Mount}
+use Rattle.vt_spec.specs.Machine.Mounts.Propagation.{Private}
 use Rattle.vt_spec.specs.Machine.Permits.{Permit}
 use Rattle.vt_spec.specs.Machine.Receives.{regrouped}
 use Rattle.vt_spec.specs.Machine.World.{Filesystem, Task, World}
-use Rattle.vt_spec.specs.Machine.Invariants.{HasLivingGroups}
 use Rattle.vt_count_laws.specs.Sweeping.{living}
 use Rattle.vt_count_laws.specs.Using.{Exchanges}
-use Rattle.vt_group.specs.Grouping.{Grouping, Has, no_groups}
+use Rattle.vt_group.specs.Grouping.{Grouping, Has}
 use Rattle.vt_group.specs.Laws.{typed_by}
-use Rattle.vt_group.specs.Together.{TakesAway}
-use Rattle.vt_group.proofs.Showing.{has_one_grouping}
 use Rattle.vt_letting_go.specs.Counts.{times}
 use Rattle.vt_letting_go.specs.OneByOne.{Inode}
 use Rattle.vt_letting_go.proofs.Lists.{Among, all_from_among, among-from_map, among_from_all, map_twice}
 use Rattle.vt_location.specs.Numbers.{counted}
 use Rattle.vt_mount.specs.MountsValue.{MountEntry, mounts_in}
-use Rattle.vt_detach.specs.Held.{CountsItsUses, CountsWhatIsInIt, IsHeld, is_ungrouped}
+use Rattle.vt_detach.specs.Held.{CountsItsUses, CountsWhatIsInIt, IsHeld}
 use Rattle.vt_detach.specs.Typed.{typed_entry}
 use Rattle.vt_detach.specs.WorldValue.{WorldValue, world_of}
 use Rattle.vt_detach.proofs.Bridging.{IsSwept}
 use Rattle.vt_detach.proofs.Finishing.{CountsBeside, IsApplied, finished_as}
-use Rattle.vt_detach.proofs.Grouped.{held_has_none}
 use Rattle.vt_detach.proofs.Staying.{IsDone}
 use Rattle.vt_detach.proofs.TypedWorlds.{exchanges_typed, living_typed, mounts_showing_typed, settled_typed, settled_typed_has, typed_world}
-
--- Where no mount is in a group, the mounts that leave their groups leave none in one.
-
-abbrev nothing : World ℕ
-nothing = record { mounts = []; master = λ group. None; filesystems = []; namespaces = []; tasks = []; change = 0 }
-
-pub none_taken : (groups : Grouping) (gone : List ℕ) → TakesAway no_groups groups gone → groups ≡ no_groups
-none_taken groups gone follows =
-    let has : Has nothing no_groups = record { order = refl; peers = refl; masters_order = refl; masters = λ group. refl } in
-    has_one_grouping nothing groups no_groups
-    (follows nothing has (all_from_among (HasLivingGroups nat_eq nothing) [] (λ mount m. absurd m))) has
-
-pub no_groups_free : (groups : Grouping) → groups ≡ no_groups → (entries : List MountEntry)
-    → list_all (λ (entry : MountEntry). is_ungrouped entry.mount.propagation) (map (typed_entry groups) entries) ≡ true
-no_groups_free groups none entries =
-    ap (λ (now : Grouping). list_all (λ (entry : MountEntry). is_ungrouped entry.mount.propagation) (map (typed_entry now) entries)) none
-    ∙ free entries
-  where
-    free_kind : (b : Bool) → is_ungrouped (cond b Unbindable Private) ≡ true
-    free_kind true = refl
-    free_kind false = refl
-
-    free : (entries : List MountEntry)
-        → list_all (λ (entry : MountEntry). is_ungrouped entry.mount.propagation) (map (typed_entry no_groups) entries) ≡ true
-    free [] = refl
-    free (entry ∷ rest) = λ i. free_kind (is_unbindable entry.mount.propagation) i && free rest i
-
-pub typed_free : (value : WorldValue) → IsHeld value → (groups : Grouping) (gone : List ℕ) → TakesAway value.groups groups gone
-    → (entries : List MountEntry)
-    → list_all (λ (entry : MountEntry). is_ungrouped entry.mount.propagation) (map (typed_entry groups) entries) ≡ true
-typed_free value whole groups gone follows entries =
-    no_groups_free groups (none_taken groups gone (subst (λ before. TakesAway before groups gone) (held_has_none value whole) follows)) entries
 
 -- the code's world with these groups, and each mount with the type that they tell
 abbrev pub typed_value : Grouping → WorldValue → WorldValue
@@ -76,29 +39,30 @@ module _ (groups : Grouping) (new : WorldValue) where
     plain = swept.plain;
     mounts = ap (λ (world : World ℕ). world.mounts) (living_typed groups start)
         ∙ ap (map (typed_by groups)) swept.mounts ∙ sym mounts_typed;
-    numbers = ap (λ (world : World ℕ). map (λ (f : Filesystem ℕ). f.number) world.filesystems) (living_typed groups start) ∙ swept.numbers;
+    numbers = ap (λ (world : World ℕ). map (λ (f : Filesystem ℕ). f.number) world.filesystems)
+        (living_typed groups start) ∙ swept.numbers;
     entries = λ entry m. let from = swept.entries entry m in record {
       was = from.was;
       among = from.among;
       count = from.count;
       there = from.there;
       inodes = from.inodes;
-      exchanges = subst (Exchanges gained lost (counted from.was.count) (world_of old)) (sym (living_typed groups start))
+      exchanges = subst (Exchanges gained lost (counted from.was.count) (world_of old))
+          (sym (living_typed groups start))
           (exchanges_typed groups gained lost (counted from.was.count) (world_of old) (living start) from.exchanges);
     };
     namespaces = swept.namespaces;
     tasks = swept.tasks;
   }
 
-  pub counts_typed : CountsBeside new
-      → list_all (λ (entry : MountEntry). is_ungrouped entry.mount.propagation) (map (typed_entry groups) new.mounts) ≡ true
-      → CountsBeside (typed_value groups new)
-  counts_typed counts free = record {
-    ungrouped = free;
-    uses = all_from_among (CountsItsUses (world_of (typed_value groups new))) (map (typed_entry groups) new.mounts) (λ entry m.
+  pub counts_typed : CountsBeside new → CountsBeside (typed_value groups new)
+  counts_typed counts = record {
+    uses = all_from_among (CountsItsUses (world_of (typed_value groups new))) (map (typed_entry groups) new.mounts)
+        (λ entry m.
         let from = among-from_map (typed_entry groups) new.mounts entry m in
         let was = among_from_all (CountsItsUses (world_of new)) new.mounts counts.uses from.0 from.1 in
-        subst (CountsItsUses (world_of (typed_value groups new))) (sym from.2) (record { uses = was.uses; writers = was.writers }));
+        subst (CountsItsUses (world_of (typed_value groups new))) (sym from.2)
+        (record { uses = was.uses; writers = was.writers }));
     mounts = λ entry m. counts.mounts entry m
         ∙ sym (mounts_showing_typed groups (world_of new) (counted entry.count))
         ∙ ap (times (λ (mount : Mount ℕ). nat_eq (counted entry.count) mount.filesystem)) (sym mounts_typed);
@@ -108,13 +72,16 @@ module _ (groups : Grouping) (new : WorldValue) where
   }
 
 -- The policy regroups a world: where mounts got the types of the groups that are left, the event is done.
-module _ (value : WorldValue) (whole : IsHeld value) (name : TaskName) (permit : Permit ℕ) (task : Task ℕ) (start : World ℕ)
-    (is : IsApplied value name permit task (regrouped nat_eq start)) (groups : Grouping) (has : Has (regrouped nat_eq start) groups)
-    (nowhere : (mount : Mount ℕ) → Among mount start.mounts → is_some mount.namespace ≡ false → mount.propagation ≡ Private) where
-  pub typed_done : (gained lost : List Inode) (new : WorldValue) → IsSwept value start gained lost new → CountsBeside new
-      → list_all (λ (entry : MountEntry). is_ungrouped entry.mount.propagation) (map (typed_entry groups) new.mounts) ≡ true
-      → new.next ≡ value.next → IsDone value name permit (typed_value groups new)
-  typed_done gained lost new swept counts free next =
-      finished_as value whole name permit task (regrouped nat_eq start) is (typed_world groups start) (settled_typed start groups has)
+module _ (value : WorldValue) (whole : IsHeld value) (name : TaskName) (permit : Permit ℕ) (task : Task ℕ)
+    (start : World ℕ)
+    (is : IsApplied value name permit task (regrouped nat_eq start)) (groups : Grouping)
+    (has : Has (regrouped nat_eq start) groups)
+    (nowhere : (mount : Mount ℕ) → Among mount start.mounts → is_some mount.namespace ≡ false
+    → mount.propagation ≡ Private) where
+  pub typed_done : (gained lost : List Inode) (new : WorldValue) → IsSwept value start gained lost new
+      → CountsBeside new → new.next ≡ value.next → IsDone value name permit (typed_value groups new)
+  typed_done gained lost new swept counts next =
+      finished_as value whole name permit task (regrouped nat_eq start) is (typed_world groups start)
+      (settled_typed start groups has)
       gained lost (typed_value groups new) (swept_typed groups new value start gained lost swept)
-      (settled_typed_has start groups has nowhere) (counts_typed groups new counts free) next
+      (settled_typed_has start groups has nowhere) (counts_typed groups new counts) next

@@ -1,4 +1,5 @@
--- Worlds whose mounts get the types of other groups: they are in use as before. A world from which mounts are taken away is such
+-- Worlds whose mounts get the types of other groups: they are in use as before. A world from which mounts are taken
+-- away is such
 -- a world.
 use Rattle.std.proofs.Common.{◌≡◌, refl, sym, ap, subst, ◌∙◌, ℕ, ◌+◌, nat_eq, Bool, true, false, cond, ◌&&◌, ◌||◌, List, [], ◌∷◌, ◌++◌, map, filter, flat_map, Option, None, is_some}
 use Rattle.std.specs.Prelude.{filter_map}
@@ -33,14 +34,16 @@ module _ (groups : Grouping) where
   mounts_live : (world : World ℕ) → filter (mount_lives nat_eq (typed_world world)) (map (typed_by groups) world.mounts)
       ≡ map (typed_by groups) (filter (mount_lives nat_eq world) world.mounts)
   mounts_live world =
-      filter-map (mount_lives nat_eq (typed_world world)) {q = mount_lives nat_eq world} (typed_by groups) world.mounts (λ mount. refl)
+      filter-map (mount_lives nat_eq (typed_world world)) {q = mount_lives nat_eq world} (typed_by groups) world.mounts
+      (λ mount. refl)
 
   mounted_still : (world : World ℕ) (number : ℕ)
       → is_mounted nat_eq (without_dead_mounts nat_eq (typed_world world)) number
       ≡ is_mounted nat_eq (without_dead_mounts nat_eq world) number
   mounted_still world number =
       ap (list_any (λ (mount : Mount ℕ). nat_eq number mount.filesystem)) (mounts_live world)
-      ∙ any-map (λ (mount : Mount ℕ). nat_eq number mount.filesystem) {q = λ mount. nat_eq number mount.filesystem} (typed_by groups)
+      ∙ any-map (λ (mount : Mount ℕ). nat_eq number mount.filesystem) {q = λ mount. nat_eq number mount.filesystem}
+      (typed_by groups)
       (filter (mount_lives nat_eq world) world.mounts) (λ mount. refl)
 
   pub living_typed : (world : World ℕ) → living (typed_world world) ≡ typed_world (living world)
@@ -50,7 +53,8 @@ module _ (groups : Grouping) where
     filesystems = filter_alike (filesystem_lives nat_eq (without_dead_mounts nat_eq (typed_world world)))
         (filesystem_lives nat_eq (without_dead_mounts nat_eq world)) world.filesystems (λ f m j.
         mounted_still world f.number j
-        || list_any (λ merged. has_layer_on nat_eq f.number merged && mounted_still world merged.number j) world.filesystems) i;
+        || list_any (λ merged. has_layer_on nat_eq f.number merged
+        && mounted_still world merged.number j) world.filesystems) i;
   }
 
   -- Uses
@@ -61,7 +65,8 @@ module _ (groups : Grouping) where
   points_typed [] = refl
   points_typed (mount ∷ rest) = ap (cons_option mount.mount_point) (points_typed rest)
 
-  located_typed : (world : World ℕ) (filesystem : ℕ) → located_in nat_eq (typed_world world) filesystem ≡ located_in nat_eq world filesystem
+  located_typed : (world : World ℕ) (filesystem : ℕ)
+      → located_in nat_eq (typed_world world) filesystem ≡ located_in nat_eq world filesystem
   located_typed world filesystem = λ i. map (λ (location : Location ℕ). location.node)
       (filter (λ (location : Location ℕ). nat_eq filesystem
       (filesystem_kept (typed_by groups) (λ mount. refl) (λ mount. refl) world.mounts location.mount i))
@@ -69,7 +74,8 @@ module _ (groups : Grouping) where
 
   uses_typed : (world : World ℕ) (filesystem : Filesystem ℕ) (number : ℕ)
       → inode_uses (typed_world world) filesystem number ≡ inode_uses world filesystem number
-  uses_typed world filesystem number = λ i. times (nat_eq number) (filesystem.files.tree.root ∷ (named_in filesystem.files
+  uses_typed world filesystem number = λ i.
+      times (nat_eq number) (filesystem.files.tree.root ∷ (named_in filesystem.files
       ++ located_typed world filesystem.number i ++ layers_in nat_eq world filesystem.number
       ++ flat_map (objects_of_overlay nat_eq filesystem.number) world.filesystems))
 
@@ -82,8 +88,10 @@ module _ (groups : Grouping) where
         (sym (uses_typed world (filesystem_numbered nat_eq world filesystem) number));
   }
 
-  pub mounts_showing_typed : (world : World ℕ) (number : ℕ) → mounts_showing (typed_world world) number ≡ mounts_showing world number
-  mounts_showing_typed world number = times_map (λ (mount : Mount ℕ). nat_eq number mount.filesystem) (typed_by groups) world.mounts
+  pub mounts_showing_typed : (world : World ℕ) (number : ℕ)
+      → mounts_showing (typed_world world) number ≡ mounts_showing world number
+  mounts_showing_typed world number = times_map (λ (mount : Mount ℕ). nat_eq number mount.filesystem)
+      (typed_by groups) world.mounts
 
 -- A world that is regrouped, and what nothing uses goes
 
@@ -92,7 +100,8 @@ once_more true o = refl
 once_more false o = refl
 
 -- groups without members end at the end of a call as well
-pub settled_without_groups : (world : World ℕ) → settled nat_eq (without_dead_groups nat_eq world) ≡ settled nat_eq world
+pub settled_without_groups : (world : World ℕ)
+    → settled nat_eq (without_dead_groups nat_eq world) ≡ settled nat_eq world
 settled_without_groups world = λ i. record (settled nat_eq world) {
   master = λ group. ended group (has_members nat_eq (filter (mount_lives nat_eq world) world.mounts) group) refl i;
 }
@@ -105,7 +114,8 @@ settled_without_groups world = λ i. record (settled nat_eq world) {
         (among-from_filter (mount_lives nat_eq world) world.mounts member.0 member.1).0 member.2
 
     ended : (group : ℕ) (b : Bool) → has_members nat_eq (filter (mount_lives nat_eq world) world.mounts) group ≡ b
-        → cond b (cond (has_members nat_eq world.mounts group) (world.master group) None) None ≡ cond b (world.master group) None
+        → cond b (cond (has_members nat_eq world.mounts group) (world.master group) None) None
+        ≡ cond b (world.master group) None
     ended group true e = ap (λ c. cond c (world.master group) None) (had group e)
     ended group false e = refl
 
@@ -120,20 +130,24 @@ module _ (world : World ℕ) (groups : Grouping) (has : Has (regrouped nat_eq wo
     peers = has.peers;
     masters_order = has.masters_order;
     masters = λ group. has.masters group
-        ∙ sym (once_more (has_members nat_eq (regrouped nat_eq world).mounts group) ((regrouped nat_eq world).master group));
+        ∙ sym (once_more (has_members nat_eq (regrouped nat_eq world).mounts group)
+        ((regrouped nat_eq world).master group));
   })
 
   -- a private mount stays so
-  private_stays : (mount : Mount ℕ) → Among mount world.mounts → mount.propagation ≡ Private → (typed_by groups mount).propagation ≡ Private
+  private_stays : (mount : Mount ℕ) → Among mount world.mounts → mount.propagation ≡ Private
+      → (typed_by groups mount).propagation ≡ Private
   private_stays mount m private =
       ap (λ kind. cond (is_unbindable kind) Unbindable (propagation_in groups mount.number)) private
-      ∙ among_from_all (λ (x : Mount ℕ). propagation_in groups x.number ≡ shown x.propagation) (regrouped nat_eq world).mounts
+      ∙ among_from_all (λ (x : Mount ℕ). propagation_in groups x.number ≡ shown x.propagation)
+      (regrouped nat_eq world).mounts
       (shows_types (regrouped nat_eq world) groups has) (inheriting nat_eq world mount)
       (subst (Among (inheriting nat_eq world mount)) (sym (mounts-regrouped world))
       (among-map (inheriting nat_eq world) world.mounts mount m))
       ∙ ap (λ kind. shown (inherited nat_eq world kind)) private
 
-  pub settled_typed_has : ((mount : Mount ℕ) → Among mount world.mounts → is_some mount.namespace ≡ false → mount.propagation ≡ Private)
+  pub settled_typed_has : ((mount : Mount ℕ) → Among mount world.mounts → is_some mount.namespace ≡ false
+      → mount.propagation ≡ Private)
       → Has (settled nat_eq (typed_world groups world)) groups
   settled_typed_has nowhere =
       settled_has (typed_world groups world) groups typed_has (λ mount m dead.

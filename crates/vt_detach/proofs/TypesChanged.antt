@@ -1,8 +1,9 @@
--- Mounts that get other types with their groups, and stay where they are: mount(2) with MS_SHARED, MS_SLAVE, MS_PRIVATE and
+-- Mounts that get other types with their groups, and stay where they are: mount(2) with MS_SHARED, MS_SLAVE, MS_PRIVATE
+-- and
 -- MS_UNBINDABLE, and MS_REC. Whatever groups there are, the code's world is the one that the policy leaves.
 use Rattle.std.proofs.Common.{◌≡◌, refl, sym, ap, subst, ◌∙◌, ℕ, nat_eq, Bool, true, false, cond, List, [], ◌∷◌, ◌++◌, map, filter, flat_map, Option, None}
 use Rattle.std.specs.Prelude.{filter_map}
-use Rattle.std.specs.List.{cons_option, list_all, list_any}
+use Rattle.std.specs.List.{cons_option, list_any}
 use Rattle.vt_spec.specs.Language.Calls.{TaskName, TypeWord}
 use Rattle.vt_spec.specs.Machine.Invariants.{IsWorld}
 use Rattle.vt_spec.specs.Machine.Mounts.{Location, Mount, Propagation, numbers_by, root_of}
@@ -27,7 +28,7 @@ use Rattle.vt_permit_laws.proofs.PermitsLeave.{given_permits_leave_worlds}
 use Rattle.vt_run_laws.specs.Handed.{counts_from, is_counted_before}
 use Rattle.vt_world_laws.proofs.RaisedInUse.{worlds_are_in_use}
 use Rattle.vt_detach.specs.Events.{Permits, left_by, supply_of}
-use Rattle.vt_detach.specs.Held.{CountsItsMounts, CountsItsUses, CountsWhatIsInIt, IsHeld, is_ungrouped}
+use Rattle.vt_detach.specs.Held.{CountsItsMounts, CountsItsUses, CountsWhatIsInIt, IsHeld}
 use Rattle.vt_detach.specs.WorldValue.{WorldValue, world_of}
 use Rattle.vt_detach.proofs.DetachingBegins.{filesystem_kept}
 use Rattle.vt_detach.proofs.MountsChanged.{times_map}
@@ -38,10 +39,15 @@ use Rattle.vt_run_laws.proofs.AlikeWorlds.{sameness_is_an_equivalence}
 -- Worlds in which mounts have other types, and groups other masters
 
 regrouped_is : (base : World ℕ)
-    → regrouped nat_eq base ≡ record base { mounts = (regrouped nat_eq base).mounts; master = (regrouped nat_eq base).master }
+    → regrouped nat_eq base ≡ record base {
+      mounts = (regrouped nat_eq base).mounts;
+      master =
+          (regrouped nat_eq base).master;
+    }
 regrouped_is base = by (list_any (lost_a_group nat_eq base) base.mounts)
   where
-    by : (b : Bool) → regrouped_by nat_eq b base ≡ record base { mounts = (regrouped_by nat_eq b base).mounts; master = (regrouped_by nat_eq b base).master }
+    by : (b : Bool) → regrouped_by nat_eq b base
+        ≡ record base { mounts = (regrouped_by nat_eq b base).mounts; master = (regrouped_by nat_eq b base).master }
     by true = refl
     by false = refl
 
@@ -62,7 +68,8 @@ module _ (world : World ℕ) (kind : ℕ → Propagation ℕ → Propagation ℕ
   }
 
   same_points : (mounts : List (Mount ℕ))
-      → filter_map (λ (mount : Mount ℕ). mount.mount_point) (map change mounts) ≡ filter_map (λ (mount : Mount ℕ). mount.mount_point) mounts
+      → filter_map (λ (mount : Mount ℕ). mount.mount_point) (map change mounts)
+      ≡ filter_map (λ (mount : Mount ℕ). mount.mount_point) mounts
   same_points [] = refl
   same_points (mount ∷ rest) = ap (cons_option mount.mount_point) (same_points rest)
 
@@ -72,7 +79,8 @@ module _ (world : World ℕ) (kind : ℕ → Propagation ℕ → Propagation ℕ
       (filesystem_kept change (λ mount. refl) (λ mount. refl) world.mounts location.mount i))
       (all_locations world ++ map_twice root_of change world.mounts i ++ same_points world.mounts i))
 
-  same_uses : (filesystem : Filesystem ℕ) (number : ℕ) → inode_uses other filesystem number ≡ inode_uses world filesystem number
+  same_uses : (filesystem : Filesystem ℕ) (number : ℕ)
+      → inode_uses other filesystem number ≡ inode_uses world filesystem number
   same_uses filesystem number = λ i. times (nat_eq number) (filesystem.files.tree.root ∷ (named_in filesystem.files
       ++ same_located filesystem.number i ++ layers_in nat_eq world filesystem.number
       ++ flat_map (objects_of_overlay nat_eq filesystem.number) world.filesystems))
@@ -84,7 +92,8 @@ module _ (world : World ℕ) (kind : ℕ → Propagation ℕ → Propagation ℕ
 
 module _ (value : WorldValue) (whole : IsHeld value) (group : ℕ → ℕ) (word : TypeWord) (named : List (Mount ℕ))
     (kind : ℕ → Propagation ℕ → Propagation ℕ) (groups : Grouping)
-    (mounts : mounts_in (map (retyped_entry kind) value.mounts) ≡ (retyped nat_eq (world_of value) group word named).mounts)
+    (mounts : mounts_in (map (retyped_entry kind) value.mounts)
+    ≡ (retyped nat_eq (world_of value) group word named).mounts)
     (has : Has (retyped nat_eq (world_of value) group word named) groups) where
   abbrev entries : List MountEntry
   entries = map (retyped_entry kind) value.mounts
@@ -101,7 +110,8 @@ module _ (value : WorldValue) (whole : IsHeld value) (group : ℕ → ℕ) (word
   -- it is the code's
   now_is : (next : ℕ) → now ≡ world_of (retyped_value next)
   now_is next = λ i. record (world_of value) {
-    mounts = (map_twice (change (world_of value) kind (master_in groups)) (λ (entry : MountEntry). entry.mount) value.mounts
+    mounts = (map_twice (change (world_of value) kind (master_in groups))
+        (λ (entry : MountEntry). entry.mount) value.mounts
         ∙ sym (map_twice (λ (entry : MountEntry). entry.mount) (retyped_entry kind) value.mounts)) i;
     master = master_in groups;
   }
@@ -111,17 +121,20 @@ module _ (value : WorldValue) (whole : IsHeld value) (group : ℕ → ℕ) (word
   no_master one b e f = has.masters one ∙ ap (λ c. cond c (policy.master one) None) (e ∙ f)
 
   unused : GroupsInUse (world_of (retyped_value value.next))
-  unused one none = no_master one (has_members nat_eq policy.mounts one) refl (ap (λ list. has_members nat_eq list one) (sym mounts) ∙ none)
+  unused one none = no_master one (has_members nat_eq policy.mounts one) refl
+      (ap (λ list. has_members nat_eq list one) (sym mounts) ∙ none)
 
   -- nothing goes
-  pub types_settled : settled nat_eq (retyped nat_eq (world_of value) group word named) ≡ world_of (retyped_value value.next)
+  pub types_settled : settled nat_eq (retyped nat_eq (world_of value) group word named)
+      ≡ world_of (retyped_value value.next)
   types_settled =
       sym (settled_without_groups policy)
       ∙ ap (λ world. settled nat_eq (without_dead_groups nat_eq world)) (regrouped_is (record (world_of value) {
         mounts = map (retyped_mount nat_eq group word named) (world_of value).mounts;
         master = with_new_groups nat_eq group (world_of value).master named;
       }))
-      ∙ ap (settled nat_eq) (λ i. record (world_of value) { mounts = sym mounts i; master = λ one. sym (has.masters one) i })
+      ∙ ap (settled nat_eq) (λ i. record
+      (world_of value) { mounts = sym mounts i; master = λ one. sym (has.masters one) i })
       ∙ subst (λ (world : World ℕ). settled nat_eq world ≡ world) (now_is value.next)
       (types_keep_all (world_of value) (change (world_of value) kind (master_in groups)) (master_in groups)
       (worlds_are_in_use (world_of value) whole.in_world) (keeps (world_of value) kind (master_in groups))
@@ -142,17 +155,16 @@ module _ (value : WorldValue) (whole : IsHeld value) (group : ℕ → ℕ) (word
 
   pub types_held : (next : ℕ) → IsWorld nat_eq (world_of (retyped_value value.next))
       → KeepsTo (is_counted_before next) (world_of (retyped_value value.next))
-      → list_all (λ (entry : MountEntry). is_ungrouped entry.mount.propagation) (map (retyped_entry kind) value.mounts) ≡ true
       → IsHeld (retyped_value next)
-  types_held next is given free = record {
+  types_held next is given = record {
     in_world = is;
     groups = now_has next;
-    ungrouped = free;
     given = given;
     mounts = all_from_among (CountsItsUses (world_of (retyped_value next))) entries (λ entry m.
         let from = among-from_map (retyped_entry kind) value.mounts entry m in
         let was = among_from_all (CountsItsUses (world_of value)) value.mounts whole.mounts from.0 from.1 in
-        subst (CountsItsUses (world_of (retyped_value next))) (sym from.2) (record { uses = was.uses; writers = was.writers }));
+        subst (CountsItsUses (world_of (retyped_value next))) (sym from.2)
+        (record { uses = was.uses; writers = was.writers }));
     filesystems = all_from_among (CountsItsMounts (world_of (retyped_value next))) value.filesystems (λ entry m.
         let was = among_from_all (CountsItsMounts (world_of value)) value.filesystems whole.filesystems entry m in
         subst (λ (world : World ℕ). CountsItsMounts world entry) (now_is next) (record {
@@ -174,31 +186,35 @@ module _ (value : WorldValue) (whole : IsHeld value) (group : ℕ → ℕ) (word
 
 -- The event: the numbers of new groups are counts from the next one on.
 module _ (value : WorldValue) (whole : IsHeld value) (name : TaskName) (number : ℕ) (word : TypeWord) (recursive : Bool)
-    (permits : Permits value name (ToSetType number word recursive)) (kind : ℕ → Propagation ℕ → Propagation ℕ) (groups : Grouping) where
+    (permits : Permits value name (ToSetType number word recursive)) (kind : ℕ → Propagation ℕ → Propagation ℕ)
+    (groups : Grouping) where
   abbrev pub named : List (Mount ℕ)
   named = named_mounts nat_eq (world_of value) number recursive
 
   abbrev pub group : ℕ → ℕ
   group = numbers_by nat_eq (counts_from value.next) (named_mounts nat_eq (world_of value) number recursive)
 
-  module _ (mounts : mounts_in (map (retyped_entry kind) value.mounts) ≡ (retyped nat_eq (world_of value) group word named).mounts)
+  module _ (mounts : mounts_in (map (retyped_entry kind) value.mounts)
+      ≡ (retyped nat_eq (world_of value) group word named).mounts)
       (has : Has (retyped nat_eq (world_of value) group word named) groups) where
     abbrev settles : settled nat_eq (retyped nat_eq (world_of value) group word named)
         ≡ world_of (retyped_value value whole group word named kind groups mounts has value.next)
     settles = types_settled value whole group word named kind groups mounts has
 
     pub types_are_set : (next : ℕ)
-        → KeepsTo (is_counted_before next) (world_of (retyped_value value whole group word named kind groups mounts has value.next))
-        → list_all (λ (entry : MountEntry). is_ungrouped entry.mount.propagation) (map (retyped_entry kind) value.mounts) ≡ true
-        → IsDone value name (ToSetType number word recursive) (retyped_value value whole group word named kind groups mounts has next)
-    types_are_set next given free = record {
+        → KeepsTo (is_counted_before next)
+        (world_of (retyped_value value whole group word named kind groups mounts has value.next))
+        → IsDone value name (ToSetType number word recursive)
+        (retyped_value value whole group word named kind groups mounts has next)
+    types_are_set next given = record {
       held = types_held value whole group word named kind groups mounts has next
           (subst (IsWorld nat_eq) settles
           (given_permits_leave_worlds (world_of value) (supply_of value (ToSetType number word recursive)) permits.task
           (ToSetType number word recursive) whole.in_world (world_is_plain value) permits.given).0)
-          given free;
+          given;
       becomes = becomes_so value name (ToSetType number word recursive)
           (retyped_value value whole group word named kind groups mounts has next) permits.task permits.called
-          (subst (λ (world : World ℕ). SameWorlds (left_by value permits.task (ToSetType number word recursive)) world) settles
+          (subst (λ (world : World ℕ). SameWorlds
+          (left_by value permits.task (ToSetType number word recursive)) world) settles
           (sameness_is_an_equivalence.itself (left_by value permits.task (ToSetType number word recursive))));
     }

@@ -1,7 +1,6 @@
 -- Events that change types of mounts keep to the numbers that the world had, and to those of the groups that are made.
 use Rattle.std.proofs.Common.{◌≡◌, ◌<◌, refl, sym, ap, subst, ◌∙◌, ℕ, ◌+◌, ◌*◌, ◌%◌, ◌/◌, ◌==◌, nat_eq, nat_lt, eq-eqb, ne_eqb, ltb-true, lt-ltb, Bool, true, false, cond, ◌||◌, ◌&&◌, List, [], ◌∷◌, ◌++◌, length, map, flat_map, Option, None, Some, arith}
 use Rattle.std.specs.Prelude.{option_to_list}
-use Rattle.std.specs.List.{list_all}
 use Rattle.std.proofs.lemmas.Bool.{or_parts}
 use Rattle.std.proofs.lemmas.List.Folds.{list_any-append}
 use Rattle.vt_spec.specs.Language.Calls.{TaskName, TypeWord}
@@ -16,13 +15,13 @@ use Rattle.vt_spec.specs.Machine.Types.{named_mounts, retyped}
 use Rattle.vt_spec.specs.Machine.World.{Namespace}
 use Rattle.vt_group.specs.Grouping.{Grouping, Has, LacksGroup}
 use Rattle.vt_laws.specs.Numbers.{KeepsTo}
-use Rattle.vt_mount.specs.MountsValue.{MountEntry, mounts_in, retyped as retyped_entry}
+use Rattle.vt_mount.specs.MountsValue.{mounts_in, retyped as retyped_entry}
 use Rattle.vt_permit_laws.proofs.PermitsKeepTo.{permits_keep_to_numbers}
 use Rattle.vt_permit_laws.proofs.TakenAttached.{index_bound}
 use Rattle.vt_permit_laws.proofs.TakenNumbers.{counted_later}
 use Rattle.vt_run_laws.specs.Handed.{counts_from, is_counted_before}
 use Rattle.vt_detach.specs.Events.{Permits}
-use Rattle.vt_detach.specs.Held.{IsHeld, is_ungrouped}
+use Rattle.vt_detach.specs.Held.{IsHeld}
 use Rattle.vt_detach.specs.WorldValue.{WorldValue, world_of}
 use Rattle.vt_detach.proofs.FileEvents.{permit_fits}
 use Rattle.vt_detach.proofs.Staying.{IsDone}
@@ -56,10 +55,12 @@ unused_lacks number [] none = refl
 unused_lacks number (mount ∷ rest) none =
     let parts = or_parts (nat_eq number mount.number) _ none in
     let later = or_parts (is_among nat_eq number (option_to_list (source_of mount.propagation))) _
-    (sym (list_any-append (nat_eq number) (option_to_list (source_of mount.propagation)) (flat_map used_by_mount rest)) ∙ parts.1) in
+    (sym (list_any-append (nat_eq number) (option_to_list (source_of mount.propagation)) (flat_map used_by_mount rest))
+    ∙ parts.1) in
     (λ i. by mount.propagation later.0 i || unused_lacks number rest later.1 i)
   where
-    by : (kind : Propagation ℕ) → is_among nat_eq number (option_to_list (source_of kind)) ≡ false → holds_of (nat_eq number) (group_of kind) ≡ false
+    by : (kind : Propagation ℕ) → is_among nat_eq number (option_to_list (source_of kind)) ≡ false
+        → holds_of (nat_eq number) (group_of kind) ≡ false
     by (Shared group) e = (or_parts (nat_eq number group) false e).0
     by (Slave master) e = refl
     by Private e = refl
@@ -73,7 +74,8 @@ SeenAs value word named kind groups =
     × Has (retyped nat_eq (world_of value) group word named) groups
 
 module _ (value : WorldValue) (whole : IsHeld value) (name : TaskName) (number : ℕ) (word : TypeWord) (recursive : Bool)
-    (permits : Permits value name (ToSetType number word recursive)) (kind : ℕ → Propagation ℕ → Propagation ℕ) (groups : Grouping) where
+    (permits : Permits value name (ToSetType number word recursive)) (kind : ℕ → Propagation ℕ → Propagation ℕ)
+    (groups : Grouping) where
   abbrev named : List (Mount ℕ)
   named = named_mounts nat_eq (world_of value) number recursive
 
@@ -85,7 +87,8 @@ module _ (value : WorldValue) (whole : IsHeld value) (name : TaskName) (number :
       let used = flat_map used_by_mount (world_of value).mounts in
       let files = flat_map used_by_filesystem (world_of value).filesystems in
       let spaces = map (λ (namespace : Namespace ℕ). namespace.number) (world_of value).namespaces in
-      let all = sym (list_any-append (nat_eq (counts_from value.next k)) (used ++ files) spaces) ∙ permits.given.serves.unused k in
+      let all = sym (list_any-append (nat_eq (counts_from value.next k)) (used ++ files) spaces)
+      ∙ permits.given.serves.unused k in
       let some = sym (list_any-append (nat_eq (counts_from value.next k)) used files) ∙ (or_parts _ _ all).0 in
       unused_lacks (counts_from value.next k) (world_of value).mounts (or_parts _ _ some).0
 
@@ -93,7 +96,8 @@ module _ (value : WorldValue) (whole : IsHeld value) (name : TaskName) (number :
   groups_lack one = counts_lack (index_of nat_eq named one)
 
   named_number : is_counted_before value.next number ≡ true
-  named_number = attached_named value whole number permits.task.namespace (permit_fits value whole name (ToSetType number word recursive) permits).names
+  named_number = attached_named value whole number permits.task.namespace
+      (permit_fits value whole name (ToSetType number word recursive) permits).names
 
   -- an even number that is no group's
   abbrev pub even : ℕ
@@ -107,7 +111,8 @@ module _ (value : WorldValue) (whole : IsHeld value) (name : TaskName) (number :
   even_lacks one = beyond even (world_of value).mounts (omega arith)
 
   module _ (seen : SeenAs value word (named_mounts nat_eq (world_of value) number recursive) kind groups) where
-    abbrev here : (mounts_in (map (retyped_entry kind) value.mounts) ≡ (retyped nat_eq (world_of value) group word named).mounts)
+    abbrev here : (mounts_in (map (retyped_entry kind) value.mounts)
+        ≡ (retyped nat_eq (world_of value) group word named).mounts)
         × Has (retyped nat_eq (world_of value) group word named) groups
     here = seen group groups_lack
 
@@ -120,51 +125,60 @@ module _ (value : WorldValue) (whole : IsHeld value) (name : TaskName) (number :
         let there = seen (λ one. even) even_lacks in
         subst (KeepsTo (is_counted_before value.next))
         (types_settled value whole (λ one. even) word named kind groups there.0 there.1)
-        (permits_keep_to_numbers (is_counted_before value.next) (λ k. even) (world_of value) permits.task (ToSetType number word recursive)
+        (permits_keep_to_numbers (is_counted_before value.next) (λ k. even) (world_of value) permits.task
+        (ToSetType number word recursive)
         permits.given.called whole.given (λ k. is_even) named_number)
 
-    pub types_are_changed : list_all (λ (entry : MountEntry). is_ungrouped entry.mount.propagation) (map (retyped_entry kind) value.mounts) ≡ true
-        → IsDone value name (ToSetType number word recursive) (changed_value value.next)
-    types_are_changed free =
-        types_are_set value whole name number word recursive permits kind groups here.0 here.1 value.next keeps_numbers free
+    pub types_are_changed : IsDone value name (ToSetType number word recursive) (changed_value value.next)
+    types_are_changed =
+        types_are_set value whole name number word recursive permits kind groups here.0 here.1 value.next keeps_numbers
 
-    -- mounts that become shared take a number each
-    module _ (some : 0 < length (named_mounts nat_eq (world_of value) number recursive)) where
-      abbrev pub later : ℕ
-      later = value.next + length (named_mounts nat_eq (world_of value) number recursive)
+  -- mounts that become shared take a number each
+  module _ (mounts : mounts_in (map (retyped_entry kind) value.mounts)
+      ≡ (retyped nat_eq (world_of value) group word named).mounts)
+      (has : Has (retyped nat_eq (world_of value) group word named) groups)
+      (some : 0 < length (named_mounts nat_eq (world_of value) number recursive)) where
+    abbrev pub later : ℕ
+    later = value.next + length (named_mounts nat_eq (world_of value) number recursive)
 
-      abbrev supply : Fresh ℕ
-      supply k = cond (nat_lt k (length named)) (counts_from value.next k) even
+    abbrev supply : Fresh ℕ
+    supply k = cond (nat_lt k (length named)) (counts_from value.next k) even
 
-      supply_is : (one : ℕ) → numbers_by nat_eq supply named one ≡ group one
-      supply_is one =
-          ap (λ b. cond b (counts_from value.next (index_of nat_eq named one)) even)
-          (lt-ltb (index_of nat_eq named one) (length named) (index_bound named one some))
+    supply_is : (one : ℕ) → numbers_by nat_eq supply named one ≡ group one
+    supply_is one =
+        ap (λ b. cond b (counts_from value.next (index_of nat_eq named one)) even)
+        (lt-ltb (index_of nat_eq named one) (length named) (index_bound named one some))
 
-      either : (b : Bool) → (b || true) ≡ true
-      either true = refl
-      either false = refl
+    either : (b : Bool) → (b || true) ≡ true
+    either true = refl
+    either false = refl
 
-      counted_low : (k : ℕ) (b : Bool) → nat_lt k (length named) ≡ b
-          → is_counted_before later (cond b (counts_from value.next k) even) ≡ true
-      counted_low k true e =
-          let low = ltb-true k (length named) e in
-          (λ i. (counts_from value.next k % 2 == 0)
-          || (eq-eqb (counts_from value.next k % 4) 1 (omega arith) i && lt-ltb (counts_from value.next k / 4) later (omega (arith, low)) i))
-          ∙ either (counts_from value.next k % 2 == 0)
-      counted_low k false e = counted_later value.next later even (omega arith) is_even
+    counted_low : (k : ℕ) (b : Bool) → nat_lt k (length named) ≡ b
+        → is_counted_before later (cond b (counts_from value.next k) even) ≡ true
+    counted_low k true e =
+        let low = ltb-true k (length named) e in
+        (λ i. (counts_from value.next k % 2 == 0)
+        || (eq-eqb (counts_from value.next k % 4) 1 (omega arith) i
+        && lt-ltb (counts_from value.next k / 4) later (omega (arith, low)) i))
+        ∙ either (counts_from value.next k % 2 == 0)
+    counted_low k false e = counted_later value.next later even (omega arith) is_even
 
-      pub keeps_taken : KeepsTo (is_counted_before later) (world_of (changed_value value.next))
-      keeps_taken =
-          subst (KeepsTo (is_counted_before later))
-          (ap (λ numbers. settled nat_eq (retyped nat_eq (world_of value) numbers word named)) (λ i one. supply_is one i)
-          ∙ types_settled value whole group word named kind groups here.0 here.1)
-          (permits_keep_to_numbers (is_counted_before later) supply (world_of value) permits.task (ToSetType number word recursive)
-          permits.given.called
-          (λ renaming leaves. whole.given renaming (λ n is. leaves n (counted_later value.next later n (omega arith) is)))
-          (λ k. counted_low k (nat_lt k (length named)) refl) (counted_later value.next later number (omega arith) named_number))
+    keeps_taken : KeepsTo (is_counted_before later)
+        (world_of (retyped_value value whole group word named kind groups mounts has value.next))
+    keeps_taken =
+        subst (KeepsTo (is_counted_before later))
+        (ap (λ numbers. settled nat_eq (retyped nat_eq (world_of value) numbers word named))
+        (λ i one. supply_is one i)
+        ∙ types_settled value whole group word named kind groups mounts has)
+        (permits_keep_to_numbers (is_counted_before later) supply (world_of value) permits.task
+        (ToSetType number word recursive)
+        permits.given.called
+        (λ renaming leaves. whole.given renaming
+        (λ n is. leaves n (counted_later value.next later n (omega arith) is)))
+        (λ k. counted_low k (nat_lt k (length named)) refl)
+        (counted_later value.next later number (omega arith) named_number))
 
-      pub types_are_shared : list_all (λ (entry : MountEntry). is_ungrouped entry.mount.propagation) (map (retyped_entry kind) value.mounts) ≡ true
-          → IsDone value name (ToSetType number word recursive) (changed_value later)
-      types_are_shared free =
-          types_are_set value whole name number word recursive permits kind groups here.0 here.1 later keeps_taken free
+    pub types_are_shared : IsDone value name (ToSetType number word recursive)
+        (retyped_value value whole group word named kind groups mounts has later)
+    types_are_shared =
+        types_are_set value whole name number word recursive permits kind groups mounts has later keeps_taken

@@ -15,14 +15,14 @@ use Rattle.vt_group.specs.Grouping.{Has}
 use Rattle.vt_letting_go.specs.Counts.{times}
 use Rattle.vt_letting_go.specs.Keeping.{flags_if}
 use Rattle.vt_letting_go.specs.Mounting.{inode_at}
-use Rattle.vt_letting_go.proofs.Lists.{Among, among-from_map, is_among_numbers, among-map, map_alike, passes}
+use Rattle.vt_letting_go.proofs.Lists.{Among, is_among_numbers, among-map, map_alike}
 use Rattle.vt_letting_go.proofs.PlacesLeft.{found_is_there, number_found}
 use Rattle.vt_letting_go.proofs.UsesKept.{flags_are_of_one}
-use Rattle.vt_mount.specs.MountsValue.{MountEntry, changed, mounts_in}
+use Rattle.vt_mount.specs.MountsValue.{changed, mounts_in}
 use Rattle.vt_permit_laws.specs.Named.{permit_named}
 use Rattle.vt_run_laws.specs.Handed.{is_counted_before}
 use Rattle.vt_detach.specs.Events.{Permits}
-use Rattle.vt_detach.specs.Held.{IsHeld, is_ungrouped}
+use Rattle.vt_detach.specs.Held.{IsHeld}
 use Rattle.vt_detach.specs.WorldValue.{WorldValue, world_of}
 use Rattle.vt_detach.proofs.FileEvents.{permit_fits}
 use Rattle.vt_detach.proofs.FilesSeen.{mount_named}
@@ -40,29 +40,24 @@ same_shown (one ∷ rest) = ap (λ others. one ∷ others) (same_shown rest)
 
 -- a mount in a namespace has a counted number
 pub attached_named : (value : WorldValue) → IsHeld value → (number namespace : ℕ)
-    → (mount_numbered nat_eq (world_of value) number).namespace ≡ Some namespace → is_counted_before value.next number ≡ true
+    → (mount_numbered nat_eq (world_of value) number).namespace ≡ Some namespace
+    → is_counted_before value.next number ≡ true
 attached_named value held number namespace own =
     mount_named value held number
     (is_among_numbers number (map (λ (mount : Mount ℕ). mount.number) (mounts_in value.mounts))
-    (subst (λ n. Among n (map (λ (mount : Mount ℕ). mount.number) (mounts_in value.mounts))) (number_found (mounts_in value.mounts) number)
-    (among-map (λ (mount : Mount ℕ). mount.number) (mounts_in value.mounts) (mount_numbered nat_eq (world_of value) number)
+    (subst (λ n. Among n (map (λ (mount : Mount ℕ). mount.number) (mounts_in value.mounts)))
+    (number_found (mounts_in value.mounts) number)
+    (among-map (λ (mount : Mount ℕ). mount.number) (mounts_in value.mounts)
+    (mount_numbered nat_eq (world_of value) number)
     (found_is_there (mounts_in value.mounts) number (ap is_some own)))))
 
--- and is in no group
-pub attached_free : (value : WorldValue) → IsHeld value → (number namespace : ℕ)
-    → (mount_numbered nat_eq (world_of value) number).namespace ≡ Some namespace
-    → is_ungrouped (mount_numbered nat_eq (world_of value) number).propagation ≡ true
-attached_free value held number namespace own =
-    let entry = among-from_map (λ (one : MountEntry). one.mount) value.mounts (mount_numbered nat_eq (world_of value) number)
-    (found_is_there (mounts_in value.mounts) number (ap is_some own)) in
-    ap (λ (mount : Mount ℕ). is_ungrouped mount.propagation) entry.2
-    ∙ passes (λ (one : MountEntry). is_ungrouped one.mount.propagation) value.mounts held.ungrouped entry.0 entry.1
-
-module _ (value : WorldValue) (whole : IsHeld value) (name : TaskName) (number : ℕ) (permit : Permit ℕ) (change : Mount ℕ → Mount ℕ)
+module _ (value : WorldValue) (whole : IsHeld value) (name : TaskName) (number : ℕ) (permit : Permit ℕ)
+    (change : Mount ℕ → Mount ℕ)
     (keeps : KeepsWhatItShows change) (stays : (mount : Mount ℕ) → (change mount).mount_point ≡ mount.mount_point)
     (permits : Permits value name permit)
     (own : (mount_numbered nat_eq (world_of value) number).namespace ≡ Some permits.task.namespace) where
-  nothing_exchanged : (filesystem : ℕ) → Exchanges [] [] filesystem (world_of value) (next_of value whole number change keeps)
+  nothing_exchanged : (filesystem : ℕ)
+      → Exchanges [] [] filesystem (world_of value) (next_of value whole number change keeps)
   nothing_exchanged filesystem =
       let found = attached_entry value number permits.task.namespace own in
       let moved = places_exchanged value whole number change keeps found.0 found.1 filesystem in
@@ -70,19 +65,24 @@ module _ (value : WorldValue) (whole : IsHeld value) (name : TaskName) (number :
         same = moved.same;
         uses = λ n.
             let uses = moved.uses n in
-            let same : times (is_inode filesystem n) (map (inode_at (world_of value)) (option_to_list (change found.0.mount).mount_point))
+            let same : times (is_inode filesystem n)
+            (map (inode_at (world_of value)) (option_to_list (change found.0.mount).mount_point))
             ≡ times (is_inode filesystem n) (map (inode_at (world_of value)) (option_to_list found.0.mount.mount_point))
-            = ap (λ o. times (is_inode filesystem n) (map (inode_at (world_of value)) (option_to_list o))) (stays found.0.mount) in
+            = ap (λ o. times (is_inode filesystem n) (map (inode_at (world_of value)) (option_to_list o)))
+            (stays found.0.mount) in
             omega (arith, uses, same);
       }
 
   -- the event of a change of one mount that keeps its mount point
   pub mount_is_retouched : Has (settled nat_eq (next_of value whole number change keeps)) value.groups
       → permit_named (is_counted_before value.next) permit ≡ true
-      → ((fresh : Fresh ℕ) → (apply nat_eq fresh (world_of value) permits.task permit).world ≡ next_of value whole number change keeps)
-      → IsDone value name permit (remade value (changed number (with_mount_changed change) value.mounts) value.filesystems value.tasks)
+      → ((fresh : Fresh ℕ) → (apply nat_eq fresh (world_of value) permits.task permit).world
+      ≡ next_of value whole number change keeps)
+      → IsDone value name permit (remade value
+      (changed number (with_mount_changed change) value.mounts) value.filesystems value.tasks)
   mount_is_retouched has named applied =
-      mount_is_changed value whole number change keeps [] [] value.filesystems (same_shown (shown value.filesystems)) nothing_exchanged
+      mount_is_changed value whole number change keeps [] [] value.filesystems
+      (same_shown (shown value.filesystems)) nothing_exchanged
       (λ was m. refl) name permit permits.task
       (record { called = permits.called; given = permits.given; named = named; applied = applied }) has
 
@@ -97,16 +97,17 @@ flags_keep flags = record {
   namespace = λ mount. refl;
   filesystem = λ mount. refl;
   root = λ mount. refl;
-  ungrouped = λ mount e. e;
 }
 
 pub flags_are_set : (value : WorldValue) → IsHeld value → (name : TaskName) (number : ℕ) (flags : MountFlags)
     → Permits value name (ToSetFlags number flags)
     → IsDone value name (ToSetFlags number flags)
-    (remade value (changed number (λ entry. record entry { mount = record entry.mount { flags = flags } }) value.mounts) value.filesystems value.tasks)
+    (remade value (changed number (λ entry.
+    record entry { mount = record entry.mount { flags = flags } }) value.mounts) value.filesystems value.tasks)
 flags_are_set value whole name number flags permits =
     let own = (permit_fits value whole name (ToSetFlags number flags) permits).names in
-    mount_is_retouched value whole name number (ToSetFlags number flags) (with_flags flags) (flags_keep flags) (λ mount. refl) permits own
+    mount_is_retouched value whole name number (ToSetFlags number flags) (with_flags flags) (flags_keep flags)
+    (λ mount. refl) permits own
     (kind_kept value whole number (with_flags flags) (flags_keep flags) (λ mount. refl))
     (attached_named value whole number permits.task.namespace own)
     (λ fresh.

@@ -1,4 +1,5 @@
--- Whether a tree of mounts has an unbindable one is seen among the mounts of its namespace: EINVAL of mount(2) with MS_MOVE.
+-- Whether a tree of mounts has an unbindable one is seen among the mounts of its namespace: EINVAL of mount(2) with
+-- MS_MOVE.
 use Rattle.std.proofs.Common.{◌≡◌, refl, sym, ap, subst, ◌∙◌, ⊎_elim, ℕ, zero, suc, nat_eq, eqb-true, eq-eqb, Bool, true, false, true≢false, not, ◌||◌, ◌&&◌, List, [], ◌∷◌, map, filter, length, Option, Some, None, is_some}
 use Rattle.std.specs.Prelude.{flat_map, option_to_list}
 use Rattle.std.specs.List.{list_all, list_any}
@@ -40,20 +41,26 @@ module _ (value : WorldValue) (held : IsHeld value) where
 
   -- what lies on a mount is in its namespace
   pub same_namespace : (above number : ℕ) → LiesIn (world_of value) above number
-      → (mount_numbered nat_eq (world_of value) number).namespace ≡ (mount_numbered nat_eq (world_of value) above).namespace
+      → (mount_numbered nat_eq (world_of value) number).namespace
+      ≡ (mount_numbered nat_eq (world_of value) above).namespace
   same_namespace above number (itself it) = refl
   same_namespace above number (under top it place e way) =
-      by (stand world held.in_world.mounts.one_number held.in_world.mounts.standing number) ∙ same_namespace above place.mount way
+      by (stand world held.in_world.mounts.one_number held.in_world.mounts.standing number)
+      ∙ same_namespace above place.mount way
     where
       by : Stands nat_eq (world_of value) it
-          → (mount_numbered nat_eq (world_of value) it).namespace ≡ (mount_numbered nat_eq (world_of value) place.mount).namespace
+          → (mount_numbered nat_eq (world_of value) it).namespace
+          ≡ (mount_numbered nat_eq (world_of value) place.mount).namespace
       by (at_root one f) = absurd (true≢false (sym (ap is_some e) ∙ ap is_some f))
-      by (on_parent one at f g x) = g ∙ ap (λ (p : Location ℕ). (mount_numbered nat_eq (world_of value) p.mount).namespace) (same_Some at place (sym f ∙ e))
+      by (on_parent one at f g x) = g
+          ∙ ap (λ (p : Location ℕ). (mount_numbered nat_eq (world_of value) p.mount).namespace)
+          (same_Some at place (sym f ∙ e))
 
   module _ (top namespace : ℕ) (is : (mount_numbered nat_eq (world_of value) top).namespace ≡ Some namespace) where
     -- the mounts of the tree are mounts of that namespace, each under its own number
     pub in_tree : (other : Mount ℕ) → Among other (tree top)
-        → Among other (mounts_in value.mounts) × (mount_numbered nat_eq (world_of value) other.number ≡ other) × (other.namespace ≡ Some namespace)
+        → Among other (mounts_in value.mounts) × (mount_numbered nat_eq (world_of value) other.number ≡ other)
+        × (other.namespace ≡ Some namespace)
     in_tree other m =
         let there : Among other mounts =
         ⊎_elim (λ e. subst (λ x. Among x mounts) (sym e) top_there) (λ l. l)
@@ -63,7 +70,8 @@ module _ (value : WorldValue) (held : IsHeld value) where
           own,
           sym (ap (λ (x : Mount ℕ). x.namespace) own)
               ∙ same_namespace (mount_numbered nat_eq world top).number other.number
-              (lies_in_tree world held.in_world.mounts.one_number held.in_world.mounts.standing (length mounts) (mount_numbered nat_eq world top) other m)
+              (lies_in_tree world held.in_world.mounts.one_number held.in_world.mounts.standing (length mounts)
+              (mount_numbered nat_eq world top) other m)
               ∙ ap (λ n. (mount_numbered nat_eq world n).namespace) (number_found mounts top) ∙ is,
         )
       where
@@ -76,7 +84,8 @@ module _ (value : WorldValue) (held : IsHeld value) where
     pub unbindable_met :
         list_any (λ number. is_unbindable (mount_numbered nat_eq (world_of value) number).propagation
         && list_any (λ other. nat_eq other.number number) (tree top))
-        (map (λ mount. mount.number) (filter (λ mount. holds_of (nat_eq namespace) mount.namespace) (mounts_in value.mounts)))
+        (map (λ mount. mount.number) (filter (λ mount. holds_of (nat_eq namespace) mount.namespace)
+        (mounts_in value.mounts)))
         ≡ list_any (λ mount. is_unbindable mount.propagation) (tree top)
     unbindable_met = one_test _ _ there back
       where
@@ -95,7 +104,8 @@ module _ (value : WorldValue) (held : IsHeld value) where
             let other = any_among (λ other. nat_eq other.number number.0) (tree top) parts.1 in
             any_from_among (λ mount. is_unbindable mount.propagation) (tree top) other.0 other.1
             (ap (λ (mount : Mount ℕ). is_unbindable mount.propagation)
-            (sym (in_tree other.0 other.1).1 ∙ ap (mount_numbered nat_eq world) (eqb-true other.0.number number.0 other.2))
+            (sym (in_tree other.0 other.1).1
+            ∙ ap (mount_numbered nat_eq world) (eqb-true other.0.number number.0 other.2))
             ∙ parts.0)
 
         back : list_any (λ mount. is_unbindable mount.propagation) (tree top) ≡ true
@@ -105,9 +115,11 @@ module _ (value : WorldValue) (held : IsHeld value) where
             let own = in_tree other.0 other.1 in
             any_from_among test (map (λ mount. mount.number) (filter inside mounts)) other.0.number
             (among-map (λ mount. mount.number) (filter inside mounts) other.0
-            (among-filter inside mounts other.0 own.0 (ap (holds_of (nat_eq namespace)) own.2 ∙ eq-eqb namespace namespace refl)))
+            (among-filter inside mounts other.0 own.0
+            (ap (holds_of (nat_eq namespace)) own.2 ∙ eq-eqb namespace namespace refl)))
             (λ i. (ap (λ (mount : Mount ℕ). is_unbindable mount.propagation) own.1 ∙ other.2) i
-            && any_from_among (λ one. nat_eq one.number other.0.number) (tree top) other.0 other.1 (eq-eqb other.0.number other.0.number refl) i)
+            && any_from_among (λ one. nat_eq one.number other.0.number) (tree top) other.0 other.1
+            (eq-eqb other.0.number other.0.number refl) i)
 
   -- what is in no namespace is private, and nothing stands on it
   module _ (top : ℕ) (nowhere : (mount_numbered nat_eq (world_of value) top).namespace ≡ None) where
@@ -115,22 +127,26 @@ module _ (value : WorldValue) (held : IsHeld value) where
     not_unbindable =
         ⊎_elim
         (λ m.
-        let is = among_from_list_all is_nowhere_or_attached mounts held.in_world.mounts.nowhere (mount_numbered nat_eq world top) m in
+        let is = among_from_list_all is_nowhere_or_attached mounts held.in_world.mounts.nowhere
+        (mount_numbered nat_eq world top) m in
         attached_private (mount_numbered nat_eq world top).propagation
         (and_parts (not (is_some (mount_numbered nat_eq world top).mount_point)) _
-        (ap (λ o. is_some o || (not (is_some (mount_numbered nat_eq world top).mount_point) && is_private (mount_numbered nat_eq world top).propagation)) (sym nowhere) ∙ is)).1)
+        (ap (λ o. is_some o || (not (is_some (mount_numbered nat_eq world top).mount_point)
+        && is_private (mount_numbered nat_eq world top).propagation)) (sym nowhere) ∙ is)).1)
         (λ none. ap (λ (x : Mount ℕ). is_unbindable x.propagation) none)
         (found_or_none mounts top)
 
     pub no_children : children nat_eq (mounts_in value.mounts) (mount_numbered nat_eq (world_of value) top).number ≡ []
     no_children =
         filter_none (stands_on nat_eq number) mounts (none_from_among (stands_on nat_eq number) mounts (λ child m.
-        by child.mount_point (among_from_list_all (stands_on_attached world) mounts (mounts_of_worlds_stand world held.in_world).on_attached child m)))
+        by child.mount_point (among_from_list_all (stands_on_attached world) mounts
+        (mounts_of_worlds_stand world held.in_world).on_attached child m)))
       where
         number : ℕ
         number = (mount_numbered nat_eq (world_of value) top).number
 
-        by : (o : Option (Location ℕ)) → list_all (λ place. is_some (mount_at nat_eq (world_of value) place).namespace) (option_to_list o) ≡ true
+        by : (o : Option (Location ℕ))
+            → list_all (λ place. is_some (mount_at nat_eq (world_of value) place).namespace) (option_to_list o) ≡ true
             → holds_of (λ place. nat_eq number place.mount) o ≡ false
         by None e = refl
         by (Some place) e = on (nat_eq number place.mount) refl
@@ -140,10 +156,12 @@ module _ (value : WorldValue) (held : IsHeld value) where
             on true t =
                 absurd (true≢false
                 (sym (and_parts (is_some (mount_at nat_eq world place).namespace) true e).0
-                ∙ ap (λ n. is_some (mount_numbered nat_eq world n).namespace) (sym (eqb-true number place.mount t) ∙ number_found mounts top)
+                ∙ ap (λ n. is_some (mount_numbered nat_eq world n).namespace)
+                (sym (eqb-true number place.mount t) ∙ number_found mounts top)
                 ∙ ap is_some nowhere))
 
-    pub alone_in_tree : (depth : ℕ) → tree_from nat_eq depth (mounts_in value.mounts) (mount_numbered nat_eq (world_of value) top)
+    pub alone_in_tree : (depth : ℕ)
+        → tree_from nat_eq depth (mounts_in value.mounts) (mount_numbered nat_eq (world_of value) top)
         ≡ mount_numbered nat_eq (world_of value) top ∷ []
     alone_in_tree zero = refl
     alone_in_tree (suc depth) =

@@ -1,13 +1,14 @@
 -- A mount and its descendants are unmounted: umount(2) with MNT_DETACH.
-use Rattle.std.proofs.Common.{◌≡◌, ◌∙◌, sym, ap, subst, ℕ, nat_eq, List, [], ◌∷◌, map, is_some}
+use Rattle.std.proofs.Common.{◌≡◌, ◌∙◌, sym, ap, subst, ℕ, nat_eq, true, false, List, [], ◌∷◌, map, is_some}
 use Rattle.vt_spec.specs.Language.Calls.{TaskName}
-use Rattle.vt_spec.specs.Machine.Mounts.{Mount, mount_in, mount_tree}
+use Rattle.std.specs.List.{list_all}
+use Rattle.vt_spec.specs.Lists.{holds_of}
+use Rattle.vt_spec.specs.Machine.Mounts.{Location as Place, Mount, is_shared, mount_in, mount_tree}
 use Rattle.vt_spec.specs.Machine.Permits.Permit.{ToUnmountLazily}
-use Rattle.vt_spec.specs.Machine.World.{World}
+use Rattle.vt_spec.specs.Machine.World.{World, mount_at, mount_numbered}
 use Rattle.vt_count_laws.specs.Sweeping.{living}
 use Rattle.vt_fs.specs.FilesystemsValue.{Filesystems}
 use Rattle.vt_letting_go.specs.OneByOne.{Inode}
-use Rattle.vt_letting_go.proofs.Lists.{passes}
 use Rattle.vt_mount.specs.MountsValue.{MountEntry, mounts_in}
 use Rattle.vt_detach.specs.Detached.{LeaveInTurn}
 use Rattle.vt_detach.specs.Events.{Permits}
@@ -16,9 +17,10 @@ use Rattle.vt_detach.specs.Uses.{Kept, kept, without_attachment}
 use Rattle.vt_detach.specs.WorldValue.{WorldValue, world_of}
 use Rattle.vt_detach.proofs.Detached.{IsDetaching, detaching_on}
 use Rattle.vt_detach.proofs.DetachingBegins.{HasChildrenOf, detached_world, detaching_begins}
-use Rattle.vt_detach.proofs.DetachingEnds.{detached_done, held_is_kept, taken_is_detached}
+use Rattle.vt_detach.proofs.DetachingEnds.{detached_done, held_is_kept, taken_regroups}
 use Rattle.vt_detach.proofs.FileEvents.{permit_fits}
-use Rattle.vt_detach.proofs.LazilyUnmounted.{lazily_is_detached, tree_has_children}
+use Rattle.vt_detach.proofs.GoneAlone.{alone_regroups}
+use Rattle.vt_detach.proofs.LazilyUnmounted.{lazily_is_detached, tree_has_children, tree_is_free}
 use Rattle.vt_detach.proofs.Remaining.{remade}
 use Rattle.vt_detach.proofs.Staying.{IsDone}
 use Rattle.vt_detach.proofs.UnmountedAlone.{attached_is_named}
@@ -31,27 +33,39 @@ all_detached old gained last (number ∷ numbers) k final detaching turn =
     all_detached old gained last numbers (without_attachment number turn.0 k) final
     (detaching_on old gained last number numbers k turn.0 detaching turn.1 turn.2) turn.3
 
-pub lazy_unmount_is_done : (value : WorldValue) (name : TaskName) (number : ℕ) (numbers : List ℕ) (mounts : List MountEntry) (filesystems : Filesystems)
+pub lazy_unmount_is_done : (value : WorldValue) (name : TaskName) (number : ℕ) (numbers : List ℕ)
+    (mounts : List MountEntry) (filesystems : Filesystems)
     → IsHeld value → Permits value name (ToUnmountLazily number)
-    → numbers ≡ map (λ (mount : Mount ℕ). mount.number) (mount_tree nat_eq (mounts_in value.mounts) (mount_in nat_eq (mounts_in value.mounts) number))
+    → numbers ≡ map (λ (mount : Mount ℕ). mount.number)
+    (mount_tree nat_eq (mounts_in value.mounts) (mount_in nat_eq (mounts_in value.mounts) number))
+    → list_all (λ n. is_ungrouped (mount_in nat_eq (mounts_in value.mounts) n).propagation) numbers ≡ true
+    → holds_of (λ (place : Place ℕ). is_shared (mount_at nat_eq (world_of value) place).propagation)
+    (mount_numbered nat_eq (world_of value) number).mount_point ≡ false
     → LeaveInTurn numbers (kept value.mounts value.filesystems) (kept mounts filesystems)
     → IsDone value name (ToUnmountLazily number) (remade value mounts filesystems value.tasks)
-lazy_unmount_is_done value name number numbers mounts filesystems whole permits tree turn =
+lazy_unmount_is_done value name number numbers mounts filesystems whole permits tree none apart turn =
     let world = world_of value in
+    let ungrouped = ap (list_all (λ n. is_ungrouped (mount_in nat_eq world.mounts n).propagation)) (sym tree) ∙ none in
     let names = (permit_fits value whole name (ToUnmountLazily number) permits).names in
     let start = held_is_kept value whole in
     let there = ap is_some names.0 in
-    let gone = map (λ (mount : Mount ℕ). mount.number) (mount_tree nat_eq world.mounts (mount_in nat_eq world.mounts number)) in
-    let closed : HasChildrenOf gone world.mounts = tree_has_children world start.ungrouped whole.in_world.mounts number there in
+    let gone = map (λ (mount : Mount ℕ). mount.number)
+    (mount_tree nat_eq world.mounts (mount_in nat_eq world.mounts number)) in
+    let kept_mounts = whole.in_world.mounts in
+    let closed : HasChildrenOf gone world.mounts = tree_has_children world kept_mounts number there in
+    let free = tree_is_free world kept_mounts number there ungrouped in
     detached_done value name (ToUnmountLazily number) permits.task gone mounts filesystems whole closed
-    (λ mount m its. passes (λ (x : Mount ℕ). is_ungrouped x.propagation) world.mounts start.ungrouped mount m)
-    (record {
+    free (record {
       called = permits.called;
       given = permits.given;
       named = attached_is_named value whole number there;
-      applied = λ fresh. lazily_is_detached world start.ungrouped whole.in_world.mounts number there
-          ∙ sym (taken_is_detached world gone start.ungrouped closed);
+      applied = λ fresh. lazily_is_detached world kept_mounts number there ungrouped
+          (λ place p. sym (ap (holds_of (λ (at : Place ℕ). is_shared (mount_at nat_eq world at).propagation)) p)
+          ∙ apart)
+          ∙ sym (taken_regroups world gone closed
+          ∙ alone_regroups world value.groups whole.groups kept_mounts.groups gone free);
     })
-    (all_detached value [] (living (detached_world gone world)) gone (kept value.mounts value.filesystems) (kept mounts filesystems)
+    (all_detached value [] (living (detached_world gone world)) gone (kept value.mounts value.filesystems)
+    (kept mounts filesystems)
     (detaching_begins value [] [] world (kept value.mounts value.filesystems) start gone closed)
     (subst (λ all. LeaveInTurn all (kept value.mounts value.filesystems) (kept mounts filesystems)) tree turn))

@@ -1,7 +1,6 @@
 -- What holds of each world of the code: the invariants of a world, and that what is kept beside it, groups and counts,
 -- is what the definitions say.
 use Rattle.std.specs.Prelude.{All, Bool, List, None, [], false, nat_eq, true, ℕ, ◌&&◌, ◌+◌, ◌∷◌, ◌≡◌}
-use Rattle.std.specs.List.{list_all}
 use Rattle.vt_spec.specs.Machine.Mounts.{Propagation}
 use Rattle.vt_spec.specs.Machine.Mounts.Propagation.{Private, Shared, Slave, Unbindable}
 use Rattle.vt_spec.specs.Machine.World.{Descriptor, Task, World}
@@ -55,7 +54,6 @@ pub record CountsWhatIsInIt (world : World ℕ) (entry : NamespaceEntry) : Type 
 pub record IsHeld (value : WorldValue) : Type 0 where
   pub in_world : IsWorld nat_eq (world_of value)
   pub groups : Has (world_of value) value.groups
-  pub ungrouped : list_all (λ entry. is_ungrouped entry.mount.propagation) value.mounts ≡ true
   pub given : KeepsTo (is_counted_before value.next) (world_of value)
   pub mounts : All (CountsItsUses (world_of value)) value.mounts
   pub filesystems : All (CountsItsMounts (world_of value)) value.filesystems

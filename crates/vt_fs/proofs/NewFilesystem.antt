@@ -21,7 +21,8 @@ only_one n (a ∷ b ∷ rest) one among = absurd cc
 
 module _ (root : ℕ) (attr : Attr) where
   node_of_root : (b : Bool)
-      → node_in (if b then Some (record { node = record { attr = attr; content = new_directory root }; uses = 1 }) else None)
+      → node_in (if b then Some (record { node = record { attr = attr; content = new_directory root }; uses = 1 })
+      else None)
       ≡ (if b then Some (record { attr = attr; content = new_directory root }) else None)
   node_of_root true = refl
   node_of_root false = refl
@@ -29,13 +30,23 @@ module _ (root : ℕ) (attr : Attr) where
   tree_of_one : tree_of (one_directory nat_eq root attr) ≡ tree_of_root nat_eq root attr
   tree_of_one = λ i. record { root = root; node = λ other. node_of_root (nat_eq other root) i }
 
-pub new_seen : (entry : FilesystemEntry) (count : ℕ) (attr : Attr) → entry.count ≡ count → inodes_seen entry ≡ one_directory nat_eq (inode_number count 0) attr
+pub new_seen : (entry : FilesystemEntry) (count : ℕ) (attr : Attr) → entry.count ≡ count
+    → inodes_seen entry ≡ one_directory nat_eq (inode_number count 0) attr
     → filesystem_seen entry ≡ new_filesystem count attr
 new_seen entry count attr counts inodes =
     let root = inode_number count 0 in
     let there : is_among nat_eq root (numbers_seen entry) ≡ true =
     numbers_listed entry root ∙ ap (λ (all : Inodes ℕ). is_some ((tree_of all).node root)) inodes
-    ∙ ap (λ b. is_some (node_in (if b then Some (record { node = record { attr = attr; content = new_directory root }; uses = 1 }) else None))) (eq-eqb root root refl) in
-    let numbers = only_one root (numbers_seen entry) (numbers_counted entry ∙ ap (λ (all : Inodes ℕ). all.count) inodes) there in
+    ∙ ap (λ b. is_some (node_in (if b
+    then Some (record { node = record { attr = attr; content = new_directory root }; uses = 1 }) else None)))
+    (eq-eqb root root refl) in
+    let numbers = only_one root (numbers_seen entry)
+    (numbers_counted entry ∙ ap (λ (all : Inodes ℕ). all.count) inodes) there in
     let tree = ap tree_of inodes ∙ tree_of_one root attr in
-    λ i. record { number = counted (counts i); files = record { tree = tree i; numbers = numbers i }; overlay = None; change = 0 }
+    λ i. record {
+      number = counted
+          (counts i);
+      files = record { tree = tree i; numbers = numbers i };
+      overlay = None;
+      change = 0;
+    }

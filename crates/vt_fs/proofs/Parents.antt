@@ -35,10 +35,12 @@ and_second : (a b : Bool) → (a && b) ≡ true → b ≡ true
 and_second true b e = e
 and_second false b e = absurd (true≢false (sym e))
 
-below_none : (name : List ℕ) (entries : Entries ℕ) → below_all name_cmp name entries ≡ true → entry_named name entries ≡ None
+below_none : (name : List ℕ) (entries : Entries ℕ) → below_all name_cmp name entries ≡ true
+    → entry_named name entries ≡ None
 below_none name [] e = refl
 below_none name (entry ∷ entries) e =
-    ap (λ b. cond b (Some entry.1) (entry_named name entries)) (apart (name_cmp name entry.0) (and_first (is_lt (name_cmp name entry.0)) _ e))
+    ap (λ b. cond b (Some entry.1) (entry_named name entries))
+    (apart (name_cmp name entry.0) (and_first (is_lt (name_cmp name entry.0)) _ e))
     ∙ below_none name entries (and_second (is_lt (name_cmp name entry.0)) _ e)
   where
     apart : (o : Rattle.std.specs.declared.cmp.Ordering.Ordering) → is_lt o ≡ true → is_eq o ≡ false
@@ -46,28 +48,41 @@ below_none name (entry ∷ entries) e =
     apart Equal e = absurd (true≢false (sym e))
     apart Greater e = refl
 
-found_is_named : (object : ℕ) (entries : Entries ℕ) (entry : List ℕ × ℕ) → is_sorted name_cmp entries ≡ true → find (λ entry. nat_eq object entry.1) entries ≡ Some entry → (entry_named entry.0 entries ≡ Some entry.1) × (entry.1 ≡ object)
+found_is_named : (object : ℕ) (entries : Entries ℕ) (entry : List ℕ × ℕ) → is_sorted name_cmp entries ≡ true
+    → find (λ entry. nat_eq object entry.1) entries ≡ Some entry
+    → (entry_named entry.0 entries ≡ Some entry.1) × (entry.1 ≡ object)
 found_is_named object [] entry sorted e = absurd (true≢false (sym (ap is_some e)))
 found_is_named object (first ∷ entries) entry sorted e =
-    by (nat_eq object first.1) refl e (λ rest. found_is_named object entries entry (and_second (below_all name_cmp first.0 entries) _ sorted) rest)
+    by (nat_eq object first.1) refl e
+    (λ rest. found_is_named object entries entry (and_second (below_all name_cmp first.0 entries) _ sorted) rest)
   where
-    later : (tied : Bool) → eq_by_cmp name_cmp entry.0 first.0 ≡ tied → entry_named entry.0 entries ≡ Some entry.1 → cond tied (Some first.1) (entry_named entry.0 entries) ≡ Some entry.1
+    later : (tied : Bool) → eq_by_cmp name_cmp entry.0 first.0 ≡ tied → entry_named entry.0 entries ≡ Some entry.1
+        → cond tied (Some first.1) (entry_named entry.0 entries) ≡ Some entry.1
     later true t named =
         nothing entry.1 (sym (ap (λ n. entry_named n entries) (same_name entry.0 first.0 t)
         ∙ below_none first.0 entries (and_first (below_all name_cmp first.0 entries) _ sorted)) ∙ named)
     later false t named = named
 
-    by : (b : Bool) → nat_eq object first.1 ≡ b → cond b (Some first) (find (λ entry. nat_eq object entry.1) entries) ≡ Some entry → (find (λ entry. nat_eq object entry.1) entries ≡ Some entry → (entry_named entry.0 entries ≡ Some entry.1) × (entry.1 ≡ object)) → (entry_named entry.0 (first ∷ entries) ≡ Some entry.1) × (entry.1 ≡ object)
+    by : (b : Bool) → nat_eq object first.1 ≡ b
+        → cond b (Some first) (find (λ entry. nat_eq object entry.1) entries) ≡ Some entry
+        → (find (λ entry. nat_eq object entry.1) entries ≡ Some entry
+        → (entry_named entry.0 entries ≡ Some entry.1) × (entry.1 ≡ object))
+        → (entry_named entry.0 (first ∷ entries) ≡ Some entry.1) × (entry.1 ≡ object)
     by true t e rest =
-        subst (λ found. (entry_named found.0 (first ∷ entries) ≡ Some found.1) × (found.1 ≡ object)) (one first entry e)
-        (ap (λ o. cond (is_eq o) (Some first.1) (entry_named first.0 entries)) (tied_itself nat_list_cmp_total first.0), sym (eqb-true object first.1 t))
+        subst (λ found. (entry_named found.0 (first ∷ entries) ≡ Some found.1) × (found.1 ≡ object)) (one first entry e) (
+          ap (λ o. cond (is_eq o) (Some first.1) (entry_named first.0 entries))
+              (tied_itself nat_list_cmp_total first.0),
+          sym (eqb-true object first.1 t),
+        )
     by false t e rest = let found = rest e in (later (eq_by_cmp name_cmp entry.0 first.0) refl found.0, found.1)
 
 -- an object that an entry leads to is among those that entries lead to, and the other way round
-pub entry_to : (tree : Tree ℕ) (directory : ℕ) (name : List ℕ) (object : ℕ) → entry_at tree directory name ≡ Some object → has_entry_to nat_eq tree directory object ≡ true
+pub entry_to : (tree : Tree ℕ) (directory : ℕ) (name : List ℕ) (object : ℕ) → entry_at tree directory name ≡ Some object
+    → has_entry_to nat_eq tree directory object ≡ true
 entry_to tree directory name object e = searched (entries_in (tree.node directory)) e
   where
-    searched : (entries : Entries ℕ) → entry_named name entries ≡ Some object → list_any (nat_eq object) (map (λ entry. entry.1) entries) ≡ true
+    searched : (entries : Entries ℕ) → entry_named name entries ≡ Some object
+        → list_any (nat_eq object) (map (λ entry. entry.1) entries) ≡ true
     searched [] e = absurd (true≢false (sym (ap is_some e)))
     searched (entry ∷ entries) e = by (eq_by_cmp name_cmp name entry.0) e (searched entries)
       where
@@ -75,37 +90,50 @@ entry_to tree directory name object e = searched (entries_in (tree.node director
         right true b e = refl
         right false b e = e
 
-        by : (b : Bool) → cond b (Some entry.1) (entry_named name entries) ≡ Some object → (entry_named name entries ≡ Some object → list_any (nat_eq object) (map (λ entry. entry.1) entries) ≡ true) → (nat_eq object entry.1 || list_any (nat_eq object) (map (λ entry. entry.1) entries)) ≡ true
-        by true e rest = ap (λ b. b || list_any (nat_eq object) (map (λ entry. entry.1) entries)) (eq-eqb object entry.1 (sym (one_number entry.1 object e)))
+        by : (b : Bool) → cond b (Some entry.1) (entry_named name entries) ≡ Some object
+            → (entry_named name entries ≡ Some object
+            → list_any (nat_eq object) (map (λ entry. entry.1) entries) ≡ true)
+            → (nat_eq object entry.1 || list_any (nat_eq object) (map (λ entry. entry.1) entries)) ≡ true
+        by true e rest = ap (λ b. b || list_any (nat_eq object) (map (λ entry. entry.1) entries))
+            (eq-eqb object entry.1 (sym (one_number entry.1 object e)))
         by false e rest = right (nat_eq object entry.1) _ (rest e)
 
-pub entry_from : (tree : Tree ℕ) → IsTree tree → (directory object : ℕ) → has_entry_to nat_eq tree directory object ≡ true → (name : List ℕ) × (entry_at tree directory name ≡ Some object)
+pub entry_from : (tree : Tree ℕ) → IsTree tree → (directory object : ℕ)
+    → has_entry_to nat_eq tree directory object ≡ true → (name : List ℕ) × (entry_at tree directory name ≡ Some object)
 entry_from tree conditions directory object e =
-    by (find (λ entry. nat_eq object entry.1) (entries_in (tree.node directory))) refl (searched (entries_in (tree.node directory)) e)
+    by (find (λ entry. nat_eq object entry.1) (entries_in (tree.node directory))) refl
+    (searched (entries_in (tree.node directory)) e)
   where
-    searched : (entries : Entries ℕ) → list_any (nat_eq object) (map (λ entry. entry.1) entries) ≡ true → is_some (find (λ entry. nat_eq object entry.1) entries) ≡ true
+    searched : (entries : Entries ℕ) → list_any (nat_eq object) (map (λ entry. entry.1) entries) ≡ true
+        → is_some (find (λ entry. nat_eq object entry.1) entries) ≡ true
     searched [] e = absurd (true≢false (sym e))
     searched (entry ∷ entries) e = by (nat_eq object entry.1) e (searched entries)
       where
-        by : (b : Bool) → (b || list_any (nat_eq object) (map (λ entry. entry.1) entries)) ≡ true → (list_any (nat_eq object) (map (λ entry. entry.1) entries) ≡ true → is_some (find (λ entry. nat_eq object entry.1) entries) ≡ true) → is_some (cond b (Some entry) (find (λ entry. nat_eq object entry.1) entries)) ≡ true
+        by : (b : Bool) → (b || list_any (nat_eq object) (map (λ entry. entry.1) entries)) ≡ true
+            → (list_any (nat_eq object) (map (λ entry. entry.1) entries) ≡ true
+            → is_some (find (λ entry. nat_eq object entry.1) entries) ≡ true)
+            → is_some (cond b (Some entry) (find (λ entry. nat_eq object entry.1) entries)) ≡ true
         by true e rest = refl
         by false e rest = rest e
 
-    by : (o : Option (List ℕ × ℕ)) → find (λ entry. nat_eq object entry.1) (entries_in (tree.node directory)) ≡ o → is_some o ≡ true → (name : List ℕ) × (entry_at tree directory name ≡ Some object)
+    by : (o : Option (List ℕ × ℕ)) → find (λ entry. nat_eq object entry.1) (entries_in (tree.node directory)) ≡ o
+        → is_some o ≡ true → (name : List ℕ) × (entry_at tree directory name ≡ Some object)
     by None f e = absurd (true≢false (sym e))
     by (Some entry) f e =
         let named = found_is_named object (entries_in (tree.node directory)) entry (conditions.in_order directory) f in
         (entry.0, named.0 ∙ ap Some named.1)
 
 -- names lead to what has a name nowhere but in itself from itself alone
-led_from : (tree : Tree ℕ) (number : ℕ) → ((directory : ℕ) (name : List ℕ) → entry_at tree directory name ≡ Some number → directory ≡ number)
+led_from : (tree : Tree ℕ) (number : ℕ)
+    → ((directory : ℕ) (name : List ℕ) → entry_at tree directory name ≡ Some number → directory ≡ number)
     → (from : ℕ) (names : List (List ℕ)) → led tree from names ≡ Some number → from ≡ number
 led_from tree number only from [] e = one_number from number e
 led_from tree number only from (name ∷ names) e =
     let step = found (λ next. led tree next names) (entry_at tree from name) number e in
     only from name (step.1 ∙ ap Some (led_from tree number only step.0 names step.2))
 
-module _ (tree : Tree ℕ) (conditions : IsTree tree) (own : HasOwnParents tree) (directory : ℕ) (other : directory ≢ tree.root) where
+module _ (tree : Tree ℕ) (conditions : IsTree tree) (own : HasOwnParents tree) (directory : ℕ)
+    (other : directory ≢ tree.root) where
   abbrev parent : ℕ
   parent = parent_in directory (tree.node directory)
 
@@ -123,35 +151,44 @@ module _ (tree : Tree ℕ) (conditions : IsTree tree) (own : HasOwnParents tree)
   unnamed is none =
       own directory is (λ named.
       true≢false (sym (entry_to tree parent named.1 directory
-      (ap (λ above. entry_at tree above named.1) (conditions.one_parent named.0 named.1 directory named.2 is) ∙ named.2))
+      (ap (λ above. entry_at tree above named.1) (conditions.one_parent named.0 named.1 directory named.2 is)
+      ∙ named.2))
       ∙ none))
 
   of_directory : IsDirectory tree directory → has_entry_to nat_eq tree parent directory ≡ not (nat_eq directory parent)
   of_directory is = by (has_entry_to nat_eq tree parent directory) refl
     where
-      by : (b : Bool) → has_entry_to nat_eq tree parent directory ≡ b → has_entry_to nat_eq tree parent directory ≡ not (nat_eq directory parent)
+      by : (b : Bool) → has_entry_to nat_eq tree parent directory ≡ b
+          → has_entry_to nat_eq tree parent directory ≡ not (nat_eq directory parent)
       by true e = e ∙ ap not (sym (ne_eqb directory parent (apart is e)))
       by false e = e ∙ ap not (sym (eq-eqb directory parent (sym (unnamed is e))))
 
   -- what is no directory is its own parent, and has no entries
   of_another : (o : Option (Node ℕ)) → tree.node directory ≡ o → is_directory_node o ≡ false
       → has_entry_to nat_eq tree (parent_in directory o) directory ≡ not (nat_eq directory (parent_in directory o))
-  of_another None e isnt = ap (λ o. is_among nat_eq directory (targets_in o)) e ∙ ap not (sym (eq-eqb directory directory refl))
+  of_another None e isnt = ap (λ o. is_among nat_eq directory (targets_in o)) e
+      ∙ ap not (sym (eq-eqb directory directory refl))
   of_another (Some node) e isnt = by node.content (λ i. e i) isnt
     where
-      by : (content : Content ℕ) → tree.node directory ≡ Some (record { attr = node.attr; content = content }) → is_directory_node (Some (record { attr = node.attr; content = content })) ≡ false
-          → has_entry_to nat_eq tree (parent_in directory (Some (record { attr = node.attr; content = content }))) directory
+      by : (content : Content ℕ) → tree.node directory ≡ Some (record { attr = node.attr; content = content })
+          → is_directory_node (Some (record { attr = node.attr; content = content })) ≡ false
+          → has_entry_to nat_eq tree (parent_in directory
+          (Some (record { attr = node.attr; content = content }))) directory
           ≡ not (nat_eq directory (parent_in directory (Some (record { attr = node.attr; content = content }))))
       by (Directory above entries opaque) e isnt = absurd (true≢false isnt)
-      by (Regular bytes) e isnt = ap (λ o. is_among nat_eq directory (targets_in o)) e ∙ ap not (sym (eq-eqb directory directory refl))
-      by (Symlink text) e isnt = ap (λ o. is_among nat_eq directory (targets_in o)) e ∙ ap not (sym (eq-eqb directory directory refl))
-      by Whiteout e isnt = ap (λ o. is_among nat_eq directory (targets_in o)) e ∙ ap not (sym (eq-eqb directory directory refl))
+      by (Regular bytes) e isnt = ap (λ o. is_among nat_eq directory (targets_in o)) e
+          ∙ ap not (sym (eq-eqb directory directory refl))
+      by (Symlink text) e isnt = ap (λ o. is_among nat_eq directory (targets_in o)) e
+          ∙ ap not (sym (eq-eqb directory directory refl))
+      by Whiteout e isnt = ap (λ o. is_among nat_eq directory (targets_in o)) e
+          ∙ ap not (sym (eq-eqb directory directory refl))
 
 pub parents_named : TreesNameParents
 parents_named tree conditions own directory other = by (is_directory_node (tree.node directory)) refl
   where
     by : (b : Bool) → is_directory_node (tree.node directory) ≡ b
-        → has_entry_to nat_eq tree (parent_in directory (tree.node directory)) directory ≡ not (nat_eq directory (parent_in directory (tree.node directory)))
+        → has_entry_to nat_eq tree (parent_in directory (tree.node directory)) directory
+        ≡ not (nat_eq directory (parent_in directory (tree.node directory)))
     by true is = of_directory tree conditions own directory other is
     by false isnt = of_another tree conditions own directory other (tree.node directory) refl isnt
 
@@ -171,7 +208,8 @@ module _ (inodes : Inodes ℕ) (named : ParentsAreNamed (tree_of inodes)) where
   either_way false b e = e
 
   -- a directory that is its own parent is met again and again
-  stays : (top directory n : ℕ) → up directory ≡ Some directory → is_among nat_eq top (chain n up directory) ≡ nat_eq top directory
+  stays : (top directory n : ℕ) → up directory ≡ Some directory
+      → is_among nat_eq top (chain n up directory) ≡ nat_eq top directory
   stays top directory zero e = by (nat_eq top directory)
     where
       by : (b : Bool) → (b || false) ≡ b
@@ -187,53 +225,68 @@ module _ (inodes : Inodes ℕ) (named : ParentsAreNamed (tree_of inodes)) where
 
   -- the top is met on the way up from a directory, from which the next is this
   abbrev meets : ℕ → (ℕ → Option ℕ) → ℕ → ℕ → Option ℕ → Bool
-  meets top next n directory o = is_among nat_eq top (elim o [ None ↦ directory ∷ [] | Some b ↦ directory ∷ chain n next b ])
+  meets top next n directory o = is_among nat_eq top
+      (elim o [ None ↦ directory ∷ [] | Some b ↦ directory ∷ chain n next b ])
 
-  climbs : (top n directory : ℕ) → is_among nat_eq top (chain n up directory) ≡ is_among nat_eq top (chain n up_named directory)
+  climbs : (top n directory : ℕ)
+      → is_among nat_eq top (chain n up directory) ≡ is_among nat_eq top (chain n up_named directory)
   climbs top zero directory = refl
   climbs top (suc n) directory = by (nat_eq directory inodes.root) refl (climbs top n (parent_of directory))
     where
       differs : nat_eq directory inodes.root ≡ false → directory ≢ inodes.root
       differs e same = true≢false (sym (eq-eqb directory inodes.root same) ∙ e)
 
-      last : is_among nat_eq top (chain n up (parent_of directory)) ≡ is_among nat_eq top (chain n up_named (parent_of directory))
+      last : is_among nat_eq top (chain n up (parent_of directory))
+          ≡ is_among nat_eq top (chain n up_named (parent_of directory))
           → (own : Bool) → nat_eq directory (parent_of directory) ≡ own → up directory ≡ Some (parent_of directory)
-          → meets top up n directory (Some (parent_of directory)) ≡ meets top up_named n directory (when (not own) (parent_of directory))
+          → meets top up n directory (Some (parent_of directory))
+          ≡ meets top up_named n directory (when (not own) (parent_of directory))
       last rest true o above =
           let same = eqb-true directory (parent_of directory) o in
           either_way (nat_eq top directory) (is_among nat_eq top (chain n up (parent_of directory)))
           (ap (λ d. is_among nat_eq top (chain n up d)) (sym same) ∙ stays top directory n (above ∙ ap Some (sym same)))
       last rest false o above = ap (λ b. nat_eq top directory || b) rest
 
-      below : is_among nat_eq top (chain n up (parent_of directory)) ≡ is_among nat_eq top (chain n up_named (parent_of directory))
+      below : is_among nat_eq top (chain n up (parent_of directory))
+          ≡ is_among nat_eq top (chain n up_named (parent_of directory))
           → (own : Bool) → nat_eq directory (parent_of directory) ≡ own → nat_eq directory inodes.root ≡ false
           → meets top up n directory (up directory) ≡ meets top up_named n directory (up_named directory)
       below rest own o e =
-          let above : up directory ≡ Some (parent_of directory) = ap (λ b. if b then None else Some (parent_of directory)) e in
+          let above : up directory ≡ Some (parent_of directory) = ap
+          (λ b. if b then None else Some (parent_of directory)) e in
           let by_name : up_named directory ≡ when (not own) (parent_of directory) =
-          ap (λ b. if b then None else when (has_entry_to nat_eq (tree_of inodes) (parent_of directory) directory) (parent_of directory)) e
+          ap (λ b. if b then None else when (has_entry_to nat_eq (tree_of inodes) (parent_of directory) directory)
+          (parent_of directory)) e
           ∙ ap (λ b. when b (parent_of directory)) (named directory (differs e) ∙ ap not o) in
-          ap (meets top up n directory) above ∙ last rest own o above ∙ ap (meets top up_named n directory) (sym by_name)
+          ap (meets top up n directory) above ∙ last rest own o above
+          ∙ ap (meets top up_named n directory) (sym by_name)
 
       by : (root : Bool) → nat_eq directory inodes.root ≡ root
-          → is_among nat_eq top (chain n up (parent_of directory)) ≡ is_among nat_eq top (chain n up_named (parent_of directory))
+          → is_among nat_eq top (chain n up (parent_of directory))
+          ≡ is_among nat_eq top (chain n up_named (parent_of directory))
           → meets top up n directory (up directory) ≡ meets top up_named n directory (up_named directory)
       by true e rest =
           ap (meets top up n directory) (ap (λ b. if b then None else Some (parent_of directory)) e)
-          ∙ ap (meets top up_named n directory) (sym (ap (λ b. if b then None else when (has_entry_to nat_eq (tree_of inodes) (parent_of directory) directory) (parent_of directory)) e))
+          ∙ ap (meets top up_named n directory)
+          (sym (ap (λ b. if b then None else when (has_entry_to nat_eq (tree_of inodes) (parent_of directory) directory)
+          (parent_of directory)) e))
       by false e rest = below rest (nat_eq directory (parent_of directory)) refl e
 
   pub under_by_names : (numbers : List ℕ) → length numbers ≡ inodes.count → (top directory : ℕ)
-      → is_under_in nat_eq inodes top directory ≡ is_directory_under nat_eq (record { tree = tree_of inodes; numbers = numbers }) top directory
+      → is_under_in nat_eq inodes top directory
+      ≡ is_directory_under nat_eq (record { tree = tree_of inodes; numbers = numbers }) top directory
   under_by_names numbers counted top directory =
       climbs top inodes.count directory ∙ ap (λ n. is_among nat_eq top (chain n up_named directory)) (sym counted)
 
   -- a directory that is removed is its own parent
-  pub removed_by_parent : (directory : ℕ) → nat_eq directory inodes.root ≡ false → is_removed nat_eq (tree_of inodes) directory ≡ nat_eq directory (parent_of directory)
+  pub removed_by_parent : (directory : ℕ) → nat_eq directory inodes.root ≡ false
+      → is_removed nat_eq (tree_of inodes) directory ≡ nat_eq directory (parent_of directory)
   removed_by_parent directory e =
       (λ i. not (e i || is_some (up_named directory)))
-      ∙ ap (λ b. not (is_some (if b then None else when (has_entry_to nat_eq (tree_of inodes) (parent_of directory) directory) (parent_of directory)))) e
-      ∙ ap (λ b. not (is_some (when b (parent_of directory)))) (named directory (λ same. true≢false (sym (eq-eqb directory inodes.root same) ∙ e)))
+      ∙ ap (λ b. not (is_some (if b then None
+      else when (has_entry_to nat_eq (tree_of inodes) (parent_of directory) directory) (parent_of directory)))) e
+      ∙ ap (λ b. not (is_some (when b (parent_of directory))))
+      (named directory (λ same. true≢false (sym (eq-eqb directory inodes.root same) ∙ e)))
       ∙ by (nat_eq directory (parent_of directory))
     where
       by : (own : Bool) → not (is_some (when (not own) (parent_of directory))) ≡ own
@@ -241,5 +294,6 @@ module _ (inodes : Inodes ℕ) (named : ParentsAreNamed (tree_of inodes)) where
       by false = refl
 
 -- the root is not removed
-pub root_stays : (tree : Tree ℕ) (directory : ℕ) → nat_eq directory tree.root ≡ true → is_removed nat_eq tree directory ≡ false
+pub root_stays : (tree : Tree ℕ) (directory : ℕ) → nat_eq directory tree.root ≡ true
+    → is_removed nat_eq tree directory ≡ false
 root_stays tree directory e = ap (λ b. not (b || is_some (named_parent nat_eq tree directory))) e

@@ -17,7 +17,8 @@ use Rattle.vt_fs.proofs.Numbers.{numbers_counted}
 use Rattle.vt_fs.proofs.Standing.{entry_nowhere, entry_there, path_there, plain_there}
 
 -- beside as many numbers as there are inodes
-counted_path : (entry : FilesystemEntry) (top directory : ℕ) → path_in nat_eq (inodes_seen entry) top directory ≡ path_down nat_eq (files_seen entry) top directory
+counted_path : (entry : FilesystemEntry) (top directory : ℕ)
+    → path_in nat_eq (inodes_seen entry) top directory ≡ path_down nat_eq (files_seen entry) top directory
 counted_path entry top directory =
     ap (λ n. when (is_among nat_eq top (chain n (named_parent nat_eq (tree_of_inodes (inodes_seen entry))) directory))
     (reverse (map (own_name nat_eq (files_of (inodes_seen entry)))
@@ -25,7 +26,8 @@ counted_path entry top directory =
     (sym (numbers_counted entry))
 
 -- in a filesystem that is there
-module _ (fs : Filesystems) (f : ℕ) (tree : TreeValue) (found : option_map (λ (entry : FilesystemEntry). entry.tree) (entry_of fs f) ≡ Some tree) where
+module _ (fs : Filesystems) (f : ℕ) (tree : TreeValue)
+    (found : option_map (λ (entry : FilesystemEntry). entry.tree) (entry_of fs f) ≡ Some tree) where
   pub once_there : NamesDirectoriesOnce (files_at fs f).tree → NamesDirectoriesOnce (tree_of tree)
   once_there once directory name other object first second is =
       once (exchanged f directory) name other (exchanged f object)
@@ -39,17 +41,20 @@ module _ (fs : Filesystems) (f : ℕ) (tree : TreeValue) (found : option_map (λ
       sym (path_there fs f tree found top_slot top slot number same_top same) ∙ counted_path (entry_at fs f) top number
 
 -- in one that is not there, from a directory to itself alone
-module _ (fs : Filesystems) (f : ℕ) (absent : option_map (λ (entry : FilesystemEntry). entry.tree) (entry_of fs f) ≡ None) (top directory : ℕ) where
+module _ (fs : Filesystems) (f : ℕ)
+    (absent : option_map (λ (entry : FilesystemEntry). entry.tree) (entry_of fs f) ≡ None) (top directory : ℕ) where
   abbrev path_at : FilesystemEntry → Option (List (List ℕ))
   path_at entry = path_down nat_eq (files_seen entry) top directory
 
   nowhere_path : (b : Bool) → nat_eq top directory ≡ b → path_at (no_entry f) ≡ when b []
   nowhere_path b is =
       (λ i. when (is i || false) (reverse (map (own_name nat_eq (files_seen (no_entry f)))
-      ((take_while-cons (λ a. not (nat_eq top a)) directory [] ∙ ap (λ same. cond (not same) (directory ∷ []) []) is) i))))
+      ((take_while-cons (λ a. not (nat_eq top a)) directory []
+      ∙ ap (λ same. cond (not same) (directory ∷ []) []) is) i))))
       ∙ by b
     where
-      by : (b : Bool) → when (b || false) (reverse (map (own_name nat_eq (files_seen (no_entry f))) (cond (not b) (directory ∷ []) []))) ≡ when b []
+      by : (b : Bool) → when (b || false)
+          (reverse (map (own_name nat_eq (files_seen (no_entry f))) (cond (not b) (directory ∷ []) []))) ≡ when b []
       by true = refl
       by false = refl
 
@@ -57,12 +62,15 @@ module _ (fs : Filesystems) (f : ℕ) (absent : option_map (λ (entry : Filesyst
   path_nowhere b is = ap path_at (entry_nowhere fs f absent) ∙ nowhere_path b is
 
 -- directories of one filesystem
-pub same_numbers : (top directory : NodeRef) → directory.filesystem ≡ top.filesystem → nat_eq top.slot directory.slot ≡ true
+pub same_numbers : (top directory : NodeRef) → directory.filesystem ≡ top.filesystem
+    → nat_eq top.slot directory.slot ≡ true
     → nat_eq (number_of top) (number_of directory) ≡ true
 same_numbers top directory one same =
-    eq-eqb (number_of top) (number_of directory) (λ i. inode_number (sym (ap (λ filesystem. filesystem.count) one) i) (eqb-true top.slot directory.slot same i))
+    eq-eqb (number_of top) (number_of directory)
+    (λ i. inode_number (sym (ap (λ filesystem. filesystem.count) one) i) (eqb-true top.slot directory.slot same i))
 
-pub other_numbers : (top directory : NodeRef) → directory.filesystem ≡ top.filesystem → nat_eq top.slot directory.slot ≡ false
+pub other_numbers : (top directory : NodeRef) → directory.filesystem ≡ top.filesystem
+    → nat_eq top.slot directory.slot ≡ false
     → nat_eq (number_of top) (number_of directory) ≡ false
 other_numbers top directory one other =
     ne_eqb (number_of top) (number_of directory) (λ same.
@@ -71,7 +79,8 @@ other_numbers top directory one other =
     true≢false (sym (eq-eqb top.slot directory.slot slots) ∙ other))
 
 -- the root
-pub root_is : (fs : Filesystems) (f : ℕ) (root : NodeRef) → Some (number_of root) ≡ option_map (λ entry. (inodes_seen entry).root) (entry_of fs f)
+pub root_is : (fs : Filesystems) (f : ℕ) (root : NodeRef)
+    → Some (number_of root) ≡ option_map (λ entry. (inodes_seen entry).root) (entry_of fs f)
     → (files_at fs f).tree.root ≡ number_of root
 root_is fs f root is = by (entry_of fs f) is
   where
@@ -80,14 +89,18 @@ root_is fs f root is = by (entry_of fs f) is
     by None e = absurd (true≢false (ap is_some e))
     by (Some entry) e = same_Some (inodes_seen entry).root (number_of root) (sym e)
 
-pub root_nowhere : (fs : Filesystems) (directory : NodeRef) → None ≡ option_map (λ entry. (inodes_seen entry).root) (entry_of fs directory.filesystem.count)
-    → path_down nat_eq (files_at fs directory.filesystem.count) (files_at fs directory.filesystem.count).tree.root (number_of directory) ≡ None
+pub root_nowhere : (fs : Filesystems) (directory : NodeRef)
+    → None ≡ option_map (λ entry. (inodes_seen entry).root) (entry_of fs directory.filesystem.count)
+    → path_down nat_eq (files_at fs directory.filesystem.count) (files_at fs directory.filesystem.count).tree.root
+    (number_of directory) ≡ None
 root_nowhere fs directory is =
     let f = directory.filesystem.count in
     let absent = nowhere (entry_of fs f) is in
-    ap (λ entry. path_down nat_eq (files_seen entry) (files_seen entry).tree.root (number_of directory)) (entry_nowhere fs f absent)
+    ap (λ entry. path_down nat_eq (files_seen entry) (files_seen entry).tree.root (number_of directory))
+    (entry_nowhere fs f absent)
     ∙ nowhere_path fs f absent (inodes_seen (no_entry f)).root (number_of directory) false
-    (ne_eqb (inodes_seen (no_entry f)).root (number_of directory) (λ same. counted_inode f f directory.slot (sym (exchanged_back f (counted f)) ∙ same)))
+    (ne_eqb (inodes_seen (no_entry f)).root (number_of directory)
+    (λ same. counted_inode f f directory.slot (sym (exchanged_back f (counted f)) ∙ same)))
   where
     nowhere : (o : Option FilesystemEntry) → None ≡ option_map (λ entry. (inodes_seen entry).root) o
         → option_map (λ (entry : FilesystemEntry). entry.tree) o ≡ None

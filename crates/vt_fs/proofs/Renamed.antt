@@ -23,7 +23,8 @@ by_numbers f inodes = renamed_inodes (exchanged f) (exchanged f) inodes
 
 module _ {N M : Type 0} (there : N → M) (back : M → N) where
   abbrev pub renamed_change : Change N → Change M
-  renamed_change (Make directory name number node) = Make (there directory) name (there number) (renamed_node there back node)
+  renamed_change (Make directory name number node) = Make (there directory) name (there number)
+      (renamed_node there back node)
   renamed_change (AddName directory name object) = AddName (there directory) name (there object)
   renamed_change (Remove directory name object) = Remove (there directory) name (there object)
   renamed_change (Move from old to new object) = Move (there from) old (there to) new (there object)
@@ -39,7 +40,12 @@ module _ {N : Type 0} where
   inode_itself (Some inode) = λ i. Some (record { node = node_itself inode.node i; uses = inode.uses })
 
   inodes_itself : (inodes : Inodes N) → renamed_inodes (λ n. n) (λ n. n) inodes ≡ inodes
-  inodes_itself inodes = λ i. record { root = inodes.root; inode = λ number. inode_itself (inodes.inode number) i; count = inodes.count }
+  inodes_itself inodes = λ i. record {
+    root = inodes.root;
+    inode = λ number.
+        inode_itself (inodes.inode number) i;
+    count = inodes.count;
+  }
 
   change_itself : (change : Change N) → renamed_change (λ n. n) (λ n. n) change ≡ change
   change_itself (Make directory name number node) = λ i. Make directory name number (node_itself node i)
@@ -103,40 +109,61 @@ named_nothing X = record { rename = λ A B there back x. x; itself = λ A x. ref
 
 -- Changes
 module _ (f : ℕ) (inodes : Inodes ℕ) where
-  pub changed_by_numbers : (change : Change ℕ) → changed nat_eq (by_numbers f inodes) (renamed_change (exchanged f) (exchanged f) change) ≡ by_numbers f (changed nat_eq inodes change)
+  pub changed_by_numbers : (change : Change ℕ)
+      → changed nat_eq (by_numbers f inodes) (renamed_change (exchanged f) (exchanged f) change)
+      ≡ by_numbers f (changed nat_eq inodes change)
   changed_by_numbers change =
-      commutes_nat WithChange Inodes named_change named_inodes (λ A eq s. changed eq s.0 s.1) (exchange f) (inodes, change)
+      commutes_nat WithChange Inodes named_change named_inodes (λ A eq s. changed eq s.0 s.1) (exchange f)
+      (inodes, change)
 
-  pub pinned_by_numbers : (object : ℕ) → pinned nat_eq (by_numbers f inodes) (exchanged f object) ≡ by_numbers f (pinned nat_eq inodes object)
-  pinned_by_numbers object = commutes_nat WithOne Inodes named_one named_inodes (λ A eq s. pinned eq s.0 s.1) (exchange f) (inodes, object)
+  pub pinned_by_numbers : (object : ℕ)
+      → pinned nat_eq (by_numbers f inodes) (exchanged f object) ≡ by_numbers f (pinned nat_eq inodes object)
+  pinned_by_numbers object = commutes_nat WithOne Inodes named_one named_inodes (λ A eq s. pinned eq s.0 s.1)
+      (exchange f) (inodes, object)
 
-  pub unpinned_by_numbers : (object : ℕ) → unpinned nat_eq (by_numbers f inodes) (exchanged f object) ≡ by_numbers f (unpinned nat_eq inodes object)
-  unpinned_by_numbers object = commutes_nat WithOne Inodes named_one named_inodes (λ A eq s. unpinned eq s.0 s.1) (exchange f) (inodes, object)
+  pub unpinned_by_numbers : (object : ℕ)
+      → unpinned nat_eq (by_numbers f inodes) (exchanged f object) ≡ by_numbers f (unpinned nat_eq inodes object)
+  unpinned_by_numbers object = commutes_nat WithOne Inodes named_one named_inodes (λ A eq s. unpinned eq s.0 s.1)
+      (exchange f) (inodes, object)
 
 -- Looks
 module _ (f : ℕ) (inodes : Inodes ℕ) where
-  pub node_by_numbers : (number : ℕ) → (tree_of (by_numbers f inodes)).node (exchanged f number) ≡ option_map (renamed_node (exchanged f) (exchanged f)) ((tree_of inodes).node number)
-  node_by_numbers number = commutes_nat WithOne Nodes named_one named_node (λ A eq s. (tree_of s.0).node s.1) (exchange f) (inodes, number)
+  pub node_by_numbers : (number : ℕ)
+      → (tree_of (by_numbers f inodes)).node (exchanged f number)
+      ≡ option_map (renamed_node (exchanged f) (exchanged f)) ((tree_of inodes).node number)
+  node_by_numbers number = commutes_nat WithOne Nodes named_one named_node (λ A eq s. (tree_of s.0).node s.1)
+      (exchange f) (inodes, number)
 
   -- of a node what has no numbers in it
   pub plain_by_numbers : (X : Type 0) (look : (A : Type 0) → Option (Node A) → X) (number : ℕ)
       → look ℕ ((tree_of (by_numbers f inodes)).node (exchanged f number)) ≡ look ℕ ((tree_of inodes).node number)
   plain_by_numbers X look number =
-      commutes_nat WithOne (λ (A : Type 0). X) named_one (named_nothing X) (λ A eq s. look A ((tree_of s.0).node s.1)) (exchange f) (inodes, number)
+      commutes_nat WithOne (λ (A : Type 0). X) named_one (named_nothing X) (λ A eq s. look A ((tree_of s.0).node s.1))
+      (exchange f) (inodes, number)
 
-  pub uses_by_numbers : (number : ℕ) → uses_in ((by_numbers f inodes).inode (exchanged f number)) ≡ uses_in (inodes.inode number)
+  pub uses_by_numbers : (number : ℕ)
+      → uses_in ((by_numbers f inodes).inode (exchanged f number)) ≡ uses_in (inodes.inode number)
   uses_by_numbers number =
-      commutes_nat WithOne (λ (A : Type 0). ℕ) named_one (named_nothing ℕ) (λ A eq s. uses_in (s.0.inode s.1)) (exchange f) (inodes, number)
+      commutes_nat WithOne (λ (A : Type 0). ℕ) named_one (named_nothing ℕ) (λ A eq s. uses_in (s.0.inode s.1))
+      (exchange f) (inodes, number)
 
-  pub entry_by_numbers : (directory : ℕ) (name : List ℕ) → entry_at (tree_of (by_numbers f inodes)) (exchanged f directory) name ≡ option_map (exchanged f) (entry_at (tree_of inodes) directory name)
+  pub entry_by_numbers : (directory : ℕ) (name : List ℕ)
+      → entry_at (tree_of (by_numbers f inodes)) (exchanged f directory) name
+      ≡ option_map (exchanged f) (entry_at (tree_of inodes) directory name)
   entry_by_numbers directory name =
-      commutes_nat WithOne Option named_one named_number (λ A eq s. entry_at (tree_of s.0) s.1 name) (exchange f) (inodes, directory)
+      commutes_nat WithOne Option named_one named_number (λ A eq s. entry_at (tree_of s.0) s.1 name) (exchange f)
+      (inodes, directory)
 
-  pub under_by_numbers : (top directory : ℕ) → is_directory_under nat_eq (by_numbers f inodes) (exchanged f top) (exchanged f directory) ≡ is_directory_under nat_eq inodes top directory
+  pub under_by_numbers : (top directory : ℕ)
+      → is_directory_under nat_eq (by_numbers f inodes) (exchanged f top) (exchanged f directory)
+      ≡ is_directory_under nat_eq inodes top directory
   under_by_numbers top directory =
-      commutes_nat WithTwo (λ (A : Type 0). Bool) named_two (named_nothing Bool) (λ A eq s. is_directory_under eq s.0 s.1 s.2) (exchange f) (inodes, top, directory)
+      commutes_nat WithTwo (λ (A : Type 0). Bool) named_two (named_nothing Bool)
+      (λ A eq s. is_directory_under eq s.0 s.1 s.2) (exchange f) (inodes, top, directory)
 
-  pub path_by_numbers : (top directory : ℕ) → path_in nat_eq (by_numbers f inodes) (exchanged f top) (exchanged f directory) ≡ path_in nat_eq inodes top directory
+  pub path_by_numbers : (top directory : ℕ)
+      → path_in nat_eq (by_numbers f inodes) (exchanged f top) (exchanged f directory)
+      ≡ path_in nat_eq inodes top directory
   path_by_numbers top directory =
       commutes_nat WithTwo (λ (A : Type 0). Option (List (List ℕ))) named_two (named_nothing (Option (List (List ℕ))))
       (λ A eq s. path_in eq s.0 s.1 s.2) (exchange f) (inodes, top, directory)
@@ -148,15 +175,21 @@ Number A = A
 abbrev named_itself : Named Number
 named_itself = record { rename = λ A B there back n. there n; itself = λ A n. refl }
 
-pub one_by_numbers : (f slot : ℕ) (attr : Attr) → one_directory nat_eq (exchanged f slot) attr ≡ by_numbers f (one_directory nat_eq slot attr)
-one_by_numbers f slot attr = commutes_nat Number Inodes named_itself named_inodes (λ A eq n. one_directory eq n attr) (exchange f) slot
+pub one_by_numbers : (f slot : ℕ) (attr : Attr)
+    → one_directory nat_eq (exchanged f slot) attr ≡ by_numbers f (one_directory nat_eq slot attr)
+one_by_numbers f slot attr = commutes_nat Number Inodes named_itself named_inodes (λ A eq n. one_directory eq n attr)
+    (exchange f) slot
 
 -- what is told of a directory by its place
 module _ (f : ℕ) (inodes : Inodes ℕ) (slot : ℕ) where
   pub root_by_numbers : nat_eq (exchanged f slot) (by_numbers f inodes).root ≡ nat_eq slot inodes.root
   root_by_numbers =
-      commutes_nat WithOne (λ (A : Type 0). Bool) named_one (named_nothing Bool) (λ A eq s. eq s.1 s.0.root) (exchange f) (inodes, slot)
+      commutes_nat WithOne (λ (A : Type 0). Bool) named_one (named_nothing Bool) (λ A eq s. eq s.1 s.0.root)
+      (exchange f) (inodes, slot)
 
-  pub own_by_numbers : nat_eq (exchanged f slot) (parent_in (exchanged f slot) ((tree_of (by_numbers f inodes)).node (exchanged f slot))) ≡ nat_eq slot (parent_in slot ((tree_of inodes).node slot))
+  pub own_by_numbers : nat_eq (exchanged f slot)
+      (parent_in (exchanged f slot) ((tree_of (by_numbers f inodes)).node (exchanged f slot)))
+      ≡ nat_eq slot (parent_in slot ((tree_of inodes).node slot))
   own_by_numbers =
-      commutes_nat WithOne (λ (A : Type 0). Bool) named_one (named_nothing Bool) (λ A eq s. eq s.1 (parent_in s.1 ((tree_of s.0).node s.1))) (exchange f) (inodes, slot)
+      commutes_nat WithOne (λ (A : Type 0). Bool) named_one (named_nothing Bool)
+      (λ A eq s. eq s.1 (parent_in s.1 ((tree_of s.0).node s.1))) (exchange f) (inodes, slot)

@@ -25,7 +25,8 @@ pub record Standing (fs : Filesystems) (f : ℕ) (tree : TreeValue) : Type 0 whe
 
 -- as it is where its tree is lent for a change
 pub standing_of : (fs : Filesystems) (f : ℕ) (lent : Option (MutBor TreeValue)) (tree : MutBor TreeValue)
-    → option_copied_mut lent ≡ option_map (λ entry. entry.tree) (entry_of fs f) → any_pair (λ a b. nat_eq a.count b.count) fs ≡ false → lent ≡ Some tree
+    → option_copied_mut lent ≡ option_map (λ entry. entry.tree) (entry_of fs f)
+    → any_pair (λ a b. nat_eq a.count b.count) fs ≡ false → lent ≡ Some tree
     → Standing fs f tree.now
 standing_of fs f lent tree value apart is = record { apart = apart; found = sym value ∙ ap option_copied_mut is }
 
@@ -34,16 +35,20 @@ pub count_found : (fs : Filesystems) (f : ℕ) (entry : FilesystemEntry) → ent
 count_found [] f entry e = absurd cc
 count_found (x ∷ fs) f entry e = by (nat_eq f x.count) (eqb-true f x.count) e (count_found fs f entry)
   where
-    by : (b : Bool) → (b ≡ true → f ≡ x.count) → cond b (Some x) (entry_of fs f) ≡ Some entry → (entry_of fs f ≡ Some entry → entry.count ≡ f) → entry.count ≡ f
+    by : (b : Bool) → (b ≡ true → f ≡ x.count) → cond b (Some x) (entry_of fs f) ≡ Some entry
+        → (entry_of fs f ≡ Some entry → entry.count ≡ f) → entry.count ≡ f
     by true here e rest = (let is : entry ≡ x = cc in ap (λ n. n.count) is) ∙ sym (here refl)
     by false here e rest = rest e
 
 -- what is looked at in a filesystem by its count and its tree
-module _ (fs : Filesystems) (f : ℕ) (tree : TreeValue) (found : option_map (λ (entry : FilesystemEntry). entry.tree) (entry_of fs f) ≡ Some tree) where
-  pub entry_look : {X : Type 0} (look : ℕ → TreeValue → X) → option_map (λ (entry : FilesystemEntry). look entry.count entry.tree) (entry_of fs f) ≡ Some (look f tree)
+module _ (fs : Filesystems) (f : ℕ) (tree : TreeValue)
+    (found : option_map (λ (entry : FilesystemEntry). entry.tree) (entry_of fs f) ≡ Some tree) where
+  pub entry_look : {X : Type 0} (look : ℕ → TreeValue → X)
+      → option_map (λ (entry : FilesystemEntry). look entry.count entry.tree) (entry_of fs f) ≡ Some (look f tree)
   entry_look {X} look = by (entry_of fs f) refl found
     where
-      by : (o : Option FilesystemEntry) → entry_of fs f ≡ o → option_map (λ (entry : FilesystemEntry). entry.tree) o ≡ Some tree
+      by : (o : Option FilesystemEntry) → entry_of fs f ≡ o
+          → option_map (λ (entry : FilesystemEntry). entry.tree) o ≡ Some tree
           → option_map (λ (entry : FilesystemEntry). look entry.count entry.tree) o ≡ Some (look f tree)
       by None e there = absurd cc
       by (Some entry) e there =
@@ -53,26 +58,30 @@ module _ (fs : Filesystems) (f : ℕ) (tree : TreeValue) (found : option_map (λ
   pub at_look : {X : Type 0} (look : ℕ → TreeValue → X) → look (entry_at fs f).count (entry_at fs f).tree ≡ look f tree
   at_look {X} look = by (entry_of fs f) refl found
     where
-      by : (o : Option FilesystemEntry) → entry_of fs f ≡ o → option_map (λ (entry : FilesystemEntry). entry.tree) o ≡ Some tree
+      by : (o : Option FilesystemEntry) → entry_of fs f ≡ o
+          → option_map (λ (entry : FilesystemEntry). entry.tree) o ≡ Some tree
           → look (unwrap_or o (no_entry f)).count (unwrap_or o (no_entry f)).tree ≡ look f tree
       by None e there = absurd cc
       by (Some entry) e there =
           let is : entry.tree ≡ tree = cc in
           λ i. look (count_found fs f entry e i) (is i)
 
-pub nowhere : (fs : Filesystems) (f : ℕ) → option_map (λ (entry : FilesystemEntry). entry.tree) (entry_of fs f) ≡ None → entry_of fs f ≡ None
+pub nowhere : (fs : Filesystems) (f : ℕ) → option_map (λ (entry : FilesystemEntry). entry.tree) (entry_of fs f) ≡ None
+    → entry_of fs f ≡ None
 nowhere fs f absent = by (entry_of fs f) absent
   where
     by : (o : Option FilesystemEntry) → option_map (λ (entry : FilesystemEntry). entry.tree) o ≡ None → o ≡ None
     by None e = refl
     by (Some entry) e = absurd cc
 
-pub entry_nowhere : (fs : Filesystems) (f : ℕ) → option_map (λ (entry : FilesystemEntry). entry.tree) (entry_of fs f) ≡ None → entry_at fs f ≡ no_entry f
+pub entry_nowhere : (fs : Filesystems) (f : ℕ)
+    → option_map (λ (entry : FilesystemEntry). entry.tree) (entry_of fs f) ≡ None → entry_at fs f ≡ no_entry f
 entry_nowhere fs f absent = ap (λ o. unwrap_or o (no_entry f)) (nowhere fs f absent)
 
 -- a filesystem with a directory or a name exists
 module _ (fs : Filesystems) (f : ℕ) (lent : Option (MutBor TreeValue))
-    (value : option_copied_mut lent ≡ option_map (λ (entry : FilesystemEntry). entry.tree) (entry_of fs f)) (number : ℕ) where
+    (value : option_copied_mut lent ≡ option_map (λ (entry : FilesystemEntry). entry.tree) (entry_of fs f))
+    (number : ℕ) where
   pub directory_exists : IsDirectory (files_at fs f).tree number → IsSome lent
   directory_exists is = by lent value
     where
@@ -83,7 +92,8 @@ module _ (fs : Filesystems) (f : ℕ) (lent : Option (MutBor TreeValue))
           ∙ ap (λ entry. is_directory_node ((files_seen entry).tree.node number)) (entry_nowhere fs f (sym e))))
       by (Some tree) e = refl
 
-  pub named_exists : (name : List ℕ) (object : ℕ) → number_at (files_at fs f).tree number name ≡ Some object → IsSome lent
+  pub named_exists : (name : List ℕ) (object : ℕ) → number_at (files_at fs f).tree number name ≡ Some object
+      → IsSome lent
   named_exists name object named = by lent value
     where
       by : (o : Option (MutBor TreeValue))
@@ -95,30 +105,38 @@ module _ (fs : Filesystems) (f : ℕ) (lent : Option (MutBor TreeValue))
 
 module _ (f : ℕ) (change : Inodes ℕ → Inodes ℕ) where
   -- where no filesystem has the count, none is shown changed
-  none_shown : (k : ℕ) (fs : Filesystems) → k ≡ f → list_any (λ other. nat_eq k other.count) fs ≡ false → shown_with f change (shown fs) ≡ shown fs
+  none_shown : (k : ℕ) (fs : Filesystems) → k ≡ f → list_any (λ other. nat_eq k other.count) fs ≡ false
+      → shown_with f change (shown fs) ≡ shown fs
   none_shown k [] is none = refl
   none_shown k (x ∷ fs) is none =
       let other = ap (λ n. nat_eq n x.count) (sym is) ∙ or_first _ _ none in
       λ i. (ap (λ b. if b then record (shown_entry x) { inodes = change (inodes_seen x) } else shown_entry x) other) i
       ∷ none_shown k fs is (or_second (nat_eq k x.count) _ none) i
 
-  none_with : (k : ℕ) (tree : TreeValue) (fs : Filesystems) → k ≡ f → list_any (λ other. nat_eq k other.count) fs ≡ false → with_tree f tree fs ≡ fs
+  none_with : (k : ℕ) (tree : TreeValue) (fs : Filesystems) → k ≡ f
+      → list_any (λ other. nat_eq k other.count) fs ≡ false → with_tree f tree fs ≡ fs
   none_with k tree [] is none = refl
   none_with k tree (x ∷ fs) is none =
       let other = ap (λ n. nat_eq n x.count) (sym is) ∙ or_first _ _ none in
-      λ i. (ap (λ b. if b then record x { tree = tree } else x) other) i ∷ none_with k tree fs is (or_second (nat_eq k x.count) _ none) i
+      λ i. (ap (λ b. if b then record x { tree = tree } else x) other) i
+      ∷ none_with k tree fs is (or_second (nat_eq k x.count) _ none) i
 
   shown_changed : (new old : TreeValue) (fs : Filesystems) → any_pair (λ a b. nat_eq a.count b.count) fs ≡ false
       → option_map (λ entry. entry.tree) (entry_of fs f) ≡ Some old → seen_in f new ≡ change (seen_in f old)
       → shown (with_tree f new fs) ≡ shown_with f change (shown fs)
   shown_changed new old [] apart found is = absurd cc
   shown_changed new old (x ∷ fs) apart found is =
-      by (nat_eq f x.count) (eqb-true f x.count) found (λ there. shown_changed new old fs (or_second (list_any (λ other. nat_eq x.count other.count) fs) _ apart) there is)
+      by (nat_eq f x.count) (eqb-true f x.count) found
+      (λ there. shown_changed new old fs
+      (or_second (list_any (λ other. nat_eq x.count other.count) fs) _ apart) there is)
     where
-      by : (b : Bool) → (b ≡ true → f ≡ x.count) → option_map (λ entry. entry.tree) (cond b (Some x) (entry_of fs f)) ≡ Some old
-          → (option_map (λ entry. entry.tree) (entry_of fs f) ≡ Some old → shown (with_tree f new fs) ≡ shown_with f change (shown fs))
+      by : (b : Bool) → (b ≡ true → f ≡ x.count)
+          → option_map (λ entry. entry.tree) (cond b (Some x) (entry_of fs f)) ≡ Some old
+          → (option_map (λ entry. entry.tree) (entry_of fs f) ≡ Some old
+          → shown (with_tree f new fs) ≡ shown_with f change (shown fs))
           → shown_entry (cond b (record x { tree = new }) x) ∷ shown (with_tree f new fs)
-          ≡ cond b (record (shown_entry x) { inodes = change (inodes_seen x) }) (shown_entry x) ∷ shown_with f change (shown fs)
+          ≡ cond b (record (shown_entry x) { inodes = change (inodes_seen x) }) (shown_entry x)
+          ∷ shown_with f change (shown fs)
       by true here e rest =
           let old_is : x.tree ≡ old = cc in
           let count_is : f ≡ x.count = here refl in
@@ -126,7 +144,8 @@ module _ (f : ℕ) (change : Inodes ℕ → Inodes ℕ) where
           let seen : seen_in x.count new ≡ change (seen_in x.count x.tree) =
           (λ i. seen_in (sym count_is i) new) ∙ is ∙ (λ i. change (seen_in (count_is i) (sym old_is i))) in
           λ i. record { count = x.count; inodes = seen i; mounts = x.mounts }
-          ∷ (ap shown (none_with x.count new fs (sym count_is) none) ∙ sym (none_shown x.count fs (sym count_is) none)) i
+          ∷ (ap shown (none_with x.count new fs (sym count_is) none)
+          ∙ sym (none_shown x.count fs (sym count_is) none)) i
       by false here e rest = ap (λ l. shown_entry x ∷ l) (rest e)
 
   kept_without : (tree : TreeValue) (fs : Filesystems) → without f (with_tree f tree fs) ≡ without f fs
@@ -134,11 +153,15 @@ module _ (f : ℕ) (change : Inodes ℕ → Inodes ℕ) where
   kept_without tree (x ∷ fs) = by (nat_eq f x.count) refl (kept_without tree fs)
     where
       by : (b : Bool) → nat_eq f x.count ≡ b → without f (with_tree f tree fs) ≡ without f fs
-          → without f (cond b (record x { tree = tree }) x ∷ with_tree f tree fs) ≡ cond (not b) (x ∷ without f fs) (without f fs)
-      by true e rest = ap (λ b. cond (not b) (record x { tree = tree } ∷ without f (with_tree f tree fs)) (without f (with_tree f tree fs))) e ∙ rest
-      by false e rest = ap (λ b. cond (not b) (x ∷ without f (with_tree f tree fs)) (without f (with_tree f tree fs))) e ∙ ap (λ l. x ∷ l) rest
+          → without f (cond b (record x { tree = tree }) x ∷ with_tree f tree fs)
+          ≡ cond (not b) (x ∷ without f fs) (without f fs)
+      by true e rest = ap (λ b. cond (not b) (record x { tree = tree } ∷ without f (with_tree f tree fs))
+          (without f (with_tree f tree fs))) e ∙ rest
+      by false e rest = ap (λ b. cond (not b) (x ∷ without f (with_tree f tree fs)) (without f (with_tree f tree fs))) e
+          ∙ ap (λ l. x ∷ l) rest
 
-  pub changes_seen : (fs : Filesystems) (new old : TreeValue) → Standing fs f old → seen_in f new ≡ change (seen_in f old) → ChangesInodes f change fs (with_tree f new fs)
+  pub changes_seen : (fs : Filesystems) (new old : TreeValue) → Standing fs f old
+      → seen_in f new ≡ change (seen_in f old) → ChangesInodes f change fs (with_tree f new fs)
   changes_seen fs new old standing is =
       record { changed = shown_changed new old fs standing.apart standing.found is; others = kept_without new fs }
 
@@ -146,69 +169,87 @@ module _ (f : ℕ) (change : Inodes ℕ → Inodes ℕ) where
   shown_nowhere [] absent = refl
   shown_nowhere (x ∷ fs) absent = by (nat_eq f x.count) absent (shown_nowhere fs)
     where
-      by : (b : Bool) → cond b (Some x) (entry_of fs f) ≡ None → (entry_of fs f ≡ None → shown fs ≡ shown_with f change (shown fs))
-          → shown_entry x ∷ shown fs ≡ cond b (record (shown_entry x) { inodes = change (inodes_seen x) }) (shown_entry x) ∷ shown_with f change (shown fs)
+      by : (b : Bool) → cond b (Some x) (entry_of fs f) ≡ None
+          → (entry_of fs f ≡ None → shown fs ≡ shown_with f change (shown fs))
+          → shown_entry x ∷ shown fs ≡ cond b (record (shown_entry x) { inodes = change (inodes_seen x) })
+          (shown_entry x) ∷ shown_with f change (shown fs)
       by true found rest = absurd cc
       by false absent rest = ap (λ l. shown_entry x ∷ l) (rest absent)
 
   -- nothing changes where the filesystem is not there
-  pub nothing_changes : (fs new : Filesystems) → new ≡ fs → option_map (λ (entry : FilesystemEntry). entry.tree) (entry_of fs f) ≡ None → ChangesInodes f change fs new
+  pub nothing_changes : (fs new : Filesystems) → new ≡ fs
+      → option_map (λ (entry : FilesystemEntry). entry.tree) (entry_of fs f) ≡ None → ChangesInodes f change fs new
   nothing_changes fs new is absent =
       record { changed = ap shown is ∙ shown_nowhere fs (nowhere fs f absent); others = ap (without f) is }
 
 -- A change of the tree in its slots is the change by numbers.
 module _ (fs : Filesystems) (f : ℕ) (new old : TreeValue) (standing : Standing fs f old) where
   pub changes : (by_slot by_number : Change ℕ) → renamed_change (exchanged f) (exchanged f) by_slot ≡ by_number
-      → inodes_of new ≡ changed nat_eq (inodes_of old) by_slot → ChangesInodes f (λ inodes. changed nat_eq inodes by_number) fs (with_tree f new fs)
+      → inodes_of new ≡ changed nat_eq (inodes_of old) by_slot
+      → ChangesInodes f (λ inodes. changed nat_eq inodes by_number) fs (with_tree f new fs)
   changes by_slot by_number same is =
       changes_seen f (λ inodes. changed nat_eq inodes by_number) fs new old standing
-      (ap (by_numbers f) is ∙ sym (changed_by_numbers f (inodes_of old) by_slot) ∙ ap (changed nat_eq (seen_in f old)) same)
+      (ap (by_numbers f) is ∙ sym (changed_by_numbers f (inodes_of old) by_slot)
+      ∙ ap (changed nat_eq (seen_in f old)) same)
 
   pub pins : (slot number : ℕ) → exchanged f slot ≡ number
-      → inodes_of new ≡ pinned nat_eq (inodes_of old) slot → ChangesInodes f (λ inodes. pinned nat_eq inodes number) fs (with_tree f new fs)
+      → inodes_of new ≡ pinned nat_eq (inodes_of old) slot
+      → ChangesInodes f (λ inodes. pinned nat_eq inodes number) fs (with_tree f new fs)
   pins slot number same is =
       changes_seen f (λ inodes. pinned nat_eq inodes number) fs new old standing
       (ap (by_numbers f) is ∙ sym (pinned_by_numbers f (inodes_of old) slot) ∙ ap (pinned nat_eq (seen_in f old)) same)
 
   pub unpins : (slot number : ℕ) → exchanged f slot ≡ number
-      → inodes_of new ≡ unpinned nat_eq (inodes_of old) slot → ChangesInodes f (λ inodes. unpinned nat_eq inodes number) fs (with_tree f new fs)
+      → inodes_of new ≡ unpinned nat_eq (inodes_of old) slot
+      → ChangesInodes f (λ inodes. unpinned nat_eq inodes number) fs (with_tree f new fs)
   unpins slot number same is =
       changes_seen f (λ inodes. unpinned nat_eq inodes number) fs new old standing
-      (ap (by_numbers f) is ∙ sym (unpinned_by_numbers f (inodes_of old) slot) ∙ ap (unpinned nat_eq (seen_in f old)) same)
+      (ap (by_numbers f) is ∙ sym (unpinned_by_numbers f (inodes_of old) slot)
+      ∙ ap (unpinned nat_eq (seen_in f old)) same)
 
 -- What the filesystem has by numbers is what its tree has by slots.
-module _ (fs : Filesystems) (f : ℕ) (tree : TreeValue) (found : option_map (λ (entry : FilesystemEntry). entry.tree) (entry_of fs f) ≡ Some tree) where
+module _ (fs : Filesystems) (f : ℕ) (tree : TreeValue)
+    (found : option_map (λ (entry : FilesystemEntry). entry.tree) (entry_of fs f) ≡ Some tree) where
   is_seen : inodes_at fs f ≡ by_numbers f (inodes_of tree)
   is_seen = at_look fs f tree found seen_in
 
-  pub node_there : (slot number : ℕ) → exchanged f slot ≡ number → (files_at fs f).tree.node number ≡ option_map (node_seen f) ((tree_of tree).node slot)
+  pub node_there : (slot number : ℕ) → exchanged f slot ≡ number
+      → (files_at fs f).tree.node number ≡ option_map (node_seen f) ((tree_of tree).node slot)
   node_there slot number same =
       (λ i. (tree_of_inodes (is_seen i)).node (sym same i)) ∙ node_by_numbers f (inodes_of tree) slot
 
-  pub plain_there : (X : Type 0) (look : (A : Type 0) → Option (Node A) → X) (slot number : ℕ) → exchanged f slot ≡ number
+  pub plain_there : (X : Type 0) (look : (A : Type 0) → Option (Node A) → X) (slot number : ℕ)
+      → exchanged f slot ≡ number
       → look ℕ ((files_at fs f).tree.node number) ≡ look ℕ ((tree_of tree).node slot)
   plain_there X look slot number same =
       (λ i. look ℕ ((tree_of_inodes (is_seen i)).node (sym same i))) ∙ plain_by_numbers f (inodes_of tree) X look slot
 
-  pub uses_there : (slot number : ℕ) → exchanged f slot ≡ number → uses_in ((inodes_at fs f).inode number) ≡ uses_in ((inodes_of tree).inode slot)
-  uses_there slot number same = (λ i. uses_in ((is_seen i).inode (sym same i))) ∙ uses_by_numbers f (inodes_of tree) slot
+  pub uses_there : (slot number : ℕ) → exchanged f slot ≡ number
+      → uses_in ((inodes_at fs f).inode number) ≡ uses_in ((inodes_of tree).inode slot)
+  uses_there slot number same = (λ i. uses_in ((is_seen i).inode (sym same i)))
+      ∙ uses_by_numbers f (inodes_of tree) slot
 
   pub entry_there : (slot number : ℕ) (name : List ℕ) → exchanged f slot ≡ number
       → number_at (files_at fs f).tree number name ≡ option_map (exchanged f) (number_at (tree_of tree) slot name)
-  entry_there slot number name same = (λ i. number_at (tree_of_inodes (is_seen i)) (sym same i) name) ∙ entry_by_numbers f (inodes_of tree) slot name
+  entry_there slot number name same = (λ i. number_at (tree_of_inodes (is_seen i)) (sym same i) name)
+      ∙ entry_by_numbers f (inodes_of tree) slot name
 
-  pub root_there : (slot number : ℕ) → exchanged f slot ≡ number → nat_eq number (files_at fs f).tree.root ≡ nat_eq slot (inodes_of tree).root
+  pub root_there : (slot number : ℕ) → exchanged f slot ≡ number
+      → nat_eq number (files_at fs f).tree.root ≡ nat_eq slot (inodes_of tree).root
   root_there slot number same = (λ i. nat_eq (sym same i) (is_seen i).root) ∙ root_by_numbers f (inodes_of tree) slot
 
   pub own_there : (slot number : ℕ) → exchanged f slot ≡ number
-      → nat_eq number (parent_in number ((files_at fs f).tree.node number)) ≡ nat_eq slot (parent_in slot ((tree_of tree).node slot))
+      → nat_eq number (parent_in number ((files_at fs f).tree.node number))
+      ≡ nat_eq slot (parent_in slot ((tree_of tree).node slot))
   own_there slot number same =
-      (λ i. nat_eq (sym same i) (parent_in (sym same i) ((tree_of_inodes (is_seen i)).node (sym same i)))) ∙ own_by_numbers f (inodes_of tree) slot
+      (λ i. nat_eq (sym same i) (parent_in (sym same i) ((tree_of_inodes (is_seen i)).node (sym same i))))
+      ∙ own_by_numbers f (inodes_of tree) slot
 
   pub under_there : (top_slot top slot number : ℕ) → exchanged f top_slot ≡ top → exchanged f slot ≡ number
       → is_directory_under nat_eq (inodes_at fs f) top number ≡ is_directory_under nat_eq (inodes_of tree) top_slot slot
   under_there top_slot top slot number same_top same =
-      (λ i. is_directory_under nat_eq (is_seen i) (sym same_top i) (sym same i)) ∙ under_by_numbers f (inodes_of tree) top_slot slot
+      (λ i. is_directory_under nat_eq (is_seen i) (sym same_top i) (sym same i))
+      ∙ under_by_numbers f (inodes_of tree) top_slot slot
 
   pub path_there : (top_slot top slot number : ℕ) → exchanged f top_slot ≡ top → exchanged f slot ≡ number
       → path_in nat_eq (inodes_at fs f) top number ≡ path_in nat_eq (inodes_of tree) top_slot slot
@@ -216,9 +257,12 @@ module _ (fs : Filesystems) (f : ℕ) (tree : TreeValue) (found : option_map (λ
       (λ i. path_in nat_eq (is_seen i) (sym same_top i) (sym same i)) ∙ path_by_numbers f (inodes_of tree) top_slot slot
 
   -- a slot without a node has no inode
-  pub vacant_there : (slot number : ℕ) → exchanged f slot ≡ number → (tree_of tree).node slot ≡ None → (inodes_at fs f).inode number ≡ None
+  pub vacant_there : (slot number : ℕ) → exchanged f slot ≡ number → (tree_of tree).node slot ≡ None
+      → (inodes_at fs f).inode number ≡ None
   vacant_there slot number same vacant =
-      (λ i. (is_seen i).inode (sym same i)) ∙ ap (λ n. option_map (renamed_inode (exchanged f) (exchanged f)) ((inodes_of tree).inode n)) (exchanged_back f slot)
+      (λ i. (is_seen i).inode (sym same i))
+      ∙ ap (λ n. option_map (renamed_inode (exchanged f) (exchanged f)) ((inodes_of tree).inode n))
+      (exchanged_back f slot)
       ∙ by ((inodes_of tree).inode slot) vacant
     where
       by : (o : Option (Inode ℕ)) → node_in o ≡ None → option_map (renamed_inode (exchanged f) (exchanged f)) o ≡ None
@@ -226,7 +270,8 @@ module _ (fs : Filesystems) (f : ℕ) (tree : TreeValue) (found : option_map (λ
       by (Some inode) e = absurd cc
 
   -- a directory without entries has none by numbers, and the other way round
-  pub empty_there : (slot number : ℕ) → exchanged f slot ≡ number → entries_in ((files_at fs f).tree.node number) ≡ [] → entries_in ((tree_of tree).node slot) ≡ []
+  pub empty_there : (slot number : ℕ) → exchanged f slot ≡ number → entries_in ((files_at fs f).tree.node number) ≡ []
+      → entries_in ((tree_of tree).node slot) ≡ []
   empty_there slot number same empty =
       by (entries_in ((tree_of tree).node slot))
       (sym (plain_there Bool (λ A node. is_empty_list (entries_in node)) slot number same) ∙ ap is_empty_list empty)
@@ -236,10 +281,12 @@ module _ (fs : Filesystems) (f : ℕ) (tree : TreeValue) (found : option_map (λ
       by (entry ∷ rest) e = absurd (true≢false (sym e))
 
   -- an entry leads to an inode by its slot where it leads to its number
-  pub slot_named : (slot number : ℕ) (name : List ℕ) (object_slot object : ℕ) → exchanged f slot ≡ number → exchanged f object_slot ≡ object
+  pub slot_named : (slot number : ℕ) (name : List ℕ) (object_slot object : ℕ) → exchanged f slot ≡ number
+      → exchanged f object_slot ≡ object
       → number_at (files_at fs f).tree number name ≡ Some object → number_at (tree_of tree) slot name ≡ Some object_slot
   slot_named slot number name object_slot object same same_object named =
-      by (number_at (tree_of tree) slot name) (sym (entry_there slot number name same) ∙ named ∙ ap Some (sym same_object))
+      by (number_at (tree_of tree) slot name)
+      (sym (entry_there slot number name same) ∙ named ∙ ap Some (sym same_object))
     where
       by : (o : Option ℕ) → option_map (exchanged f) o ≡ Some (exchanged f object_slot) → o ≡ Some object_slot
       by None e = absurd cc
@@ -279,7 +326,8 @@ module _ (fs : Filesystems) (f : ℕ) (tree : TreeValue) (found : option_map (λ
         empty_there old _ refl may.2,
       )
 
-  pub outside_there : (slot number object_slot object : ℕ) → exchanged f slot ≡ number → exchanged f object_slot ≡ object
+  pub outside_there : (slot number object_slot object : ℕ) → exchanged f slot ≡ number
+      → exchanged f object_slot ≡ object
       → StaysOutside (inodes_at fs f) object number → StaysOutside (inodes_of tree) object_slot slot
   outside_there slot number object_slot object same same_object outside = λ is.
       sym (under_there object_slot object slot number same_object same)
@@ -290,9 +338,11 @@ written_back : (fs : Filesystems) (f : ℕ) (tree : TreeValue) → any_pair (λ 
     → option_map (λ (entry : FilesystemEntry). entry.tree) (entry_of fs f) ≡ Some tree → with_tree f tree fs ≡ fs
 written_back [] f tree apart found = refl
 written_back (x ∷ fs) f tree apart found =
-    by (nat_eq f x.count) (eqb-true f x.count) found (written_back fs f tree (or_second (list_any (λ other. nat_eq x.count other.count) fs) _ apart))
+    by (nat_eq f x.count) (eqb-true f x.count) found
+    (written_back fs f tree (or_second (list_any (λ other. nat_eq x.count other.count) fs) _ apart))
   where
-    by : (b : Bool) → (b ≡ true → f ≡ x.count) → option_map (λ (entry : FilesystemEntry). entry.tree) (cond b (Some x) (entry_of fs f)) ≡ Some tree
+    by : (b : Bool) → (b ≡ true → f ≡ x.count)
+        → option_map (λ (entry : FilesystemEntry). entry.tree) (cond b (Some x) (entry_of fs f)) ≡ Some tree
         → (option_map (λ (entry : FilesystemEntry). entry.tree) (entry_of fs f) ≡ Some tree → with_tree f tree fs ≡ fs)
         → cond b (record x { tree = tree }) x ∷ with_tree f tree fs ≡ x ∷ fs
     by true here e rest =
@@ -302,4 +352,5 @@ written_back (x ∷ fs) f tree apart found =
     by false here e rest = ap (λ l. x ∷ l) (rest e)
 
 pub kept : (fs : Filesystems) (f : ℕ) (new old : TreeValue) → Standing fs f old → new ≡ old → with_tree f new fs ≡ fs
-kept fs f new old standing is = ap (λ tree. with_tree f tree fs) is ∙ written_back fs f old standing.apart standing.found
+kept fs f new old standing is = ap (λ tree. with_tree f tree fs) is
+    ∙ written_back fs f old standing.apart standing.found

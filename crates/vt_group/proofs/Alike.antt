@@ -1,4 +1,5 @@
--- Worlds whose mounts have the same numbers and shown types, and whose living groups have the same masters, have the same
+-- Worlds whose mounts have the same numbers and shown types, and whose living groups have the same masters, have the
+-- same
 -- groups once they are regrouped.
 use Rattle.std.proofs.Common.{◌≡◌, refl, sym, ap, ◌∙◌, true, false, Bool, List, None, Option, Some, [], cond, find, length, map, option_map, ℕ, nat_eq, ◌||◌, ◌∷◌, inl, inr, suc}
 use Rattle.std.specs.Prelude.{filter_map}

@@ -24,18 +24,22 @@ abbrev pub any_in : ℕ → List Propagation → Bool
 any_in group [] = false
 any_in group (kind ∷ rest) = holds_of (nat_eq group) (group_of (propagation_of kind)) || any_in group rest
 
-pub members-valued : (group : ℕ) (es : List (ℕ × Propagation)) → any_in group (values_of es) ≡ list_any (is_member group) (map numbered_peer es)
+pub members-valued : (group : ℕ) (es : List (ℕ × Propagation))
+    → any_in group (values_of es) ≡ list_any (is_member group) (map numbered_peer es)
 members-valued group [] = refl
-members-valued group (e ∷ es) = ap (λ b. holds_of (nat_eq group) (group_of (propagation_of e.1)) || b) (members-valued group es)
+members-valued group (e ∷ es) = ap (λ b. holds_of (nat_eq group) (group_of (propagation_of e.1)) || b)
+    (members-valued group es)
 
 -- one step up the masters
 
-pub one_up : (next : ℕ → Option ℕ) (group here above n k : ℕ) → n ≡ suc k → nat_eq here group ≡ false → next here ≡ Some above
+pub one_up : (next : ℕ → Option ℕ) (group here above n k : ℕ) → n ≡ suc k → nat_eq here group ≡ false
+    → next here ≡ Some above
     → is_among nat_eq group (chain k next above) ≡ is_among nat_eq group (chain n next here)
 one_up next group here above n k e apart is =
     sym (ap (λ m. is_among nat_eq group (chain m next here)) e
     ∙ ap (is_among nat_eq group) (chain_goes_on next k here above is)
-    ∙ ap (λ b. b || is_among nat_eq group (chain k next above)) (ne_eqb group here (λ same. eqb-false here group apart (sym same))))
+    ∙ ap (λ b. b || is_among nat_eq group (chain k next above))
+    (ne_eqb group here (λ same. eqb-false here group apart (sym same))))
 
 -- what is found by a count
 
@@ -45,7 +49,8 @@ found-type (Some kind) = refl
 
 module _ (count : ℕ) (es : List (ℕ × Propagation)) (masters : List (ℕ × ℕ)) (groups : Grouping)
     (view : record { peers = map numbered_peer es; masters = masters } ≡ groups) where
-  pub shown-type : (old : Option Propagation) → old ≡ lookup (is_at (nat_cmp count)) es → type_or_private old ≡ propagation_in groups (counted count)
+  pub shown-type : (old : Option Propagation) → old ≡ lookup (is_at (nat_cmp count)) es
+      → type_or_private old ≡ propagation_in groups (counted count)
   shown-type old e =
       ap type_or_private e ∙ found-type _
       ∙ ap (λ o. unwrap_or o Private) (sym (lookup-numbered propagation_of count es))
@@ -55,16 +60,22 @@ module _ (count : ℕ) (es : List (ℕ × Propagation)) (masters : List (ℕ × 
 pub undone : (group master : ℕ) (masters : List (ℕ × ℕ)) → lookup (nat_eq group) masters ≡ None
     → remove_entry (nat_eq group) (insert_entry nat_cmp masters group master) ≡ masters
 undone group master [] none = ap (λ b. cond b [] ((group, master) ∷ [])) (eq-eqb group group refl)
-undone group master (e ∷ masters) none = by (nat_lt group e.0) (nat_eq group e.0) refl none (undone group master masters)
+undone group master (e ∷ masters) none = by (nat_lt group e.0) (nat_eq group e.0) refl none
+    (undone group master masters)
   where
     by : (less same : Bool) → nat_eq group e.0 ≡ same → cond same (Some e.1) (lookup (nat_eq group) masters) ≡ None
-        → (lookup (nat_eq group) masters ≡ None → remove_entry (nat_eq group) (insert_entry nat_cmp masters group master) ≡ masters)
-        → remove_entry (nat_eq group) (match_ordering (cond less Less (cond same Equal Greater)) ((group, master) ∷ e ∷ masters) ((e.0, master) ∷ masters)
+        → (lookup (nat_eq group) masters ≡ None
+        → remove_entry (nat_eq group) (insert_entry nat_cmp masters group master) ≡ masters)
+        → remove_entry (nat_eq group) (match_ordering (cond less Less (cond same Equal Greater))
+        ((group, master) ∷ e ∷ masters) ((e.0, master) ∷ masters)
         (e ∷ insert_entry nat_cmp masters group master)) ≡ e ∷ masters
-    by true same is none rest = ap (λ b. cond b (e ∷ masters) ((group, master) ∷ remove_entry (nat_eq group) (e ∷ masters))) (eq-eqb group group refl)
+    by true same is none rest = ap
+        (λ b. cond b (e ∷ masters) ((group, master) ∷ remove_entry (nat_eq group) (e ∷ masters)))
+        (eq-eqb group group refl)
     by false true is none rest = absurd (true≢false (ap is_some none))
     by false false is none rest =
-        ap (λ b. cond b (insert_entry nat_cmp masters group master) (e ∷ remove_entry (nat_eq group) (insert_entry nat_cmp masters group master))) is
+        ap (λ b. cond b (insert_entry nat_cmp masters group master)
+        (e ∷ remove_entry (nat_eq group) (insert_entry nat_cmp masters group master))) is
         ∙ ap (λ l. e ∷ l) (rest none)
 
 pub on-ok : {T E P Q : Type 0} (r : Result T E) → (P → Q) → OnOk r P → OnOk r Q

@@ -16,7 +16,8 @@ same_count a b = by (nat_eq a b) refl
   where
     by : (t : Bool) → nat_eq a b ≡ t → nat_eq (counted a) (counted b) ≡ t
     by true e = let same : a ≡ b = eqb-true a b e in eq-eqb (counted a) (counted b) (ap counted same)
-    by false e = let differ : a ≢ b = eqb-false a b e in ne_eqb (counted a) (counted b) (λ same. differ (omega (arith, same)))
+    by false e = let differ : a ≢ b = eqb-false a b e in ne_eqb (counted a) (counted b)
+        (λ same. differ (omega (arith, same)))
 
 pub less_count : (a b : ℕ) → nat_lt (counted a) (counted b) ≡ nat_lt a b
 less_count a b = by (nat_lt a b) refl
@@ -29,7 +30,8 @@ pub cmp_count : (a b : ℕ) → nat_cmp (counted a) (counted b) ≡ nat_cmp a b
 cmp_count a b = rw (less_count a b, same_count a b)
 
 pub at_count : (a b : ℕ) → is_at (nat_cmp a) b ≡ nat_eq (counted a) (counted b)
-at_count a b = tied (nat_lt a b) (nat_eq a b) (λ e. ne_eqb a b (λ same. omega (arith, ltb-true a b e, same))) ∙ sym (same_count a b)
+at_count a b = tied (nat_lt a b) (nat_eq a b) (λ e. ne_eqb a b (λ same. omega (arith, ltb-true a b e, same)))
+    ∙ sym (same_count a b)
   where
     tied : (less same : Bool) → (less ≡ true → same ≡ false) → is_eq (cond less Less (cond same Equal Greater)) ≡ same
     tied true true apart = sym (apart refl)
@@ -48,8 +50,10 @@ module _ {V W : Type 0} (f : V → W) where
       ap (λ b. cond b (Some (f e.1)) (lookup (nat_eq (counted count)) (map numbered es))) (sym (at_count count e.0))
       ∙ by (is_at (nat_cmp count) e.0) (lookup-numbered count es)
     where
-      by : (b : Bool) → lookup (nat_eq (counted count)) (map numbered es) ≡ option_map f (lookup (is_at (nat_cmp count)) es)
-          → cond b (Some (f e.1)) (lookup (nat_eq (counted count)) (map numbered es)) ≡ option_map f (cond b (Some e.1) (lookup (is_at (nat_cmp count)) es))
+      by : (b : Bool) → lookup (nat_eq (counted count)) (map numbered es)
+          ≡ option_map f (lookup (is_at (nat_cmp count)) es)
+          → cond b (Some (f e.1)) (lookup (nat_eq (counted count)) (map numbered es))
+          ≡ option_map f (cond b (Some e.1) (lookup (is_at (nat_cmp count)) es))
       by true rest = refl
       by false rest = rest
 
@@ -61,7 +65,8 @@ module _ {V W : Type 0} (f : V → W) where
       ∙ ap (λ o. match_ordering o (numbered (count, v) ∷ map numbered (e ∷ es)) ((counted e.0, f v) ∷ map numbered es)
       (numbered e ∷ insert_entry nat_cmp (map numbered es) (counted count) (f v))) (sym (cmp_count count e.0))
     where
-      by : (o : Ordering) → map numbered (insert_entry nat_cmp es count v) ≡ insert_entry nat_cmp (map numbered es) (counted count) (f v)
+      by : (o : Ordering) → map numbered (insert_entry nat_cmp es count v)
+          ≡ insert_entry nat_cmp (map numbered es) (counted count) (f v)
           → map numbered (match_ordering o ((count, v) ∷ e ∷ es) ((e.0, v) ∷ es) (e ∷ insert_entry nat_cmp es count v))
           ≡ match_ordering o (numbered (count, v) ∷ map numbered (e ∷ es)) ((counted e.0, f v) ∷ map numbered es)
           (numbered e ∷ insert_entry nat_cmp (map numbered es) (counted count) (f v))
@@ -74,9 +79,11 @@ module _ {V W : Type 0} (f : V → W) where
   removed-numbered count [] = refl
   removed-numbered count (e ∷ es) =
       by (is_at (nat_cmp count) e.0) (removed-numbered count es)
-      ∙ ap (λ b. cond b (map numbered es) (numbered e ∷ remove_entry (nat_eq (counted count)) (map numbered es))) (at_count count e.0)
+      ∙ ap (λ b. cond b (map numbered es) (numbered e ∷ remove_entry (nat_eq (counted count)) (map numbered es)))
+      (at_count count e.0)
     where
-      by : (b : Bool) → map numbered (remove_entry (is_at (nat_cmp count)) es) ≡ remove_entry (nat_eq (counted count)) (map numbered es)
+      by : (b : Bool) → map numbered (remove_entry (is_at (nat_cmp count)) es)
+          ≡ remove_entry (nat_eq (counted count)) (map numbered es)
           → map numbered (cond b es (e ∷ remove_entry (is_at (nat_cmp count)) es))
           ≡ cond b (map numbered es) (numbered e ∷ remove_entry (nat_eq (counted count)) (map numbered es))
       by true rest = refl
@@ -84,7 +91,8 @@ module _ {V W : Type 0} (f : V → W) where
 
   -- what is left of each entry by a test that changes it
   pub kept-numbered : {F : Type 0} (T : F → ℕ → V → Bool → V → F → Type 0) (g : ℕ → W → Option W) (test : F)
-      → ((k : ℕ) (v : V) (b : Bool) (w : V) (test' : F) → T test k v b w test' → (cond b (Some (f w)) None ≡ g (counted k) (f v)) × (test' ≡ test))
+      → ((k : ℕ) (v : V) (b : Bool) (w : V) (test' : F) → T test k v b w test'
+      → (cond b (Some (f w)) None ≡ g (counted k) (f v)) × (test' ≡ test))
       → (es kept : List (ℕ × V)) → RetainsPairs T test es kept
       → map numbered kept ≡ filter_map (λ entry. option_map (λ x. (entry.0, x)) (g entry.0 entry.1)) (map numbered es)
   kept-numbered T g test says [] kept r = ap (map numbered) r
@@ -93,10 +101,13 @@ module _ {V W : Type 0} (f : V → W) where
       let rest = kept-numbered T g test says es r.3 (subst (λ u. RetainsPairs T u es r.3) told.1 r.5) in
       ap (map numbered) r.6
       ∙ by r.0 rest
-      ∙ ap (λ o. cons_option (option_map (λ x. (counted e.0, x)) o) (filter_map (λ entry. option_map (λ x. (entry.0, x)) (g entry.0 entry.1)) (map numbered es))) told.0
+      ∙ ap (λ o. cons_option (option_map (λ x. (counted e.0, x)) o)
+      (filter_map (λ entry. option_map (λ x. (entry.0, x)) (g entry.0 entry.1)) (map numbered es))) told.0
     where
-      by : (b : Bool) → map numbered r.3 ≡ filter_map (λ entry. option_map (λ x. (entry.0, x)) (g entry.0 entry.1)) (map numbered es)
+      by : (b : Bool) → map numbered r.3
+          ≡ filter_map (λ entry. option_map (λ x. (entry.0, x)) (g entry.0 entry.1)) (map numbered es)
           → map numbered (cond b ((e.0, r.1) ∷ r.3) r.3)
-          ≡ cons_option (option_map (λ x. (counted e.0, x)) (cond b (Some (f r.1)) None)) (filter_map (λ entry. option_map (λ x. (entry.0, x)) (g entry.0 entry.1)) (map numbered es))
+          ≡ cons_option (option_map (λ x. (counted e.0, x)) (cond b (Some (f r.1)) None))
+          (filter_map (λ entry. option_map (λ x. (entry.0, x)) (g entry.0 entry.1)) (map numbered es))
       by true rest = ap (λ l. numbered (e.0, r.1) ∷ l) rest
       by false rest = rest

@@ -16,7 +16,8 @@ find_start p next (suc n) a e = by (next a) refl
   where
     by : (found : Option ℕ) → next a ≡ found → find p (chain (suc n) next a) ≡ Some a
     by None f = ap (find p) (chain_ends next n a f) ∙ ap (λ b. cond b (Some a) None) e
-    by (Some above) f = ap (find p) (chain_goes_on next n a above f) ∙ ap (λ b. cond b (Some a) (find p (chain n next above))) e
+    by (Some above) f = ap (find p) (chain_goes_on next n a above f)
+        ∙ ap (λ b. cond b (Some a) (find p (chain n next above))) e
 
 no_group_of_heir : (found : Option ℕ) → group_of (slave_of_heir found) ≡ None
 no_group_of_heir None = refl
@@ -34,12 +35,15 @@ module _ (world : World ℕ) where
       → has_members nat_eq (map (inheriting nat_eq world) mounts) group ≡ has_members nat_eq mounts group
   members-inherited [] group = refl
   members-inherited (mount ∷ mounts) group =
-      ap (λ g. holds_of (nat_eq group) g || has_members nat_eq (map (inheriting nat_eq world) mounts) group) (group-inherited mount.propagation)
+      ap (λ g. holds_of (nat_eq group) g || has_members nat_eq (map (inheriting nat_eq world) mounts) group)
+      (group-inherited mount.propagation)
       ∙ ap (λ b. is_member_of nat_eq group mount || b) (members-inherited mounts group)
 
   -- a slave whose master has a member keeps it
-  pub inherited_kept : (above : ℕ) → has_members nat_eq world.mounts above ≡ true → inherited nat_eq world (Slave above) ≡ Slave above
-  inherited_kept above e = ap slave_of_heir (find_start (has_members nat_eq world.mounts) world.master (length world.mounts) above e)
+  pub inherited_kept : (above : ℕ) → has_members nat_eq world.mounts above ≡ true
+      → inherited nat_eq world (Slave above) ≡ Slave above
+  inherited_kept above e = ap slave_of_heir
+      (find_start (has_members nat_eq world.mounts) world.master (length world.mounts) above e)
 
   pub nothing_lost : (mount : Mount ℕ) → lost_a_group nat_eq world mount ≡ false → inheriting nat_eq world mount ≡ mount
   nothing_lost mount e = by mount.propagation refl (or_parts _ _ e).0
@@ -47,12 +51,14 @@ module _ (world : World ℕ) where
       same : inherited nat_eq world mount.propagation ≡ mount.propagation → inheriting nat_eq world mount ≡ mount
       same f = λ i. record mount { propagation = f i }
 
-      by : (kind : Propagation ℕ) → mount.propagation ≡ kind → is_lost_group nat_eq world (source_of mount.propagation) ≡ false
+      by : (kind : Propagation ℕ) → mount.propagation ≡ kind
+          → is_lost_group nat_eq world (source_of mount.propagation) ≡ false
           → inheriting nat_eq world mount ≡ mount
       by (Shared group) f kept = same (ap (inherited nat_eq world) f ∙ sym f)
       by (Slave above) f kept =
           same (ap (inherited nat_eq world) f
-          ∙ inherited_kept above (not-false _ (sym (ap (λ k. is_lost_group nat_eq world (source_of k)) f) ∙ kept)) ∙ sym f)
+          ∙ inherited_kept above (not-false _ (sym (ap (λ k. is_lost_group nat_eq world (source_of k)) f) ∙ kept))
+          ∙ sym f)
       by Private f kept = same (ap (inherited nat_eq world) f ∙ sym f)
       by Unbindable f kept = same (ap (inherited nat_eq world) f ∙ sym f)
 
@@ -63,18 +69,23 @@ module _ (world : World ℕ) where
       by : (b : Bool) → list_any (lost_a_group nat_eq world) world.mounts ≡ b
           → (regrouped_by nat_eq b world).mounts ≡ map (inheriting nat_eq world) world.mounts
       by true e = refl
-      by false e = sym (map_same (inheriting nat_eq world) world.mounts (λ mount m. nothing_lost mount (none_among (lost_a_group nat_eq world) world.mounts e mount m)))
+      by false e = sym (map_same (inheriting nat_eq world) world.mounts
+          (λ mount m. nothing_lost mount (none_among (lost_a_group nat_eq world) world.mounts e mount m)))
 
   -- the groups that have members stay the same
-  pub members-regrouped : (group : ℕ) → has_members nat_eq (regrouped nat_eq world).mounts group ≡ has_members nat_eq world.mounts group
-  members-regrouped group = ap (λ mounts. has_members nat_eq mounts group) mounts-regrouped ∙ members-inherited world.mounts group
+  pub members-regrouped : (group : ℕ)
+      → has_members nat_eq (regrouped nat_eq world).mounts group ≡ has_members nat_eq world.mounts group
+  members-regrouped group = ap (λ mounts. has_members nat_eq mounts group) mounts-regrouped
+      ∙ members-inherited world.mounts group
 
-  pub master-regrouped : (group above : ℕ) → world.master group ≡ Some above → has_members nat_eq world.mounts above ≡ true
+  pub master-regrouped : (group above : ℕ) → world.master group ≡ Some above
+      → has_members nat_eq world.mounts above ≡ true
       → (regrouped nat_eq world).master group ≡ Some above
   master-regrouped group above e f = by (list_any (lost_a_group nat_eq world) world.mounts)
     where
       by : (b : Bool) → (regrouped_by nat_eq b world).master group ≡ Some above
-      by true = ap (heir nat_eq world) e ∙ find_start (has_members nat_eq world.mounts) world.master (length world.mounts) above f
+      by true = ap (heir nat_eq world) e
+          ∙ find_start (has_members nat_eq world.mounts) world.master (length world.mounts) above f
       by false = e
 
 -- a group without members and without a master has no heir
@@ -84,4 +95,5 @@ no_heir world group above none = by (length world.mounts)
   where
     by : (n : ℕ) → find (has_members nat_eq world.mounts) (chain n world.master group) ≡ None
     by zero = ap (λ b. cond b (Some group) None) none
-    by (suc n) = ap (find (has_members nat_eq world.mounts)) (chain_ends world.master n group above) ∙ ap (λ b. cond b (Some group) None) none
+    by (suc n) = ap (find (has_members nat_eq world.mounts)) (chain_ends world.master n group above)
+        ∙ ap (λ b. cond b (Some group) None) none

@@ -22,7 +22,8 @@ left_alone groups number ordered = record {
       ∙ by (nat_eq mount number) (lookup (nat_eq mount) groups.peers);
 }
   where
-    by : (b : Bool) (o : Option (Propagation ℕ)) → unwrap_or (cond b None o) Private ≡ (if b || false then Private else unwrap_or o Private)
+    by : (b : Bool) (o : Option (Propagation ℕ))
+        → unwrap_or (cond b None o) Private ≡ (if b || false then Private else unwrap_or o Private)
     by true o = refl
     by false o = refl
 
@@ -60,18 +61,22 @@ low_peers number (mount ∷ rest) all =
     let parts = and_parts _ _ all in by (source_of mount.propagation) parts.0 (low_peers number rest parts.1)
   where
     by : (o : Option ℕ) → nat_lt number mount.number ≡ true → list_all (nat_lt number) (keys (peers_of rest)) ≡ true
-        → list_all (nat_lt number) (keys (cons_option (option_map (λ source. (mount.number, mount.propagation)) o) (peers_of rest))) ≡ true
+        → list_all (nat_lt number) (keys
+        (cons_option (option_map (λ source. (mount.number, mount.propagation)) o) (peers_of rest))) ≡ true
     by None first later = later
     by (Some source) first later = and_from _ _ first later
 
-rising_peers : (mounts : List (Mount ℕ)) → are_rising (numbers_of mounts) ≡ true → are_rising (keys (peers_of mounts)) ≡ true
+rising_peers : (mounts : List (Mount ℕ)) → are_rising (numbers_of mounts) ≡ true
+    → are_rising (keys (peers_of mounts)) ≡ true
 rising_peers [] rising = refl
 rising_peers (mount ∷ rest) rising =
     let parts = and_parts _ _ rising in
     by (source_of mount.propagation) (low_peers mount.number rest parts.0) (rising_peers rest parts.1)
   where
-    by : (o : Option ℕ) → list_all (nat_lt mount.number) (keys (peers_of rest)) ≡ true → are_rising (keys (peers_of rest)) ≡ true
-        → are_rising (keys (cons_option (option_map (λ source. (mount.number, mount.propagation)) o) (peers_of rest))) ≡ true
+    by : (o : Option ℕ) → list_all (nat_lt mount.number) (keys (peers_of rest)) ≡ true
+        → are_rising (keys (peers_of rest)) ≡ true
+        → are_rising (keys (cons_option (option_map (λ source. (mount.number, mount.propagation)) o) (peers_of rest)))
+        ≡ true
     by None low later = later
     by (Some source) low later = and_from _ _ low later
 

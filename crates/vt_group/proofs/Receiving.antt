@@ -33,14 +33,17 @@ module _ (master : ℕ → Option ℕ) where
   chain_same zero zero source le ends = refl
   chain_same zero (suc m) source le ends = chain_ends master m source (no_master source ends)
   chain_same (suc n) zero source le ends = absurd (omega (arith, le))
-  chain_same (suc n) (suc m) source le ends = by (master source) refl (λ next ends. chain_same n m next (omega (arith, le)) ends)
+  chain_same (suc n) (suc m) source le ends = by (master source) refl
+      (λ next ends. chain_same n m next (omega (arith, le)) ends)
     where
       by : (o : Option ℕ) → master source ≡ o → ((next : ℕ) → Ends n next → chain m master next ≡ chain n master next)
           → chain (suc m) master source ≡ chain (suc n) master source
       by None e later = chain_ends master m source e ∙ sym (chain_ends master n source e)
       by (Some next) e later =
           chain_goes_on master m source next e
-          ∙ ap (λ l. source ∷ l) (later next (sym (ap (λ g. is_some (master g)) (ap (last_or source) (chain_goes_on master n source next e) ∙ last_of_chain master n next source)) ∙ ends))
+          ∙ ap (λ l. source ∷ l) (later next
+          (sym (ap (λ g. is_some (master g))
+          (ap (last_or source) (chain_goes_on master n source next e) ∙ last_of_chain master n next source)) ∙ ends))
           ∙ sym (chain_goes_on master n source next e)
 
   -- another function that agrees along a chain has that chain
@@ -49,14 +52,17 @@ module _ (master : ℕ → Option ℕ) where
   chain_alike other p same zero source all = refl
   chain_alike other p same (suc n) source all = by (master source) refl (chain_alike other p same n)
     where
-      by : (o : Option ℕ) → master source ≡ o → ((next : ℕ) → list_all p (chain n master next) ≡ true → chain n other next ≡ chain n master next)
+      by : (o : Option ℕ) → master source ≡ o
+          → ((next : ℕ) → list_all p (chain n master next) ≡ true → chain n other next ≡ chain n master next)
           → chain (suc n) other source ≡ chain (suc n) master source
       by None e later =
           let here = and_parts (p source) true (sym (ap (list_all p) (chain_ends master n source e)) ∙ all) in
           chain_ends other n source (same source here.0 ∙ e) ∙ sym (chain_ends master n source e)
       by (Some next) e later =
-          let parts : (p source ≡ true) × (list_all p (chain n master next) ≡ true) = and_parts _ _ (sym (ap (list_all p) (chain_goes_on master n source next e)) ∙ all) in
-          chain_goes_on other n source next (same source parts.0 ∙ e) ∙ ap (λ l. source ∷ l) (later next parts.1) ∙ sym (chain_goes_on master n source next e)
+          let parts : (p source ≡ true) × (list_all p (chain n master next) ≡ true) = and_parts _ _
+          (sym (ap (list_all p) (chain_goes_on master n source next e)) ∙ all) in
+          chain_goes_on other n source next (same source parts.0 ∙ e) ∙ ap (λ l. source ∷ l) (later next parts.1)
+          ∙ sym (chain_goes_on master n source next e)
 
   module _ (members : ℕ → Bool) where
     -- the groups on the way
@@ -66,28 +72,34 @@ module _ (master : ℕ → Option ℕ) where
 
     pub all_on_way : (n group : ℕ) → Lives members master group → list_all members (chain n master group) ≡ true
     all_on_way zero group life = ap (λ b. b && true) (live_members members master group life)
-    all_on_way (suc n) group (has_no_master it has f) = ap (list_all members) (chain_ends master n it f) ∙ ap (λ b. b && true) has
+    all_on_way (suc n) group (has_no_master it has f) = ap (list_all members) (chain_ends master n it f)
+        ∙ ap (λ b. b && true) has
     all_on_way (suc n) group (has_master it next has f later) =
-        ap (list_all members) (chain_goes_on master n it next f) ∙ ap (λ b. b && list_all members (chain n master next)) has ∙ all_on_way n next later
+        ap (list_all members) (chain_goes_on master n it next f)
+        ∙ ap (λ b. b && list_all members (chain n master next)) has ∙ all_on_way n next later
 
     ends_within : (n group : ℕ) (life : Lives members master group) → length (way group life) ≤ suc n
         → is_some (master (last_or group (chain n master group))) ≡ false
     ends_within zero group (has_no_master it has f) l = ap is_some f
-    ends_within (suc n) group (has_no_master it has f) l = ap (λ gs. is_some (master (last_or it gs))) (chain_ends master n it f) ∙ ap is_some f
+    ends_within (suc n) group (has_no_master it has f) l = ap (λ gs. is_some (master (last_or it gs)))
+        (chain_ends master n it f) ∙ ap is_some f
     ends_within zero group (has_master it next has f later) l = absurd (too_long next later l)
       where
         too_long : (g : ℕ) (life : Lives members master g) → suc (length (way g life)) ≤ 1 → ⊥
         too_long g (has_no_master x h e) t = omega (arith, t)
         too_long g (has_master x y h e r) t = omega (arith, t)
     ends_within (suc n) group (has_master it next has f later) l =
-        ap (λ g. is_some (master g)) (ap (last_or it) (chain_goes_on master n it next f) ∙ last_of_chain master n next it)
+        ap (λ g. is_some (master g)) (ap (last_or it) (chain_goes_on master n it next f)
+        ∙ last_of_chain master n next it)
         ∙ ends_within n next later (omega (arith, l))
 
     same_length : (a : ℕ) (life : Lives members master a) (b : ℕ) (other : Lives members master b) → a ≡ b
         → length (way a life) ≡ length (way b other)
     same_length a (has_no_master x has f) b (has_no_master y has_too g) e = refl
-    same_length a (has_no_master x has f) b (has_master y next has_too g later) e = absurd (true≢false (sym (ap is_some (ap master e ∙ g)) ∙ ap is_some f))
-    same_length a (has_master x next has f later) b (has_no_master y has_too g) e = absurd (true≢false (sym (ap is_some (ap master (sym e) ∙ f)) ∙ ap is_some g))
+    same_length a (has_no_master x has f) b (has_master y next has_too g later) e = absurd
+        (true≢false (sym (ap is_some (ap master e ∙ g)) ∙ ap is_some f))
+    same_length a (has_master x next has f later) b (has_no_master y has_too g) e = absurd
+        (true≢false (sym (ap is_some (ap master (sym e) ∙ f)) ∙ ap is_some g))
     same_length a (has_master x next has f later) b (has_master y after has_too g later_too) e =
         ap suc (same_length next later after later_too (same_Some next after (sym f ∙ ap master e ∙ g)))
 
@@ -97,10 +109,12 @@ module _ (master : ℕ → Option ℕ) where
     rest_of_way group (has_no_master it has f) other m = ⊎_elim (λ e. by other (sym e)) (λ none. absurd none) m
       where
         by : (o : ℕ) → it ≡ o → (rest : Lives members master o) × (length (way o rest) ≤ 1)
-        by o e = subst (λ g. (rest : Lives members master g) × (length (way g rest) ≤ 1)) e (has_no_master it has f, omega arith)
+        by o e = subst (λ g. (rest : Lives members master g) × (length (way g rest) ≤ 1)) e
+            (has_no_master it has f, omega arith)
     rest_of_way group (has_master it next has f later) other m =
         ⊎_elim
-        (λ e. subst (λ g. (rest : Lives members master g) × (length (way g rest) ≤ suc (length (way next later)))) (sym e) (has_master it next has f later, omega arith))
+        (λ e. subst (λ g. (rest : Lives members master g) × (length (way g rest) ≤ suc (length (way next later))))
+        (sym e) (has_master it next has f later, omega arith))
         (λ l. let t = rest_of_way next later other l in (t.0, omega (arith, t.1)))
         m
 
@@ -111,28 +125,36 @@ module _ (master : ℕ → Option ℕ) where
         or_from (list_any (nat_eq it) (way next later)) (any_pair nat_eq (way next later))
         (false_from_ne_true (list_any (nat_eq it) (way next later)) (λ h.
         let t = rest_of_way next later it (among_numbers (way next later) it h) in
-        let same : length (way it t.0) ≡ suc (length (way next later)) = same_length it t.0 it (has_master it next has f later) refl in
+        let same : length (way it t.0)
+        ≡ suc (length (way next later)) = same_length it t.0 it (has_master it next has f later) refl in
         absurd (omega (arith, t.1, same))))
         (way_apart next later)
 
     way_members : (group : ℕ) (life : Lives members master group) → list_all members (way group life) ≡ true
     way_members group (has_no_master it has f) = ap (λ b. b && true) has
-    way_members group (has_master it next has f later) = ap (λ b. b && list_all members (way next later)) has ∙ way_members next later
+    way_members group (has_master it next has f later) = ap (λ b. b && list_all members (way next later)) has
+        ∙ way_members next later
 
 -- groups that each have a member are no more than the peers
 fewer_groups : (groups : List ℕ) (peers : List (ℕ × Propagation ℕ)) → any_pair nat_eq groups ≡ false
     → list_all (λ group. list_any (is_member group) peers) groups ≡ true → length groups ≤ length peers
 fewer_groups [] peers distinct all = omega arith
 fewer_groups (group ∷ groups) peers distinct all =
-    let apart_all : (list_any (nat_eq group) groups ≡ false) × (any_pair nat_eq groups ≡ false) = or_parts (list_any (nat_eq group) groups) (any_pair nat_eq groups) distinct in
-    let each : (list_any (is_member group) peers ≡ true) × (list_all (λ other. list_any (is_member other) peers) groups ≡ true) = and_parts _ _ all in
+    let apart_all : (list_any (nat_eq group) groups ≡ false)
+    × (any_pair nat_eq groups ≡ false) = or_parts (list_any (nat_eq group) groups)
+    (any_pair nat_eq groups) distinct in
+    let each : (list_any (is_member group) peers ≡ true)
+    × (list_all (λ other. list_any (is_member other) peers) groups ≡ true) = and_parts _ _ all in
     let member = any_among (is_member group) peers each.0 in
-    let inside : Among member.0 (filter (is_member group) peers) = among-filter (is_member group) peers member.0 member.1 member.2 in
-    let some_inside : 1 ≤ length (filter (is_member group) peers) = not_empty (filter (is_member group) peers) member.0 inside in
+    let inside : Among member.0 (filter (is_member group) peers) = among-filter
+    (is_member group) peers member.0 member.1 member.2 in
+    let some_inside : 1 ≤ length (filter (is_member group) peers) = not_empty
+    (filter (is_member group) peers) member.0 inside in
     let both = length-filter_both (is_member group) (λ peer. not (is_member group peer)) (λ peer. refl) peers in
     let rest : length groups ≤ length (filter (λ peer. not (is_member group peer)) peers) =
     fewer_groups groups (filter (λ peer. not (is_member group peer)) peers) apart_all.1
-    (list_all_from_among (λ other. list_any (is_member other) (filter (λ peer. not (is_member group peer)) peers)) groups (λ other m.
+    (list_all_from_among (λ other.
+    list_any (is_member other) (filter (λ peer. not (is_member group peer)) peers)) groups (λ other m.
     still group other peers (none_among (nat_eq group) groups apart_all.0 other m)
     (among_from_list_all (λ other. list_any (is_member other) peers) groups each.1 other m))) in
     omega (arith, both, rest, some_inside)
@@ -141,12 +163,14 @@ fewer_groups (group ∷ groups) peers distinct all =
     not_empty [] x m = absurd m
     not_empty (y ∷ ys) x m = omega arith
 
-    still : (one other : ℕ) (list : List (ℕ × Propagation ℕ)) → nat_eq one other ≡ false → list_any (is_member other) list ≡ true
+    still : (one other : ℕ) (list : List (ℕ × Propagation ℕ)) → nat_eq one other ≡ false
+        → list_any (is_member other) list ≡ true
         → list_any (is_member other) (filter (λ peer. not (is_member one peer)) list) ≡ true
     still one other list differ h =
         let member = any_among (is_member other) list h in
         any_from_among (is_member other) (filter (λ peer. not (is_member one peer)) list) member.0
-        (among-filter (λ peer. not (is_member one peer)) list member.0 member.1 (no_member (group_of member.0.1) member.2)) member.2
+        (among-filter (λ peer. not (is_member one peer)) list member.0 member.1
+        (no_member (group_of member.0.1) member.2)) member.2
       where
         no_member : (found : Option ℕ) → holds_of (nat_eq other) found ≡ true → not (holds_of (nat_eq one) found) ≡ true
         no_member None e = absurd (true≢false (sym e))
@@ -164,7 +188,8 @@ picked-mounts : (test : ℕ → Bool) (wanted : Mount ℕ → Bool) (mounts : Li
 picked-mounts test wanted [] same = refl
 picked-mounts test wanted (mount ∷ rest) same =
     by (source_of mount.propagation) refl (picked-mounts test wanted rest (λ x m. same x (inr m)))
-    ∙ ap (λ b. map (λ x. x.number) (cond b (mount ∷ filter wanted rest) (filter wanted rest))) (sym (same mount (inl refl)))
+    ∙ ap (λ b. map (λ x. x.number) (cond b (mount ∷ filter wanted rest) (filter wanted rest)))
+    (sym (same mount (inl refl)))
   where
     each : (b : Bool) → picked test (peers_of rest) ≡ map (λ x. x.number) (filter wanted rest)
         → cond b (mount.number ∷ picked test (peers_of rest)) (picked test (peers_of rest))
@@ -172,13 +197,17 @@ picked-mounts test wanted (mount ∷ rest) same =
     each true later = ap (λ l. mount.number ∷ l) later
     each false later = later
 
-    by : (o : Option ℕ) → source_of mount.propagation ≡ o → picked test (peers_of rest) ≡ map (λ x. x.number) (filter wanted rest)
-        → picked test (cons_option (option_map (λ s. (mount.number, mount.propagation)) (source_of mount.propagation)) (peers_of rest))
-        ≡ map (λ x. x.number) (cond (holds_of test (source_of mount.propagation)) (mount ∷ filter wanted rest) (filter wanted rest))
+    by : (o : Option ℕ) → source_of mount.propagation ≡ o
+        → picked test (peers_of rest) ≡ map (λ x. x.number) (filter wanted rest)
+        → picked test (cons_option (option_map (λ s. (mount.number, mount.propagation)) (source_of mount.propagation))
+        (peers_of rest))
+        ≡ map (λ x. x.number) (cond (holds_of test (source_of mount.propagation)) (mount ∷ filter wanted rest)
+        (filter wanted rest))
     by None e later =
         ap (λ o. picked test (cons_option (option_map (λ s. (mount.number, mount.propagation)) o) (peers_of rest))) e
         ∙ later
-        ∙ ap (λ o. map (λ x. x.number) (cond (holds_of test o) (mount ∷ filter wanted rest) (filter wanted rest))) (sym e)
+        ∙ ap (λ o. map (λ x. x.number) (cond (holds_of test o) (mount ∷ filter wanted rest) (filter wanted rest)))
+        (sym e)
     by (Some s) e later =
         ap (λ o. picked test (cons_option (option_map (λ s. (mount.number, mount.propagation)) o) (peers_of rest))) e
         ∙ each (holds_of test (source_of mount.propagation)) later
@@ -187,7 +216,8 @@ fewer_peers : (mounts : List (Mount ℕ)) → length (peers_of mounts) ≤ lengt
 fewer_peers [] = omega arith
 fewer_peers (mount ∷ rest) = by (peer_of mount) (fewer_peers rest)
   where
-    by : (o : Option (ℕ × Propagation ℕ)) → length (peers_of rest) ≤ length rest → length (cons_option o (peers_of rest)) ≤ length (mount ∷ rest)
+    by : (o : Option (ℕ × Propagation ℕ)) → length (peers_of rest) ≤ length rest
+        → length (cons_option o (peers_of rest)) ≤ length (mount ∷ rest)
     by None le = omega (arith, le)
     by (Some peer) le = omega (arith, le)
 
@@ -198,9 +228,12 @@ few_on_way : (world : World ℕ) (source : ℕ) (life : Lives (has_members nat_e
     → length (way world.master (has_members nat_eq world.mounts) source life) ≤ length (peers_of world.mounts)
 few_on_way world source life =
     let members : ℕ → Bool = has_members nat_eq world.mounts in
-    fewer_groups (way world.master members source life) (peers_of world.mounts) (way_apart world.master members source life)
-    (list_all_from_among (λ g. list_any (is_member g) (peers_of world.mounts)) (way world.master members source life) (λ g m.
-    members-peers g world.mounts ∙ among_from_list_all members (way world.master members source life) (way_members world.master members source life) g m))
+    fewer_groups (way world.master members source life) (peers_of world.mounts)
+    (way_apart world.master members source life)
+    (list_all_from_among (λ g. list_any (is_member g) (peers_of world.mounts)) (way world.master members source life)
+    (λ g m.
+    members-peers g world.mounts ∙ among_from_list_all members (way world.master members source life)
+    (way_members world.master members source life) g m))
 
 -- the masters of a living group end within as many steps as there are mounts
 pub living_ends : (world : World ℕ) (source : ℕ) → Lives (has_members nat_eq world.mounts) world.master source
@@ -208,7 +241,8 @@ pub living_ends : (world : World ℕ) (source : ℕ) → Lives (has_members nat_
 living_ends world source life =
     let few : length (way world.master (has_members nat_eq world.mounts) source life) ≤ length (peers_of world.mounts) =
     few_on_way world source life in
-    ends_within world.master (has_members nat_eq world.mounts) (length world.mounts) source life (omega (arith, few, fewer_peers world.mounts))
+    ends_within world.master (has_members nat_eq world.mounts) (length world.mounts) source life
+    (omega (arith, few, fewer_peers world.mounts))
 
 module _ (world : World ℕ) (groups : Grouping) (has : Has world groups) (live : GroupsLive world) where
   abbrev members : ℕ → Bool
@@ -217,26 +251,35 @@ module _ (world : World ℕ) (groups : Grouping) (has : Has world groups) (live 
   same_masters : (group : ℕ) → members group ≡ true → master_in groups group ≡ world.master group
   same_masters group lives = has.masters group ∙ ap (λ b. cond b (world.master group) None) lives
 
-  up_alike : (group source : ℕ) → Lives members world.master source → is_up groups group source ≡ is_among nat_eq group (groups_up world source)
+  up_alike : (group source : ℕ) → Lives members world.master source
+      → is_up groups group source ≡ is_among nat_eq group (groups_up world source)
   up_alike group source life =
-      let on_way : (n : ℕ) → list_all members (chain n world.master source) ≡ true = λ n. all_on_way world.master members n source life in
-      let few : length (way world.master members source life) ≤ length (peers_of world.mounts) = few_on_way world source life in
+      let on_way : (n : ℕ) → list_all members (chain n world.master source)
+      ≡ true = λ n. all_on_way world.master members n source life in
+      let few : length (way world.master members source life) ≤ length
+      (peers_of world.mounts) = few_on_way world source life in
       let ends = ends_within world.master members (length (peers_of world.mounts)) source life (omega (arith, few)) in
       ap (is_among nat_eq group) (
       ap (λ peers. chain (length peers) (master_in groups) source) has.peers
-      ∙ chain_alike world.master (master_in groups) members same_masters (length (peers_of world.mounts)) source (on_way (length (peers_of world.mounts)))
-      ∙ sym (chain_same world.master (length (peers_of world.mounts)) (length world.mounts) source (fewer_peers world.mounts) ends))
+      ∙ chain_alike world.master (master_in groups) members same_masters (length (peers_of world.mounts)) source
+      (on_way (length (peers_of world.mounts)))
+      ∙ sym (chain_same world.master (length (peers_of world.mounts)) (length world.mounts) source
+      (fewer_peers world.mounts) ends))
 
-  pub receivers_picked : (group : ℕ) → picked (is_up groups group) groups.peers ≡ map (λ mount. mount.number) (receivers nat_eq world group)
+  pub receivers_picked : (group : ℕ)
+      → picked (is_up groups group) groups.peers ≡ map (λ mount. mount.number) (receivers nat_eq world group)
   receivers_picked group =
       ap (picked (is_up groups group)) has.peers
-      ∙ picked-mounts (is_up groups group) (receives nat_eq world group) world.mounts (λ mount m. by mount m (source_of mount.propagation) refl)
+      ∙ picked-mounts (is_up groups group) (receives nat_eq world group) world.mounts
+      (λ mount m. by mount m (source_of mount.propagation) refl)
     where
       by : (mount : Mount ℕ) → Among mount world.mounts → (o : Option ℕ) → source_of mount.propagation ≡ o
           → receives nat_eq world group mount ≡ holds_of (is_up groups group) (source_of mount.propagation)
       by mount m None e =
-          ap (holds_of (λ source. is_among nat_eq group (groups_up world source))) e ∙ sym (ap (holds_of (is_up groups group)) e)
+          ap (holds_of (λ source. is_among nat_eq group (groups_up world source))) e
+          ∙ sym (ap (holds_of (is_up groups group)) e)
       by mount m (Some source) e =
           ap (holds_of (λ source. is_among nat_eq group (groups_up world source))) e
-          ∙ sym (up_alike group source (among_from_all (HasLivingGroups nat_eq world) world.mounts live mount m source e))
+          ∙ sym (up_alike group source (among_from_all
+          (HasLivingGroups nat_eq world) world.mounts live mount m source e))
           ∙ sym (ap (holds_of (is_up groups group)) e)

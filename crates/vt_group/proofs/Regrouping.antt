@@ -18,17 +18,20 @@ use Rattle.vt_group.proofs.GroupLemmas.{find_start, inherited_kept, master-regro
 use Rattle.vt_group.proofs.Peers.{members-peers}
 
 -- a member of a group is shared
-pub member_shared : (group : ℕ) (mount : Mount ℕ) → is_member_of nat_eq group mount ≡ true → mount.propagation ≡ Shared group
+pub member_shared : (group : ℕ) (mount : Mount ℕ) → is_member_of nat_eq group mount ≡ true
+    → mount.propagation ≡ Shared group
 member_shared group mount h = by mount.propagation refl h
   where
     by : (kind : Propagation ℕ) → mount.propagation ≡ kind → holds_of (nat_eq group) (group_of mount.propagation) ≡ true
         → mount.propagation ≡ Shared group
-    by (Shared own) e t = e ∙ ap Shared (sym (eqb-true group own (sym (ap (λ k. holds_of (nat_eq group) (group_of k)) e) ∙ t)))
+    by (Shared own) e t = e ∙ ap Shared
+        (sym (eqb-true group own (sym (ap (λ k. holds_of (nat_eq group) (group_of k)) e) ∙ t)))
     by (Slave up) e t = absurd (true≢false (sym t ∙ ap (λ k. holds_of (nat_eq group) (group_of k)) e))
     by Private e t = absurd (true≢false (sym t ∙ ap (λ k. holds_of (nat_eq group) (group_of k)) e))
     by Unbindable e t = absurd (true≢false (sym t ∙ ap (λ k. holds_of (nat_eq group) (group_of k)) e))
 
-pub shared_member : (group : ℕ) (mount : Mount ℕ) → mount.propagation ≡ Shared group → is_member_of nat_eq group mount ≡ true
+pub shared_member : (group : ℕ) (mount : Mount ℕ) → mount.propagation ≡ Shared group
+    → is_member_of nat_eq group mount ≡ true
 shared_member group mount e = ap (λ k. holds_of (nat_eq group) (group_of k)) e ∙ eq-eqb group group refl
 
 -- Entries of groups and masters
@@ -36,7 +39,8 @@ shared_member group mount e = ap (λ k. holds_of (nat_eq group) (group_of k)) e 
 abbrev pub keys : {V : Type 0} → List (ℕ × V) → List ℕ
 keys entries = map (λ entry. entry.0) entries
 
-below_keys : (low : ℕ) (lost : ℕ) (left : Option ℕ) (masters : List (ℕ × ℕ)) → list_all (nat_lt low) (keys masters) ≡ true
+below_keys : (low : ℕ) (lost : ℕ) (left : Option ℕ) (masters : List (ℕ × ℕ))
+    → list_all (nat_lt low) (keys masters) ≡ true
     → list_all (nat_lt low) (keys (filter_map (handed_entry lost left) masters)) ≡ true
 below_keys low lost left [] all = refl
 below_keys low lost left (e ∷ masters) all =
@@ -46,7 +50,8 @@ below_keys low lost left (e ∷ masters) all =
     parts = and_parts _ _ all
 
     by : (b : Bool) (o : Option ℕ) → list_all (nat_lt low) (keys (filter_map (handed_entry lost left) masters)) ≡ true
-        → list_all (nat_lt low) (keys (cons_option (option_map (λ master. (e.0, master)) (if b then None else o)) (filter_map (handed_entry lost left) masters))) ≡ true
+        → list_all (nat_lt low) (keys (cons_option (option_map (λ master. (e.0, master)) (if b then None else o))
+        (filter_map (handed_entry lost left) masters))) ≡ true
     by true o rest = rest
     by false None rest = rest
     by false (Some m) rest = and_from _ _ parts.0 rest
@@ -55,33 +60,41 @@ pub rising-handed : (lost : ℕ) (left : Option ℕ) (masters : List (ℕ × ℕ
     → are_rising (keys (filter_map (handed_entry lost left) masters)) ≡ true
 rising-handed lost left [] rising = refl
 rising-handed lost left (e ∷ masters) rising =
-    by (nat_eq e.0 lost) (handed lost left e.1) (rising-handed lost left masters parts.1) (below_keys e.0 lost left masters parts.0)
+    by (nat_eq e.0 lost) (handed lost left e.1) (rising-handed lost left masters parts.1)
+    (below_keys e.0 lost left masters parts.0)
   where
     parts : (list_all (nat_lt e.0) (keys masters) ≡ true) × (are_rising (keys masters) ≡ true)
     parts = and_parts _ _ rising
 
     by : (b : Bool) (o : Option ℕ) → are_rising (keys (filter_map (handed_entry lost left) masters)) ≡ true
         → list_all (nat_lt e.0) (keys (filter_map (handed_entry lost left) masters)) ≡ true
-        → are_rising (keys (cons_option (option_map (λ master. (e.0, master)) (if b then None else o)) (filter_map (handed_entry lost left) masters))) ≡ true
+        → are_rising (keys (cons_option (option_map (λ master. (e.0, master)) (if b then None else o))
+        (filter_map (handed_entry lost left) masters))) ≡ true
     by true o rest low = rest
     by false None rest low = rest
     by false (Some m) rest low = and_from _ _ low rest
 
-pub lookup-low : {V : Type 0} (group : ℕ) (masters : List (ℕ × V)) → list_all (nat_lt group) (keys masters) ≡ true → lookup (nat_eq group) masters ≡ None
+pub lookup-low : {V : Type 0} (group : ℕ) (masters : List (ℕ × V)) → list_all (nat_lt group) (keys masters) ≡ true
+    → lookup (nat_eq group) masters ≡ None
 lookup-low group [] all = refl
 lookup-low group (e ∷ masters) all =
-    ap (λ b. cond b (Some e.1) (lookup (nat_eq group) masters)) (less_differ group e.0 (and_parts _ _ all).0) ∙ lookup-low group masters (and_parts _ _ all).1
+    ap (λ b. cond b (Some e.1) (lookup (nat_eq group) masters)) (less_differ group e.0 (and_parts _ _ all).0)
+    ∙ lookup-low group masters (and_parts _ _ all).1
   where
     less_differ : (a b : ℕ) → nat_lt a b ≡ true → nat_eq a b ≡ false
     less_differ a b l = ne_eqb a b (λ same. omega (arith, ltb-true a b l, same))
 
 -- the lost group's own entry goes
-lookup-dropped : (lost : ℕ) (left : Option ℕ) (masters : List (ℕ × ℕ)) → lookup (nat_eq lost) (filter_map (handed_entry lost left) masters) ≡ None
+lookup-dropped : (lost : ℕ) (left : Option ℕ) (masters : List (ℕ × ℕ))
+    → lookup (nat_eq lost) (filter_map (handed_entry lost left) masters) ≡ None
 lookup-dropped lost left [] = refl
-lookup-dropped lost left (e ∷ masters) = by (nat_eq e.0 lost) refl (handed lost left e.1) (lookup-dropped lost left masters)
+lookup-dropped lost left (e ∷ masters) = by (nat_eq e.0 lost) refl (handed lost left e.1)
+    (lookup-dropped lost left masters)
   where
-    by : (b : Bool) → nat_eq e.0 lost ≡ b → (o : Option ℕ) → lookup (nat_eq lost) (filter_map (handed_entry lost left) masters) ≡ None
-        → lookup (nat_eq lost) (cons_option (option_map (λ master. (e.0, master)) (if b then None else o)) (filter_map (handed_entry lost left) masters)) ≡ None
+    by : (b : Bool) → nat_eq e.0 lost ≡ b → (o : Option ℕ)
+        → lookup (nat_eq lost) (filter_map (handed_entry lost left) masters) ≡ None
+        → lookup (nat_eq lost) (cons_option (option_map (λ master. (e.0, master)) (if b then None else o))
+        (filter_map (handed_entry lost left) masters)) ≡ None
     by true is o rest = rest
     by false is None rest = rest
     by false is (Some m) rest =
@@ -89,8 +102,10 @@ lookup-dropped lost left (e ∷ masters) = by (nat_eq e.0 lost) refl (handed los
         (ne_eqb lost e.0 (λ same. eqb-false e.0 lost is (sym same))) ∙ rest
 
 -- and each other one has its master, or the heir in the place of the lost one
-lookup-handed : (lost : ℕ) (left : Option ℕ) (group : ℕ) → group ≢ lost → (masters : List (ℕ × ℕ)) → are_rising (keys masters) ≡ true
-    → lookup (nat_eq group) (filter_map (handed_entry lost left) masters) ≡ then_some (lookup (nat_eq group) masters) (handed lost left)
+lookup-handed : (lost : ℕ) (left : Option ℕ) (group : ℕ) → group ≢ lost → (masters : List (ℕ × ℕ))
+    → are_rising (keys masters) ≡ true
+    → lookup (nat_eq group) (filter_map (handed_entry lost left) masters)
+    ≡ then_some (lookup (nat_eq group) masters) (handed lost left)
 lookup-handed lost left group apart [] rising = refl
 lookup-handed lost left group apart (e ∷ masters) rising =
     by (nat_eq e.0 lost) refl (handed lost left e.1) refl (lookup-handed lost left group apart masters parts.1)
@@ -101,20 +116,27 @@ lookup-handed lost left group apart (e ∷ masters) rising =
     absent : group ≡ e.0 → lookup (nat_eq group) (filter_map (handed_entry lost left) masters) ≡ None
     absent same =
         lookup-low group (filter_map (handed_entry lost left) masters)
-        (ap (λ g. list_all (nat_lt g) (keys (filter_map (handed_entry lost left) masters))) same ∙ below_keys e.0 lost left masters parts.0)
+        (ap (λ g. list_all (nat_lt g) (keys (filter_map (handed_entry lost left) masters))) same
+        ∙ below_keys e.0 lost left masters parts.0)
 
     kept : (t : Bool) → nat_eq group e.0 ≡ t → (o : Option ℕ) → handed lost left e.1 ≡ o
-        → lookup (nat_eq group) (filter_map (handed_entry lost left) masters) ≡ then_some (lookup (nat_eq group) masters) (handed lost left)
-        → lookup (nat_eq group) (cons_option (option_map (λ master. (e.0, master)) o) (filter_map (handed_entry lost left) masters))
+        → lookup (nat_eq group) (filter_map (handed_entry lost left) masters)
+        ≡ then_some (lookup (nat_eq group) masters) (handed lost left)
+        → lookup (nat_eq group) (cons_option (option_map (λ master. (e.0, master)) o)
+        (filter_map (handed_entry lost left) masters))
         ≡ then_some (cond t (Some e.1) (lookup (nat_eq group) masters)) (handed lost left)
     kept true at None f rest = absent (eqb-true group e.0 at) ∙ sym f
-    kept true at (Some m) f rest = ap (λ b. cond b (Some m) (lookup (nat_eq group) (filter_map (handed_entry lost left) masters))) at ∙ sym f
+    kept true at (Some m) f rest = ap
+        (λ b. cond b (Some m) (lookup (nat_eq group) (filter_map (handed_entry lost left) masters))) at ∙ sym f
     kept false at None f rest = rest
-    kept false at (Some m) f rest = ap (λ b. cond b (Some m) (lookup (nat_eq group) (filter_map (handed_entry lost left) masters))) at ∙ rest
+    kept false at (Some m) f rest = ap
+        (λ b. cond b (Some m) (lookup (nat_eq group) (filter_map (handed_entry lost left) masters))) at ∙ rest
 
     by : (b : Bool) → nat_eq e.0 lost ≡ b → (o : Option ℕ) → handed lost left e.1 ≡ o
-        → lookup (nat_eq group) (filter_map (handed_entry lost left) masters) ≡ then_some (lookup (nat_eq group) masters) (handed lost left)
-        → lookup (nat_eq group) (cons_option (option_map (λ master. (e.0, master)) (if b then None else o)) (filter_map (handed_entry lost left) masters))
+        → lookup (nat_eq group) (filter_map (handed_entry lost left) masters)
+        ≡ then_some (lookup (nat_eq group) masters) (handed lost left)
+        → lookup (nat_eq group) (cons_option (option_map (λ master. (e.0, master)) (if b then None else o))
+        (filter_map (handed_entry lost left) masters))
         ≡ then_some (cond (nat_eq group e.0) (Some e.1) (lookup (nat_eq group) masters)) (handed lost left)
     by true is o f rest =
         rest
@@ -132,7 +154,8 @@ pub record MayLose (world : World ℕ) (groups : Grouping) (left : Option ℕ) :
       ≡ cond (has_members nat_eq world.mounts group || holds_of (nat_eq group) left) (world.master group) None
   pub slaves : (mount : Mount ℕ) → Among mount world.mounts → (master : ℕ) → mount.propagation ≡ Slave master
       → (has_members nat_eq world.mounts master ≡ true) ⊎ (left ≡ Some master)
-  pub above : (group master : ℕ) → (has_members nat_eq world.mounts group ≡ true) ⊎ (left ≡ Some group) → world.master group ≡ Some master
+  pub above : (group master : ℕ) → (has_members nat_eq world.mounts group ≡ true) ⊎ (left ≡ Some group)
+      → world.master group ≡ Some master
       → (has_members nat_eq world.mounts master ≡ true) ⊎ (left ≡ Some master)
   pub apart : (group : ℕ) → left ≡ Some group → world.master group ≡ Some group → ⊥
 
@@ -149,13 +172,17 @@ module _ (world : World ℕ) where
 
   -- the peers, where each mount's entry after inheritance comes from its own before
   peers-inherited : (change : ℕ × Propagation ℕ → Option (ℕ × Propagation ℕ)) (mounts : List (Mount ℕ))
-      → ((mount : Mount ℕ) → Among mount mounts → peer_of (inheriting nat_eq world mount) ≡ then_some (peer_of mount) change)
+      → ((mount : Mount ℕ) → Among mount mounts
+      → peer_of (inheriting nat_eq world mount) ≡ then_some (peer_of mount) change)
       → peers_of (map (inheriting nat_eq world) mounts) ≡ filter_map change (peers_of mounts)
   peers-inherited change [] each = refl
   peers-inherited change (mount ∷ rest) each =
-      (λ i. cons_option (each mount (inl refl) i) (peers-inherited change rest (λ x m. each x (inr m)) i)) ∙ fused (peer_of mount)
+      (λ i. cons_option (each mount (inl refl) i) (peers-inherited change rest (λ x m. each x (inr m)) i))
+      ∙ fused (peer_of mount)
     where
-      fused : (o : Option (ℕ × Propagation ℕ)) → cons_option (then_some o change) (filter_map change (peers_of rest)) ≡ filter_map change (cons_option o (peers_of rest))
+      fused : (o : Option (ℕ × Propagation ℕ))
+          → cons_option (then_some o change) (filter_map change (peers_of rest))
+          ≡ filter_map change (cons_option o (peers_of rest))
       fused None = refl
       fused (Some peer) = refl
 
@@ -166,19 +193,24 @@ module _ (world : World ℕ) where
       by true = ap (heir nat_eq world) e
       by false = e
 
-  dead_or_not : (group : ℕ) → (without_dead_groups nat_eq (regrouped nat_eq world)).master group ≡ cond (members group) ((regrouped nat_eq world).master group) None
+  dead_or_not : (group : ℕ) → (without_dead_groups nat_eq (regrouped nat_eq world)).master group
+      ≡ cond (members group) ((regrouped nat_eq world).master group) None
   dead_or_not group = ap (λ b. cond b ((regrouped nat_eq world).master group) None) (members-regrouped world group)
 
   -- all groups live
   module _ (groups : Grouping) (kept : MayLose world groups None) where
-    unlost_peer : (mount : Mount ℕ) → Among mount world.mounts → peer_of (inheriting nat_eq world mount) ≡ then_some (peer_of mount) Some
+    unlost_peer : (mount : Mount ℕ) → Among mount world.mounts
+        → peer_of (inheriting nat_eq world mount) ≡ then_some (peer_of mount) Some
     unlost_peer mount m = by mount.propagation refl
       where
-        by : (kind : Propagation ℕ) → mount.propagation ≡ kind → peer_of (inheriting nat_eq world mount) ≡ then_some (peer_of mount) Some
+        by : (kind : Propagation ℕ) → mount.propagation ≡ kind
+            → peer_of (inheriting nat_eq world mount) ≡ then_some (peer_of mount) Some
         by (Shared group) e = rw e refl
         by (Slave above) e =
-            ⊎_elim (λ has. (λ i. option_map (λ s. (mount.number, inherited nat_eq world (e i))) (source_of (inherited nat_eq world (e i))))
-            ∙ (λ i. option_map (λ s. (mount.number, inherited_kept world above has i)) (source_of (inherited_kept world above has i)))
+            ⊎_elim (λ has. (λ i. option_map (λ s. (mount.number, inherited nat_eq world (e i)))
+            (source_of (inherited nat_eq world (e i))))
+            ∙ (λ i. option_map (λ s. (mount.number, inherited_kept world above has i))
+            (source_of (inherited_kept world above has i)))
             ∙ (λ i. then_some (option_map (λ s. (mount.number, sym e i)) (source_of (sym e i))) Some))
             (λ none. absurd (true≢false (sym (ap is_some none)))) (kept.slaves mount m above e)
         by Private e = rw e refl
@@ -188,41 +220,50 @@ module _ (world : World ℕ) where
     all_kept [] = refl
     all_kept (peer ∷ rest) = ap (λ l. peer ∷ l) (all_kept rest)
 
-    unlost_master : (group : ℕ) → master_in groups group ≡ (without_dead_groups nat_eq (regrouped nat_eq world)).master group
+    unlost_master : (group : ℕ) → master_in groups group
+        ≡ (without_dead_groups nat_eq (regrouped nat_eq world)).master group
     unlost_master group = kept.masters group ∙ by (members group) refl ∙ sym (dead_or_not group)
       where
-        found : members group ≡ true → (o : Option ℕ) → world.master group ≡ o → world.master group ≡ (regrouped nat_eq world).master group
+        found : members group ≡ true → (o : Option ℕ) → world.master group ≡ o
+            → world.master group ≡ (regrouped nat_eq world).master group
         found has None e = e ∙ sym (master_none group e)
         found has (Some above) e =
-            ⊎_elim (λ lives. e ∙ sym (master-regrouped world group above e lives)) (λ none. absurd (true≢false (sym (ap is_some none))))
+            ⊎_elim (λ lives. e ∙ sym (master-regrouped world group above e lives))
+            (λ none. absurd (true≢false (sym (ap is_some none))))
             (kept.above group above (inl has) e)
 
-        by : (b : Bool) → members group ≡ b → cond (b || false) (world.master group) None ≡ cond b ((regrouped nat_eq world).master group) None
+        by : (b : Bool) → members group ≡ b
+            → cond (b || false) (world.master group) None ≡ cond b ((regrouped nat_eq world).master group) None
         by true has = found has (world.master group) refl
         by false has = refl
 
     pub none_lost : Has (regrouped nat_eq world) groups
     none_lost = record {
       order = ap are_rising numbers-regrouped ∙ kept.order;
-      peers = kept.peers ∙ sym (all_kept (peers_of world.mounts)) ∙ sym (peers-inherited Some world.mounts unlost_peer) ∙ ap peers_of (sym (mounts-regrouped world));
+      peers = kept.peers ∙ sym (all_kept (peers_of world.mounts)) ∙ sym (peers-inherited Some world.mounts unlost_peer)
+          ∙ ap peers_of (sym (mounts-regrouped world));
       masters_order = kept.masters_order;
       masters = unlost_master;
     }
 
   -- one group lost its last member
-  module _ (lost : ℕ) (groups : Grouping) (kept : MayLose world groups (Some lost)) (gone : has_members nat_eq world.mounts lost ≡ false) where
-    lives_or_lost : (group : ℕ) → (members group ≡ true) ⊎ (Some lost ≡ Some group) → (members group ≡ true) ⊎ (lost ≡ group)
+  module _ (lost : ℕ) (groups : Grouping) (kept : MayLose world groups (Some lost))
+      (gone : has_members nat_eq world.mounts lost ≡ false) where
+    lives_or_lost : (group : ℕ) → (members group ≡ true) ⊎ (Some lost ≡ Some group)
+        → (members group ≡ true) ⊎ (lost ≡ group)
     lives_or_lost group h = ⊎_elim (λ has. inl has) (λ e. inr (same_Some lost group e)) h
 
     other_than_lost : (group : ℕ) → members group ≡ true → group ≢ lost
     other_than_lost group has same = true≢false (sym has ∙ ap members same ∙ gone)
 
-    heir_in : (above : ℕ) (mounts : List (Mount ℕ)) → world.master lost ≡ Some above → has_members nat_eq mounts lost ≡ false → has_members nat_eq mounts above ≡ true
+    heir_in : (above : ℕ) (mounts : List (Mount ℕ)) → world.master lost ≡ Some above
+        → has_members nat_eq mounts lost ≡ false → has_members nat_eq mounts above ≡ true
         → find (has_members nat_eq mounts) (chain (length mounts) world.master lost) ≡ Some above
     heir_in above [] e none has = absurd (true≢false (sym has))
     heir_in above (mount ∷ rest) e none has =
         ap (find (has_members nat_eq (mount ∷ rest))) (chain_goes_on world.master (length rest) lost above e)
-        ∙ ap (λ b. cond b (Some lost) (find (has_members nat_eq (mount ∷ rest)) (chain (length rest) world.master above))) none
+        ∙ ap (λ b. cond b (Some lost) (find (has_members nat_eq (mount ∷ rest))
+        (chain (length rest) world.master above))) none
         ∙ find_start (has_members nat_eq (mount ∷ rest)) world.master (length rest) above has
 
     -- its heir is its master
@@ -248,63 +289,83 @@ module _ (world : World ℕ) where
     slave_handed number None = refl
     slave_handed number (Some above) = refl
 
-    lost_peer : (mount : Mount ℕ) → Among mount world.mounts → peer_of (inheriting nat_eq world mount) ≡ then_some (peer_of mount) (handing (world.master lost))
+    lost_peer : (mount : Mount ℕ) → Among mount world.mounts
+        → peer_of (inheriting nat_eq world mount) ≡ then_some (peer_of mount) (handing (world.master lost))
     lost_peer mount m = by mount.propagation refl
       where
-        by : (kind : Propagation ℕ) → mount.propagation ≡ kind → peer_of (inheriting nat_eq world mount) ≡ then_some (peer_of mount) (handing (world.master lost))
+        by : (kind : Propagation ℕ) → mount.propagation ≡ kind
+            → peer_of (inheriting nat_eq world mount) ≡ then_some (peer_of mount) (handing (world.master lost))
         by (Shared group) e = rw e refl
         by (Slave above) e =
-            (λ i. option_map (λ s. (mount.number, inherited nat_eq world (e i))) (source_of (inherited nat_eq world (e i))))
+            (λ i. option_map (λ s. (mount.number, inherited nat_eq world (e i)))
+            (source_of (inherited nat_eq world (e i))))
             ∙ ⊎_elim
-            (λ has. (λ i. option_map (λ s. (mount.number, inherited_kept world above has i)) (source_of (inherited_kept world above has i)))
-            ∙ ap (λ b. option_map (λ kind. (mount.number, kind)) (option_map Slave (if b then world.master lost else Some above))) (sym (ne_eqb above lost (other_than_lost above has))))
-            (λ same. (λ i. option_map (λ s. (mount.number, slave_of_heir (heir nat_eq world (Some (sym same i))))) (source_of (slave_of_heir (heir nat_eq world (Some (sym same i))))))
+            (λ has. (λ i. option_map (λ s. (mount.number, inherited_kept world above has i))
+            (source_of (inherited_kept world above has i)))
+            ∙ ap (λ b. option_map (λ kind. (mount.number, kind))
+            (option_map Slave (if b then world.master lost else Some above)))
+            (sym (ne_eqb above lost (other_than_lost above has))))
+            (λ same. (λ i. option_map (λ s. (mount.number, slave_of_heir (heir nat_eq world (Some (sym same i)))))
+            (source_of (slave_of_heir (heir nat_eq world (Some (sym same i))))))
             ∙ (λ i. option_map (λ s. (mount.number, slave_of_heir (heir_is i))) (source_of (slave_of_heir (heir_is i))))
             ∙ slave_handed mount.number (world.master lost)
-            ∙ ap (λ b. option_map (λ kind. (mount.number, kind)) (option_map Slave (if b then world.master lost else Some above))) (sym (eq-eqb above lost (sym same))))
+            ∙ ap (λ b. option_map (λ kind. (mount.number, kind))
+            (option_map Slave (if b then world.master lost else Some above))) (sym (eq-eqb above lost (sym same))))
             (lives_or_lost above (kept.slaves mount m above e))
-            ∙ (λ i. then_some (option_map (λ s. (mount.number, sym e i)) (source_of (sym e i))) (handing (world.master lost)))
+            ∙ (λ i. then_some (option_map (λ s. (mount.number, sym e i)) (source_of (sym e i)))
+            (handing (world.master lost)))
         by Private e = rw e refl
         by Unbindable e = rw e refl
 
     -- some member of a group below it says that it is lost
-    lost_below : (group : ℕ) → members group ≡ true → world.master group ≡ Some lost → (regrouped nat_eq world).master group ≡ world.master lost
+    lost_below : (group : ℕ) → members group ≡ true → world.master group ≡ Some lost
+        → (regrouped nat_eq world).master group ≡ world.master lost
     lost_below group has e =
         let member = any_among (is_member_of nat_eq group) world.mounts has in
         let shared = member_shared group member.0 member.2 in
         let tells : lost_a_group nat_eq world member.0 ≡ true =
-        ap (λ o. is_lost_group nat_eq world o || is_lost_group nat_eq world (then_some o world.master)) (ap source_of shared)
+        ap (λ o. is_lost_group nat_eq world o || is_lost_group nat_eq world (then_some o world.master))
+        (ap source_of shared)
         ∙ (λ i. not (has i) || is_lost_group nat_eq world (e i))
         ∙ ap not gone in
-        ap (λ b. (regrouped_by nat_eq b world).master group) (any_from_among (lost_a_group nat_eq world) world.mounts member.0 member.1 tells)
+        ap (λ b. (regrouped_by nat_eq b world).master group)
+        (any_from_among (lost_a_group nat_eq world) world.mounts member.0 member.1 tells)
         ∙ ap (heir nat_eq world) e ∙ heir_is
 
-    lost_master : (group : ℕ) → lookup (nat_eq group) (filter_map (handed_entry lost (world.master lost)) groups.masters)
+    lost_master : (group : ℕ) → lookup (nat_eq group)
+        (filter_map (handed_entry lost (world.master lost)) groups.masters)
         ≡ cond (members group) ((regrouped nat_eq world).master group) None
     lost_master group = by (members group) refl
       where
-        by_above : members group ≡ true → (o : Option ℕ) → world.master group ≡ o → then_some o (handed lost (world.master lost)) ≡ (regrouped nat_eq world).master group
+        by_above : members group ≡ true → (o : Option ℕ) → world.master group ≡ o
+            → then_some o (handed lost (world.master lost)) ≡ (regrouped nat_eq world).master group
         by_above has None e = sym (master_none group e)
         by_above has (Some above) e =
             ⊎_elim
-            (λ lives. ap (λ b. if b then world.master lost else Some above) (ne_eqb above lost (other_than_lost above lives)) ∙ sym (master-regrouped world group above e lives))
-            (λ same. ap (λ b. if b then world.master lost else Some above) (eq-eqb above lost (sym same)) ∙ sym (lost_below group has (e ∙ ap Some (sym same))))
+            (λ lives. ap (λ b. if b then world.master lost else Some above)
+            (ne_eqb above lost (other_than_lost above lives)) ∙ sym (master-regrouped world group above e lives))
+            (λ same. ap (λ b. if b then world.master lost else Some above) (eq-eqb above lost (sym same))
+            ∙ sym (lost_below group has (e ∙ ap Some (sym same))))
             (lives_or_lost above (kept.above group above (inl has) e))
 
         apart_none : members group ≡ false → (b : Bool) → nat_eq group lost ≡ b
             → lookup (nat_eq group) (filter_map (handed_entry lost (world.master lost)) groups.masters) ≡ None
         apart_none has true is =
-            ap (λ g. lookup (nat_eq g) (filter_map (handed_entry lost (world.master lost)) groups.masters)) (eqb-true group lost is)
+            ap (λ g. lookup (nat_eq g) (filter_map (handed_entry lost (world.master lost)) groups.masters))
+            (eqb-true group lost is)
             ∙ lookup-dropped lost (world.master lost) groups.masters
         apart_none has false is =
             lookup-handed lost (world.master lost) group (eqb-false group lost is) groups.masters kept.masters_order
-            ∙ ap (λ o. then_some o (handed lost (world.master lost))) (kept.masters group ∙ (λ i. cond (has i || is i) (world.master group) None))
+            ∙ ap (λ o. then_some o (handed lost (world.master lost)))
+            (kept.masters group ∙ (λ i. cond (has i || is i) (world.master group) None))
 
-        by : (b : Bool) → members group ≡ b → lookup (nat_eq group) (filter_map (handed_entry lost (world.master lost)) groups.masters)
+        by : (b : Bool) → members group ≡ b
+            → lookup (nat_eq group) (filter_map (handed_entry lost (world.master lost)) groups.masters)
             ≡ cond b ((regrouped nat_eq world).master group) None
         by true has =
             lookup-handed lost (world.master lost) group (other_than_lost group has) groups.masters kept.masters_order
-            ∙ ap (λ o. then_some o (handed lost (world.master lost))) (kept.masters group ∙ (λ i. cond (has i || holds_of (nat_eq group) (Some lost)) (world.master group) None))
+            ∙ ap (λ o. then_some o (handed lost (world.master lost)))
+            (kept.masters group ∙ (λ i. cond (has i || holds_of (nat_eq group) (Some lost)) (world.master group) None))
             ∙ by_above has (world.master group) refl
         by false has = apart_none has (nat_eq group lost) refl
 
@@ -312,7 +373,8 @@ module _ (world : World ℕ) where
     one_lost = record {
       order = ap are_rising numbers-regrouped ∙ kept.order;
       peers = (λ i. filter_map (handing (heir_in_groups i)) (kept.peers i))
-          ∙ sym (peers-inherited (handing (world.master lost)) world.mounts lost_peer) ∙ ap peers_of (sym (mounts-regrouped world));
+          ∙ sym (peers-inherited (handing (world.master lost)) world.mounts lost_peer)
+          ∙ ap peers_of (sym (mounts-regrouped world));
       masters_order = rising-handed lost (master_in groups lost) groups.masters kept.masters_order;
       masters = λ group.
           ap (λ left. lookup (nat_eq group) (filter_map (handed_entry lost left) groups.masters)) heir_in_groups
@@ -320,14 +382,16 @@ module _ (world : World ℕ) where
     }
 
   -- whichever of the two
-  pub regrouped-has : (left : Option ℕ) (groups : Grouping) → MayLose world groups left → Has (regrouped nat_eq world) (ended_if_lost left groups)
+  pub regrouped-has : (left : Option ℕ) (groups : Grouping) → MayLose world groups left
+      → Has (regrouped nat_eq world) (ended_if_lost left groups)
   regrouped-has None groups kept = none_lost groups kept
   regrouped-has (Some group) groups kept = by (members group) refl
     where
       has_peer : has_peers group groups ≡ members group
       has_peer = ap (list_any (is_member group)) kept.peers ∙ members-peers group world.mounts
 
-      lives : members group ≡ true → (other : ℕ) → (members other ≡ true) ⊎ (Some group ≡ Some other) → (members other ≡ true) ⊎ (None ≡ Some other)
+      lives : members group ≡ true → (other : ℕ) → (members other ≡ true) ⊎ (Some group ≡ Some other)
+          → (members other ≡ true) ⊎ (None ≡ Some other)
       lives has other h = ⊎_elim (λ m. inl m) (λ e. inl (ap members (sym (same_Some group other e)) ∙ has)) h
 
       widened : members group ≡ true → (other : ℕ) → (members other || nat_eq other group) ≡ (members other || false)
@@ -344,10 +408,14 @@ module _ (world : World ℕ) where
         masters_order = kept.masters_order;
         masters = λ other. kept.masters other ∙ ap (λ b. cond b (world.master other) None) (widened has other);
         slaves = λ mount m master e. lives has master (kept.slaves mount m master e);
-        above = λ other master h e. lives has master (kept.above other master (⊎_elim (λ m. inl m) (λ none. absurd (true≢false (sym (ap is_some none)))) h) e);
+        above = λ other master h e. lives has master
+            (kept.above other master (⊎_elim (λ m. inl m) (λ none. absurd (true≢false (sym (ap is_some none)))) h) e);
         apart = λ other none. absurd (true≢false (sym (ap is_some none)));
       }
 
-      by : (b : Bool) → members group ≡ b → Has (regrouped nat_eq world) (if has_peers group groups then groups else ended group groups)
-      by true has = subst (λ b. Has (regrouped nat_eq world) (if b then groups else ended group groups)) (sym (has_peer ∙ has)) (none_lost groups (all_live has))
-      by false gone = subst (λ b. Has (regrouped nat_eq world) (if b then groups else ended group groups)) (sym (has_peer ∙ gone)) (one_lost group groups kept gone)
+      by : (b : Bool) → members group ≡ b
+          → Has (regrouped nat_eq world) (if has_peers group groups then groups else ended group groups)
+      by true has = subst (λ b. Has (regrouped nat_eq world) (if b then groups else ended group groups))
+          (sym (has_peer ∙ has)) (none_lost groups (all_live has))
+      by false gone = subst (λ b. Has (regrouped nat_eq world) (if b then groups else ended group groups))
+          (sym (has_peer ∙ gone)) (one_lost group groups kept gone)

@@ -480,9 +480,11 @@ shared_has world live groups has group lacks named there pairs same =
 
 -- no group loses a member by it
 module _ (world : World ℕ) (live : GroupsLive world) (groups : Grouping) (has : Has world groups) (group : ℕ → ℕ)
-    (lacks : (number : ℕ) → LacksGroup world (group number)) (named : List (Mount ℕ)) (there : All (Contains world.mounts) named) where
+    (lacks : (number : ℕ) → LacksGroup world (group number)) (named : List (Mount ℕ))
+    (there : All (Contains world.mounts) named) where
   within_world : (mount : Mount ℕ) → Among mount named → Among mount world.mounts
-  within_world mount m = among_from_contains world.mounts mount (among_from_all (Contains world.mounts) named there mount m)
+  within_world mount m = among_from_contains world.mounts mount
+      (among_from_all (Contains world.mounts) named there mount m)
 
   pub sharing_regroups : retyped nat_eq world group ToShared named ≡ record world {
     mounts = map (retyped_mount nat_eq group ToShared named) world.mounts;
@@ -493,4 +495,5 @@ module _ (world : World ℕ) (live : GroupsLive world) (groups : Grouping) (has 
       (after_live world live groups has group lacks named within_world)
 
   pub sharing_lives : GroupsLive (retyped nat_eq world group ToShared named)
-  sharing_lives = subst GroupsLive (sym sharing_regroups) (after_live world live groups has group lacks named within_world)
+  sharing_lives = subst GroupsLive (sym sharing_regroups)
+      (after_live world live groups has group lacks named within_world)

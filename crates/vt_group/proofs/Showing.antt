@@ -24,9 +24,11 @@ same_entries : (xs ys : List (ℕ × ℕ)) → are_rising (keys xs) ≡ true →
     → ((group : ℕ) → lookup (nat_eq group) xs ≡ lookup (nat_eq group) ys) → xs ≡ ys
 same_entries [] [] r s same = refl
 same_entries [] (y ∷ ys) r s same =
-    absurd (true≢false (sym (ap is_some (same y.0 ∙ ap (λ b. cond b (Some y.1) (lookup (nat_eq y.0) ys)) (eq-eqb y.0 y.0 refl)))))
+    absurd (true≢false (sym (ap is_some
+    (same y.0 ∙ ap (λ b. cond b (Some y.1) (lookup (nat_eq y.0) ys)) (eq-eqb y.0 y.0 refl)))))
 same_entries (x ∷ xs) [] r s same =
-    absurd (true≢false (ap is_some (sym (ap (λ b. cond b (Some x.1) (lookup (nat_eq x.0) xs)) (eq-eqb x.0 x.0 refl)) ∙ same x.0)))
+    absurd (true≢false (ap is_some
+    (sym (ap (λ b. cond b (Some x.1) (lookup (nat_eq x.0) xs)) (eq-eqb x.0 x.0 refl)) ∙ same x.0)))
 same_entries (x ∷ xs) (y ∷ ys) r s same = by (nat_lt x.0 y.0) refl (nat_lt y.0 x.0) refl (same_entries xs ys rx.1 sy.1)
   where
     rx : (list_all (nat_lt x.0) (keys xs) ≡ true) × (are_rising (keys xs) ≡ true)
@@ -35,51 +37,64 @@ same_entries (x ∷ xs) (y ∷ ys) r s same = by (nat_lt x.0 y.0) refl (nat_lt y
     sy : (list_all (nat_lt y.0) (keys ys) ≡ true) × (are_rising (keys ys) ≡ true)
     sy = and_parts _ _ s
 
-    further : (low high : ℕ) (es : List (ℕ × ℕ)) → nat_lt low high ≡ true → list_all (nat_lt high) (keys es) ≡ true → list_all (nat_lt low) (keys es) ≡ true
+    further : (low high : ℕ) (es : List (ℕ × ℕ)) → nat_lt low high ≡ true → list_all (nat_lt high) (keys es) ≡ true
+        → list_all (nat_lt low) (keys es) ≡ true
     further low high [] l all = refl
     further low high (e ∷ es) l all =
-        and_from _ _ (lt-ltb low e.0 (omega (arith, ltb-true low high l, ltb-true high e.0 (and_parts _ _ all).0))) (further low high es l (and_parts _ _ all).1)
+        and_from _ _ (lt-ltb low e.0 (omega (arith, ltb-true low high l, ltb-true high e.0 (and_parts _ _ all).0)))
+        (further low high es l (and_parts _ _ all).1)
 
     first_of : (e : ℕ × ℕ) (es : List (ℕ × ℕ)) → lookup (nat_eq e.0) (e ∷ es) ≡ Some e.1
     first_of e es = ap (λ b. cond b (Some e.1) (lookup (nat_eq e.0) es)) (eq-eqb e.0 e.0 refl)
 
-    lower : (low : ℕ) (e : ℕ × ℕ) (es : List (ℕ × ℕ)) → nat_lt low e.0 ≡ true → list_all (nat_lt e.0) (keys es) ≡ true → lookup (nat_eq low) (e ∷ es) ≡ None
+    lower : (low : ℕ) (e : ℕ × ℕ) (es : List (ℕ × ℕ)) → nat_lt low e.0 ≡ true → list_all (nat_lt e.0) (keys es) ≡ true
+        → lookup (nat_eq low) (e ∷ es) ≡ None
     lower low e es l all = lookup-low low (e ∷ es) (and_from _ _ l (further low e.0 es l all))
 
     by : (a : Bool) → nat_lt x.0 y.0 ≡ a → (b : Bool) → nat_lt y.0 x.0 ≡ b
         → (((group : ℕ) → lookup (nat_eq group) xs ≡ lookup (nat_eq group) ys) → xs ≡ ys) → x ∷ xs ≡ y ∷ ys
-    by true a b e later = absurd (true≢false (sym (ap is_some (first_of x xs)) ∙ ap is_some (same x.0 ∙ lower x.0 y ys a sy.0)))
-    by false a true e later = absurd (true≢false (sym (ap is_some (first_of y ys)) ∙ ap is_some (sym (same y.0) ∙ lower y.0 x xs e rx.0)))
+    by true a b e later = absurd (true≢false
+        (sym (ap is_some (first_of x xs)) ∙ ap is_some (same x.0 ∙ lower x.0 y ys a sy.0)))
+    by false a true e later = absurd
+        (true≢false (sym (ap is_some (first_of y ys)) ∙ ap is_some (sym (same y.0) ∙ lower y.0 x xs e rx.0)))
     by false a false e later =
         let key : x.0 ≡ y.0 = omega (arith, ltb-false x.0 y.0 a, ltb-false y.0 x.0 e) in
-        let value : x.1 ≡ y.1 = same_Some x.1 y.1 (sym (first_of x xs) ∙ same x.0 ∙ ap (λ b. cond b (Some y.1) (lookup (nat_eq x.0) ys)) (eq-eqb x.0 y.0 key)) in
+        let value : x.1 ≡ y.1 = same_Some x.1 y.1
+        (sym (first_of x xs) ∙ same x.0
+        ∙ ap (λ b. cond b (Some y.1) (lookup (nat_eq x.0) ys)) (eq-eqb x.0 y.0 key)) in
         (λ i. (key i, value i) ∷ later (λ group. rest key group (nat_eq group x.0) refl) i)
       where
-        rest : x.0 ≡ y.0 → (group : ℕ) (b : Bool) → nat_eq group x.0 ≡ b → lookup (nat_eq group) xs ≡ lookup (nat_eq group) ys
+        rest : x.0 ≡ y.0 → (group : ℕ) (b : Bool) → nat_eq group x.0 ≡ b
+            → lookup (nat_eq group) xs ≡ lookup (nat_eq group) ys
         rest key group true is =
             let at : group ≡ x.0 = eqb-true group x.0 is in
             lookup-low group xs (ap (λ g. list_all (nat_lt g) (keys xs)) at ∙ rx.0)
             ∙ sym (lookup-low group ys (ap (λ g. list_all (nat_lt g) (keys ys)) (at ∙ key) ∙ sy.0))
         rest key group false is =
             sym (ap (λ b. cond b (Some x.1) (lookup (nat_eq group) xs)) is) ∙ same group
-            ∙ ap (λ b. cond b (Some y.1) (lookup (nat_eq group) ys)) (ne_eqb group y.0 (λ e. eqb-false group x.0 is (e ∙ sym key)))
+            ∙ ap (λ b. cond b (Some y.1) (lookup (nat_eq group) ys))
+            (ne_eqb group y.0 (λ e. eqb-false group x.0 is (e ∙ sym key)))
 
 pub has_one_grouping : HasOneGrouping
 has_one_grouping world one other a b = λ i. record {
   peers = (a.peers ∙ sym b.peers) i;
-  masters = same_entries one.masters other.masters a.masters_order b.masters_order (λ group. a.masters group ∙ sym (b.masters group)) i;
+  masters = same_entries one.masters other.masters a.masters_order b.masters_order
+      (λ group. a.masters group ∙ sym (b.masters group)) i;
 }
 
 pub shows_types : ShowsTypes
-shows_types world groups has = all_from_among (λ mount. propagation_in groups mount.number ≡ shown mount.propagation) world.mounts (λ mount m.
+shows_types world groups has = all_from_among
+    (λ mount. propagation_in groups mount.number ≡ shown mount.propagation) world.mounts (λ mount m.
     ap (λ peers. unwrap_or (lookup (nat_eq mount.number) peers) Private) has.peers ∙ by mount m mount.propagation refl)
   where
     by : (mount : Mount ℕ) → Among mount world.mounts → (kind : Propagation ℕ) → mount.propagation ≡ kind
         → unwrap_or (lookup (nat_eq mount.number) (peers_of world.mounts)) Private ≡ shown mount.propagation
     by mount m (Shared group) e =
-        ap (λ o. unwrap_or o Private) (lookup-peer group mount world.mounts has.order m (ap source_of e)) ∙ e ∙ sym (ap shown e)
+        ap (λ o. unwrap_or o Private) (lookup-peer group mount world.mounts has.order m (ap source_of e)) ∙ e
+        ∙ sym (ap shown e)
     by mount m (Slave master) e =
-        ap (λ o. unwrap_or o Private) (lookup-peer master mount world.mounts has.order m (ap source_of e)) ∙ e ∙ sym (ap shown e)
+        ap (λ o. unwrap_or o Private) (lookup-peer master mount world.mounts has.order m (ap source_of e)) ∙ e
+        ∙ sym (ap shown e)
     by mount m Private e =
         ap (λ o. unwrap_or o Private) (lookup-absent mount world.mounts has.order m (ap source_of e)) ∙ sym (ap shown e)
     by mount m Unbindable e =

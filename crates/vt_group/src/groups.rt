@@ -303,7 +303,8 @@ impl Groups {
         Ok(grown)
     }
 
-    fn copied(&self) -> Result<Groups, AllocError>
+    /// All groups once more, for one who makes changes on trial. It passes over all mounts that are in groups.
+    pub fn copied(&self) -> Result<Groups, AllocError>
         ensures { IfOk result (λ copy. copy ≡ self.now) }
     {
         Ok(Groups {

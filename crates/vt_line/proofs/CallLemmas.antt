@@ -4,7 +4,7 @@ use Rattle.std.proofs.Common.{List, None, Option, Some, Result, Err, option_map,
 use Rattle.vt_spec.specs.Language.Calls.{Call}
 use Rattle.vt_spec.specs.Language.Calls as spec
 use Rattle.vt_spec.specs.Lists.{then_some, when}
-use Rattle.vt_spec.specs.Language.Script.{namespaces, no_more, path_alone, path_word, two_paths, word_then}
+use Rattle.vt_spec.specs.Language.Script.{no_more, path_alone, path_word, propagation, two_paths, word_then}
 use Rattle.vt_request.specs.declared.request.Call.{Call as KeptCall}
 use Rattle.vt_line.specs.declared.names.CallName.{CallName}
 use Rattle.vt_line.specs.declared.names.CallName.TheVariants.{Pair, Path}
@@ -24,7 +24,8 @@ then_some-map : {A B C : Type 0} (f : B → C) (a : Option A) (next : A → Opti
 then_some-map f None next next' e = refl
 then_some-map f (Some a) next next' e = e a
 
-no_more-map : {A B : Type 0} (f : A → B) (a : A) (words : List (List ℕ)) → no_more (f a) words ≡ option_map f (no_more a words)
+no_more-map : {A B : Type 0} (f : A → B) (a : A) (words : List (List ℕ))
+    → no_more (f a) words ≡ option_map f (no_more a words)
 no_more-map f a [] = refl
 no_more-map f a (word ∷ rest) = refl
 
@@ -34,18 +35,23 @@ word_then-map :
     ((x : A) (rest : List (List ℕ)) → next' x rest ≡ option_map f (next x rest)) →
     word_then read next' words ≡ option_map f (word_then read next words)
 word_then-map f read next next' [] e = refl
-word_then-map f read next next' (word ∷ rest) e = then_some-map f (read word) (λ a. next a rest) (λ a. next' a rest) (λ a. e a rest)
+word_then-map f read next next' (word ∷ rest) e = then_some-map f (read word) (λ a. next a rest) (λ a. next' a rest)
+    (λ a. e a rest)
 
-path_alone-lone : (call : List ℕ → Call) (words : List (List ℕ)) → path_alone call words ≡ option_map call (lone_path words)
+path_alone-lone : (call : List ℕ → Call) (words : List (List ℕ))
+    → path_alone call words ≡ option_map call (lone_path words)
 unfolding lone_path
-path_alone-lone call words = word_then-map call path_word no_more (λ path. no_more (call path)) words (λ path rest. no_more-map call path rest)
+path_alone-lone call words = word_then-map call path_word no_more (λ path. no_more (call path)) words
+    (λ path rest. no_more-map call path rest)
 
-two_paths-pair : (call : List ℕ → List ℕ → Call) (words : List (List ℕ)) → two_paths call words ≡ option_map (with_pair call) (path_pair words)
+two_paths-pair : (call : List ℕ → List ℕ → Call) (words : List (List ℕ))
+    → two_paths call words ≡ option_map (with_pair call) (path_pair words)
 unfolding path_pair
 two_paths-pair call words =
     word_then-map (with_pair call) path_word (λ first. word_then path_word (λ second. no_more (first, second)))
     (λ first. word_then path_word (λ second. no_more (call first second))) words
-    (λ first rest. word_then-map (with_pair call) path_word (λ second. no_more (first, second)) (λ second. no_more (call first second)) rest
+    (λ first rest. word_then-map (with_pair call) path_word (λ second. no_more (first, second))
+    (λ second. no_more (call first second)) rest
     (λ second rest. no_more-map (with_pair call) (first, second) rest))
 
 some_keeps : {A : Type 0} (call : A → Call) (paths : Option A) → ((x : A) → KeepsWords (call x)) → IsSome paths
@@ -54,23 +60,27 @@ some_keeps call None keeps some = cc
 some_keeps call (Some x) keeps some = keeps x
 
 -- what the grammar has of calls that it all has
-had : {A : Type 0} (call : A → Call) (words : Option A) → ((x : A) → namespaces.has (call x) ≡ true) →
-    then_some (option_map call words) (λ call. when (namespaces.has call) call) ≡ option_map call words
+had : {A : Type 0} (call : A → Call) (words : Option A) → ((x : A) → propagation.has (call x) ≡ true) →
+    then_some (option_map call words) (λ call. when (propagation.has call) call) ≡ option_map call words
 had call None has = refl
 had call (Some x) has = ap (λ there. when there (call x)) (has x)
 
-path_had : (call : List ℕ → Call) (words : List (List ℕ)) → ((path : List ℕ) → namespaces.has (call path) ≡ true) →
-    then_some (path_alone call words) (λ call. when (namespaces.has call) call) ≡ option_map call (lone_path words)
+path_had : (call : List ℕ → Call) (words : List (List ℕ)) → ((path : List ℕ) → propagation.has (call path) ≡ true) →
+    then_some (path_alone call words) (λ call. when (propagation.has call) call) ≡ option_map call (lone_path words)
 path_had call words has =
-    ap (λ asked. then_some asked (λ call. when (namespaces.has call) call)) (path_alone-lone call words) ∙ had call (lone_path words) has
+    ap (λ asked. then_some asked (λ call. when (propagation.has call) call)) (path_alone-lone call words)
+    ∙ had call (lone_path words) has
 
-pair_had : (call : List ℕ → List ℕ → Call) (words : List (List ℕ)) → ((a b : List ℕ) → namespaces.has (call a b) ≡ true) →
-    then_some (two_paths call words) (λ call. when (namespaces.has call) call) ≡ option_map (with_pair call) (path_pair words)
+pair_had : (call : List ℕ → List ℕ → Call) (words : List (List ℕ))
+    → ((a b : List ℕ) → propagation.has (call a b) ≡ true) →
+    then_some (two_paths call words) (λ call. when (propagation.has call) call)
+    ≡ option_map (with_pair call) (path_pair words)
 pair_had call words has =
-    ap (λ asked. then_some asked (λ call. when (namespaces.has call) call)) (two_paths-pair call words)
+    ap (λ asked. then_some asked (λ call. when (propagation.has call) call)) (two_paths-pair call words)
     ∙ had (with_pair call) (path_pair words) (λ pair. has pair.0 pair.1)
 
-path_named : (name : PathCall) (words : List (List ℕ)) → call_named (Path name) words ≡ option_map (path_call name) (lone_path words)
+path_named : (name : PathCall) (words : List (List ℕ))
+    → call_named (Path name) words ≡ option_map (path_call name) (lone_path words)
 path_named path.Ls words = path_had spec.Call.Ls words (λ path. refl)
 path_named path.Stat words = path_had spec.Call.Stat words (λ path. refl)
 path_named path.Lstat words = path_had spec.Call.Lstat words (λ path. refl)
@@ -84,7 +94,8 @@ path_named path.Chroot words = path_had spec.Call.Chroot words (λ path. refl)
 path_named path.Umount words = path_had spec.Call.Umount words (λ path. refl)
 path_named path.Lazy words = path_had spec.Call.Lazy words (λ path. refl)
 
-pair_named : (name : PairCall) (words : List (List ℕ)) → call_named (Pair name) words ≡ option_map (with_pair (pair_call name)) (path_pair words)
+pair_named : (name : PairCall) (words : List (List ℕ))
+    → call_named (Pair name) words ≡ option_map (with_pair (pair_call name)) (path_pair words)
 pair_named pair.Symlink words = pair_had spec.Call.SymlinkAt words (λ first second. refl)
 pair_named pair.Link words = pair_had spec.Call.LinkTo words (λ first second. refl)
 pair_named pair.Rename words = pair_had spec.Call.Rename words (λ first second. refl)
@@ -117,7 +128,8 @@ pair_keeps pair.Move first second = tt
 
 -- a path alone, or two, that were not read or not kept
 path_unread : (name : PathCall) (words : List (List ℕ)) (e : ReadError) →
-    ArePathsRead {B = Vec ℕ} (λ path. path.items) (lone_path words) (Err e) → IsCallRead (call_named (Path name) words) (Err e)
+    ArePathsRead {B = Vec ℕ} (λ path. path.items) (lone_path words) (Err e)
+    → IsCallRead (call_named (Path name) words) (Err e)
 path_unread name words Grammar none = path_named name words ∙ ap (option_map (path_call name)) none
 path_unread name words Memory some =
     subst (λ asked. IsSomeAnd asked KeepsWords) (sym (path_named name words))
@@ -131,26 +143,32 @@ pair_unread name words Memory some =
     subst (λ asked. IsSomeAnd asked KeepsWords) (sym (pair_named name words))
     (some_keeps (with_pair (pair_call name)) (path_pair words) (λ pair. pair_keeps name pair.0 pair.1) some)
 
-pub path_refused : (name : CallName) (of : PathCall) (words : List (List ℕ)) {read : Result KeptCall ReadError} (e : ReadError) →
-    name ≡ Path of → read ≡ Err e → ArePathsRead {B = Vec ℕ} (λ path. path.items) (lone_path words) (Err e) → IsCallRead (call_named name words) read
+pub path_refused : (name : CallName) (of : PathCall) (words : List (List ℕ)) {read : Result KeptCall ReadError}
+    (e : ReadError) →
+    name ≡ Path of → read ≡ Err e → ArePathsRead {B = Vec ℕ} (λ path. path.items) (lone_path words) (Err e)
+    → IsCallRead (call_named name words) read
 path_refused name of words {read} e is error paths =
     subst (λ read. IsCallRead (call_named name words) read) (sym error)
     (subst (λ name. IsCallRead (call_named name words) (Err e)) (sym is) (path_unread of words e paths))
 
-pub pair_refused : (name : CallName) (of : PairCall) (words : List (List ℕ)) {read : Result KeptCall ReadError} (e : ReadError) →
-    name ≡ Pair of → read ≡ Err e → ArePathsRead {B = Vec ℕ × Vec ℕ} (λ paths. (paths.0.items, paths.1.items)) (path_pair words) (Err e) →
+pub pair_refused : (name : CallName) (of : PairCall) (words : List (List ℕ)) {read : Result KeptCall ReadError}
+    (e : ReadError) →
+    name ≡ Pair of → read ≡ Err e → ArePathsRead {B = Vec ℕ × Vec ℕ} (λ paths. (paths.0.items, paths.1.items))
+    (path_pair words) (Err e) →
     IsCallRead (call_named name words) read
 pair_refused name of words {read} e is error paths =
     subst (λ read. IsCallRead (call_named name words) read) (sym error)
     (subst (λ name. IsCallRead (call_named name words) (Err e)) (sym is) (pair_unread of words e paths))
 
 -- and those that were
-pub path_asked : (name : CallName) (of : PathCall) (words : List (List ℕ)) (path : List ℕ) → name ≡ Path of → lone_path words ≡ Some path →
+pub path_asked : (name : CallName) (of : PathCall) (words : List (List ℕ)) (path : List ℕ) → name ≡ Path of
+    → lone_path words ≡ Some path →
     call_named name words ≡ Some (path_call of path)
 path_asked name of words path is e =
     ap (λ name. call_named name words) is ∙ path_named of words ∙ ap (option_map (path_call of)) e
 
-pub pair_asked : (name : CallName) (of : PairCall) (words : List (List ℕ)) (a b : List ℕ) → name ≡ Pair of → path_pair words ≡ Some (a, b) →
+pub pair_asked : (name : CallName) (of : PairCall) (words : List (List ℕ)) (a b : List ℕ) → name ≡ Pair of
+    → path_pair words ≡ Some (a, b) →
     call_named name words ≡ Some (pair_call of a b)
 pair_asked name of words a b is e =
     ap (λ name. call_named name words) is ∙ pair_named of words ∙ ap (option_map (with_pair (pair_call of))) e

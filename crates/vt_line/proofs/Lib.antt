@@ -1,6 +1,7 @@
 pub mod CallLemmas
 pub mod ListingLemmas
 pub mod NumberLemmas
+pub mod PeerLemmas
 pub mod PrintLemmas
 pub mod RequestLemmas
 pub mod Splits

@@ -20,7 +20,8 @@ printed_from number place lines =
     flat_map (printed_line number) (map mount_line_words (counted_from place (map mount_line_of lines)))
 
 pub printed_from-more : (number place : ℕ) (lines : List MountLine) (n : ℕ) (d : MountLine) → n < length lines →
-    printed_from number place (drop n lines) ≡ printed_mount number place (get_or lines n d) ++ printed_from number (place + 1) (drop (n + 1) lines)
+    printed_from number place (drop n lines) ≡ printed_mount number place (get_or lines n d)
+    ++ printed_from number (place + 1) (drop (n + 1) lines)
 printed_from-more number place lines n d within = ap (printed_from number place) (drop_more lines n d within)
 
 -- the names of a path
@@ -29,7 +30,8 @@ steps : (names : List (Vec ℕ)) →
 steps [] = refl
 steps (name ∷ names) = ap (λ rest. (47 ∷ flat_map printed_byte name.items) ++ rest) (steps names)
 
-pub printed_path-steps : (names : List (Vec ℕ)) → 0 < length names → printed_path (map (λ name. name.items) names) ≡ printed_steps names
+pub printed_path-steps : (names : List (Vec ℕ)) → 0 < length names
+    → printed_path (map (λ name. name.items) names) ≡ printed_steps names
 printed_path-steps [] some = absurd (omega arith)
 printed_path-steps (name ∷ names) some = steps (name ∷ names)
 

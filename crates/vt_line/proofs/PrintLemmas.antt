@@ -1,5 +1,5 @@
 -- Texts printed in runs of plain bytes, with an escape after each.
-use Rattle.std.proofs.Common.{◌≡◌, ℕ, Result, Ok, Err, codes, suc, ◌<◌, ◌/◌, ◌%◌, cond, false, List, [], ◌∷◌, ◌++◌, length, map, All, IsTrue, slice_index, refl, sym, ap, ◌∙◌, arith, append_assoc}
+use Rattle.std.proofs.Common.{◌≡◌, ℕ, codes, suc, ◌<◌, ◌/◌, ◌%◌, cond, false, List, [], ◌∷◌, ◌++◌, length, map, All, IsTrue, slice_index, refl, sym, ap, ◌∙◌, arith, append_assoc}
 use Rattle.std.proofs.lemmas.List.{append-nil}
 use Rattle.std.proofs.lemmas.List.Concat.{flat_map-append}
 use Rattle.std.specs.List.{flat_map}
@@ -9,13 +9,8 @@ use Rattle.vt_spec.specs.Language.Answers.Answer.{Names}
 use Rattle.vt_spec.specs.Language.Answers.{StatLine}
 use Rattle.vt_spec.specs.declared.attributes.Kind.{Kind}
 use Rattle.vt_spec.specs.declared.attributes.Kind.TheVariants.{Dir, File, Symlink, White}
-use Rattle.vt_spec.specs.declared.errors.Deny.{Deny}
-use Rattle.vt_spec.specs.Language.Printed.{hex_digit, owner_words, printed_byte, printed_line, printed_text, printed_value, reply_line, spaced, stat_words}
-use Rattle.vt_request.specs.Answers.{result_of}
-use Rattle.vt_request.specs.declared.answer.Answer.{Answer}
-use Rattle.vt_request.specs.declared.answer.Answer.TheVariants.{Done, Bytes, Told, Opened, Child, MountList}
-use Rattle.vt_request.specs.declared.answer.Answer.TheVariants as answers
-use Rattle.vt_line.specs.Printing.{further_words, kind_text, printed_mounts, printed_names, reply_words}
+use Rattle.vt_spec.specs.Language.Printed.{hex_digit, owner_words, printed_byte, printed_text, printed_value, spaced, stat_words}
+use Rattle.vt_line.specs.Printing.{further_words, kind_text, printed_names}
 
 abbrev pub escape : ℕ → List ℕ
 escape byte = 92 ∷ 120 ∷ hex_digit (byte / 16) ∷ hex_digit (byte % 16) ∷ []
@@ -37,26 +32,31 @@ printed-plain (byte ∷ bytes) all =
     ap (λ first. first ++ flat_map printed_byte bytes) (printed_byte-plain byte (all 0 0 (omega arith)))
     ∙ ap (λ rest. byte ∷ rest) (printed-plain bytes (λ k d lt. all (suc k) d (omega arith)))
 
-printed-run : (plain others rest : List ℕ) → plain ++ others ≡ rest → All (λ byte. IsTrue (is_plain byte)) plain → flat_map printed_byte rest ≡ plain ++ flat_map printed_byte others
+printed-run : (plain others rest : List ℕ) → plain ++ others ≡ rest → All (λ byte. IsTrue (is_plain byte)) plain
+    → flat_map printed_byte rest ≡ plain ++ flat_map printed_byte others
 printed-run plain others rest whole all =
     ap (flat_map printed_byte) (sym whole) ∙ flat_map-append printed_byte plain others
     ∙ ap (λ first. first ++ flat_map printed_byte others) (printed-plain plain all)
 
 -- what is printed so far, a run, and what comes after it
-pub printed-front : (done plain others rest text : List ℕ) → done ++ flat_map printed_byte rest ≡ flat_map printed_byte text → plain ++ others ≡ rest
-    → All (λ byte. IsTrue (is_plain byte)) plain → done ++ (plain ++ flat_map printed_byte others) ≡ flat_map printed_byte text
+pub printed-front : (done plain others rest text : List ℕ)
+    → done ++ flat_map printed_byte rest ≡ flat_map printed_byte text → plain ++ others ≡ rest
+    → All (λ byte. IsTrue (is_plain byte)) plain
+    → done ++ (plain ++ flat_map printed_byte others) ≡ flat_map printed_byte text
 printed-front done plain others rest text so_far whole all =
     ap (λ now. done ++ now) (sym (printed-run plain others rest whole all)) ∙ so_far
 
 -- the same where nothing comes after it
-pub printed-last : (done plain others rest text : List ℕ) → done ++ flat_map printed_byte rest ≡ flat_map printed_byte text → plain ++ others ≡ rest
+pub printed-last : (done plain others rest text : List ℕ)
+    → done ++ flat_map printed_byte rest ≡ flat_map printed_byte text → plain ++ others ≡ rest
     → All (λ byte. IsTrue (is_plain byte)) plain → length others ≡ 0 → done ++ plain ≡ flat_map printed_byte text
 printed-last done plain [] rest text so_far whole all none =
     ap (λ now. done ++ now) (sym (append-nil plain)) ∙ printed-front done plain [] rest text so_far whole all
 printed-last done plain (byte ∷ bytes) rest text so_far whole all none = absurd (omega arith)
 
 -- the same where an escape comes after it
-pub printed-escape : (done plain others rest text after : List ℕ) (byte : ℕ) → done ++ flat_map printed_byte rest ≡ flat_map printed_byte text → plain ++ others ≡ rest
+pub printed-escape : (done plain others rest text after : List ℕ) (byte : ℕ)
+    → done ++ flat_map printed_byte rest ≡ flat_map printed_byte text → plain ++ others ≡ rest
     → All (λ byte. IsTrue (is_plain byte)) plain → others ≡ byte ∷ after → is_plain (slice_index others 0) ≡ false
     → (done ++ plain) ++ (escape byte ++ flat_map printed_byte after) ≡ flat_map printed_byte text
 printed-escape done plain others rest text after byte so_far whole all first other =
@@ -68,7 +68,8 @@ printed-escape done plain others rest text after byte so_far whole all first oth
     ∙ printed-front done plain others rest text so_far whole all
 
 -- the names of an answer
-pub printed_names-value : (names : List (Vec ℕ)) → printed_names names ≡ spaced (printed_value (Names (map (λ name. name.items) names)))
+pub printed_names-value : (names : List (Vec ℕ))
+    → printed_names names ≡ spaced (printed_value (Names (map (λ name. name.items) names)))
 printed_names-value [] = refl
 printed_names-value (name ∷ names) = ap (λ rest. (32 ∷ printed_text name.items) ++ rest) (printed_names-value names)
 
@@ -79,20 +80,3 @@ stat_words-further Dir line = flat_map-append (λ word. 32 ∷ word) (owner_word
 stat_words-further File line = flat_map-append (λ word. 32 ∷ word) (owner_words (codes "file") line.attr) (further_words File line)
 stat_words-further Symlink line = flat_map-append (λ word. 32 ∷ word) (owner_words (codes "link") line.attr) (further_words Symlink line)
 stat_words-further White line = sym (append-nil (spaced (owner_words (codes "white") line.attr)))
-
--- the lines of an answer behind its first
-abbrev pub printed_others : ℕ → Result Answer Deny → List ℕ
-printed_others number (Ok (MountList lines)) = printed_mounts number lines.items
-printed_others number (Ok answer) = []
-printed_others number (Err deny) = []
-
-pub reply_line-others : (number : ℕ) (outcome : Result Answer Deny) →
-    reply_line number (result_of outcome) ≡ printed_line number (reply_words (result_of outcome)) ++ printed_others number outcome
-reply_line-others number (Ok Done) = refl
-reply_line-others number (Ok (Bytes bytes)) = refl
-reply_line-others number (Ok (answers.Names names)) = refl
-reply_line-others number (Ok (Told line)) = refl
-reply_line-others number (Ok (Opened descriptor)) = refl
-reply_line-others number (Ok (Child name)) = refl
-reply_line-others number (Ok (MountList lines)) = refl
-reply_line-others number (Err deny) = sym (append-nil (printed_line number (reply_words (Err deny))))

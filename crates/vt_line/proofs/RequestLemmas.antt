@@ -3,13 +3,12 @@ use Rattle.std.proofs.Common.{inl, inr, IfSome, is_some, Bool, List, None, Optio
 use Rattle.std.specs.List.{list_any}
 use Rattle.std.specs.Str.{bytes_eq}
 use Rattle.std.proofs.lemmas.Bool.Decides.{nat_tests}
-use Rattle.std.proofs.lemmas.Slice.Eq.{bytes_eq-Decides}
-use Rattle.vt_spec.specs.Language.Calls.{Call, plain_flags}
+use Rattle.vt_spec.specs.Language.Calls.{Call, Directive, plain_flags}
 use Rattle.vt_spec.specs.Language.Calls as asked
 use Rattle.vt_spec.specs.Language.Calls.Call.{MountOverlay, MountPlain}
 use Rattle.vt_spec.specs.Lists.{then_some, when}
-use Rattle.vt_spec.specs.Language.Script.{Request, access_word, asked_by, attribute_words, bytes_word, call_asked, call_words, capabilities_word, chown_call, creation_words, descriptor_word, descriptor_words, directive_asked, each_of, file_call_names, flags_or_plain, flags_word, fork_words, groups_word, identity_word, kept_or_identity, may_have, mode_word, mount_words, mounting_call_names, mounting_words, namespaces, naming_words, no_more, offset_word, options_of, path_alone, path_word, raw_tokens, request_of, request_of_texts, task_word, task_words, token_text, two_paths, type_word, word_then, yes_or_no_word}
-use Rattle.vt_spec.specs.Language.Script.Request.{Calling}
+use Rattle.vt_spec.specs.Language.Script.{Request, access_word, asked_by, attribute_words, bytes_word, call_asked, call_words, capabilities_word, chown_call, creation_words, descriptor_word, descriptor_words, directive_asked, each_of, file_call_names, flags_or_plain, flags_word, fork_words, groups_word, identity_word, kept_or_identity, may_have, mode_word, mount_words, mounting_call_names, mounting_words, naming_words, no_more, offset_word, options_of, path_alone, path_word, propagation, raw_tokens, request_of, request_of_texts, some_tasks, task_word, task_words, token_text, two_paths, type_word, word_then, yes_or_no_word}
+use Rattle.vt_spec.specs.Language.Script.Request.{Asking, Calling}
 use Rattle.vt_spec.specs.Language.Script.Version.{One}
 use Rattle.vt_spec.specs.Language.Script.Who.{Nobody, Someone}
 use Rattle.vt_line.specs.declared.calls.ReadError.{ReadError}
@@ -40,15 +39,18 @@ no_more-stops b (word ∷ rest) h = refl
 word_then-stops : {A B : Type 0} (most : ℕ) (read : List ℕ → Option A) (next : A → List (List ℕ) → Option B)
     → ((a : A) → Stops most (next a)) → Stops (suc most) (word_then read next)
 word_then-stops most read next stops [] h = refl
-word_then-stops most read next stops (word ∷ rest) h = none_then (read word) (λ a. next a rest) (λ a. stops a rest (omega arith))
+word_then-stops most read next stops (word ∷ rest) h = none_then (read word) (λ a. next a rest)
+    (λ a. stops a rest (omega arith))
 
 may_have-stops : {A B : Type 0} (read : List ℕ → Option A) (b : Option A → B) → Stops 1 (may_have read b)
 may_have-stops read b [] h = absurd (omega arith)
-may_have-stops read b (word ∷ rest) h = none_then (read word) (λ a. no_more (b (Some a)) rest) (λ a. no_more-stops (b (Some a)) rest (omega arith))
+may_have-stops read b (word ∷ rest) h = none_then (read word) (λ a. no_more (b (Some a)) rest)
+    (λ a. no_more-stops (b (Some a)) rest (omega arith))
 
 module _ (words : List (List ℕ)) (many : 4 < length words) where
   -- a branch of the grammar, and those after it
-  neither : {B : Type 0} (test : Bool) (this others : Option B) → this ≡ None → others ≡ None → cond test this others ≡ None
+  neither : {B : Type 0} (test : Bool) (this others : Option B) → this ≡ None → others ≡ None
+      → cond test this others ≡ None
   neither true this others e f = e
   neither false this others e f = f
 
@@ -56,22 +58,29 @@ module _ (words : List (List ℕ)) (many : 4 < length words) where
   by most read stops few = stops words (omega arith)
 
   one_path : (call : List ℕ → Call) → path_alone call words ≡ None
-  one_path call = by 1 (path_alone call) (word_then-stops 0 path_word (λ path. no_more (call path)) (λ path. no_more-stops (call path))) (lit≤ tt)
+  one_path call = by 1 (path_alone call)
+      (word_then-stops 0 path_word (λ path. no_more (call path)) (λ path. no_more-stops (call path))) (lit≤ tt)
 
   a_pair : (call : List ℕ → List ℕ → Call) → two_paths call words ≡ None
   a_pair call =
-      by 2 (two_paths call) (word_then-stops 1 path_word (λ first. word_then path_word (λ second. no_more (call first second)))
-      (λ first. word_then-stops 0 path_word (λ second. no_more (call first second)) (λ second. no_more-stops (call first second)))) (lit≤ tt)
+      by 2 (two_paths call) (word_then-stops 1 path_word
+      (λ first. word_then path_word (λ second. no_more (call first second)))
+      (λ first. word_then-stops 0 path_word (λ second. no_more (call first second))
+      (λ second. no_more-stops (call first second)))) (lit≤ tt)
 
   mounted : (kind : List ℕ) (rest : List (List ℕ)) → 3 < length rest → mount_words One kind rest ≡ None
   mounted kind rest h =
       neither (bytes_eq kind (codes "plain")) _ _
       (word_then-stops 1 path_word (λ path. flags_or_plain One (λ given. MountPlain path given))
-      (λ path. may_have-stops (flags_word One) (λ given. MountPlain path (unwrap_or given plain_flags))) rest (omega arith))
+      (λ path. may_have-stops (flags_word One) (λ given. MountPlain path (unwrap_or given plain_flags))) rest
+      (omega arith))
       (neither (bytes_eq kind (codes "overlay")) _ _
-      (word_then-stops 2 path_word (λ path. word_then bytes_word (λ options. flags_or_plain One (λ given. MountOverlay path (options_of options) given)))
-      (λ path. word_then-stops 1 bytes_word (λ options. flags_or_plain One (λ given. MountOverlay path (options_of options) given))
-      (λ options. may_have-stops (flags_word One) (λ given. MountOverlay path (options_of options) (unwrap_or given plain_flags)))) rest (omega arith))
+      (word_then-stops 2 path_word (λ path.
+      word_then bytes_word (λ options. flags_or_plain One (λ given. MountOverlay path (options_of options) given)))
+      (λ path. word_then-stops 1 bytes_word
+      (λ options. flags_or_plain One (λ given. MountOverlay path (options_of options) given))
+      (λ options. may_have-stops (flags_word One)
+      (λ given. MountOverlay path (options_of options) (unwrap_or given plain_flags)))) rest (omega arith))
       refl)
 
   mounting-none : (name : List ℕ) → mounting_words One name words ≡ None
@@ -83,17 +92,21 @@ module _ (words : List (List ℕ)) (many : 4 < length words) where
       (neither (bytes_eq name (codes "umount")) _ _ (one_path _)
       (neither (bytes_eq name (codes "lazy")) _ _ (one_path _)
       (neither (bytes_eq name (codes "remount")) _ _
-      (by 2 _ (word_then-stops 1 path_word _ (λ path. word_then-stops 0 (flags_word One) _ (λ given. no_more-stops _))) (lit≤ tt))
+      (by 2 _ (word_then-stops 1 path_word _ (λ path. word_then-stops 0 (flags_word One) _ (λ given. no_more-stops _)))
+      (lit≤ tt))
       (neither (bytes_eq name (codes "type")) _ _
-      (by 2 _ (word_then-stops 1 path_word _ (λ path. word_then-stops 0 type_word _ (λ word. no_more-stops _))) (lit≤ tt))
+      (by 2 _ (word_then-stops 1 path_word _ (λ path. word_then-stops 0 type_word _ (λ word. no_more-stops _)))
+      (lit≤ tt))
       (neither (bytes_eq name (codes "rtype")) _ _
-      (by 2 _ (word_then-stops 1 path_word _ (λ path. word_then-stops 0 type_word _ (λ word. no_more-stops _))) (lit≤ tt))
+      (by 2 _ (word_then-stops 1 path_word _ (λ path. word_then-stops 0 type_word _ (λ word. no_more-stops _)))
+      (lit≤ tt))
       (neither (bytes_eq name (codes "mounts")) _ _ (by 0 _ (no_more-stops _) (lit≤ tt)) refl)))))))))
 
   forked : Stops 4 fork_words
   forked [] h = absurd (omega arith)
   forked (word ∷ rest) h =
-      word_then-stops 3 identity_word _ (λ uid. word_then-stops 2 identity_word _ (λ gid. word_then-stops 1 groups_word _ (λ groups.
+      word_then-stops 3 identity_word _
+      (λ uid. word_then-stops 2 identity_word _ (λ gid. word_then-stops 1 groups_word _ (λ groups.
       word_then-stops 0 capabilities_word _ (λ capabilities. no_more-stops _)))) (word ∷ rest) h
 
   task-none : (name : List ℕ) → task_words One name words ≡ None
@@ -136,12 +149,14 @@ module _ (words : List (List ℕ)) (many : 4 < length words) where
   attribute-none : (name : List ℕ) → attribute_words One name words ≡ None
   attribute-none name =
       neither (bytes_eq name (codes "chmod")) _ _
-      (by 2 _ (word_then-stops 1 path_word _ (λ path. word_then-stops 0 mode_word _ (λ mode. no_more-stops _))) (lit≤ tt))
+      (by 2 _ (word_then-stops 1 path_word _ (λ path. word_then-stops 0 mode_word _ (λ mode. no_more-stops _)))
+      (lit≤ tt))
       (neither (bytes_eq name (codes "chown")) _ _
       (by 3 _ (word_then-stops 2 path_word _ (λ path. word_then-stops 1 kept_or_identity _ (λ uid.
       word_then-stops 0 kept_or_identity _ (λ gid. chown-stops path uid gid)))) (lit≤ tt))
       (neither (bytes_eq name (codes "opaque")) _ _
-      (by 2 _ (word_then-stops 1 path_word _ (λ path. word_then-stops 0 yes_or_no_word _ (λ mark. no_more-stops _))) (lit≤ tt))
+      (by 2 _ (word_then-stops 1 path_word _ (λ path. word_then-stops 0 yes_or_no_word _ (λ mark. no_more-stops _)))
+      (lit≤ tt))
       (descriptor-none name)))
 
   naming-none : (name : List ℕ) → naming_words One name words ≡ None
@@ -164,30 +179,25 @@ module _ (words : List (List ℕ)) (many : 4 < length words) where
       (neither (bytes_eq name (codes "readlink")) _ _ (one_path asked.Call.Readlink)
       (neither (bytes_eq name (codes "read")) _ _ (one_path asked.Call.Read)
       (neither (bytes_eq name (codes "write")) _ _
-      (by 2 _ (word_then-stops 1 path_word _ (λ path. word_then-stops 0 bytes_word _ (λ bytes. no_more-stops _))) (lit≤ tt))
+      (by 2 _ (word_then-stops 1 path_word _ (λ path. word_then-stops 0 bytes_word _ (λ bytes. no_more-stops _)))
+      (lit≤ tt))
       (neither (bytes_eq name (codes "exec")) _ _ (one_path asked.Call.Exec) (naming-none name)))))))
 
--- A line that is a task's
-directive-none : (words : List (List ℕ)) → directive_asked namespaces words ≡ None
-directive-none [] = refl
-directive-none (name ∷ words) = refl
-
+-- Whose line it is
 someone-asked : (task : Option (List ℕ)) (words : List (List ℕ)) →
-    asked_by namespaces (option_map Someone task) words ≡ then_some task (λ task. call_asked namespaces task words)
+    asked_by propagation (option_map Someone task) words ≡ then_some task (λ task. call_asked propagation task words)
 someone-asked None words = refl
 someone-asked (Some task) words = refl
 
-no_task : (text : List ℕ) → bytes_eq text (codes "!") ≡ true → task_word text ≡ None
-no_task text same = subst (λ text. task_word text ≡ None) (sym ((bytes_eq-Decides text (codes "!")).0 same)) refl
+texts-someones : (text : List ℕ) (words : List (List ℕ)) → bytes_eq text (codes "!") ≡ false
+    → request_of_texts propagation (text ∷ words) ≡ asked_by propagation (option_map Someone (task_word text)) words
+texts-someones text words other =
+    ap (λ test. asked_by propagation (cond test (Some Nobody) (option_map Someone (task_word text))) words) other
 
-pub texts-asked : (text : List ℕ) (words : List (List ℕ)) →
-    request_of_texts namespaces (text ∷ words) ≡ then_some (task_word text) (λ task. call_asked namespaces task words)
-texts-asked text words = by_test (bytes_eq text (codes "!")) refl where
-  by_test : (test : Bool) → bytes_eq text (codes "!") ≡ test →
-      asked_by namespaces (cond test (Some Nobody) (option_map Someone (task_word text))) words
-      ≡ then_some (task_word text) (λ task. call_asked namespaces task words)
-  by_test true e = directive-none words ∙ sym (ap (λ task. then_some task (λ task. call_asked namespaces task words)) (no_task text e))
-  by_test false e = someone-asked (task_word text) words
+texts-nobodys : (text : List ℕ) (words : List (List ℕ)) → bytes_eq text (codes "!") ≡ true
+    → request_of_texts propagation (text ∷ words) ≡ directive_asked propagation words
+texts-nobodys text words same =
+    ap (λ test. asked_by propagation (cond test (Some Nobody) (option_map Someone (task_word text))) words) same
 
 -- the names of the product's calls are known
 path-known : (name : PathCall) → list_any (bytes_eq (path_text name)) (file_call_names ++ mounting_call_names) ≡ true
@@ -236,40 +246,63 @@ name-known SetTypeRecursive = refl
 name-known Mounts = refl
 
 call-asked : (task : List ℕ) (name : CallName) (words : List (List ℕ)) →
-    call_asked namespaces task (name_text name ∷ words) ≡ option_map (Calling task) (call_named name words)
-call-asked task name words = ap (λ known. cond known (option_map (Calling task) (call_named name words)) None) (name-known name)
+    call_asked propagation task (name_text name ∷ words) ≡ option_map (Calling task) (call_named name words)
+call-asked task name words = ap (λ known. cond known (option_map (Calling task) (call_named name words)) None)
+    (name-known name)
 
--- what a line's texts ask for, once its task and its call are known
-pub request-named : (first second : List ℕ) (words : List (List ℕ)) (task : List ℕ) (name : CallName) → task_word first ≡ Some task → second ≡ name_text name
-    → request_of_texts namespaces (first ∷ second ∷ words) ≡ option_map (Calling task) (call_named name words)
-request-named first second words task name e f =
-    texts-asked first (second ∷ words) ∙ ap (λ task. then_some task (λ task. call_asked namespaces task (second ∷ words))) e
-    ∙ ap (λ second. call_asked namespaces task (second ∷ words)) f ∙ call-asked task name words
+-- what a task asks for, once it and its call are known
+pub task-named : (first second : List ℕ) (words : List (List ℕ)) (task : List ℕ) (name : CallName)
+    → task_word first ≡ Some task → second ≡ name_text name
+    → asked_by propagation (option_map Someone (task_word first)) (second ∷ words)
+    ≡ option_map (Calling task) (call_named name words)
+task-named first second words task name e f =
+    someone-asked (task_word first) (second ∷ words)
+    ∙ ap (λ task. then_some task (λ task. call_asked propagation task (second ∷ words))) e
+    ∙ ap (λ second. call_asked propagation task (second ∷ words)) f ∙ call-asked task name words
 
 asked-none : (test : Bool) (task : List ℕ) (call : Option Call) → call ≡ None
-    → cond test (option_map (Calling task) (then_some call (λ call. when (namespaces.has call) call))) None ≡ None
-asked-none true task call e = ap (λ call. option_map (Calling task) (then_some call (λ call. when (namespaces.has call) call))) e
+    → cond test (option_map (Calling task) (then_some call (λ call. when (propagation.has call) call))) None ≡ None
+asked-none true task call e = ap
+    (λ call. option_map (Calling task) (then_some call (λ call. when (propagation.has call) call))) e
 asked-none false task call e = refl
 
-request-many : (texts : List (List ℕ)) → 6 < length texts → request_of_texts namespaces texts ≡ None
+-- the directive has no words
+directive-many : (name word : List ℕ) (words : List (List ℕ)) → directive_asked propagation (name ∷ word ∷ words) ≡ None
+directive-many name word words = by (bytes_eq name (codes "peers")) where
+  others : Option Directive
+  others = cond (bytes_eq name (codes "sealed")) (some_tasks (word ∷ words)) None
+
+  by : (test : Bool) → cond test (option_map Asking (cond test None others)) None ≡ None
+  by true = refl
+  by false = refl
+
+request-many : (texts : List (List ℕ)) → 6 < length texts → request_of_texts propagation texts ≡ None
 request-many [] h = absurd (omega arith)
 request-many (first ∷ []) h = absurd (omega arith)
-request-many (first ∷ name ∷ words) h =
-    texts-asked first (name ∷ words)
-    ∙ none_then (task_word first) (λ task. call_asked namespaces task (name ∷ words))
-    (λ task. asked-none (list_any (bytes_eq name) (file_call_names ++ mounting_call_names)) task (call_words One name words) (call-none words (omega arith) name))
+request-many (first ∷ name ∷ []) h = absurd (omega arith)
+request-many (first ∷ name ∷ word ∷ words) h = by_test (bytes_eq first (codes "!")) refl where
+  by_test : (test : Bool) → bytes_eq first (codes "!") ≡ test
+      → request_of_texts propagation (first ∷ name ∷ word ∷ words) ≡ None
+  by_test true e = texts-nobodys first (name ∷ word ∷ words) e ∙ directive-many name word words
+  by_test false e =
+      texts-someones first (name ∷ word ∷ words) e ∙ someone-asked (task_word first) (name ∷ word ∷ words)
+      ∙ none_then (task_word first) (λ task. call_asked propagation task (name ∷ word ∷ words))
+      (λ task. asked-none (list_any (bytes_eq name) (file_call_names ++ mounting_call_names)) task
+      (call_words One name (word ∷ words)) (call-none (word ∷ words) (omega arith) name))
 
 -- the texts are as many as the tokens
-many_texts : (texts : Option (List (List ℕ))) → ((all : List (List ℕ)) → texts ≡ Some all → 6 < length all) → then_some texts (request_of_texts namespaces) ≡ None
+many_texts : (texts : Option (List (List ℕ))) → ((all : List (List ℕ)) → texts ≡ Some all → 6 < length all)
+    → then_some texts (request_of_texts propagation) ≡ None
 many_texts None many = refl
 many_texts (Some all) many = request-many all (many all refl)
 
-pub request-few : (line : List ℕ) → request_of namespaces line ≡ then_some (few_texts line) (request_of_texts namespaces)
+pub request-few : (line : List ℕ)
+    → request_of propagation line ≡ then_some (few_texts line) (request_of_texts propagation)
 unfolding request_of
 request-few line = by_test (leb (length (raw_tokens line)) 6) refl where
   by_test : (test : Bool) → leb (length (raw_tokens line)) 6 ≡ test →
-      then_some (each_of token_text (raw_tokens line)) (request_of_texts namespaces)
-      ≡ then_some (cond test (each_of token_text (raw_tokens line)) None) (request_of_texts namespaces)
+      then_some (each_of token_text (raw_tokens line)) (request_of_texts propagation)
+      ≡ then_some (cond test (each_of token_text (raw_tokens line)) None) (request_of_texts propagation)
   by_test true e = refl
   by_test false e =
       let many : 6 < length (raw_tokens line) = grind (arith, nat_tests) in
@@ -277,7 +310,8 @@ request-few line = by_test (leb (length (raw_tokens line)) 6) refl where
       (λ all is. let same = each_of-length token_text (raw_tokens line) all is in omega arith)
 
 -- how a call was read is how the request was
-some_takes : (task : List ℕ) (call : Option Call) → IsSomeAnd call KeepsWords → IsSomeAnd (option_map (Calling task) call) TakesMemory
+some_takes : (task : List ℕ) (call : Option Call) → IsSomeAnd call KeepsWords
+    → IsSomeAnd (option_map (Calling task) call) TakesMemory
 some_takes task None keeps = keeps
 some_takes task (Some call) keeps = inl keeps
 
@@ -285,7 +319,8 @@ pub some_value : {A : Type 0} (a : Option A) → is_some a ≡ true → (x : A) 
 some_value None e = cc
 some_value (Some x) e = (x, refl)
 
-pub request-long : (asked : Option Request) (task : List ℕ) (call : Option Call) (c : Call) → asked ≡ option_map (Calling task) call → call ≡ Some c
+pub request-long : (asked : Option Request) (task : List ℕ) (call : Option Call) (c : Call)
+    → asked ≡ option_map (Calling task) call → call ≡ Some c
     → 8 < length task → IsRequestRead asked (Err Memory)
 request-long asked task call c is there long =
     subst (λ asked. IsSomeAnd asked TakesMemory) (sym (is ∙ ap (option_map (Calling task)) there)) (inr long)
@@ -293,7 +328,9 @@ request-long asked task call c is there long =
 pub if_some : {A : Type 0} (P : A → Type 0) (a : Option A) (x : A) → a ≡ Some x → IfSome a P → P x
 if_some P a x e h = subst (λ a. IfSome a P) e h
 
-pub request-refused : (asked : Option Request) (task : List ℕ) (call : Option Call) (e : ReadError) → asked ≡ option_map (Calling task) call
+pub request-refused : (asked : Option Request) (task : List ℕ) (call : Option Call) (e : ReadError)
+    → asked ≡ option_map (Calling task) call
     → IsCallRead call (Err e) → IsRequestRead asked (Err e)
 request-refused asked task call Grammar is none = is ∙ ap (option_map (Calling task)) none
-request-refused asked task call Memory is some = subst (λ asked. IsSomeAnd asked TakesMemory) (sym is) (some_takes task call some)
+request-refused asked task call Memory is some = subst (λ asked. IsSomeAnd asked TakesMemory) (sym is)
+    (some_takes task call some)

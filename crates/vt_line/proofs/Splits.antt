@@ -19,7 +19,8 @@ YieldsList-parts separator text road = rw parts-split road
 -- after its first item, an iterator yields the others
 pub YieldsList-others :
     {S A B : Type 0} {steps : S → Option A → S → Type 0} {v : A → B} {s : S} (all : List B) → YieldsList steps v s all
-    → (r : Option A) (t : S) (x : A) → r ≡ Some x → steps s r t → (all ≡ v x ∷ drop 1 all) × YieldsList steps v t (drop 1 all)
+    → (r : Option A) (t : S) (x : A) → r ≡ Some x → steps s r t
+    → (all ≡ v x ∷ drop 1 all) × YieldsList steps v t (drop 1 all)
 YieldsList-others {steps = steps} {s = s} [] road r t x e step =
     let given : steps s (Some x) t = rw e at step in
     absurd (road.runs x t given)
@@ -30,7 +31,8 @@ YieldsList-others {steps = steps} {s = s} (y ∷ ys) road r t x e step =
 
 -- an iterator that skips its first item yields the others
 pub YieldsList-skipped :
-    {S A B : Type 0} {steps : S → Option A → S → Type 0} {v : A → B} {s : Skip S} (inner : S) (all : List B) → YieldsList steps v inner all
+    {S A B : Type 0} {steps : S → Option A → S → Type 0} {v : A → B} {s : Skip S} (inner : S) (all : List B)
+    → YieldsList steps v inner all
     → skip_source s ≡ inner → skip_count s ≡ 1 → YieldsList (skip_steps steps) v s (drop 1 all)
 YieldsList-skipped {steps = steps} {v = v} inner all road e count =
     YieldsList-from_skip 1 (subst (λ inner. YieldsList steps v inner all) (sym e) road) count
@@ -40,22 +42,28 @@ pub each_of-more :
     {A B : Type 0} (read : A → Option B) (xs : List A) (n : ℕ) (x : A) → (n < length xs) × (x ≡ get_or xs n x)
     → each_of read (drop n xs) ≡ with_first (read x) (each_of read (drop (n + 1) xs))
 each_of-more read xs n x h =
-    at_drop_more (each_of read) xs n x h.0 ∙ ap (λ first. with_first (read first) (each_of read (drop (n + 1) xs))) (sym h.1)
+    at_drop_more (each_of read) xs n x h.0
+    ∙ ap (λ first. with_first (read first) (each_of read (drop (n + 1) xs))) (sym h.1)
 
-pub each_of-end : {A B : Type 0} (read : A → Option B) (xs : List A) (n : ℕ) → length xs ≤ n → each_of read (drop n xs) ≡ Some []
+pub each_of-end : {A B : Type 0} (read : A → Option B) (xs : List A) (n : ℕ) → length xs ≤ n
+    → each_of read (drop n xs) ≡ Some []
 each_of-end read xs n h = at_drop_all (each_of read) xs n h
 
-pub each_of-none : {A B : Type 0} (read : A → Option B) (xs : List A) (n : ℕ) (x : A) → (n < length xs) × (x ≡ get_or xs n x) → read x ≡ None
+pub each_of-none : {A B : Type 0} (read : A → Option B) (xs : List A) (n : ℕ) (x : A)
+    → (n < length xs) × (x ≡ get_or xs n x) → read x ≡ None
     → each_of read (drop n xs) ≡ None
-each_of-none read xs n x h e = each_of-more read xs n x h ∙ ap (λ first. with_first first (each_of read (drop (n + 1) xs))) e
+each_of-none read xs n x h e = each_of-more read xs n x h
+    ∙ ap (λ first. with_first first (each_of read (drop (n + 1) xs))) e
 
 -- whether all can be read, by one that can
-some_first : {A : Type 0} (a : Option A) (rest : Option (List A)) → is_some a ≡ true → is_some (with_first a rest) ≡ is_some rest
+some_first : {A : Type 0} (a : Option A) (rest : Option (List A)) → is_some a ≡ true
+    → is_some (with_first a rest) ≡ is_some rest
 some_first None rest e = cc
 some_first (Some a) None e = refl
 some_first (Some a) (Some rest) e = refl
 
-pub each_of-goes : {A B : Type 0} (read : A → Option B) (xs : List A) (n : ℕ) (x : A) → (n < length xs) × (x ≡ get_or xs n x) → is_some (read x) ≡ true
+pub each_of-goes : {A B : Type 0} (read : A → Option B) (xs : List A) (n : ℕ) (x : A)
+    → (n < length xs) × (x ≡ get_or xs n x) → is_some (read x) ≡ true
     → is_some (each_of read (drop n xs)) ≡ is_some (each_of read (drop (n + 1) xs))
 each_of-goes read xs n x h e =
     ap is_some (each_of-more read xs n x h) ∙ some_first (read x) (each_of read (drop (n + 1) xs)) e
@@ -72,14 +80,16 @@ first-length None rest all e = cc
 first-length (Some a) None all e = cc
 first-length (Some a) (Some others) all e = (a, others, refl, cc)
 
-pub each_of-length : {A B : Type 0} (read : A → Option B) (xs : List A) (ys : List B) → each_of read xs ≡ Some ys → length ys ≡ length xs
+pub each_of-length : {A B : Type 0} (read : A → Option B) (xs : List A) (ys : List B) → each_of read xs ≡ Some ys
+    → length ys ≡ length xs
 each_of-length read [] [] e = refl
 each_of-length read [] (y ∷ ys) e = cc
 each_of-length read (x ∷ xs) ys e =
     let parts = first-length (read x) (each_of read xs) ys e in
     ap length parts.3 ∙ ap suc (each_of-length read xs parts.1 parts.2)
 
-pub long_enough : {A B : Type 0} (read : A → Option B) (xs : List A) (most : ℕ) (all : Option (List B)) → all ≡ each_of read xs → most < length xs
+pub long_enough : {A B : Type 0} (read : A → Option B) (xs : List A) (most : ℕ) (all : Option (List B))
+    → all ≡ each_of read xs → most < length xs
     → IfSome all (λ all. most < length all)
 long_enough read xs most None e h = tt
 long_enough read xs most (Some all) e h = let same = each_of-length read xs all (sym e) in omega arith

@@ -18,7 +18,8 @@ with_byte-onto_first : (byte : ℕ) (texts : List (List ℕ)) → with_byte fals
 with_byte-onto_first byte [] = refl
 with_byte-onto_first byte (part ∷ rest) = refl
 
-with_byte-cond : (t : Bool) (byte : ℕ) (texts : List (List ℕ)) → with_byte t byte texts ≡ cond t ([] ∷ texts) (onto_first byte texts)
+with_byte-cond : (t : Bool) (byte : ℕ) (texts : List (List ℕ))
+    → with_byte t byte texts ≡ cond t ([] ∷ texts) (onto_first byte texts)
 with_byte-cond true byte texts = refl
 with_byte-cond false byte texts = with_byte-onto_first byte texts
 
@@ -36,12 +37,14 @@ silent_after true byte texts = refl
 silent_after false byte [] = refl
 silent_after false byte (part ∷ rest) = refl
 
-find-cons : (t : Bool) (byte : ℕ) (rest : Option ℕ) → cond t (option_map_or (λ first. eqb first 35) rest true) (eqb byte 35)
+find-cons : (t : Bool) (byte : ℕ) (rest : Option ℕ)
+    → cond t (option_map_or (λ first. eqb first 35) rest true) (eqb byte 35)
     ≡ option_map_or (λ first. eqb first 35) (cond (not t) (Some byte) rest) true
 find-cons true byte rest = refl
 find-cons false byte rest = refl
 
-pub is_silent-first : (line : List ℕ) → is_silent line ≡ option_map_or (λ first. eqb first 35) (find (λ byte. not (eqb byte 32)) line) true
+pub is_silent-first : (line : List ℕ)
+    → is_silent line ≡ option_map_or (λ first. eqb first 35) (find (λ byte. not (eqb byte 32)) line) true
 is_silent-first [] = refl
 is_silent-first (byte ∷ bytes) =
     silent_after (eqb byte 32) byte (parts 32 bytes)
@@ -52,7 +55,8 @@ is_silent-first (byte ∷ bytes) =
 abbrev pub read_before : {A : Type 0} → List A → Option (List A) → Option (List A)
 read_before before rest = option_map (λ after. before ++ after) rest
 
-pub read_before-first : {A : Type 0} (before : List A) (a : A) (rest : Option (List A)) → read_before (before ++ a ∷ []) rest ≡ read_before before (with_first (Some a) rest)
+pub read_before-first : {A : Type 0} (before : List A) (a : A) (rest : Option (List A))
+    → read_before (before ++ a ∷ []) rest ≡ read_before before (with_first (Some a) rest)
 read_before-first before a None = refl
 read_before-first before a (Some after) = ap Some (append_assoc before (a ∷ []) after)
 
@@ -61,15 +65,18 @@ no_bytes : (part : List ℕ) → eqb (length part) 0 ≡ is_empty part
 no_bytes [] = refl
 no_bytes (byte ∷ bytes) = grind (arith, nat_tests)
 
-filter-same : (parts : List (List ℕ)) → filter (λ part. not (eqb (length part) 0)) parts ≡ filter (λ part. not (is_empty part)) parts
+filter-same : (parts : List (List ℕ))
+    → filter (λ part. not (eqb (length part) 0)) parts ≡ filter (λ part. not (is_empty part)) parts
 filter-same [] = refl
 filter-same (part ∷ rest) =
-    ap (λ empty. cond (not empty) (part ∷ filter (λ part. not (eqb (length part) 0)) rest) (filter (λ part. not (eqb (length part) 0)) rest)) (no_bytes part)
+    ap (λ empty. cond (not empty) (part ∷ filter (λ part. not (eqb (length part) 0)) rest)
+    (filter (λ part. not (eqb (length part) 0)) rest)) (no_bytes part)
     ∙ ap (λ kept. cond (not (is_empty part)) (part ∷ kept) kept) (filter-same rest)
 
 pub YieldsList-tokens :
     {S A : Type 0} {steps : S → Option A → S → Type 0} {v : A → List ℕ} {s : S} (line : List ℕ)
-    → YieldsList steps v s (filter (λ part. not (eqb (length part) 0)) (slice_split (λ byte. eqb byte 32) line)) → YieldsList steps v s (raw_tokens line)
+    → YieldsList steps v s (filter (λ part. not (eqb (length part) 0)) (slice_split (λ byte. eqb byte 32) line))
+    → YieldsList steps v s (raw_tokens line)
 YieldsList-tokens line road = rw (← filter-same (parts 32 line), parts-split) road
 
 -- what a test for an empty slice says
@@ -106,7 +113,8 @@ both false b e = cc
 
 plain-step : (plain escape : Bool) (byte : ℕ) (bytes : List ℕ) → plain ≡ true → escape ≡ false →
     spelled Between bytes ≡ Some bytes →
-    with_completed (cond plain (Some byte) None) (spelled (cond escape AfterBackslash (cond plain Between Failed)) bytes) ≡ Some (byte ∷ bytes)
+    with_completed (cond plain (Some byte) None)
+    (spelled (cond escape AfterBackslash (cond plain Between Failed)) bytes) ≡ Some (byte ∷ bytes)
 plain-step true false byte bytes e f rest = ap (option_map (λ bytes. byte ∷ bytes)) rest
 plain-step true true byte bytes e f rest = cc
 plain-step false escape byte bytes e f rest = cc
@@ -121,7 +129,8 @@ plain-spelled : (token : List ℕ) → all_plain token ≡ true → spelled Betw
 plain-spelled [] e = refl
 plain-spelled (byte ∷ bytes) e =
     let parts = both (is_plain byte) (all_plain bytes) e in
-    plain-step (is_plain byte) (eqb byte 92) byte bytes parts.0 (not_escape (leb 33 byte) (leb byte 126) (eqb byte 92) parts.0) (plain-spelled bytes parts.1)
+    plain-step (is_plain byte) (eqb byte 92) byte bytes parts.0
+    (not_escape (leb 33 byte) (leb byte 126) (eqb byte 92) parts.0) (plain-spelled bytes parts.1)
 
 not_all : false ≡ true → ⊥
 not_all e = cc
@@ -132,34 +141,41 @@ plain-text token e = by_test (bytes_eq token (codes "\\e")) refl where
   by_test false f = plain-spelled token e
   by_test true f = absurd (not_all (subst (λ text. all_plain text ≡ true) ((bytes_eq-Decides token (codes "\\e")).0 f) e))
 
-plain-parts : (is_space : Bool) (byte : ℕ) (texts : List (List ℕ)) → list_all all_plain texts ≡ true → (is_space || is_plain byte) ≡ true
+plain-parts : (is_space : Bool) (byte : ℕ) (texts : List (List ℕ)) → list_all all_plain texts ≡ true
+    → (is_space || is_plain byte) ≡ true
     → list_all all_plain (with_byte is_space byte texts) ≡ true
 plain-parts true byte texts e f = e
 plain-parts false byte [] e f = ap (λ plain. (plain && true) && true) f
 plain-parts false byte (part ∷ rest) e f =
     let parts = both (all_plain part) (list_all all_plain rest) e in
-    ap (λ plain. (plain && all_plain part) && list_all all_plain rest) f ∙ ap (λ plain. (true && plain) && list_all all_plain rest) parts.0 ∙ parts.1
+    ap (λ plain. (plain && all_plain part) && list_all all_plain rest) f
+    ∙ ap (λ plain. (true && plain) && list_all all_plain rest) parts.0 ∙ parts.1
 
-line-parts : (line : List ℕ) → list_all (λ byte. eqb byte 32 || is_plain byte) line ≡ true → list_all all_plain (parts 32 line) ≡ true
+line-parts : (line : List ℕ) → list_all (λ byte. eqb byte 32 || is_plain byte) line ≡ true
+    → list_all all_plain (parts 32 line) ≡ true
 line-parts [] e = refl
 line-parts (byte ∷ bytes) e =
     let halves = both (eqb byte 32 || is_plain byte) (list_all (λ byte. eqb byte 32 || is_plain byte) bytes) e in
     plain-parts (eqb byte 32) byte (parts 32 bytes) (line-parts bytes halves.1) halves.0
 
 plain-texts : (texts : List (List ℕ)) → list_all all_plain texts ≡ true
-    → each_of token_text (filter (λ part. not (is_empty part)) texts) ≡ Some (filter (λ part. not (is_empty part)) texts)
+    → each_of token_text (filter (λ part. not (is_empty part)) texts)
+    ≡ Some (filter (λ part. not (is_empty part)) texts)
 plain-texts [] e = refl
 plain-texts ([] ∷ rest) e = plain-texts rest e
 plain-texts ((byte ∷ bytes) ∷ rest) e =
     let halves = both (all_plain (byte ∷ bytes)) (list_all all_plain rest) e in
-    ap (λ first. with_first first (each_of token_text (filter (λ part. not (is_empty part)) rest))) (plain-text (byte ∷ bytes) halves.0)
+    ap (λ first. with_first first (each_of token_text (filter (λ part. not (is_empty part)) rest)))
+    (plain-text (byte ∷ bytes) halves.0)
     ∙ ap (with_first (Some (byte ∷ bytes))) (plain-texts rest halves.1)
 
-pub plain-tokens : (line : List ℕ) → list_all (λ byte. eqb byte 32 || is_plain byte) line ≡ true → each_of token_text (raw_tokens line) ≡ Some (raw_tokens line)
+pub plain-tokens : (line : List ℕ) → list_all (λ byte. eqb byte 32 || is_plain byte) line ≡ true
+    → each_of token_text (raw_tokens line) ≡ Some (raw_tokens line)
 plain-tokens line e = plain-texts (parts 32 line) (line-parts line e)
 
 -- the texts of a line by the number of its tokens
-pub few_texts-few : (line : List ℕ) → length (raw_tokens line) ≤ 6 → few_texts line ≡ each_of token_text (raw_tokens line)
+pub few_texts-few : (line : List ℕ) → length (raw_tokens line) ≤ 6
+    → few_texts line ≡ each_of token_text (raw_tokens line)
 few_texts-few line few =
     let test : leb (length (raw_tokens line)) 6 ≡ true = grind (arith, nat_tests) in
     ap (λ test. cond test (each_of token_text (raw_tokens line)) None) test
@@ -182,17 +198,20 @@ sum-cons size sizes = sum_by-cons (λ size. size) size sizes
 
 pub sum-push : (sizes : List ℕ) (size : ℕ) → sum (sizes ++ size ∷ []) ≡ sum sizes + size
 sum-push [] size = sum-cons size [] ∙ add-zero size ∙ sym (zero-add size)
-sum-push (first ∷ sizes) size = sum-cons first (sizes ++ size ∷ []) ∙ ap (λ rest. first + rest) (sum-push sizes size) ∙ sym (add_assoc first (sum sizes) size) ∙ ap (λ all. all + size) (sym (sum-cons first sizes))
+sum-push (first ∷ sizes) size = sum-cons first (sizes ++ size ∷ []) ∙ ap (λ rest. first + rest) (sum-push sizes size)
+    ∙ sym (add_assoc first (sum sizes) size) ∙ ap (λ all. all + size) (sym (sum-cons first sizes))
 
 -- one text more behind the others
-pub cut-push : (bytes text sizes : List ℕ) → sum sizes ≡ length bytes → cut (bytes ++ text) (sizes ++ length text ∷ []) ≡ cut bytes sizes ++ text ∷ []
+pub cut-push : (bytes text sizes : List ℕ) → sum sizes ≡ length bytes
+    → cut (bytes ++ text) (sizes ++ length text ∷ []) ≡ cut bytes sizes ++ text ∷ []
 cut-push [] text [] e = ap (λ front. front ∷ []) (take_all (length text) text (omega arith))
 cut-push (byte ∷ bytes) text [] e = absurd (omega arith)
 cut-push bytes text (size ∷ sizes) e =
     let whole : size + sum sizes ≡ length bytes = sym (sum-cons size sizes) ∙ e in
     let within : size ≤ length bytes = omega (arith, whole) in
     let rest : sum sizes ≡ length (drop size bytes) = omega (arith, whole, length-drop size bytes) in
-    ap (λ first. first ∷ cut (drop size (bytes ++ text)) (sizes ++ length text ∷ [])) (take-append-le size bytes text within)
+    ap (λ first. first ∷ cut (drop size (bytes ++ text)) (sizes ++ length text ∷ []))
+    (take-append-le size bytes text within)
     ∙ ap (λ left. take size bytes ∷ cut left (sizes ++ length text ∷ [])) (drop-append-le size bytes text within)
     ∙ ap (λ others. take size bytes ∷ others) (cut-push (drop size bytes) text sizes rest)
 
@@ -202,7 +221,8 @@ pub appended : (new old : List ℕ) (text : Option (List ℕ)) → Some new ≡ 
 appended new old None e = cc
 appended new old (Some bytes) e = (bytes, refl, cc)
 
-pub not_appended : (old : List ℕ) (text : Option (List ℕ)) → None ≡ option_map (λ bytes. old ++ bytes) text → text ≡ None
+pub not_appended : (old : List ℕ) (text : Option (List ℕ)) → None ≡ option_map (λ bytes. old ++ bytes) text
+    → text ≡ None
 not_appended old None e = refl
 not_appended old (Some bytes) e = cc
 

@@ -19,19 +19,24 @@ use Rattle.vt_spec.specs.Language.Script.{task_word, name_of_parts, each_of, wit
 
 -- a task's name by its first part
 pub task_word-other : (text first : List ℕ) (rest : List (List ℕ)) → parts 46 text ≡ first ∷ rest → bytes_eq first (codes "t") ≡ false → task_word text ≡ None
-task_word-other text first rest e other = ap name_of_parts e ∙ ap (λ same. cond same (each_of child_number rest) None) other
+task_word-other text first rest e other = ap name_of_parts e
+    ∙ ap (λ same. cond same (each_of child_number rest) None) other
 
 pub task_word-children : (text first : List ℕ) (rest : List (List ℕ)) → parts 46 text ≡ first ∷ rest → bytes_eq first (codes "t") ≡ true → task_word text ≡ each_of child_number rest
-task_word-children text first rest e same = ap name_of_parts e ∙ ap (λ same. cond same (each_of child_number rest) None) same
+task_word-children text first rest e same = ap name_of_parts e
+    ∙ ap (λ same. cond same (each_of child_number rest) None) same
 
-task_some : (words : List (List ℕ)) → is_some (name_of_parts words) ≡ true → name_of_parts words ≡ each_of child_number (drop 1 words)
+task_some : (words : List (List ℕ)) → is_some (name_of_parts words) ≡ true
+    → name_of_parts words ≡ each_of child_number (drop 1 words)
 task_some [] e = cc
 task_some (first ∷ rest) e = by_test (bytes_eq first (codes "t")) e where
-  by_test : (test : Bool) → is_some (cond test (each_of child_number rest) None) ≡ true → cond test (each_of child_number rest) None ≡ each_of child_number rest
+  by_test : (test : Bool) → is_some (cond test (each_of child_number rest) None) ≡ true
+      → cond test (each_of child_number rest) None ≡ each_of child_number rest
   by_test true e = refl
   by_test false e = cc
 
-pub task_word-some : (text : List ℕ) → is_some (task_word text) ≡ true → task_word text ≡ each_of child_number (drop 1 (parts 46 text))
+pub task_word-some : (text : List ℕ) → is_some (task_word text) ≡ true
+    → task_word text ≡ each_of child_number (drop 1 (parts 46 text))
 task_word-some text e = task_some (parts 46 text) e
 
 -- the sets of bits that a list unites, one after another
@@ -48,11 +53,13 @@ abbrev pub united : ℕ → Option (List ℕ) → Option ℕ
 united caps None = None
 united caps (Some sets) = Some (bit_or caps (union sets))
 
-pub united-more : (caps set : ℕ) (rest : Option (List ℕ)) → united (bit_or caps set) rest ≡ united caps (with_first (Some set) rest)
+pub united-more : (caps set : ℕ) (rest : Option (List ℕ))
+    → united (bit_or caps set) rest ≡ united caps (with_first (Some set) rest)
 united-more caps set None = refl
 united-more caps set (Some sets) = ap Some (or_assoc caps set (union sets))
 
-these-united : (sets : Option (List ℕ)) → option_map (λ sets. These (union sets)) sets ≡ option_map These (united 0 sets)
+these-united : (sets : Option (List ℕ))
+    → option_map (λ sets. These (union sets)) sets ≡ option_map These (united 0 sets)
 these-united None = refl
 these-united (Some sets) = ap (λ bits. Some (These bits)) (sym (or_zero_l (union sets)))
 
@@ -72,7 +79,8 @@ pointwise-flip (x ∷ xs) [] = refl
 pointwise-flip (x ∷ xs) (y ∷ ys) =
     ap (λ first. first && pointwise nat_eq xs ys) (eqb_comm x y) ∙ ap (λ rest. eqb y x && rest) (pointwise-flip xs ys)
 
-named_or : (a b : Bool) (set : ℕ) (rest rest' : Option ℕ) → a ≡ b → rest ≡ rest' → cond a (Some set) rest ≡ cond b (Some set) rest'
+named_or : (a b : Bool) (set : ℕ) (rest rest' : Option ℕ) → a ≡ b → rest ≡ rest'
+    → cond a (Some set) rest ≡ cond b (Some set) rest'
 named_or a b set rest rest' e f = cc
 
 some_bytes : (n : ℕ) → eqb (suc n) 0 ≡ false
@@ -155,14 +163,19 @@ groups_word-wrong text some wrong =
 not_some : false ≡ true → ⊥
 not_some e = cc
 
-pub words_end : {A : Type 0} (all left : List A) (at : ℕ) (size : ℕ) (ended : Option (Unit {0})) → ended ≡ then_some (leb size at) tt → size ≡ length all
+pub words_end : {A : Type 0} (all left : List A) (at : ℕ) (size : ℕ) (ended : Option (Unit {0}))
+    → ended ≡ then_some (leb size at) tt → size ≡ length all
     → drop at all ≡ left → (IsSome ended → left ≡ []) × (left ≡ [] → IsSome ended)
 words_end all left at size ended is count rest = by_test (leb size at) refl is where
-  by_test : (test : Bool) → leb size at ≡ test → ended ≡ then_some test tt → (IsSome ended → left ≡ []) × (left ≡ [] → IsSome ended)
+  by_test : (test : Bool) → leb size at ≡ test → ended ≡ then_some test tt
+      → (IsSome ended → left ≡ []) × (left ≡ [] → IsSome ended)
   by_test true e is =
       let past : length all ≤ at = grind (arith, nat_tests) in
       (λ some. sym rest ∙ drop_all at all past, λ none. ap is_some is)
   by_test false e is =
       let within : at < length all = grind (arith, nat_tests) in
-      let size = length-drop at all in
-      (λ some. absurd (not_some (ap is_some (sym is) ∙ some)), λ none. absurd (let e = ap length (rest ∙ none) in omega (arith, within, size, e)))
+      let size = length-drop at all in (
+        λ some. absurd (not_some (ap is_some (sym is) ∙ some)),
+        λ none.
+            absurd (let e = ap length (rest ∙ none) in omega (arith, within, size, e)),
+      )

@@ -2,16 +2,17 @@
 use Rattle.std.specs.Prelude.{List, None, Option, Some, length, ℕ, ◌<◌, ◌≡◌, ◌⊎◌, IsSome, IsSomeAnd, Result, Ok, Err}
 use Rattle.vt_spec.specs.Language.Calls as spec
 use Rattle.vt_spec.specs.Language.Calls.Call.{Close, Drop, Exit, Fork, ListMounts, Pread, Setns, Umask, Unshare}
-use Rattle.vt_spec.specs.Language.Script.{Request, call_words, namespaces, no_more, path_word, word_then}
+use Rattle.vt_spec.specs.Language.Script.{Request, call_words, no_more, path_word, propagation, word_then}
 use Rattle.vt_spec.specs.Language.Script.Request.{Asking, Calling}
 use Rattle.vt_spec.specs.Language.Script.Version.{One}
 use Rattle.vt_spec.specs.Lists.{then_some, when}
 use Rattle.vt_request.specs.declared.request.Call.{Call}
-use Rattle.vt_request.specs.declared.task.TaskName.{TaskName}
 use Rattle.vt_request.specs.declared.task.TheConstants.{INLINE_NUMBERS}
-use Rattle.vt_request.specs.Requests.{call_of, capabilities_of}
+use Rattle.vt_request.specs.Requests.{call_of, capabilities_of, directive_of}
 use Rattle.vt_line.specs.Names.{name_text}
 use Rattle.vt_line.specs.declared.names.CallName.{CallName}
+use Rattle.vt_line.specs.declared.line.Line.{Line}
+use Rattle.vt_line.specs.declared.line.Line.TheVariants as line
 use Rattle.vt_line.specs.declared.calls.tasks.Child.{Child}
 use Rattle.vt_line.specs.declared.calls.ReadError.{ReadError}
 use Rattle.vt_line.specs.declared.calls.ReadError.TheVariants.{Grammar, Memory}
@@ -40,7 +41,7 @@ abbrev pub call_worded : CallName → List (List ℕ) → Option spec.Call
 call_worded name words = call_words One (name_text name) words
 
 abbrev pub call_named : CallName → List (List ℕ) → Option spec.Call
-call_named name words = then_some (call_worded name words) (λ call. when (namespaces.has call) call)
+call_named name words = then_some (call_worded name words) (λ call. when (propagation.has call) call)
 
 -- a call was read, or why none was
 abbrev pub IsCallRead : Option spec.Call → Result Call ReadError → Type 0
@@ -54,9 +55,15 @@ ArePathsRead of asked (Ok paths) = asked ≡ Some (of paths)
 ArePathsRead of asked (Err Grammar) = asked ≡ None
 ArePathsRead of asked (Err Memory) = IsSome asked
 
+-- the request that a line asks for; one without an answer asks for none
+abbrev pub AsksFor : Line → Option Request → Type 0
+AsksFor line.Silent asked = ⊥
+AsksFor (line.Call task call) asked = asked ≡ Some (Calling task (call_of call))
+AsksFor (line.Ask directive) asked = asked ≡ Some (Asking (directive_of directive))
+
 -- a request was read, or why none was
-abbrev pub IsRequestRead : Option Request → Result (TaskName × Call) ReadError → Type 0
-IsRequestRead asked (Ok (task, call)) = asked ≡ Some (Calling task (call_of call))
+abbrev pub IsRequestRead : Option Request → Result Line ReadError → Type 0
+IsRequestRead asked (Ok line) = AsksFor line asked
 IsRequestRead asked (Err Grammar) = asked ≡ None
 IsRequestRead asked (Err Memory) = IsSomeAnd asked TakesMemory
 

@@ -8,10 +8,12 @@ use Rattle.vt_spec.specs.declared.attributes.Kind.TheVariants.{Dir, File, Symlin
 use Rattle.vt_spec.specs.declared.errors.Deny.{Deny}
 use Rattle.vt_spec.specs.Language.Answers as spec
 use Rattle.vt_spec.specs.Language.Answers.{Answer, StatLine}
-use Rattle.vt_spec.specs.Language.Printed.{kind_word, mount_line_words, printed_byte, printed_flags, printed_line, printed_spot, printed_text, printed_type, printed_value}
+use Rattle.vt_spec.specs.Language.Printed.{kind_word, mount_line_words, printed_byte, peer_line_words, printed_flags, printed_line, printed_member, printed_spot, printed_text, printed_type, printed_value}
 use Rattle.vt_spec.specs.Lists.{counted_from}
-use Rattle.vt_request.specs.Answers.{mount_line_of, spot_of}
+use Rattle.vt_request.specs.Answers.{mount_line_of, mount_place_of, peer_line_of, spot_of}
 use Rattle.vt_request.specs.declared.answer.MountLine.{MountLine}
+use Rattle.vt_request.specs.declared.answer.MountPlace.{MountPlace}
+use Rattle.vt_request.specs.declared.answer.PeerLine.{PeerLine}
 use Rattle.vt_request.specs.declared.answer.Spot.{Spot}
 
 -- names, behind a space each
@@ -59,3 +61,11 @@ shown_words line =
 abbrev pub printed_mounts : ℕ → List MountLine → List ℕ
 printed_mounts number lines = flat_map (printed_line number)
     (map mount_line_words (counted_from 1 (map mount_line_of lines)))
+
+-- the members of a peer group behind the first, behind a comma each
+abbrev pub printed_further_members : List MountPlace → List ℕ
+printed_further_members others = flat_map (λ other. 44 ∷ printed_member (mount_place_of other)) others
+
+-- the lines of a list of peer groups
+abbrev pub printed_peers : ℕ → List PeerLine → List ℕ
+printed_peers number lines = flat_map (λ line. printed_line number (peer_line_words (peer_line_of line))) lines

@@ -8,6 +8,7 @@ pub mod line;
 mod listing;
 mod names;
 mod number;
+mod peers;
 pub mod print;
 mod token;
 mod words;

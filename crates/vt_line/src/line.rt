@@ -1,9 +1,13 @@
 //! The lines of a script.
-ghost use Rattle.std.specs.Prelude.{◌≡◌, ◌<◌, ◌≤◌, ◌↔◌, ◌⊎◌, None, length, IfOk, IfErr, IsSomeAnd};
+ghost use Rattle.std.specs.Prelude.{◌≡◌, ◌<◌, ◌≤◌, ◌↔◌, ◌⊎◌, ◌∷◌, None, length, option_map, IfOk, IfErr, IsSomeAnd};
 ghost use Rattle.vt_spec.specs.Errors.{denial};
-ghost use Rattle.vt_spec.specs.Language.Script.{namespaces, request_of, request_of_texts};
+ghost use Rattle.vt_spec.specs.Language.Script.{asked_by, directive_asked, propagation};
+ghost use Rattle.vt_spec.specs.Language.Script.{request_of, request_of_texts, task_word};
+ghost use Rattle.vt_spec.specs.Language.Script.Request.{Asking};
+ghost use Rattle.vt_spec.specs.Language.Script.Who.{Someone};
 ghost use Rattle.vt_spec.specs.Language.Limits.{longest_line};
 ghost use Rattle.vt_spec.specs.declared.errors.Rule.TheVariants.{S1, S5};
+ghost use Rattle.vt_request.specs.Requests.{directive_of};
 ghost use Rattle.vt_line.specs.Calls.{IsRequestRead, TakesMemory};
 ghost use Rattle.vt_line.specs.Lines.{IsSilent, IsSpoken, IsReadingOf};
 ghost use Rattle.vt_line.specs.Tokens.{texts_of};
@@ -14,7 +18,7 @@ use crate::token::{Texts, Unescaped, is_silent, is_unescaped, unescaped_texts};
 use crate::words::{Words, is_task, task_name};
 use std::alloc::Global;
 use vt_io::line::LONGEST_LINE;
-use vt_request::{Call, TaskName};
+use vt_request::{Call, Directive, TaskName};
 use vt_spec::errors::{Deny, Rule};
 
 /// A line of a script.
@@ -24,16 +28,15 @@ pub enum Line {
     Silent,
     /// A task makes a call.
     Call(TaskName, Call),
+    /// Nobody's line, behind a `!` in place of a task.
+    Ask(Directive),
 }
 
-/// Which task makes which call, by the texts of a line. What is kept of them is copied once all are of the grammar.
-fn texts_request(alloc: Global, texts: Texts<'_>) -> Result<(TaskName, Call), ReadError>
-    ensures { IsRequestRead (request_of_texts namespaces (texts_of texts.entry.items)) result }
+/// A task's call, by their texts and the words behind them. What is kept of them is copied once all are of the grammar.
+fn task_call(alloc: Global, task: &[u8], name: &[u8], words: Words<'_>) -> Result<Line, ReadError>
+    ensures { let task = option_map Someone (task_word task.now) in
+        IsRequestRead (asked_by propagation task (name.now ∷ words.entry)) result }
 {
-    let mut words = Words::new(texts);
-    let (Some(task), Some(name)) = (words.next(), words.next()) else {
-        return Err(ReadError::Grammar);
-    };
     let Some(name) = CallName::from_text(name) else {
         return Err(ReadError::Grammar);
     };
@@ -42,13 +45,42 @@ fn texts_request(alloc: Global, texts: Texts<'_>) -> Result<(TaskName, Call), Re
     }
     let call = call(alloc, name, words)?;
     let task = task_name(alloc, task)?;
-    Ok((task, call))
+    Ok(Line::Call(task, call))
 }
 
-/// Which task makes which call, by a line that has escapes, or bytes that no token has.
-fn escaped_request(alloc: Global, line: &[u8]) -> Result<(TaskName, Call), ReadError>
+/// The directive of this name, with these words.
+fn directive(name: &[u8], words: Words<'_>) -> Option<Directive>
+    ensures { option_map (λ directive. Asking (directive_of directive)) result
+        ≡ directive_asked propagation (name.now ∷ words.entry) }
+{
+    if name != b"peers".as_slice() {
+        return None;
+    }
+    words.end()?;
+    Some(Directive::Peers)
+}
+
+/// What a line asks for, by its texts.
+fn texts_request(alloc: Global, texts: Texts<'_>) -> Result<Line, ReadError>
+    ensures { IsRequestRead (request_of_texts propagation (texts_of texts.entry.items)) result }
+{
+    let mut words = Words::new(texts);
+    let (Some(who), Some(name)) = (words.next(), words.next()) else {
+        return Err(ReadError::Grammar);
+    };
+    if who != b"!".as_slice() {
+        return task_call(alloc, who, name, words);
+    }
+    let Some(directive) = directive(name, words) else {
+        return Err(ReadError::Grammar);
+    };
+    Ok(Line::Ask(directive))
+}
+
+/// What a line asks for that has escapes, or bytes that no token has.
+fn escaped_request(alloc: Global, line: &[u8]) -> Result<Line, ReadError>
     requires { length line.now ≤ longest_line }
-    ensures { IsRequestRead (request_of namespaces line.now) result }
+    ensures { IsRequestRead (request_of propagation line.now) result }
 {
     let Some(unescaped) = Unescaped::from_line(line) else {
         return Err(ReadError::Grammar);
@@ -56,10 +88,10 @@ fn escaped_request(alloc: Global, line: &[u8]) -> Result<(TaskName, Call), ReadE
     texts_request(alloc, unescaped.texts())
 }
 
-/// Which task makes which call, if the line is of the grammar.
-fn request(alloc: Global, line: &[u8]) -> Result<(TaskName, Call), ReadError>
+/// What a line asks for, if it is of the grammar.
+fn request(alloc: Global, line: &[u8]) -> Result<Line, ReadError>
     requires { length line.now ≤ longest_line }
-    ensures { IsRequestRead (request_of namespaces line.now) result }
+    ensures { IsRequestRead (request_of propagation line.now) result }
 {
     if !is_unescaped(line) {
         return escaped_request(alloc, line);
@@ -82,9 +114,9 @@ impl Line {
         // The two refusals, and what each says of the line.
         ensures refused { IfErr result (λ deny. (deny ≡ denial S1) ⊎ (deny ≡ denial S5)) }
         ensures no_request { (result ≡ Err (denial S1))
-            ↔ ((longest_line < length line.now) ⊎ (IsSpoken line.now × (request_of namespaces line.now ≡ None))) }
+            ↔ ((longest_line < length line.now) ⊎ (IsSpoken line.now × (request_of propagation line.now ≡ None))) }
         ensures no_memory { result ≡ Err (denial S5)
-            → IsSpoken line.now × IsSomeAnd (request_of namespaces line.now) TakesMemory }
+            → IsSpoken line.now × IsSomeAnd (request_of propagation line.now) TakesMemory }
     {
         if line.len() > LONGEST_LINE {
             return Err(Rule::S1.denial());
@@ -93,7 +125,7 @@ impl Line {
             return Ok(Line::Silent);
         }
         match request(alloc, line) {
-            Ok((task, call)) => Ok(Line::Call(task, call)),
+            Ok(line) => Ok(line),
             Err(ReadError::Grammar) => Err(Rule::S1.denial()),
             Err(ReadError::Memory) => Err(Rule::S5.denial()),
         }

@@ -1,7 +1,7 @@
 //! How answers are printed, without taking memory.
 ghost use Rattle.std.specs.List.{flat_map};
 ghost use Rattle.std.specs.Prelude.{◌≡◌, ◌+◌, ◌/◌, ◌%◌, ◌^◌, ◌<◌, [], ◌∷◌, ◌++◌, decimal, false, length, slice_index, All, IsTrue, IfErr};
-ghost use Rattle.vt_spec.specs.Language.Printed.{hex_digit, owner_words, printed_byte, printed_line, printed_mode, printed_task, printed_text, printed_value, reply_line, spaced, stat_words};
+ghost use Rattle.vt_spec.specs.Language.Printed.{hex_digit, owner_words, printed_byte, printed_line, printed_mode, printed_rows, printed_task, printed_text, printed_value, reply_line, spaced, stat_words};
 ghost use Rattle.vt_spec.specs.Language.Script.{is_plain};
 ghost use Rattle.vt_io.specs.Sink.{Prints};
 ghost use Rattle.vt_request.specs.Answers.{answer_of, result_of, stat_line_of};
@@ -10,6 +10,7 @@ ghost use Rattle.vt_line.specs.Printing.{further_words, kind_text, printed_names
 use crate::fault::RunFault;
 use crate::hex::HexDigit;
 use crate::listing::write_mounts;
+use crate::peers::write_peers;
 use crate::token::is_plain;
 use itoa::Buffer;
 use vt_io::output::{Sink, SinkFailed};
@@ -194,6 +195,7 @@ fn write_value<W: Sink>(sink: &mut W, answer: &Answer) -> Result<(), SinkFailed>
         Answer::Opened(descriptor) => write_number(sink, u64::from(*descriptor)),
         Answer::Child(name) => write_task(sink, name),
         Answer::MountList(lines) => write_number(sink, lines.len() as u64),
+        Answer::PeerList(lines) => write_number(sink, lines.len() as u64),
     }
 }
 
@@ -209,7 +211,7 @@ fn write_denial<W: Sink>(sink: &mut W, deny: &Deny) -> Result<(), SinkFailed>
     write_parts(sink, &[b" deny ", number, b" ", error, b" ", rule])
 }
 
-/// What a call was answered with.
+/// What was answered.
 fn write_result<W: Sink>(sink: &mut W, outcome: &Result<Answer, Deny>) -> Result<(), SinkFailed>
     requires countable { W.failures sink.old + 1 < 2 ^ 64 }
     ensures printed { let text = spaced (reply_words (result_of outcome.now)) in
@@ -240,7 +242,20 @@ fn write_line<W: Sink>(
     write_all(sink, b"\n")
 }
 
-/// The lines that answer the line of this number: a list of mounts has one for each behind the first.
+/// The lines of a list behind the first, in the answer to the line of this number: one for each mount or peer group.
+fn write_rows<W: Sink>(sink: &mut W, number: u64, answer: &Answer) -> Result<(), SinkFailed>
+    requires countable { W.failures sink.old + 1 < 2 ^ 64 }
+    ensures printed { let rows = printed_rows (answer_of answer.now) in
+        Prints W.Sink (flat_map (printed_line number) rows) result sink.old sink.new }
+{
+    match answer {
+        Answer::MountList(lines) => write_mounts(sink, number, lines),
+        Answer::PeerList(lines) => write_peers(sink, number, lines),
+        _ => Ok(()),
+    }
+}
+
+/// The lines that answer the line of this number.
 fn write_lines<W: Sink>(
     sink: &mut W,
     number: u64,
@@ -252,8 +267,8 @@ fn write_lines<W: Sink>(
 {
     write_line(sink, number, outcome)?;
     match outcome {
-        Ok(Answer::MountList(lines)) => write_mounts(sink, number, lines),
-        _ => Ok(()),
+        Ok(answer) => write_rows(sink, number, answer),
+        Err(_) => Ok(()),
     }
 }
 

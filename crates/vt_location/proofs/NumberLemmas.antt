@@ -12,7 +12,8 @@ pub counted_same : (a b : ℕ) → counted a ≡ counted b → a ≡ b
 counted_same a b e = omega arith
 
 -- slots of two filesystems
-pub inode_same : (f g a b : ℕ) → a < 18446744073709551616 → b < 18446744073709551616 → inode_number f a ≡ inode_number g b → (f ≡ g) × (a ≡ b)
+pub inode_same : (f g a b : ℕ) → a < 18446744073709551616 → b < 18446744073709551616
+    → inode_number f a ≡ inode_number g b → (f ≡ g) × (a ≡ b)
 inode_same f g a b a_small b_small e = (omega arith, omega arith)
 
 -- no inode has the number of what is counted
@@ -21,7 +22,8 @@ counted_inode c f slot e = omega arith
 
 pub exchanged_slot : (f slot : ℕ) → slot < 18446744073709551616 → exchanged f slot ≡ inode_number f slot
 exchanged_slot f slot small =
-    ap (λ b. if b then inode_number f slot else if is_inode_of f slot then slot / 2 - 18446744073709551616 * (f + 1) else slot)
+    ap (λ b. if b then inode_number f slot else if is_inode_of f slot then slot / 2 - 18446744073709551616 * (f + 1)
+    else slot)
     (lt-ltb slot 18446744073709551616 small)
 
 both : (a b c : Bool) → a ≡ true → b ≡ true → c ≡ true → (a && b && c) ≡ true
@@ -37,9 +39,11 @@ is_inode f slot small =
     (lt-ltb (inode_number f slot) (inode_number (f + 1) 0) (omega arith))
     (eq-eqb (2 * (inode_number f slot / 2)) (inode_number f slot) (omega arith))
 
-at_number : (f n slot : ℕ) → nat_lt n 18446744073709551616 ≡ false → is_inode_of f n ≡ true → n ≡ inode_number f slot → exchanged f n ≡ slot
+at_number : (f n slot : ℕ) → nat_lt n 18446744073709551616 ≡ false → is_inode_of f n ≡ true → n ≡ inode_number f slot
+    → exchanged f n ≡ slot
 at_number f n slot large inode is =
-    ap (λ b. if b then inode_number f n else if is_inode_of f n then n / 2 - 18446744073709551616 * (f + 1) else n) large
+    ap (λ b. if b then inode_number f n else if is_inode_of f n then n / 2 - 18446744073709551616 * (f + 1)
+    else n) large
     ∙ ap (λ b. if b then n / 2 - 18446744073709551616 * (f + 1) else n) inode
     ∙ last
   where
@@ -48,12 +52,14 @@ at_number f n slot large inode is =
 
 pub exchanged_number : (f slot : ℕ) → slot < 18446744073709551616 → exchanged f (inode_number f slot) ≡ slot
 exchanged_number f slot small =
-    at_number f (inode_number f slot) slot (le-ltb (inode_number f slot) 18446744073709551616 (omega arith)) (is_inode f slot small) refl
+    at_number f (inode_number f slot) slot (le-ltb (inode_number f slot) 18446744073709551616 (omega arith))
+    (is_inode f slot small) refl
 
 -- what stands for no slot stays
 stays : (f n : ℕ) → nat_lt n 18446744073709551616 ≡ false → is_inode_of f n ≡ false → exchanged f n ≡ n
 stays f n large other =
-    ap (λ b. if b then inode_number f n else if is_inode_of f n then n / 2 - 18446744073709551616 * (f + 1) else n) large
+    ap (λ b. if b then inode_number f n else if is_inode_of f n then n / 2 - 18446744073709551616 * (f + 1)
+    else n) large
     ∙ ap (λ b. if b then n / 2 - 18446744073709551616 * (f + 1) else n) other
 
 first_of : (a b c : Bool) → (a && b && c) ≡ true → a ≡ true
@@ -75,7 +81,8 @@ un_negated true e = sym e
 un_negated false e = refl
 
 -- a number of an inode is the number of a slot
-pub slot_of : (f n : ℕ) → is_inode_of f n ≡ true → (slot : ℕ) × (slot < 18446744073709551616) × (n ≡ inode_number f slot)
+pub slot_of : (f n : ℕ) → is_inode_of f n ≡ true
+    → (slot : ℕ) × (slot < 18446744073709551616) × (n ≡ inode_number f slot)
 slot_of f n e =
     let low : Bool = nat_lt n (inode_number f 0) in
     let high : Bool = nat_lt n (inode_number (f + 1) 0) in
@@ -97,7 +104,8 @@ no_slot f n other = by (nat_lt n 18446744073709551616) refl
 pub exchanged_back : (f n : ℕ) → exchanged f (exchanged f n) ≡ n
 exchanged_back f n = by (nat_lt n 18446744073709551616) (is_inode_of f n) refl refl
   where
-    by : (small inode : Bool) → nat_lt n 18446744073709551616 ≡ small → is_inode_of f n ≡ inode → exchanged f (exchanged f n) ≡ n
+    by : (small inode : Bool) → nat_lt n 18446744073709551616 ≡ small → is_inode_of f n ≡ inode
+        → exchanged f (exchanged f n) ≡ n
     by true inode e i =
         let below = ltb-true n 18446744073709551616 e in
         ap (exchanged f) (exchanged_slot f n below) ∙ exchanged_number f n below
@@ -138,7 +146,11 @@ inode_test f g a b a_small b_small =
     (λ e. let same = two e in eq-eqb (inode_number f a) (inode_number g b) (λ i. inode_number (same.0 i) (same.1 i)))
   where
     two : (nat_eq f g && nat_eq a b) ≡ true → (f ≡ g) × (a ≡ b)
-    two e = (eqb-true f g (both-first (nat_eq f g) (nat_eq a b) e), eqb-true a b (both-second (nat_eq f g) (nat_eq a b) e))
+    two e = (
+      eqb-true f g (both-first (nat_eq f g) (nat_eq a b) e),
+      eqb-true a b
+          (both-second (nat_eq f g) (nat_eq a b) e),
+    )
 
 pub nodes_test : (a b : NodeRef) → a.slot < 18446744073709551616 → b.slot < 18446744073709551616
     → nat_eq (number_of a) (number_of b) ≡ (nat_eq a.filesystem.count b.filesystem.count && nat_eq a.slot b.slot)
@@ -146,6 +158,7 @@ nodes_test a b a_small b_small = inode_test a.filesystem.count b.filesystem.coun
 
 pub same_locations : (a b : Location) → a.node.slot < 18446744073709551616 → b.node.slot < 18446744073709551616
     → same_location nat_eq (location_of a) (location_of b)
-    ≡ (nat_eq a.mount.count b.mount.count && (nat_eq a.node.filesystem.count b.node.filesystem.count && nat_eq a.node.slot b.node.slot))
+    ≡ (nat_eq a.mount.count b.mount.count
+    && (nat_eq a.node.filesystem.count b.node.filesystem.count && nat_eq a.node.slot b.node.slot))
 same_locations a b a_small b_small =
     (λ i. counted_test a.mount.count b.mount.count i && nodes_test a.node b.node a_small b_small i)

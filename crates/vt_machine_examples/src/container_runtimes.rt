@@ -1,4 +1,4 @@
-//! Worked examples: how container runtimes use propagation (`docs/propagation`, without the comments).
+//! Worked examples: how container runtimes use propagation (`examples`, without the comments).
 ghost use Rattle.std.specs.Prelude.{◌≡◌, [], codes, ◌++◌};
 ghost use Rattle.vt_spec.specs.Machine.Run.{machine_text};
 ghost use Rattle.vt_spec.specs.Language.Script.Version.{One};

@@ -42,13 +42,15 @@ pub length-kept : (es : List (MountId × Mounted)) → IsDistinct same_id (keys_
 length-kept es distinct = length-entries (in_order es) ∙ length-in_order es distinct
 
 -- the first mount is found under its number
-pub first-found : (id first : MountId) (one : Mounted) (es : List (MountId × Mounted)) → Some (first, one) ≡ slice_get es 0 → same_id first id ≡ true
+pub first-found : (id first : MountId) (one : Mounted) (es : List (MountId × Mounted))
+    → Some (first, one) ≡ slice_get es 0 → same_id first id ≡ true
     → Some one ≡ lookup (same_id id) es
 first-found id first one [] at is = absurd cc
 first-found id first one (e ∷ es) at is =
     let here : e ≡ (first, one) = cc in
     sym (ap (λ e. lookup (same_id id) (e ∷ es)) here
-    ∙ ap (λ b. cond b (Some one) (lookup (same_id id) es)) (eq-eqb id.count first.count (sym (eqb-true first.count id.count is))))
+    ∙ ap (λ b. cond b (Some one) (lookup (same_id id) es))
+    (eq-eqb id.count first.count (sym (eqb-true first.count id.count is))))
 
 -- a number finds its mount
 
@@ -56,7 +58,8 @@ abbrev pub mount_under : MountId → Mounted → meant.Mount ℕ
 mount_under number kept = mount_of (mount_kept number kept)
 
 pub found-mount : (number : MountId) (kept : List (MountId × Mounted))
-    → seek (λ mount. nat_eq (counted number.count) mount.number) (mounts_in (entries kept)) ≡ option_map (mount_under number) (found number kept)
+    → seek (λ mount. nat_eq (counted number.count) mount.number) (mounts_in (entries kept))
+    ≡ option_map (mount_under number) (found number kept)
 found-mount number [] = refl
 found-mount number (one ∷ kept) =
     (λ i. cond (same_count number.count one.0.count i) (Some (mount_under one.0 one.1)) (found-mount number kept i))
@@ -64,88 +67,111 @@ found-mount number (one ∷ kept) =
     ∙ ap (λ b. option_map (mount_under number) (cond b (Some one.1) (found number kept))) (sym (tied number one.0))
   where
     by : (b : Bool) → (b ≡ true → number ≡ one.0)
-        → cond b (Some (mount_under one.0 one.1)) (option_map (mount_under number) (found number kept)) ≡ option_map (mount_under number) (cond b (Some one.1) (found number kept))
+        → cond b (Some (mount_under one.0 one.1)) (option_map (mount_under number) (found number kept))
+        ≡ option_map (mount_under number) (cond b (Some one.1) (found number kept))
     by true is = ap (λ n. Some (mount_under n one.1)) (sym (is refl))
     by false is = refl
 
 found-entry : (number : MountId) (kept : List (MountId × Mounted))
-    → entry_numbered (entries kept) (counted number.count) ≡ option_map (λ one. entry_of (number, one)) (found number kept)
+    → entry_numbered (entries kept) (counted number.count)
+    ≡ option_map (λ one. entry_of (number, one)) (found number kept)
 found-entry number [] = refl
 found-entry number (one ∷ kept) =
     (λ i. cond (same_count number.count one.0.count i) (Some (entry_of one)) (found-entry number kept i))
     ∙ by (same_id number one.0) (same number one.0)
-    ∙ ap (λ b. option_map (λ one. entry_of (number, one)) (cond b (Some one.1) (found number kept))) (sym (tied number one.0))
+    ∙ ap (λ b. option_map (λ one. entry_of (number, one)) (cond b (Some one.1) (found number kept)))
+    (sym (tied number one.0))
   where
     by : (b : Bool) → (b ≡ true → number ≡ one.0)
-        → cond b (Some (entry_of one)) (option_map (λ one. entry_of (number, one)) (found number kept)) ≡ option_map (λ one. entry_of (number, one)) (cond b (Some one.1) (found number kept))
+        → cond b (Some (entry_of one)) (option_map (λ one. entry_of (number, one)) (found number kept))
+        ≡ option_map (λ one. entry_of (number, one)) (cond b (Some one.1) (found number kept))
     by true is = ap (λ n. Some (entry_of (n, one.1))) (sym (is refl))
     by false is = refl
 
 pub kept-mount : (number : MountId) (es : List (MountId × Mounted))
-    → seek (λ mount. nat_eq (counted number.count) mount.number) (mounts_in (entries_of es)) ≡ option_map (mount_under number) (lookup (same_id number) es)
-kept-mount number es = found-mount number (in_order es) ∙ ap (option_map (mount_under number)) (found-in_order number es)
+    → seek (λ mount. nat_eq (counted number.count) mount.number) (mounts_in (entries_of es))
+    ≡ option_map (mount_under number) (lookup (same_id number) es)
+kept-mount number es = found-mount number (in_order es)
+    ∙ ap (option_map (mount_under number)) (found-in_order number es)
 
 pub kept-entry : (number : MountId) (es : List (MountId × Mounted))
-    → entry_numbered (entries_of es) (counted number.count) ≡ option_map (λ one. entry_of (number, one)) (lookup (same_id number) es)
-kept-entry number es = found-entry number (in_order es) ∙ ap (option_map (λ one. entry_of (number, one))) (found-in_order number es)
+    → entry_numbered (entries_of es) (counted number.count)
+    ≡ option_map (λ one. entry_of (number, one)) (lookup (same_id number) es)
+kept-entry number es = found-entry number (in_order es)
+    ∙ ap (option_map (λ one. entry_of (number, one))) (found-in_order number es)
 
 -- the same, of what contracts see
-pub mount-found : (id : MountId) (es : List (MountId × Mounted)) (now : List MountEntry) (r : Option Mounted) → entries_of es ≡ now
-    → lookup (same_id id) es ≡ r → option_map (mount_under id) r ≡ seek (λ mount. nat_eq (counted id.count) mount.number) (mounts_in now)
+pub mount-found : (id : MountId) (es : List (MountId × Mounted)) (now : List MountEntry) (r : Option Mounted)
+    → entries_of es ≡ now
+    → lookup (same_id id) es ≡ r → option_map (mount_under id) r
+    ≡ seek (λ mount. nat_eq (counted id.count) mount.number) (mounts_in now)
 mount-found id es now r view is =
-    ap (option_map (mount_under id)) (sym is) ∙ sym (kept-mount id es) ∙ ap (λ now. seek (λ mount. nat_eq (counted id.count) mount.number) (mounts_in now)) view
+    ap (option_map (mount_under id)) (sym is) ∙ sym (kept-mount id es)
+    ∙ ap (λ now. seek (λ mount. nat_eq (counted id.count) mount.number) (mounts_in now)) view
 
-pub entry-found : (id : MountId) (es : List (MountId × Mounted)) (now : List MountEntry) (r : Option Mounted) → entries_of es ≡ now
+pub entry-found : (id : MountId) (es : List (MountId × Mounted)) (now : List MountEntry) (r : Option Mounted)
+    → entries_of es ≡ now
     → lookup (same_id id) es ≡ r → option_map (λ one. entry_of (id, one)) r ≡ entry_numbered now (counted id.count)
 entry-found id es now r view is =
-    ap (option_map (λ one. entry_of (id, one))) (sym is) ∙ sym (kept-entry id es) ∙ ap (λ now. entry_numbered now (counted id.count)) view
+    ap (option_map (λ one. entry_of (id, one))) (sym is) ∙ sym (kept-entry id es)
+    ∙ ap (λ now. entry_numbered now (counted id.count)) view
 
 -- One that is changed
 
 module _ (number : MountId) (change : MountEntry → MountEntry) (change_it : Mounted → Mounted)
     (so : (n : MountId) (one : Mounted) → entry_of (n, change_it one) ≡ change (entry_of (n, one))) where
-  entries-changed : (kept : List (MountId × Mounted)) → entries (map (change_kept number change_it) kept) ≡ changed (counted number.count) change (entries kept)
+  entries-changed : (kept : List (MountId × Mounted))
+      → entries (map (change_kept number change_it) kept) ≡ changed (counted number.count) change (entries kept)
   entries-changed [] = refl
   entries-changed (one ∷ kept) =
       (λ i. by (same_id number one.0) i ∷ entries-changed kept i)
-      ∙ ap (λ b. cond b (change (entry_of one)) (entry_of one) ∷ changed (counted number.count) change (entries kept)) (sym (same_count number.count one.0.count))
+      ∙ ap (λ b. cond b (change (entry_of one)) (entry_of one) ∷ changed (counted number.count) change (entries kept))
+      (sym (same_count number.count one.0.count))
     where
       by : (b : Bool) → entry_of (one.0, cond b (change_it one.1) one.1) ≡ cond b (change (entry_of one)) (entry_of one)
       by true = so one.0 one.1
       by false = refl
 
   pub kept-changed : (es new : List (MountId × Mounted))
-      → ((q : MountId) → lookup (same_id q) new ≡ cond (same_id number q) (option_map change_it (lookup (same_id q) es)) (lookup (same_id q) es))
+      → ((q : MountId) → lookup (same_id q) new
+      ≡ cond (same_id number q) (option_map change_it (lookup (same_id q) es)) (lookup (same_id q) es))
       → entries_of new ≡ changed (counted number.count) change (entries_of es)
   kept-changed es new is = ap entries (in_order-changed number change_it es new is) ∙ entries-changed (in_order es)
 
 -- One that is taken out
 
-entries-without : (number : MountId) (kept : List (MountId × Mounted)) → entries (without_kept number kept) ≡ without (counted number.count) (entries kept)
+entries-without : (number : MountId) (kept : List (MountId × Mounted))
+    → entries (without_kept number kept) ≡ without (counted number.count) (entries kept)
 entries-without number [] = refl
 entries-without number (one ∷ kept) =
     by (same_id number one.0) (entries-without number kept)
-    ∙ ap (λ b. cond (not b) (entry_of one ∷ without (counted number.count) (entries kept)) (without (counted number.count) (entries kept))) (sym (same_count number.count one.0.count))
+    ∙ ap (λ b. cond (not b) (entry_of one ∷ without (counted number.count) (entries kept))
+    (without (counted number.count) (entries kept))) (sym (same_count number.count one.0.count))
   where
     by : (b : Bool) → entries (without_kept number kept) ≡ without (counted number.count) (entries kept)
         → entries (cond (not b) (one ∷ without_kept number kept) (without_kept number kept))
-        ≡ cond (not b) (entry_of one ∷ without (counted number.count) (entries kept)) (without (counted number.count) (entries kept))
+        ≡ cond (not b) (entry_of one ∷ without (counted number.count) (entries kept))
+        (without (counted number.count) (entries kept))
     by true rest = rest
     by false rest = ap (λ l. entry_of one ∷ l) rest
 
 pub kept-without : (number : MountId) (es new : List (MountId × Mounted))
-    → ((q : MountId) → lookup (same_id q) new ≡ cond (same_id number q) None (lookup (same_id q) es)) → entries_of new ≡ without (counted number.count) (entries_of es)
+    → ((q : MountId) → lookup (same_id q) new ≡ cond (same_id number q) None (lookup (same_id q) es))
+    → entries_of new ≡ without (counted number.count) (entries_of es)
 kept-without number es new is = ap entries (in_order-removed number es new is) ∙ entries-without number (in_order es)
 
 -- One behind all others
 
 pub above-entries : (number : MountId) (kept : List (MountId × Mounted))
-    → list_all (λ entry. nat_lt entry.mount.number (counted number.count)) (entries kept) ≡ true → is_above number kept ≡ true
+    → list_all (λ entry. nat_lt entry.mount.number (counted number.count)) (entries kept) ≡ true
+    → is_above number kept ≡ true
 above-entries number [] above = refl
 above-entries number (one ∷ kept) above =
-    (λ i. sym (less_count one.0.count number.count) i && above-entries number kept (both-second _ _ above) i) ∙ ap (λ b. b && true) (both-first _ _ above)
+    (λ i. sym (less_count one.0.count number.count) i && above-entries number kept (both-second _ _ above) i)
+    ∙ ap (λ b. b && true) (both-first _ _ above)
 
-entries-last : (one : MountId × Mounted) (kept : List (MountId × Mounted)) → entries (kept ++ one ∷ []) ≡ entries kept ++ entry_of one ∷ []
+entries-last : (one : MountId × Mounted) (kept : List (MountId × Mounted))
+    → entries (kept ++ one ∷ []) ≡ entries kept ++ entry_of one ∷ []
 entries-last one [] = refl
 entries-last one (other ∷ kept) = ap (λ l. entry_of other ∷ l) (entries-last one kept)
 
@@ -153,4 +179,5 @@ module _ (number : MountId) (one : Mounted) (es new : List (MountId × Mounted))
     (above : list_all (λ entry. nat_lt entry.mount.number (counted number.count)) (entries_of es) ≡ true)
     (is : (q : MountId) → lookup (same_id q) new ≡ cond (same_id number q) (Some one) (lookup (same_id q) es)) where
   pub kept-last : entries_of new ≡ entries_of es ++ entry_of (number, one) ∷ []
-  kept-last = ap entries (in_order-last number one es new (above-entries number (in_order es) above) is) ∙ entries-last (number, one) (in_order es)
+  kept-last = ap entries (in_order-last number one es new (above-entries number (in_order es) above) is)
+      ∙ entries-last (number, one) (in_order es)

@@ -32,7 +32,8 @@ passes test one = test (mount_kept one.0 one.1)
 
 -- one more, which passes a test or not
 pub cons-numbers : (test : Mount → Bool) (one : MountId × Mounted) (kept : List (MountId × Mounted))
-    → numbers_where test (one ∷ kept) ≡ cond (passes test one) (one.0 ∷ numbers_where test kept) (numbers_where test kept)
+    → numbers_where test (one ∷ kept)
+    ≡ cond (passes test one) (one.0 ∷ numbers_where test kept) (numbers_where test kept)
 cons-numbers test one kept = by (passes test one)
   where
     by : (b : Bool) → map (λ one. one.0) (cond b (one ∷ filter (passes test) kept) (filter (passes test) kept))
@@ -62,14 +63,16 @@ module _ (test : Mount → Bool) where
       ∙ by (passes test other) (passes test one)
       ∙ ap (pushed (passes test one) one.0) (sym (cons-numbers test other kept))
     where
-      by : (a b : Bool) → cond a (other.0 ∷ pushed b one.0 (numbers_where test kept)) (pushed b one.0 (numbers_where test kept))
+      by : (a b : Bool) → cond a (other.0 ∷ pushed b one.0 (numbers_where test kept))
+          (pushed b one.0 (numbers_where test kept))
           ≡ pushed b one.0 (cond a (other.0 ∷ numbers_where test kept) (numbers_where test kept))
       by true true = refl
       by true false = refl
       by false true = refl
       by false false = refl
 
-  pub numbers-without : (id : MountId) (kept : List (MountId × Mounted)) → numbers_where test (without_kept id kept) ≡ others id (numbers_where test kept)
+  pub numbers-without : (id : MountId) (kept : List (MountId × Mounted))
+      → numbers_where test (without_kept id kept) ≡ others id (numbers_where test kept)
   numbers-without id [] = refl
   numbers-without id (one ∷ kept) =
       by (same_id id one.0) (passes test one) (turned one.0 id) refl (numbers-without id kept)
@@ -81,16 +84,19 @@ module _ (test : Mount → Bool) where
           ≡ others id (cond b (one.0 ∷ numbers_where test kept) (numbers_where test kept))
       by true true is passed rest =
           rest
-          ∙ sym (ap (λ s. cond (not s) (one.0 ∷ others id (numbers_where test kept)) (others id (numbers_where test kept))) is)
+          ∙ sym (ap (λ s. cond (not s) (one.0 ∷ others id (numbers_where test kept))
+          (others id (numbers_where test kept))) is)
       by true false is passed rest = rest
       by false true is passed rest =
           cons-numbers test one (without_kept id kept)
           ∙ (λ i. cond (passed i) (one.0 ∷ rest i) (rest i))
-          ∙ sym (ap (λ s. cond (not s) (one.0 ∷ others id (numbers_where test kept)) (others id (numbers_where test kept))) is)
+          ∙ sym (ap (λ s. cond (not s) (one.0 ∷ others id (numbers_where test kept))
+          (others id (numbers_where test kept))) is)
       by false false is passed rest =
           cons-numbers test one (without_kept id kept) ∙ (λ i. cond (passed i) (one.0 ∷ rest i) (rest i))
 
-  pub absent-others : (id : MountId) (kept : List (MountId × Mounted)) → found id kept ≡ None → others id (numbers_where test kept) ≡ numbers_where test kept
+  pub absent-others : (id : MountId) (kept : List (MountId × Mounted)) → found id kept ≡ None
+      → others id (numbers_where test kept) ≡ numbers_where test kept
   absent-others id [] none = refl
   absent-others id (one ∷ kept) none =
       ap (others id) (cons-numbers test one kept)
@@ -99,29 +105,35 @@ module _ (test : Mount → Bool) where
     where
       by : (s : Bool) → s ≡ same_id one.0 id → cond s (Some one.1) (found id kept) ≡ None
           → (found id kept ≡ None → others id (numbers_where test kept) ≡ numbers_where test kept) → (b : Bool)
-          → others id (cond b (one.0 ∷ numbers_where test kept) (numbers_where test kept)) ≡ cond b (one.0 ∷ numbers_where test kept) (numbers_where test kept)
+          → others id (cond b (one.0 ∷ numbers_where test kept) (numbers_where test kept))
+          ≡ cond b (one.0 ∷ numbers_where test kept) (numbers_where test kept)
       by true is none rest b = absurd cc
       by false is none rest true =
-          ap (λ s. cond (not s) (one.0 ∷ others id (numbers_where test kept)) (others id (numbers_where test kept))) (sym is)
+          ap (λ s. cond (not s) (one.0 ∷ others id (numbers_where test kept)) (others id (numbers_where test kept)))
+          (sym is)
           ∙ ap (λ l. one.0 ∷ l) (rest none)
       by false is none rest false = rest none
 
-  pub below-none : (id : MountId) (kept : List (MountId × Mounted)) → T (below_all id_cmp id kept) → found id kept ≡ None
+  pub below-none : (id : MountId) (kept : List (MountId × Mounted)) → T (below_all id_cmp id kept)
+      → found id kept ≡ None
   below-none id [] below = refl
   below-none id (one ∷ kept) below = by (id_cmp id one.0) refl below (below-none id kept)
     where
-      by : (o : Ordering) → id_cmp id one.0 ≡ o → T (is_lt o && below_all id_cmp id kept) → (T (below_all id_cmp id kept) → found id kept ≡ None)
+      by : (o : Ordering) → id_cmp id one.0 ≡ o → T (is_lt o && below_all id_cmp id kept)
+          → (T (below_all id_cmp id kept) → found id kept ≡ None)
           → found id (one ∷ kept) ≡ None
       by Less is below rest = ap (λ o. cond (is_eq o) (Some one.1) (found id kept)) is ∙ rest below
       by Equal is below rest = absurd below
       by Greater is below rest = absurd below
 
-  failing-others : (id : MountId) (x : Mounted) (kept : List (MountId × Mounted)) → T (rises kept) → found id kept ≡ Some x
+  failing-others : (id : MountId) (x : Mounted) (kept : List (MountId × Mounted)) → T (rises kept)
+      → found id kept ≡ Some x
       → test (mount_kept id x) ≡ false → others id (numbers_where test kept) ≡ numbers_where test kept
   failing-others id x [] rising there fails = absurd cc
   failing-others id x (one ∷ kept) rising there fails =
       ap (others id) (cons-numbers test one kept)
-      ∙ by (eq_by_cmp id_cmp id one.0) (tied id one.0) there (λ there. failing-others id x kept (second _ _ rising) there fails)
+      ∙ by (eq_by_cmp id_cmp id one.0) (tied id one.0) there
+      (λ there. failing-others id x kept (second _ _ rising) there fails)
       ∙ sym (cons-numbers test one kept)
     where
       by : (s : Bool) → s ≡ same_id id one.0 → cond s (Some one.1) (found id kept) ≡ Some x
@@ -141,37 +153,46 @@ module _ (test : Mount → Bool) where
           with-head : (b : Bool) → others id (cond b (one.0 ∷ numbers_where test kept) (numbers_where test kept))
               ≡ cond b (one.0 ∷ numbers_where test kept) (numbers_where test kept)
           with-head true =
-              ap (λ s. cond (not s) (one.0 ∷ others id (numbers_where test kept)) (others id (numbers_where test kept))) (turned one.0 id ∙ sym is)
+              ap (λ s. cond (not s) (one.0 ∷ others id (numbers_where test kept)) (others id (numbers_where test kept)))
+              (turned one.0 id ∙ sym is)
               ∙ ap (λ l. one.0 ∷ l) (step there)
           with-head false = step there
 
   -- a mount is taken from the lists that it is in
-  pub others-taken : (id : MountId) (x : Mounted) (kept : List (MountId × Mounted)) → T (rises kept) → found id kept ≡ Some x
+  pub others-taken : (id : MountId) (x : Mounted) (kept : List (MountId × Mounted)) → T (rises kept)
+      → found id kept ≡ Some x
       → taken (test (mount_kept id x)) id (numbers_where test kept) ≡ others id (numbers_where test kept)
   others-taken id x kept rising there = by (test (mount_kept id x)) refl
     where
-      by : (b : Bool) → test (mount_kept id x) ≡ b → taken b id (numbers_where test kept) ≡ others id (numbers_where test kept)
+      by : (b : Bool) → test (mount_kept id x) ≡ b
+          → taken b id (numbers_where test kept) ≡ others id (numbers_where test kept)
       by true is = refl
       by false is = sym (failing-others id x kept rising there is)
 
-  pub lacks-above : (id : MountId) (kept : List (MountId × Mounted)) → is_above id kept ≡ true → lacks id (numbers_where test kept)
+  pub lacks-above : (id : MountId) (kept : List (MountId × Mounted)) → is_above id kept ≡ true
+      → lacks id (numbers_where test kept)
   lacks-above id [] above = refl
   lacks-above id (one ∷ kept) above =
-      ap (others id) (cons-numbers test one kept) ∙ by (passes test one) (lacks-above id kept (both-second _ _ above)) ∙ sym (cons-numbers test one kept)
+      ap (others id) (cons-numbers test one kept) ∙ by (passes test one) (lacks-above id kept (both-second _ _ above))
+      ∙ sym (cons-numbers test one kept)
     where
       apart : same_id one.0 id ≡ false
-      apart = ne_eqb one.0.count id.count (λ is. omega (arith, is, ltb-true one.0.count id.count (both-first _ _ above)))
+      apart = ne_eqb one.0.count id.count
+          (λ is. omega (arith, is, ltb-true one.0.count id.count (both-first _ _ above)))
 
       by : (b : Bool) → lacks id (numbers_where test kept)
-          → others id (cond b (one.0 ∷ numbers_where test kept) (numbers_where test kept)) ≡ cond b (one.0 ∷ numbers_where test kept) (numbers_where test kept)
+          → others id (cond b (one.0 ∷ numbers_where test kept) (numbers_where test kept))
+          ≡ cond b (one.0 ∷ numbers_where test kept) (numbers_where test kept)
       by true rest =
-          ap (λ s. cond (not s) (one.0 ∷ others id (numbers_where test kept)) (others id (numbers_where test kept))) apart
+          ap (λ s. cond (not s) (one.0 ∷ others id (numbers_where test kept))
+          (others id (numbers_where test kept))) apart
           ∙ ap (λ l. one.0 ∷ l) rest
       by false rest = rest
 
   module _ (id : MountId) (change : Mounted → Mounted) where
     -- a change that the test does not see
-    pub numbers-changed : ((n : MountId) (one : Mounted) → test (mount_kept n (change one)) ≡ test (mount_kept n one)) → (kept : List (MountId × Mounted))
+    pub numbers-changed : ((n : MountId) (one : Mounted) → test (mount_kept n (change one)) ≡ test (mount_kept n one))
+        → (kept : List (MountId × Mounted))
         → numbers_where test (map (change_kept id change) kept) ≡ numbers_where test kept
     numbers-changed unseen [] = refl
     numbers-changed unseen (one ∷ kept) =
@@ -184,7 +205,8 @@ module _ (test : Mount → Bool) where
         by false = refl
 
     -- after a change nothing passes
-    pub numbers-left : ((n : MountId) (one : Mounted) → test (mount_kept n (change one)) ≡ false) → (kept : List (MountId × Mounted))
+    pub numbers-left : ((n : MountId) (one : Mounted) → test (mount_kept n (change one)) ≡ false)
+        → (kept : List (MountId × Mounted))
         → numbers_where test (map (change_kept id change) kept) ≡ others id (numbers_where test kept)
     numbers-left fails [] = refl
     numbers-left fails (one ∷ kept) =
@@ -192,19 +214,28 @@ module _ (test : Mount → Bool) where
         ∙ by (same_id id one.0) (turned one.0 id) (numbers-left fails kept)
         ∙ ap (others id) (sym (cons-numbers test one kept))
       where
-        gone : same_id one.0 id ≡ true → (b : Bool) → others id (numbers_where test kept) ≡ others id (cond b (one.0 ∷ numbers_where test kept) (numbers_where test kept))
-        gone is true = sym (ap (λ s. cond (not s) (one.0 ∷ others id (numbers_where test kept)) (others id (numbers_where test kept))) is)
+        gone : same_id one.0 id ≡ true → (b : Bool)
+            → others id (numbers_where test kept)
+            ≡ others id (cond b (one.0 ∷ numbers_where test kept) (numbers_where test kept))
+        gone is true = sym (ap (λ s. cond (not s) (one.0 ∷ others id (numbers_where test kept))
+            (others id (numbers_where test kept))) is)
         gone is false = refl
 
-        stays : same_id one.0 id ≡ false → (b : Bool) → cond b (one.0 ∷ others id (numbers_where test kept)) (others id (numbers_where test kept))
+        stays : same_id one.0 id ≡ false → (b : Bool)
+            → cond b (one.0 ∷ others id (numbers_where test kept)) (others id (numbers_where test kept))
             ≡ others id (cond b (one.0 ∷ numbers_where test kept) (numbers_where test kept))
-        stays is true = sym (ap (λ s. cond (not s) (one.0 ∷ others id (numbers_where test kept)) (others id (numbers_where test kept))) is)
+        stays is true = sym (ap (λ s. cond (not s) (one.0 ∷ others id (numbers_where test kept))
+            (others id (numbers_where test kept))) is)
         stays is false = refl
 
-        by : (s : Bool) → same_id one.0 id ≡ s → numbers_where test (map (change_kept id change) kept) ≡ others id (numbers_where test kept)
-            → cond (test (mount_kept one.0 (cond s (change one.1) one.1))) (one.0 ∷ numbers_where test (map (change_kept id change) kept)) (numbers_where test (map (change_kept id change) kept))
+        by : (s : Bool) → same_id one.0 id ≡ s
+            → numbers_where test (map (change_kept id change) kept) ≡ others id (numbers_where test kept)
+            → cond (test (mount_kept one.0 (cond s (change one.1) one.1)))
+            (one.0 ∷ numbers_where test (map (change_kept id change) kept))
+            (numbers_where test (map (change_kept id change) kept))
             ≡ others id (cond (passes test one) (one.0 ∷ numbers_where test kept) (numbers_where test kept))
         by true is rest =
-            ap (λ b. cond b (one.0 ∷ numbers_where test (map (change_kept id change) kept)) (numbers_where test (map (change_kept id change) kept))) (fails one.0 one.1)
+            ap (λ b. cond b (one.0 ∷ numbers_where test (map (change_kept id change) kept))
+            (numbers_where test (map (change_kept id change) kept))) (fails one.0 one.1)
             ∙ rest ∙ gone is (passes test one)
         by false is rest = ap (λ l. cond (passes test one) (one.0 ∷ l) l) rest ∙ stays is (passes test one)

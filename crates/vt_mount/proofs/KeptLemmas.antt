@@ -29,43 +29,52 @@ IsOfPlaces test = (n : MountId) (one : Mounted) → test (mount_kept n (detached
 
 -- each list of mounts that are somewhere loses one mount
 abbrev pub LosesOne : MountId → List (MountId × Mounted) → List (MountId × Mounted) → Type 0
-LosesOne id kept left = (test : Mount → Bool) → IsOfPlaces test → numbers_where test left ≡ others id (numbers_where test kept)
+LosesOne id kept left = (test : Mount → Bool) → IsOfPlaces test
+    → numbers_where test left ≡ others id (numbers_where test kept)
 
 pub loses-without : (id : MountId) (kept : List (MountId × Mounted)) → LosesOne id kept (without_kept id kept)
 loses-without id kept = λ test fails. numbers-without test id kept
 
-pub loses-detached : (id : MountId) (kept : List (MountId × Mounted)) → LosesOne id kept (map (change_kept id detached_kept) kept)
+pub loses-detached : (id : MountId) (kept : List (MountId × Mounted))
+    → LosesOne id kept (map (change_kept id detached_kept) kept)
 loses-detached id kept = λ test fails. numbers-left test id detached_kept fails kept
 
 pub slots-detached : (id : MountId) (kept : List (MountId × Mounted)) → list_all is_in_slot kept ≡ true
     → list_all is_in_slot (map (change_kept id detached_kept) kept) ≡ true
 slots-detached id [] slots = refl
 slots-detached id (one ∷ kept) slots =
-    ap (λ b. b && list_all is_in_slot (map (change_kept id detached_kept) kept)) (by (same_id id one.0)) ∙ slots-detached id kept (both-second _ _ slots)
+    ap (λ b. b && list_all is_in_slot (map (change_kept id detached_kept) kept)) (by (same_id id one.0))
+    ∙ slots-detached id kept (both-second _ _ slots)
   where
     by : (b : Bool) → is_in_slot (one.0, cond b (detached_kept one.1) one.1) ≡ true
     by true = refl
     by false = both-first _ _ slots
 
-pub slots-without : (id : MountId) (kept : List (MountId × Mounted)) → list_all is_in_slot kept ≡ true → list_all is_in_slot (without_kept id kept) ≡ true
+pub slots-without : (id : MountId) (kept : List (MountId × Mounted)) → list_all is_in_slot kept ≡ true
+    → list_all is_in_slot (without_kept id kept) ≡ true
 slots-without id [] slots = refl
 slots-without id (one ∷ kept) slots = by (same_id id one.0) (slots-without id kept (both-second _ _ slots))
   where
-    by : (b : Bool) → list_all is_in_slot (without_kept id kept) ≡ true → list_all is_in_slot (cond (not b) (one ∷ without_kept id kept) (without_kept id kept)) ≡ true
+    by : (b : Bool) → list_all is_in_slot (without_kept id kept) ≡ true
+        → list_all is_in_slot (cond (not b) (one ∷ without_kept id kept) (without_kept id kept)) ≡ true
     by true rest = rest
     by false rest = ap (λ b. b && list_all is_in_slot (without_kept id kept)) (both-first _ _ slots) ∙ rest
 
-slots-last : (one : MountId × Mounted) (kept : List (MountId × Mounted)) → is_in_slot one ≡ true → list_all is_in_slot kept ≡ true
+slots-last : (one : MountId × Mounted) (kept : List (MountId × Mounted)) → is_in_slot one ≡ true
+    → list_all is_in_slot kept ≡ true
     → list_all is_in_slot (kept ++ one ∷ []) ≡ true
 slots-last one [] slot slots = ap (λ b. b && true) slot
 slots-last one (other ∷ kept) slot slots =
-    ap (λ b. b && list_all is_in_slot (kept ++ one ∷ [])) (both-first _ _ slots) ∙ slots-last one kept slot (both-second _ _ slots)
+    ap (λ b. b && list_all is_in_slot (kept ++ one ∷ [])) (both-first _ _ slots)
+    ∙ slots-last one kept slot (both-second _ _ slots)
 
 -- Lists that one mount left
 
-module _ (id : MountId) (x : Mounted) (mount : Mount) (kept left : List (MountId × Mounted)) (rising : T (rises kept)) (there : found id kept ≡ Some x)
+module _ (id : MountId) (x : Mounted) (mount : Mount) (kept left : List (MountId × Mounted)) (rising : T (rises kept))
+    (there : found id kept ≡ Some x)
     (is : mount ≡ mount_kept id x) (loses : LosesOne id kept left) where
-  left_one : (test : Mount → Bool) (old new : List MountId) → IsOfPlaces test → old ≡ numbers_where test kept → new ≡ taken (test mount) mount.number old
+  left_one : (test : Mount → Bool) (old new : List MountId) → IsOfPlaces test → old ≡ numbers_where test kept
+      → new ≡ taken (test mount) mount.number old
       → new ≡ numbers_where test left
   left_one test old new fails was taken_out =
       taken_out
@@ -89,8 +98,10 @@ module _ (id : MountId) (x : Mounted) (mount : Mount) (kept left : List (MountId
 
 -- Lists that one mount was put in
 
-module _ (mount : Mount) (one : Mounted) (kept : List (MountId × Mounted)) (is : mount_kept mount.number one ≡ mount) where
-  put_one : (test : Mount → Bool) (old new : List MountId) → old ≡ numbers_where test kept → new ≡ pushed (test mount) mount.number old
+module _ (mount : Mount) (one : Mounted) (kept : List (MountId × Mounted))
+    (is : mount_kept mount.number one ≡ mount) where
+  put_one : (test : Mount → Bool) (old new : List MountId) → old ≡ numbers_where test kept
+      → new ≡ pushed (test mount) mount.number old
       → new ≡ numbers_where test (kept ++ (mount.number, one) ∷ [])
   put_one test old new was put_in =
       put_in
@@ -113,20 +124,24 @@ module _ (mount : Mount) (one : Mounted) (kept : List (MountId × Mounted)) (is 
 
 -- What is attached and taken out again
 
-without-above : (number : ℕ) (entries : List MountEntry) → list_all (λ entry. nat_lt entry.mount.number number) entries ≡ true
+without-above : (number : ℕ) (entries : List MountEntry)
+    → list_all (λ entry. nat_lt entry.mount.number number) entries ≡ true
     → without number entries ≡ entries
 without-above number [] above = refl
 without-above number (entry ∷ entries) above =
     ap (λ b. cond (not b) (entry ∷ without number entries) (without number entries))
-    (ne_eqb number entry.mount.number (λ is. omega (arith, is, ltb-true entry.mount.number number (both-first _ _ above))))
+    (ne_eqb number entry.mount.number
+    (λ is. omega (arith, is, ltb-true entry.mount.number number (both-first _ _ above))))
     ∙ ap (λ rest. entry ∷ rest) (without-above number entries (both-second _ _ above))
 
-pub without-last : (number : ℕ) (last : MountEntry) (entries : List MountEntry) → list_all (λ entry. nat_lt entry.mount.number number) entries ≡ true
+pub without-last : (number : ℕ) (last : MountEntry) (entries : List MountEntry)
+    → list_all (λ entry. nat_lt entry.mount.number number) entries ≡ true
     → last.mount.number ≡ number → without number (entries ++ last ∷ []) ≡ entries
 without-last number last [] above is = ap (λ b. cond (not b) (last ∷ []) []) (eq-eqb number last.mount.number (sym is))
 without-last number last (entry ∷ entries) above is =
     ap (λ b. cond (not b) (entry ∷ without number (entries ++ last ∷ [])) (without number (entries ++ last ∷ [])))
-    (ne_eqb number entry.mount.number (λ is. omega (arith, is, ltb-true entry.mount.number number (both-first _ _ above))))
+    (ne_eqb number entry.mount.number
+    (λ is. omega (arith, is, ltb-true entry.mount.number number (both-first _ _ above))))
     ∙ ap (λ rest. entry ∷ rest) (without-last number last entries (both-second _ _ above) is)
 
 pub of-ok : {A E P : Type 0} (r : Result A E) → IsOk r → OnOk r P → P

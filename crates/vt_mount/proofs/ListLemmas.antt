@@ -15,7 +15,8 @@ others-pushed id [] = ap (λ b. cond (not b) (id ∷ []) []) (eq-eqb id.count id
 others-pushed id (x ∷ list) = ap (λ rest. cond (not (same_id x id)) (x ∷ rest) rest) (others-pushed id list)
 
 -- what was put in is taken out again
-pub undone : (here : Bool) (id : MountId) (old middle new : List MountId) → middle ≡ pushed here id old → new ≡ taken here id middle
+pub undone : (here : Bool) (id : MountId) (old middle new : List MountId) → middle ≡ pushed here id old
+    → new ≡ taken here id middle
     → lacks id old → new ≡ old
 undone true id old middle new put is apart = is ∙ ap (others id) put ∙ others-pushed id old ∙ apart
 undone false id old middle new put is apart = is ∙ put
@@ -33,11 +34,13 @@ prefix-within p (x ∷ xs) = by (p x) (prefix-within p xs)
 position-or : {X : Type 0} (p : X → Bool) (xs : List X) → unwrap_or (position p xs) (length xs) ≡ position_or_len p xs
 position-or p xs = by (nat_lt (position_or_len p xs) (length xs)) (ltb-false (position_or_len p xs) (length xs))
   where
-    by : (b : Bool) → (b ≡ false → length xs ≤ position_or_len p xs) → unwrap_or (cond b (Some (position_or_len p xs)) None) (length xs) ≡ position_or_len p xs
+    by : (b : Bool) → (b ≡ false → length xs ≤ position_or_len p xs)
+        → unwrap_or (cond b (Some (position_or_len p xs)) None) (length xs) ≡ position_or_len p xs
     by true above = refl
     by false above = omega (arith, above refl, prefix-within (λ x. not (p x)) xs)
 
-inserted-first : (id : MountId) (list : List MountId) → insert list (position_or_len (λ other. nat_lt id.count other.count) list) id ≡ inserted id list
+inserted-first : (id : MountId) (list : List MountId)
+    → insert list (position_or_len (λ other. nat_lt id.count other.count) list) id ≡ inserted id list
 inserted-first id [] = refl
 inserted-first id (other ∷ list) = by (nat_lt id.count other.count) (inserted-first id list)
   where
@@ -47,12 +50,15 @@ inserted-first id (other ∷ list) = by (nat_lt id.count other.count) (inserted-
     more : 1 + n ≡ suc n
     more = omega arith
 
-    by : (b : Bool) → insert list n id ≡ inserted id list → insert (other ∷ list) (cond (not b) (1 + n) 0) id ≡ cond b (id ∷ other ∷ list) (other ∷ inserted id list)
+    by : (b : Bool) → insert list n id ≡ inserted id list
+        → insert (other ∷ list) (cond (not b) (1 + n) 0) id ≡ cond b (id ∷ other ∷ list) (other ∷ inserted id list)
     by true rest = refl
     by false rest = ap (λ m. insert (other ∷ list) m id) more ∙ ap (λ l. other ∷ l) rest
 
-pub inserted-there : (id : MountId) (list new : List MountId) (found : Option ℕ) (place : ℕ) → found ≡ position (λ other. nat_lt id.count other.count) list
+pub inserted-there : (id : MountId) (list new : List MountId) (found : Option ℕ) (place : ℕ)
+    → found ≡ position (λ other. nat_lt id.count other.count) list
     → place ≡ unwrap_or found (length list) → new ≡ insert list place id → new ≡ inserted id list
 inserted-there id list new found place first at is =
-    is ∙ ap (λ m. insert list m id) (at ∙ ap (λ r. unwrap_or r (length list)) first ∙ position-or (λ other. nat_lt id.count other.count) list)
+    is ∙ ap (λ m. insert list m id)
+    (at ∙ ap (λ r. unwrap_or r (length list)) first ∙ position-or (λ other. nat_lt id.count other.count) list)
     ∙ inserted-first id list

@@ -33,19 +33,28 @@ less-than a b less = by (nat_lt a b) (nat_lt b a) refl refl
     by : (s t : Bool) → nat_lt a b ≡ s → nat_lt b a ≡ t → nat_lt a b ≡ true
     by true t p q = p
     by false true p q = absurd (subst (λ o. T (is_lt o)) (sym (nat_cmp_is a b Greater (ltb-true b a q))) less)
-    by false false p q = absurd (subst (λ o. T (is_lt o)) (sym (nat_cmp_is a b Equal (omega (arith, ltb-false a b p, ltb-false b a q)))) less)
+    by false false p q = absurd (subst (λ o. T (is_lt o))
+        (sym (nat_cmp_is a b Equal (omega (arith, ltb-false a b p, ltb-false b a q)))) less)
 
 module _ (id : MountId) where
   -- none before what is in order above it
-  found-above : (n : MountId) (x : Mounted) (kept : List (MountId × Mounted)) → T (below_all id_cmp n kept) → found id kept ≡ Some x → nat_lt id.count n.count ≡ false
+  found-above : (n : MountId) (x : Mounted) (kept : List (MountId × Mounted)) → T (below_all id_cmp n kept)
+      → found id kept ≡ Some x → nat_lt id.count n.count ≡ false
   found-above n x [] below there = absurd cc
-  found-above n x (one ∷ kept) below there = by (eq_by_cmp id_cmp id one.0) (tied id one.0) there (found-above n x kept (second _ _ below))
+  found-above n x (one ∷ kept) below there = by (eq_by_cmp id_cmp id one.0) (tied id one.0) there
+      (found-above n x kept (second _ _ below))
     where
-      by : (s : Bool) → s ≡ same_id id one.0 → cond s (Some one.1) (found id kept) ≡ Some x → (found id kept ≡ Some x → nat_lt id.count n.count ≡ false)
+      by : (s : Bool) → s ≡ same_id id one.0 → cond s (Some one.1) (found id kept) ≡ Some x
+          → (found id kept ≡ Some x → nat_lt id.count n.count ≡ false)
           → nat_lt id.count n.count ≡ false
       by true is there rest =
           le-ltb id.count n.count
-          (omega (arith, ltb-true n.count one.0.count (less-than n.count one.0.count (first _ _ below)), eqb-true id.count one.0.count (sym is)))
+          (omega (
+            arith,
+            ltb-true n.count one.0.count
+                (less-than n.count one.0.count (first _ _ below)),
+            eqb-true id.count one.0.count (sym is),
+          ))
       by false is there rest = rest there
 
   module _ (change : Mounted → Mounted) where
@@ -53,13 +62,15 @@ module _ (id : MountId) where
     absent-same [] none = refl
     absent-same (one ∷ kept) none = by (eq_by_cmp id_cmp id one.0) (tied id one.0) none (absent-same kept)
       where
-        by : (s : Bool) → s ≡ same_id id one.0 → cond s (Some one.1) (found id kept) ≡ None → (found id kept ≡ None → map (change_kept id change) kept ≡ kept)
+        by : (s : Bool) → s ≡ same_id id one.0 → cond s (Some one.1) (found id kept) ≡ None
+            → (found id kept ≡ None → map (change_kept id change) kept ≡ kept)
             → change_kept id change one ∷ map (change_kept id change) kept ≡ one ∷ kept
         by true is none rest = absurd cc
         by false is none rest = λ i. (one.0, cond (sym is i) (change one.1) one.1) ∷ rest none i
 
   module _ (test : Mount → Bool) where
-    inserted-below : (kept : List (MountId × Mounted)) → T (below_all id_cmp id kept) → inserted id (numbers_where test kept) ≡ id ∷ numbers_where test kept
+    inserted-below : (kept : List (MountId × Mounted)) → T (below_all id_cmp id kept)
+        → inserted id (numbers_where test kept) ≡ id ∷ numbers_where test kept
     inserted-below [] below = refl
     inserted-below (one ∷ kept) below =
         ap (inserted id) (cons-numbers test one kept)
@@ -67,13 +78,15 @@ module _ (id : MountId) where
         ∙ ap (λ l. id ∷ l) (sym (cons-numbers test one kept))
       where
         by : (b : Bool) → inserted id (numbers_where test kept) ≡ id ∷ numbers_where test kept
-            → inserted id (cond b (one.0 ∷ numbers_where test kept) (numbers_where test kept)) ≡ id ∷ cond b (one.0 ∷ numbers_where test kept) (numbers_where test kept)
+            → inserted id (cond b (one.0 ∷ numbers_where test kept) (numbers_where test kept))
+            ≡ id ∷ cond b (one.0 ∷ numbers_where test kept) (numbers_where test kept)
         by true rest =
             ap (λ s. cond s (id ∷ one.0 ∷ numbers_where test kept) (one.0 ∷ inserted id (numbers_where test kept)))
             (less-than id.count one.0.count (first _ _ below))
         by false rest = rest
 
-    module _ (change : Mounted → Mounted) (always : (n : MountId) (one : Mounted) → test (mount_kept n (change one)) ≡ true) where
+    module _ (change : Mounted → Mounted)
+        (always : (n : MountId) (one : Mounted) → test (mount_kept n (change one)) ≡ true) where
       numbers-moved : (x : Mounted) (kept : List (MountId × Mounted)) → T (rises kept) → found id kept ≡ Some x
           → inserted id (others id (numbers_where test kept)) ≡ numbers_where test (map (change_kept id change) kept)
       numbers-moved x [] rising there = absurd cc
@@ -90,59 +103,77 @@ module _ (id : MountId) where
           gone is false = refl
 
           stays : same_id one.0 id ≡ false → nat_lt id.count one.0.count ≡ false → (b : Bool)
-              → inserted id (others id (cond b (one.0 ∷ N) N)) ≡ cond b (one.0 ∷ inserted id (others id N)) (inserted id (others id N))
+              → inserted id (others id (cond b (one.0 ∷ N) N))
+              ≡ cond b (one.0 ∷ inserted id (others id N)) (inserted id (others id N))
           stays is after true =
               ap (λ s. inserted id (cond (not s) (one.0 ∷ others id N) (others id N))) is
               ∙ ap (λ s. cond s (id ∷ one.0 ∷ others id N) (one.0 ∷ inserted id (others id N))) after
           stays is after false = refl
 
           by : (s : Bool) → s ≡ same_id id one.0 → cond s (Some one.1) (found id kept) ≡ Some x
-              → (found id kept ≡ Some x → inserted id (others id N) ≡ numbers_where test (map (change_kept id change) kept))
+              → (found id kept ≡ Some x → inserted id (others id N)
+              ≡ numbers_where test (map (change_kept id change) kept))
               → inserted id (others id (cond (passes test one) (one.0 ∷ N) N))
-              ≡ cond (test (mount_kept one.0 (cond (same_id id one.0) (change one.1) one.1))) (one.0 ∷ numbers_where test (map (change_kept id change) kept)) (numbers_where test (map (change_kept id change) kept))
+              ≡ cond (test (mount_kept one.0 (cond (same_id id one.0) (change one.1) one.1)))
+              (one.0 ∷ numbers_where test (map (change_kept id change) kept))
+              (numbers_where test (map (change_kept id change) kept))
           by true is there rest =
               let here : id ≡ one.0 = same id one.0 (sym is) in
-              let none : found id kept ≡ None = ap (λ n. found n kept) here ∙ below-none test one.0 kept (first _ _ rising) in
-              let below : T (below_all id_cmp id kept) = subst (λ n. T (below_all id_cmp n kept)) (sym here) (first _ _ rising) in
-              let same_rest : N ≡ numbers_where test (map (change_kept id change) kept) = ap (numbers_where test) (sym (absent-same change kept none)) in
+              let none : found id kept ≡ None = ap (λ n. found n kept) here
+              ∙ below-none test one.0 kept (first _ _ rising) in
+              let below : T (below_all id_cmp id kept) = subst (λ n. T (below_all id_cmp n kept)) (sym here)
+              (first _ _ rising) in
+              let same_rest : N ≡ numbers_where test (map (change_kept id change) kept) = ap (numbers_where test)
+              (sym (absent-same change kept none)) in
               ap (inserted id) (gone (turned one.0 id ∙ sym is) (passes test one) ∙ absent-others test id kept none)
               ∙ inserted-below kept below
               ∙ (λ i. here i ∷ same_rest i)
-              ∙ sym (ap (λ b. cond b (one.0 ∷ numbers_where test (map (change_kept id change) kept)) (numbers_where test (map (change_kept id change) kept)))
+              ∙ sym (ap (λ b. cond b (one.0 ∷ numbers_where test (map (change_kept id change) kept))
+              (numbers_where test (map (change_kept id change) kept)))
               (ap (λ s. test (mount_kept one.0 (cond s (change one.1) one.1))) (sym is) ∙ always one.0 one.1))
           by false is there rest =
               stays (turned one.0 id ∙ sym is) (found-above one.0 x kept (first _ _ rising) there) (passes test one)
               ∙ ap (λ l. cond (passes test one) (one.0 ∷ l) l) (rest there)
-              ∙ sym (ap (λ s. cond (test (mount_kept one.0 (cond s (change one.1) one.1))) (one.0 ∷ numbers_where test (map (change_kept id change) kept)) (numbers_where test (map (change_kept id change) kept))) (sym is))
+              ∙ sym (ap (λ s. cond (test (mount_kept one.0 (cond s (change one.1) one.1)))
+              (one.0 ∷ numbers_where test (map (change_kept id change) kept))
+              (numbers_where test (map (change_kept id change) kept))) (sym is))
 
   -- a list in which a mount stood or not, and stands or not
-  relisted-numbers : (test : Mount → Bool) (here : Bool) (change : Mounted → Mounted) → ((n : MountId) (one : Mounted) → test (mount_kept n (change one)) ≡ here)
+  relisted-numbers : (test : Mount → Bool) (here : Bool) (change : Mounted → Mounted)
+      → ((n : MountId) (one : Mounted) → test (mount_kept n (change one)) ≡ here)
       → (x : Mounted) (kept : List (MountId × Mounted)) → T (rises kept) → found id kept ≡ Some x
-      → relisted (test (mount_kept id x)) here id (numbers_where test kept) ≡ numbers_where test (map (change_kept id change) kept)
+      → relisted (test (mount_kept id x)) here id (numbers_where test kept)
+      ≡ numbers_where test (map (change_kept id change) kept)
   relisted-numbers test true change always x kept rising there =
       ap (inserted id) (others-taken test id x kept rising there) ∙ numbers-moved test change always x kept rising there
   relisted-numbers test false change never x kept rising there =
       others-taken test id x kept rising there ∙ sym (numbers-left test id change never kept)
 
-slots-moved : (id : MountId) (place : Location) (kept : List (MountId × Mounted)) → nat_lt place.node.slot 18446744073709551616 ≡ true → list_all is_in_slot kept ≡ true
+slots-moved : (id : MountId) (place : Location) (kept : List (MountId × Mounted))
+    → nat_lt place.node.slot 18446744073709551616 ≡ true → list_all is_in_slot kept ≡ true
     → list_all is_in_slot (map (change_kept id (moved_kept place)) kept) ≡ true
 slots-moved id place [] slot slots = refl
 slots-moved id place (one ∷ kept) slot slots =
-    ap (λ b. b && list_all is_in_slot (map (change_kept id (moved_kept place)) kept)) (by (same_id id one.0)) ∙ slots-moved id place kept slot (both-second _ _ slots)
+    ap (λ b. b && list_all is_in_slot (map (change_kept id (moved_kept place)) kept)) (by (same_id id one.0))
+    ∙ slots-moved id place kept slot (both-second _ _ slots)
   where
     by : (b : Bool) → is_in_slot (one.0, cond b (moved_kept place one.1) one.1) ≡ true
     by true = slot
     by false = both-first _ _ slots
 
-pub indexed-moved : (id : MountId) (place : Location) (x : Mounted) (kept : List (MountId × Mounted)) (old new : Indexes) → T (rises kept) → found id kept ≡ Some x
+pub indexed-moved : (id : MountId) (place : Location) (x : Mounted) (kept : List (MountId × Mounted))
+    (old new : Indexes) → T (rises kept) → found id kept ≡ Some x
     → nat_lt place.node.slot 18446744073709551616 ≡ true
     → ((q : NamespaceId) → listed_in new q ≡ listed_in old q)
-    → ((q : MountId) → listed_on new q ≡ relisted (stood_on q x.mount_point) (same_id q place.mount) id (listed_on old q))
+    → ((q : MountId) → listed_on new q
+    ≡ relisted (stood_on q x.mount_point) (same_id q place.mount) id (listed_on old q))
     → ((q : Location) → listed_at new q ≡ relisted (stood_at q x.mount_point) (same_place q place) id (listed_at old q))
-    → ((q : NodeRef) → listed_over new q ≡ relisted (stood_over q x.mount_point) (same_inode q place.node) id (listed_over old q))
+    → ((q : NodeRef) → listed_over new q
+    ≡ relisted (stood_over q x.mount_point) (same_inode q place.node) id (listed_over old q))
     → IsIndexed old kept → IsIndexed new (map (change_kept id (moved_kept place)) kept)
 indexed-moved id place x kept old new rising there slot namespace parent location inode indexed = record {
-  namespace = λ q. namespace q ∙ indexed.namespace q ∙ sym (numbers-changed (is_in q) id (moved_kept place) (λ n one. refl) kept);
+  namespace = λ q. namespace q ∙ indexed.namespace q
+      ∙ sym (numbers-changed (is_in q) id (moved_kept place) (λ n one. refl) kept);
   parent = λ q. parent q
       ∙ ap (relisted (stood_on q x.mount_point) (same_id q place.mount) id) (indexed.parent q)
       ∙ relisted-numbers id (is_on q) (same_id q place.mount) (moved_kept place) (λ n one. refl) x kept rising there;
@@ -151,7 +182,8 @@ indexed-moved id place x kept old new rising there slot namespace parent locatio
       ∙ relisted-numbers id (is_at q) (same_place q place) (moved_kept place) (λ n one. refl) x kept rising there;
   inode = λ q. inode q
       ∙ ap (relisted (stood_over q x.mount_point) (same_inode q place.node) id) (indexed.inode q)
-      ∙ relisted-numbers id (is_over q) (same_inode q place.node) (moved_kept place) (λ n one. refl) x kept rising there;
+      ∙ relisted-numbers id (is_over q) (same_inode q place.node) (moved_kept place)
+      (λ n one. refl) x kept rising there;
   slots = slots-moved id place kept slot indexed.slots;
 }
 
@@ -159,7 +191,8 @@ indexed-moved id place x kept old new rising there slot namespace parent locatio
 abbrev pub rehomed_kept : NamespaceId → Mounted → Mounted
 rehomed_kept namespace one = record one { namespace = Some namespace }
 
-slots-rehomed : (id : MountId) (namespace : NamespaceId) (kept : List (MountId × Mounted)) → list_all is_in_slot kept ≡ true
+slots-rehomed : (id : MountId) (namespace : NamespaceId) (kept : List (MountId × Mounted))
+    → list_all is_in_slot kept ≡ true
     → list_all is_in_slot (map (change_kept id (rehomed_kept namespace)) kept) ≡ true
 slots-rehomed id namespace [] slots = refl
 slots-rehomed id namespace (one ∷ kept) slots =
@@ -170,19 +203,25 @@ slots-rehomed id namespace (one ∷ kept) slots =
     by true = both-first _ _ slots
     by false = both-first _ _ slots
 
-pub indexed-rehomed : (id : MountId) (namespace : NamespaceId) (x : Mounted) (kept : List (MountId × Mounted)) (old new : Indexes)
+pub indexed-rehomed : (id : MountId) (namespace : NamespaceId) (x : Mounted) (kept : List (MountId × Mounted))
+    (old new : Indexes)
     → T (rises kept) → found id kept ≡ Some x
-    → ((q : NamespaceId) → listed_in new q ≡ relisted (was_in q x.namespace) (same_namespace q namespace) id (listed_in old q))
+    → ((q : NamespaceId) → listed_in new q
+    ≡ relisted (was_in q x.namespace) (same_namespace q namespace) id (listed_in old q))
     → ((q : MountId) → listed_on new q ≡ listed_on old q) → ((q : Location) → listed_at new q ≡ listed_at old q)
     → ((q : NodeRef) → listed_over new q ≡ listed_over old q)
     → IsIndexed old kept → IsIndexed new (map (change_kept id (rehomed_kept namespace)) kept)
 indexed-rehomed id namespace x kept old new rising there home parent location inode indexed = record {
   namespace = λ q. home q
       ∙ ap (relisted (was_in q x.namespace) (same_namespace q namespace) id) (indexed.namespace q)
-      ∙ relisted-numbers id (is_in q) (same_namespace q namespace) (rehomed_kept namespace) (λ n one. refl) x kept rising there;
-  parent = λ q. parent q ∙ indexed.parent q ∙ sym (numbers-changed (is_on q) id (rehomed_kept namespace) (λ n one. refl) kept);
-  place = λ q. location q ∙ indexed.place q ∙ sym (numbers-changed (is_at q) id (rehomed_kept namespace) (λ n one. refl) kept);
-  inode = λ q. inode q ∙ indexed.inode q ∙ sym (numbers-changed (is_over q) id (rehomed_kept namespace) (λ n one. refl) kept);
+      ∙ relisted-numbers id (is_in q) (same_namespace q namespace) (rehomed_kept namespace)
+      (λ n one. refl) x kept rising there;
+  parent = λ q. parent q ∙ indexed.parent q
+      ∙ sym (numbers-changed (is_on q) id (rehomed_kept namespace) (λ n one. refl) kept);
+  place = λ q. location q ∙ indexed.place q
+      ∙ sym (numbers-changed (is_at q) id (rehomed_kept namespace) (λ n one. refl) kept);
+  inode = λ q. inode q ∙ indexed.inode q
+      ∙ sym (numbers-changed (is_over q) id (rehomed_kept namespace) (λ n one. refl) kept);
   slots = slots-rehomed id namespace kept indexed.slots;
 }
 
@@ -205,19 +244,23 @@ below-counts : (n : MountId) (kept : List (MountId × Mounted)) → T (below_all
     → list_all (λ later. nat_lt (counted n.count) later.number) (mounts_in (entries kept)) ≡ true
 below-counts n [] below = refl
 below-counts n (one ∷ kept) below =
-    (λ i. (less_count n.count one.0.count ∙ less-than n.count one.0.count (first _ _ below)) i && below-counts n kept (second _ _ below) i)
+    (λ i. (less_count n.count one.0.count ∙ less-than n.count one.0.count (first _ _ below)) i
+    && below-counts n kept (second _ _ below) i)
 
 counts-rise : (kept : List (MountId × Mounted)) → T (rises kept) → are_ascending (mounts_in (entries kept)) ≡ true
 counts-rise [] rising = refl
-counts-rise (one ∷ kept) rising = λ i. below-counts one.0 kept (first _ _ rising) i && counts-rise kept (second _ _ rising) i
+counts-rise (one ∷ kept) rising = λ i. below-counts one.0 kept (first _ _ rising) i
+    && counts-rise kept (second _ _ rising) i
 
 pub ascending-kept : (es : List (MountId × Mounted)) → are_ascending (mounts_in (entries_of es)) ≡ true
 ascending-kept es = counts-rise (in_order es) (rises-in_order es)
 
 -- each is that of a count
-counts-counted : (kept : List (MountId × Mounted)) → list_all (λ mount. mount.number % 4 == 1) (mounts_in (entries kept)) ≡ true
+counts-counted : (kept : List (MountId × Mounted))
+    → list_all (λ mount. mount.number % 4 == 1) (mounts_in (entries kept)) ≡ true
 counts-counted [] = refl
 counts-counted (one ∷ kept) = λ i. eq-eqb (counted one.0.count % 4) 1 (omega arith) i && counts-counted kept i
 
-pub counted-kept : (es : List (MountId × Mounted)) → list_all (λ mount. mount.number % 4 == 1) (mounts_in (entries_of es)) ≡ true
+pub counted-kept : (es : List (MountId × Mounted))
+    → list_all (λ mount. mount.number % 4 == 1) (mounts_in (entries_of es)) ≡ true
 counted-kept es = counts-counted (in_order es)

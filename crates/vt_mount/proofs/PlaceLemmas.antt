@@ -30,19 +30,22 @@ numbers mounts = map (λ mount. mount.number) mounts
 
 -- a test of mounts as they are kept, and the test that it stands for
 module _ (test : Mount → Bool) (seen : meant.Mount ℕ → Bool)
-    (agree : (one : MountId × Mounted) → is_in_slot one ≡ true → seen (mount_under one.0 one.1) ≡ test (mount_kept one.0 one.1)) where
+    (agree : (one : MountId × Mounted) → is_in_slot one ≡ true
+    → seen (mount_under one.0 one.1) ≡ test (mount_kept one.0 one.1)) where
   pub numbers-seen : (kept : List (MountId × Mounted)) → list_all is_in_slot kept ≡ true
       → counts (numbers_where test kept) ≡ numbers (filter seen (mounts_in (entries kept)))
   numbers-seen [] slots = refl
   numbers-seen (one ∷ kept) slots =
       ap counts (cons-numbers test one kept)
       ∙ by (test (mount_kept one.0 one.1)) (numbers-seen kept (both-second _ _ slots))
-      ∙ ap (λ b. numbers (cond b (mount_under one.0 one.1 ∷ filter seen (mounts_in (entries kept))) (filter seen (mounts_in (entries kept)))))
+      ∙ ap (λ b. numbers (cond b (mount_under one.0 one.1 ∷ filter seen (mounts_in (entries kept)))
+      (filter seen (mounts_in (entries kept)))))
       (sym (agree one (both-first _ _ slots)))
     where
       by : (b : Bool) → counts (numbers_where test kept) ≡ numbers (filter seen (mounts_in (entries kept)))
           → counts (cond b (one.0 ∷ numbers_where test kept) (numbers_where test kept))
-          ≡ numbers (cond b (mount_under one.0 one.1 ∷ filter seen (mounts_in (entries kept))) (filter seen (mounts_in (entries kept))))
+          ≡ numbers (cond b (mount_under one.0 one.1 ∷ filter seen (mounts_in (entries kept)))
+          (filter seen (mounts_in (entries kept))))
       by true rest = ap (λ l. counted one.0.count ∷ l) rest
       by false rest = rest
 
@@ -66,7 +69,8 @@ module _ {X : Type 0} (p : X → Bool) (f : X → ℕ) where
       by true rest = sym (ap not (ne_eqb (length (map f (x ∷ filter p xs))) 0 (λ is. omega (arith, is))))
       by false rest = rest
 
-pub first-count : (ids : List MountId) → slice_get (counts ids) 0 ≡ option_map (λ id. counted id.count) (slice_get ids 0)
+pub first-count : (ids : List MountId)
+    → slice_get (counts ids) 0 ≡ option_map (λ id. counted id.count) (slice_get ids 0)
 first-count [] = refl
 first-count (id ∷ ids) = refl
 
@@ -78,12 +82,15 @@ slot_limit = 18446744073709551616
 inodes-apart : (f s g t : ℕ) → s < slot_limit → t < slot_limit → inode_number f s ≡ inode_number g t → f ≡ g
 inodes-apart f s g t less few is = omega (arith, less, few, is)
 
-pub same_number : (a b : NodeRef) → a.slot < slot_limit → b.slot < slot_limit → nat_eq (number_of a) (number_of b) ≡ same_inode a b
+pub same_number : (a b : NodeRef) → a.slot < slot_limit → b.slot < slot_limit
+    → nat_eq (number_of a) (number_of b) ≡ same_inode a b
 same_number a b less few = by (nat_eq a.filesystem.count b.filesystem.count) (nat_eq a.slot b.slot) refl refl
   where
-    by : (s t : Bool) → nat_eq a.filesystem.count b.filesystem.count ≡ s → nat_eq a.slot b.slot ≡ t → nat_eq (number_of a) (number_of b) ≡ (s && t)
+    by : (s t : Bool) → nat_eq a.filesystem.count b.filesystem.count ≡ s → nat_eq a.slot b.slot ≡ t
+        → nat_eq (number_of a) (number_of b) ≡ (s && t)
     by true true p q =
-        eq-eqb (number_of a) (number_of b) (λ i. inode_number (eqb-true a.filesystem.count b.filesystem.count p i) (eqb-true a.slot b.slot q i))
+        eq-eqb (number_of a) (number_of b)
+        (λ i. inode_number (eqb-true a.filesystem.count b.filesystem.count p i) (eqb-true a.slot b.slot q i))
     by true false p q =
         ne_eqb (number_of a) (number_of b) (λ is. eqb-false a.slot b.slot q
         (omega (arith, is, eqb-true a.filesystem.count b.filesystem.count p)))
@@ -91,7 +98,8 @@ same_number a b less few = by (nat_eq a.filesystem.count b.filesystem.count) (na
         ne_eqb (number_of a) (number_of b) (λ is. eqb-false a.filesystem.count b.filesystem.count p
         (inodes-apart a.filesystem.count a.slot b.filesystem.count b.slot less few is))
 
-turned-inodes : (a b : NodeRef) → a.slot < slot_limit → b.slot < slot_limit → nat_eq (number_of b) (number_of a) ≡ same_inode a b
+turned-inodes : (a b : NodeRef) → a.slot < slot_limit → b.slot < slot_limit
+    → nat_eq (number_of b) (number_of a) ≡ same_inode a b
 turned-inodes a b less few = turned (number_of b) (number_of a) ∙ same_number a b less few
   where
     turned : (n m : ℕ) → nat_eq n m ≡ nat_eq m n
@@ -107,26 +115,32 @@ pub on-agrees : (parent : MountId) (one : MountId × Mounted) → is_in_slot one
     → stands_on nat_eq (counted parent.count) (mount_under one.0 one.1) ≡ is_on parent (mount_kept one.0 one.1)
 on-agrees parent one slot = by one.1.mount_point
   where
-    by : (point : Option Location) → holds_of (λ place. nat_eq (counted parent.count) place.mount) (option_map location_of point)
+    by : (point : Option Location)
+        → holds_of (λ place. nat_eq (counted parent.count) place.mount) (option_map location_of point)
         ≡ holds_of (λ place. same_id parent place.mount) point
     by None = refl
     by (Some place) = same_count parent.count place.mount.count
 
 pub in-agrees : (namespace : NamespaceId) (one : MountId × Mounted) → is_in_slot one ≡ true
-    → holds_of (nat_eq (counted namespace.count)) (mount_under one.0 one.1).namespace ≡ is_in namespace (mount_kept one.0 one.1)
+    → holds_of (nat_eq (counted namespace.count)) (mount_under one.0 one.1).namespace
+    ≡ is_in namespace (mount_kept one.0 one.1)
 in-agrees namespace one slot = by one.1.namespace
   where
-    by : (other : Option NamespaceId) → holds_of (nat_eq (counted namespace.count)) (option_map (λ n. counted n.count) other)
+    by : (other : Option NamespaceId)
+        → holds_of (nat_eq (counted namespace.count)) (option_map (λ n. counted n.count) other)
         ≡ holds_of (same_namespace namespace) other
     by None = refl
     by (Some other) = same_count namespace.count other.count
 
-pub at-agrees : (location : Location) → location.node.slot < slot_limit → (one : MountId × Mounted) → is_in_slot one ≡ true
+pub at-agrees : (location : Location) → location.node.slot < slot_limit → (one : MountId × Mounted)
+    → is_in_slot one ≡ true
     → stands_at nat_eq (location_of location) (mount_under one.0 one.1) ≡ is_at location (mount_kept one.0 one.1)
 at-agrees location less one slot = by one.1.mount_point slot
   where
-    by : (point : Option Location) → unwrap_or (option_map (λ place. nat_lt place.node.slot slot_limit) point) true ≡ true
-        → holds_of (λ place. nat_eq (counted location.mount.count) place.mount && nat_eq (number_of location.node) place.node) (option_map location_of point)
+    by : (point : Option Location)
+        → unwrap_or (option_map (λ place. nat_lt place.node.slot slot_limit) point) true ≡ true
+        → holds_of (λ place. nat_eq (counted location.mount.count) place.mount
+        && nat_eq (number_of location.node) place.node) (option_map location_of point)
         ≡ holds_of (same_place location) point
     by None slot = refl
     by (Some place) slot =
@@ -137,7 +151,9 @@ pub over-agrees : (inode : NodeRef) → inode.slot < slot_limit → (one : Mount
     → stands_over (number_of inode) (mount_under one.0 one.1) ≡ is_over inode (mount_kept one.0 one.1)
 over-agrees inode less one slot = by one.1.mount_point slot
   where
-    by : (point : Option Location) → unwrap_or (option_map (λ place. nat_lt place.node.slot slot_limit) point) true ≡ true
-        → holds_of (λ place. nat_eq place.node (number_of inode)) (option_map location_of point) ≡ holds_of (λ place. same_inode inode place.node) point
+    by : (point : Option Location)
+        → unwrap_or (option_map (λ place. nat_lt place.node.slot slot_limit) point) true ≡ true
+        → holds_of (λ place. nat_eq place.node (number_of inode)) (option_map location_of point)
+        ≡ holds_of (λ place. same_inode inode place.node) point
     by None slot = refl
     by (Some place) slot = turned-inodes inode place.node less (ltb-true place.node.slot slot_limit slot)

@@ -26,10 +26,14 @@ Owns whole [] = Unit {0}
 Owns whole (one ∷ part) = (found one.0 whole ≡ Some one.1) × Owns whole part
 
 -- one more before the others, which is below them
-owns-more : (one : MountId × Mounted) (whole part : List (MountId × Mounted)) → T (below_all id_cmp one.0 part) → Owns whole part → Owns (one ∷ whole) part
+owns-more : (one : MountId × Mounted) (whole part : List (MountId × Mounted)) → T (below_all id_cmp one.0 part)
+    → Owns whole part → Owns (one ∷ whole) part
 owns-more one whole [] below owns = tt
-owns-more one whole (other ∷ part) below owns =
-    (ap (λ b. cond b (Some one.1) (found other.0 whole)) apart ∙ owns.0, owns-more one whole part (second _ _ below) owns.1)
+owns-more one whole (other ∷ part) below owns = (
+  ap (λ b. cond b (Some one.1) (found other.0 whole)) apart
+      ∙ owns.0,
+  owns-more one whole part (second _ _ below) owns.1,
+)
   where
     apart : eq_by_cmp id_cmp other.0 one.0 ≡ false
     apart = tied other.0 one.0 ∙ ne_eqb other.0.count one.0.count (λ is. below_apart (first _ _ below) (sym is))
@@ -40,17 +44,24 @@ owns-more one whole (other ∷ part) below owns =
         less-apart Greater less tie = less
 
         below_apart : T (is_lt (id_cmp one.0 other.0)) → one.0.count ≡ other.0.count → ⊥
-        below_apart less is = less-apart (id_cmp one.0 other.0) less (tied one.0 other.0 ∙ eq-eqb one.0.count other.0.count is)
+        below_apart less is = less-apart (id_cmp one.0 other.0) less
+            (tied one.0 other.0 ∙ eq-eqb one.0.count other.0.count is)
 
 pub owns-all : (kept : List (MountId × Mounted)) → T (rises kept) → Owns kept kept
 owns-all [] rising = tt
-owns-all (one ∷ kept) rising = (ap (λ b. cond b (Some one.1) (found one.0 kept)) (tied one.0 one.0 ∙ eq-eqb one.0.count one.0.count refl), owns-more one kept kept (first _ _ rising) (owns-all kept (second _ _ rising)))
+owns-all (one ∷ kept) rising = (
+  ap (λ b. cond b (Some one.1) (found one.0 kept))
+      (tied one.0 one.0 ∙ eq-eqb one.0.count one.0.count refl),
+  owns-more one kept kept (first _ _ rising)
+      (owns-all kept (second _ _ rising)),
+)
 
 module _ (whole : List (MountId × Mounted)) where
   abbrev pub under : ℕ → Option (meant.Mount ℕ)
   under number = seek (λ mount. nat_eq number mount.number) (mounts_in (entries whole))
 
-  own : (one : MountId × Mounted) → found one.0 whole ≡ Some one.1 → under (counted one.0.count) ≡ Some (mount_under one.0 one.1)
+  own : (one : MountId × Mounted) → found one.0 whole ≡ Some one.1
+      → under (counted one.0.count) ≡ Some (mount_under one.0 one.1)
   own one is = found-mount one.0 whole ∙ ap (option_map (mount_under one.0)) is
 
   -- a mount that passes a test, found by its number
@@ -68,27 +79,35 @@ module _ (whole : List (MountId × Mounted)) where
 
   -- a test of those that pass another, each found by its number
   pub any-own : (over p : meant.Mount ℕ → Bool) (part : List (MountId × Mounted)) → Owns whole part
-      → list_any (λ number. holds_of p (under number)) (numbers (filter over (mounts_in (entries part)))) ≡ list_any (λ mount. over mount && p mount) (mounts_in (entries part))
+      → list_any (λ number. holds_of p (under number)) (numbers (filter over (mounts_in (entries part))))
+      ≡ list_any (λ mount. over mount && p mount) (mounts_in (entries part))
   any-own over p [] owns = refl
   any-own over p (one ∷ part) owns = by (over (mount_under one.0 one.1)) (any-own over p part owns.1)
     where
       by : (b : Bool)
-          → list_any (λ number. holds_of p (under number)) (numbers (filter over (mounts_in (entries part)))) ≡ list_any (λ mount. over mount && p mount) (mounts_in (entries part))
-          → list_any (λ number. holds_of p (under number)) (numbers (cond b (mount_under one.0 one.1 ∷ filter over (mounts_in (entries part))) (filter over (mounts_in (entries part)))))
+          → list_any (λ number. holds_of p (under number)) (numbers (filter over (mounts_in (entries part))))
+          ≡ list_any (λ mount. over mount && p mount) (mounts_in (entries part))
+          → list_any (λ number. holds_of p (under number))
+          (numbers (cond b (mount_under one.0 one.1 ∷ filter over (mounts_in (entries part)))
+          (filter over (mounts_in (entries part)))))
           ≡ ((b && p (mount_under one.0 one.1)) || list_any (λ mount. over mount && p mount) (mounts_in (entries part)))
       by true rest = λ i. holds_of p (own one owns.0 i) || rest i
       by false rest = rest
 
-pub any-counts : (q : ℕ → Bool) (ids : List MountId) → list_any (λ id. q (counted id.count)) ids ≡ list_any q (counts ids)
+pub any-counts : (q : ℕ → Bool) (ids : List MountId)
+    → list_any (λ id. q (counted id.count)) ids ≡ list_any q (counts ids)
 any-counts q [] = refl
 any-counts q (id ∷ ids) = ap (λ b. q (counted id.count) || b) (any-counts q ids)
 
 -- what stands on an inode, and is of some kind
-pub any-over : (over p : meant.Mount ℕ → Bool) (es : List (MountId × Mounted)) (now : List MountEntry) (ids : List MountId) → entries_of es ≡ now
+pub any-over : (over p : meant.Mount ℕ → Bool) (es : List (MountId × Mounted)) (now : List MountEntry)
+    (ids : List MountId) → entries_of es ≡ now
     → counts ids ≡ numbers (filter over (mounts_in (entries_of es)))
-    → list_any (λ id. holds_of p (seek (λ mount. nat_eq (counted id.count) mount.number) (mounts_in now))) ids ≡ list_any (λ mount. over mount && p mount) (mounts_in now)
+    → list_any (λ id. holds_of p (seek (λ mount. nat_eq (counted id.count) mount.number) (mounts_in now))) ids
+    ≡ list_any (λ mount. over mount && p mount) (mounts_in now)
 any-over over p es now ids view is =
-    ap (λ now. list_any (λ id. holds_of p (seek (λ mount. nat_eq (counted id.count) mount.number) (mounts_in now))) ids) (sym view)
+    ap (λ now. list_any (λ id. holds_of p (seek (λ mount. nat_eq (counted id.count) mount.number) (mounts_in now))) ids)
+    (sym view)
     ∙ any-counts (λ number. holds_of p (under (in_order es) number)) ids
     ∙ ap (list_any (λ number. holds_of p (under (in_order es) number))) is
     ∙ any-own (in_order es) over p (in_order es) (owns-all (in_order es) (rises-in_order es))
@@ -100,15 +119,18 @@ found-child : (p : meant.Mount ℕ → Bool) (kept : List (MountId × Mounted)) 
     → option_map (mount_under child) (found child kept) ≡ seek p (mounts_in (entries kept))
 found-child p kept child owns is = by (seek p (mounts_in (entries kept))) refl is
   where
-    by : (r : Option (meant.Mount ℕ)) → seek p (mounts_in (entries kept)) ≡ r → Some (counted child.count) ≡ option_map (λ mount. mount.number) r
+    by : (r : Option (meant.Mount ℕ)) → seek p (mounts_in (entries kept)) ≡ r
+        → Some (counted child.count) ≡ option_map (λ mount. mount.number) r
         → option_map (mount_under child) (found child kept) ≡ seek p (mounts_in (entries kept))
     by None there is = absurd cc
     by (Some m) there is =
         let number : counted child.count ≡ m.number = cc in
         sym (found-mount child kept) ∙ ap (under kept) number ∙ found-own kept p m kept owns there ∙ sym there
 
-pub child-found : (place : meant.Location ℕ) (es : List (MountId × Mounted)) (now : List MountEntry) (child : MountId) (r : Option Mounted) → entries_of es ≡ now
-    → Some (counted child.count) ≡ option_map (λ child. child.number) (child_at nat_eq (mounts_in now) place) → lookup (same_id child) es ≡ r
+pub child-found : (place : meant.Location ℕ) (es : List (MountId × Mounted)) (now : List MountEntry) (child : MountId)
+    (r : Option Mounted) → entries_of es ≡ now
+    → Some (counted child.count) ≡ option_map (λ child. child.number) (child_at nat_eq (mounts_in now) place)
+    → lookup (same_id child) es ≡ r
     → option_map (mount_under child) r ≡ child_at nat_eq (mounts_in now) place
 child-found place es now child r view is there =
     ap (option_map (mount_under child)) (sym there ∙ sym (found-in_order child es))
@@ -126,12 +148,14 @@ module _ {A : Type 0} (next : A → Option A) where
   any-start zero a b = refl
   any-start (suc most) a b = by (next b)
     where
-      by : (r : Option A) → last_or a (elim r [ None ↦ b ∷ [] | Some c ↦ b ∷ chain most next c ]) ≡ last_or b (elim r [ None ↦ b ∷ [] | Some c ↦ b ∷ chain most next c ])
+      by : (r : Option A) → last_or a (elim r [ None ↦ b ∷ [] | Some c ↦ b ∷ chain most next c ])
+          ≡ last_or b (elim r [ None ↦ b ∷ [] | Some c ↦ b ∷ chain most next c ])
       by None = refl
       by (Some c) = refl
 
   pub end-more : (most : ℕ) (a b : A) → next a ≡ Some b → end_of (suc most) a ≡ end_of most b
-  end-more most a b is = ap (λ r. last_or a (elim r [ None ↦ a ∷ [] | Some c ↦ a ∷ chain most next c ])) is ∙ any-start most a b
+  end-more most a b is = ap (λ r. last_or a (elim r [ None ↦ a ∷ [] | Some c ↦ a ∷ chain most next c ])) is
+      ∙ any-start most a b
 
   pub end-here : (most : ℕ) (a : A) → next a ≡ None → end_of most a ≡ a
   end-here zero a is = refl

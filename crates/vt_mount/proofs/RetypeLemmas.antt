@@ -30,9 +30,11 @@ module _ (Is : MountId → Propagation → Propagation → Type 0) where
   abbrev pub AreRetyped : List (MountId × Mounted) → List (MountId × Mounted) → Type 0
   AreRetyped [] new = new ≡ []
   AreRetyped (e ∷ es) new =
-      (kept : Mounted) × (rest : List (MountId × Mounted)) × (new ≡ (e.0, kept) ∷ rest) × IsRetyped e.0 e.1 kept × AreRetyped es rest
+      (kept : Mounted) × (rest : List (MountId × Mounted)) × (new ≡ (e.0, kept) ∷ rest) × IsRetyped e.0 e.1 kept
+      × AreRetyped es rest
 
-  put-retyped : (id : MountId) (old new : Mounted) → IsRetyped id old new → (es fs : List (MountId × Mounted)) → AreRetyped es fs
+  put-retyped : (id : MountId) (old new : Mounted) → IsRetyped id old new → (es fs : List (MountId × Mounted))
+      → AreRetyped es fs
       → AreRetyped (put id_cmp id old es) (put id_cmp id new fs)
   put-retyped id old new is [] fs same = (new, [], ap (put id_cmp id new) same, is, refl)
   put-retyped id old new is (e ∷ es) fs (kept, rest, same, one, more) =
@@ -55,7 +57,8 @@ module _ (Is : MountId → Propagation → Propagation → Type 0) where
   -- the lists stay right
 
   numbers-retyped : (test : Mount → Bool)
-      → ((id : MountId) (old : Mounted) (kind : Propagation) → passes test (id, record old { propagation = kind }) ≡ passes test (id, old))
+      → ((id : MountId) (old : Mounted) (kind : Propagation)
+      → passes test (id, record old { propagation = kind }) ≡ passes test (id, old))
       → (es fs : List (MountId × Mounted)) → AreRetyped es fs → numbers_where test fs ≡ numbers_where test es
   numbers-retyped test so [] fs same = ap (numbers_where test) same
   numbers-retyped test so (e ∷ es) fs (kept, rest, same, one, more) =
@@ -65,7 +68,8 @@ module _ (Is : MountId → Propagation → Propagation → Type 0) where
       (e.0 ∷ numbers-retyped test so es rest more i) (numbers-retyped test so es rest more i))
       ∙ sym (cons-numbers test e es)
 
-  slots-retyped : (es fs : List (MountId × Mounted)) → AreRetyped es fs → list_all is_in_slot fs ≡ list_all is_in_slot es
+  slots-retyped : (es fs : List (MountId × Mounted)) → AreRetyped es fs
+      → list_all is_in_slot fs ≡ list_all is_in_slot es
   slots-retyped [] fs same = ap (list_all is_in_slot) same
   slots-retyped (e ∷ es) fs (kept, rest, same, one, more) =
       ap (list_all is_in_slot) same
@@ -76,10 +80,14 @@ module _ (Is : MountId → Propagation → Propagation → Type 0) where
   indexed-retyped indexes es fs all old =
       let sorted = in_order-retyped es fs all in
       record {
-        namespace = λ q. old.namespace q ∙ sym (numbers-retyped (is_in q) (λ id one kind. refl) (in_order es) (in_order fs) sorted);
-        parent = λ q. old.parent q ∙ sym (numbers-retyped (is_on q) (λ id one kind. refl) (in_order es) (in_order fs) sorted);
-        place = λ q. old.place q ∙ sym (numbers-retyped (is_at q) (λ id one kind. refl) (in_order es) (in_order fs) sorted);
-        inode = λ q. old.inode q ∙ sym (numbers-retyped (is_over q) (λ id one kind. refl) (in_order es) (in_order fs) sorted);
+        namespace = λ q. old.namespace q
+            ∙ sym (numbers-retyped (is_in q) (λ id one kind. refl) (in_order es) (in_order fs) sorted);
+        parent = λ q. old.parent q ∙ sym
+            (numbers-retyped (is_on q) (λ id one kind. refl) (in_order es) (in_order fs) sorted);
+        place = λ q. old.place q ∙ sym
+            (numbers-retyped (is_at q) (λ id one kind. refl) (in_order es) (in_order fs) sorted);
+        inode = λ q. old.inode q ∙ sym
+            (numbers-retyped (is_over q) (λ id one kind. refl) (in_order es) (in_order fs) sorted);
         slots = slots-retyped (in_order es) (in_order fs) sorted ∙ old.slots;
       }
 
@@ -103,7 +111,8 @@ module _ (seen : ℕ → meant.Propagation ℕ → meant.Propagation ℕ) where
   abbrev pub IsSeen : MountId → Propagation → Propagation → Type 0
   IsSeen id old new = propagation_of new ≡ seen (counted id.count) (propagation_of old)
 
-  entry-retyped : (id : MountId) (old new : Mounted) → IsRetyped IsSeen id old new → entry_of (id, new) ≡ retyped seen (entry_of (id, old))
+  entry-retyped : (id : MountId) (old new : Mounted) → IsRetyped IsSeen id old new
+      → entry_of (id, new) ≡ retyped seen (entry_of (id, old))
   entry-retyped id old new is =
       ap (λ one. entry_of (id, one)) is.others
       ∙ (λ i. record (entry_of (id, old)) { mount = record (entry_of (id, old)).mount { propagation = is.kind i } })

@@ -16,7 +16,8 @@ sources-counted : (kept : List (MountId × Mounted)) → list_all has_counted_so
 sources-counted [] = refl
 sources-counted (one ∷ kept) = λ i. by one.1.propagation i && sources-counted kept i
   where
-    by : (kind : Propagation) → list_all (λ group. group % 4 == 1) (option_to_list (source_of (propagation_of kind))) ≡ true
+    by : (kind : Propagation) → list_all (λ group. group % 4 == 1) (option_to_list (source_of (propagation_of kind)))
+        ≡ true
     by (Shared group) = ap (λ b. b && true) (eq-eqb (counted group.count % 4) 1 (omega arith))
     by (Slave master) = ap (λ b. b && true) (eq-eqb (counted master.count % 4) 1 (omega arith))
     by Private = refl

@@ -7,12 +7,18 @@ use Rattle.std.proofs.Math.ListN.{drop_of_length-le}
 use Rattle.vt_spec.specs.Machine.Outcome.Descriptors.{overwritten, padded}
 
 length-padded : (n : ℕ) (old : List ℕ) → length (padded n old) ≡ max (length old) n
-length-padded n old = omega (arith, length-append old (replicate (n - length old) 0), length-replicate {A = ℕ} (n - length old) 0)
+length-padded n old = omega (
+  arith,
+  length-append old (replicate (n - length old) 0),
+  length-replicate {A = ℕ}
+      (n - length old) 0,
+)
 
 take_all : (n : ℕ) (list : List ℕ) → length list ≤ n → take n list ≡ list
 take_all n list few =
     let sum : n ≡ length list + (n - length list) = omega arith in
-    sym (ap (take n) (append-nil list)) ∙ ap (λ m. take m (list ++ [])) sum ∙ take-append-add list [] (n - length list) ∙ none (n - length list)
+    sym (ap (take n) (append-nil list)) ∙ ap (λ m. take m (list ++ [])) sum ∙ take-append-add list [] (n - length list)
+    ∙ none (n - length list)
   where
     none : (m : ℕ) → list ++ take m [] ≡ list
     none zero = append-nil list
@@ -24,11 +30,13 @@ front-padded offset n old within =
     ⊎_elim
     (λ short.
     let there : offset ≤ length old = omega arith in
-    take-append-le offset old (replicate (n - length old) 0) there ∙ sym (take-append-le offset old (replicate (offset - length old) 0) there))
+    take-append-le offset old (replicate (n - length old) 0) there
+    ∙ sym (take-append-le offset old (replicate (offset - length old) 0) there))
     (λ long. beyond n within long ∙ sym (beyond offset (omega arith) long))
     (cases_lt offset (length old))
   where
-    beyond : (m : ℕ) → offset ≤ m → length old ≤ offset → take offset (padded m old) ≡ old ++ replicate (offset - length old) 0
+    beyond : (m : ℕ) → offset ≤ m → length old ≤ offset
+        → take offset (padded m old) ≡ old ++ replicate (offset - length old) 0
     beyond m most long =
         let sum : offset ≡ length old + (offset - length old) = omega arith in
         ap (λ k. take k (padded m old)) sum
@@ -63,7 +71,8 @@ overwritten-grown old bytes grown offset longer most is =
 
 -- and the same where the bytes were copied into their place
 module _ (old bytes grown copy rest : List ℕ) (offset longer count : ℕ)
-    (most : longer ≡ max (length old) (offset + length bytes)) (is : grown ≡ take longer old ++ replicate (longer - length old) 0)
+    (most : longer ≡ max (length old) (offset + length bytes))
+    (is : grown ≡ take longer old ++ replicate (longer - length old) 0)
     (copied : copy ≡ bytes) (size : length grown ≡ count) (long : count ≡ longer) where
   abbrev all : List ℕ
   all = take offset grown ++ (copy ++ drop (offset + length bytes - offset) (drop offset grown))

@@ -66,7 +66,8 @@ module _ {A : Type 0} where
   -- a map in which one name leads to something else
   module _ (old new : List (Vec ℕ A × ℕ)) (name : List ℕ) (value : Option ℕ) where
     found_after : lookup (is_name name) new ≡ value → KeepsOthers key_eq (is_name name) old new
-        → (q : List ℕ) → find name_cmp q (listed new) ≡ cond (eq_by_cmp name_cmp q name) value (find name_cmp q (listed old))
+        → (q : List ℕ) → find name_cmp q (listed new)
+        ≡ cond (eq_by_cmp name_cmp q name) value (find name_cmp q (listed old))
     unfolding KeepsOthers
     found_after here others q =
         find-listed q new ∙ by (eq_by_cmp name_cmp q name) refl

@@ -30,10 +30,12 @@ and_second true b e = e
 and_second false b e = absurd (true≢false (sym e))
 
 -- what an entry is found by leads to it
-below_none : (name : List ℕ) (entries : Entries ℕ) → below_all name_cmp name entries ≡ true → entry_named name entries ≡ None
+below_none : (name : List ℕ) (entries : Entries ℕ) → below_all name_cmp name entries ≡ true
+    → entry_named name entries ≡ None
 below_none name [] e = refl
 below_none name (entry ∷ entries) e =
-    ap (λ b. cond b (Some entry.1) (entry_named name entries)) (apart (name_cmp name entry.0) (and_first (is_lt (name_cmp name entry.0)) _ e))
+    ap (λ b. cond b (Some entry.1) (entry_named name entries))
+    (apart (name_cmp name entry.0) (and_first (is_lt (name_cmp name entry.0)) _ e))
     ∙ below_none name entries (and_second (is_lt (name_cmp name entry.0)) _ e)
   where
     apart : (o : Ordering) → is_lt o ≡ true → is_eq o ≡ false
@@ -53,7 +55,8 @@ pub found_is_named : (id : ℕ) (entries : Entries ℕ) (entry : List ℕ × ℕ
     → find (leads id) entries ≡ Some entry → entry_named entry.0 entries ≡ Some id
 found_is_named id [] entry sorted e = absurd (true≢false (sym (ap is_some e)))
 found_is_named id (first ∷ entries) entry sorted e =
-    by (nat_eq id first.1) refl e (λ rest. found_is_named id entries entry (and_second (below_all name_cmp first.0 entries) _ sorted) rest)
+    by (nat_eq id first.1) refl e (λ rest.
+    found_is_named id entries entry (and_second (below_all name_cmp first.0 entries) _ sorted) rest)
   where
     later : (is : Bool) → eq_by_cmp name_cmp entry.0 first.0 ≡ is → entry_named entry.0 entries ≡ Some id
         → cond is (Some first.1) (entry_named entry.0 entries) ≡ Some id
@@ -67,38 +70,46 @@ found_is_named id (first ∷ entries) entry sorted e =
         → entry_named entry.0 (first ∷ entries) ≡ Some id
     by true t e rest =
         subst (λ (found : List ℕ × ℕ). entry_named found.0 (first ∷ entries) ≡ Some id) (one_entry first entry e)
-        (ap (λ o. cond (is_eq o) (Some first.1) (entry_named first.0 entries)) (tied_itself nat_list_cmp_total first.0) ∙ ap Some (sym (eqb-true id first.1 t)))
+        (ap (λ o. cond (is_eq o) (Some first.1) (entry_named first.0 entries)) (tied_itself nat_list_cmp_total first.0)
+        ∙ ap Some (sym (eqb-true id first.1 t)))
     by false t e rest = later (eq_by_cmp name_cmp entry.0 first.0) refl (rest e)
 
 -- what a name leads to is found
-named_is_found : (id : ℕ) (name : List ℕ) (entries : Entries ℕ) → entry_named name entries ≡ Some id → is_some (find (leads id) entries) ≡ true
+named_is_found : (id : ℕ) (name : List ℕ) (entries : Entries ℕ) → entry_named name entries ≡ Some id
+    → is_some (find (leads id) entries) ≡ true
 named_is_found id name [] e = absurd (true≢false (sym (ap is_some e)))
 named_is_found id name (first ∷ entries) e = by (eq_by_cmp name_cmp name first.0) e (named_is_found id name entries)
   where
-    right : (b : Bool) → is_some (find (leads id) entries) ≡ true → is_some (cond b (Some first) (find (leads id) entries)) ≡ true
+    right : (b : Bool) → is_some (find (leads id) entries) ≡ true
+        → is_some (cond b (Some first) (find (leads id) entries)) ≡ true
     right true e = refl
     right false e = e
 
     one_number : (a b : ℕ) → Some a ≡ Some b → a ≡ b
     one_number a b e = cc
 
-    by : (b : Bool) → cond b (Some first.1) (entry_named name entries) ≡ Some id → (entry_named name entries ≡ Some id → is_some (find (leads id) entries) ≡ true)
+    by : (b : Bool) → cond b (Some first.1) (entry_named name entries) ≡ Some id
+        → (entry_named name entries ≡ Some id → is_some (find (leads id) entries) ≡ true)
         → is_some (cond (nat_eq id first.1) (Some first) (find (leads id) entries)) ≡ true
-    by true e rest = ap (λ b. is_some (cond b (Some first) (find (leads id) entries))) (eq-eqb id first.1 (sym (one_number first.1 id e)))
+    by true e rest = ap (λ b. is_some (cond b (Some first) (find (leads id) entries)))
+        (eq-eqb id first.1 (sym (one_number first.1 id e)))
     by false e rest = right (nat_eq id first.1) (rest e)
 
 -- the one name of a number is the first
-pub first_name : (id : ℕ) (name : List ℕ) (entries : Entries ℕ) → is_sorted name_cmp entries ≡ true → HasOneName id entries
+pub first_name : (id : ℕ) (name : List ℕ) (entries : Entries ℕ) → is_sorted name_cmp entries ≡ true
+    → HasOneName id entries
     → entry_named name entries ≡ Some id → Some name ≡ option_map (λ entry. entry.0) (find (leads id) entries)
 first_name id name entries sorted one named = by (find (leads id) entries) refl (named_is_found id name entries named)
   where
-    by : (o : Option (List ℕ × ℕ)) → find (leads id) entries ≡ o → is_some o ≡ true → Some name ≡ option_map (λ entry. entry.0) o
+    by : (o : Option (List ℕ × ℕ)) → find (leads id) entries ≡ o → is_some o ≡ true
+        → Some name ≡ option_map (λ entry. entry.0) o
     by None e some = absurd (true≢false (sym some))
     by (Some entry) e some = ap Some (one name entry.0 named (found_is_named id entries entry sorted e))
 
 -- entries that lead elsewhere
 
-unlisted_with : (id : ℕ) (name : List ℕ) (other : ℕ) (entries : Entries ℕ) → nat_eq id other ≡ false → find (leads id) entries ≡ None
+unlisted_with : (id : ℕ) (name : List ℕ) (other : ℕ) (entries : Entries ℕ) → nat_eq id other ≡ false
+    → find (leads id) entries ≡ None
     → find (leads id) (with_entry name other entries) ≡ None
 unlisted_with id name other [] apart none = ap (λ b. cond b (Some (name, other)) None) apart
 unlisted_with id name other (first ∷ entries) apart none =
@@ -110,9 +121,11 @@ unlisted_with id name other (first ∷ entries) apart none =
     by true e some rest = absurd (true≢false (ap is_some some))
     by false e none rest =
         elim (name_cmp name first.0)
-        as (λ o. find (leads id) (by_order o ((name, other) ∷ first ∷ entries) ((first.0, other) ∷ entries) (first ∷ with_entry name other entries)) ≡ None) [
+        as (λ o. find (leads id) (by_order o ((name, other) ∷ first ∷ entries) ((first.0, other) ∷ entries)
+        (first ∷ with_entry name other entries)) ≡ None) [
           | Less ↦
-              ap (λ b. cond b (Some (name, other)) (cond (nat_eq id first.1) (Some first) (find (leads id) entries))) apart
+              ap (λ b. cond b (Some (name, other))
+              (cond (nat_eq id first.1) (Some first) (find (leads id) entries))) apart
               ∙ ap (λ b. cond b (Some first) (find (leads id) entries)) e ∙ none
           | Equal ↦ ap (λ b. cond b (Some (first.0, other)) (find (leads id) entries)) apart ∙ none
           | Greater ↦ ap (λ b. cond b (Some first) (find (leads id) (with_entry name other entries))) e ∙ rest none
@@ -137,14 +150,16 @@ found_passes {X = X} test (first ∷ xs) x e = by (test first) refl e (found_pas
     one_of : (a b : X) → Some a ≡ Some b → a ≡ b
     one_of a b e = cc
 
-    by : (b : Bool) → test first ≡ b → cond b (Some first) (find test xs) ≡ Some x → (find test xs ≡ Some x → test x ≡ true) → test x ≡ true
+    by : (b : Bool) → test first ≡ b → cond b (Some first) (find test xs) ≡ Some x
+        → (find test xs ≡ Some x → test x ≡ true) → test x ≡ true
     by true is e later = ap test (sym (one_of first x e)) ∙ is
     by false is e later = later e
 
 no_place : {X : Type 0} (test : X → Bool) (xs : List X) → position test xs ≡ None → find test xs ≡ None
 no_place test xs none = find_at test xs ∙ by (nat_lt (position_or_len test xs) (length xs)) refl none
   where
-    by : (b : Bool) → nat_lt (position_or_len test xs) (length xs) ≡ b → cond b (Some (position_or_len test xs)) None ≡ None
+    by : (b : Bool) → nat_lt (position_or_len test xs) (length xs) ≡ b
+        → cond b (Some (position_or_len test xs)) None ≡ None
         → slice_get xs (position_or_len test xs) ≡ None
     by true e none = absurd (true≢false (ap is_some none))
     by false e none = past xs (position_or_len test xs) (ltb-false (position_or_len test xs) (length xs) e)
@@ -156,7 +171,8 @@ pub record IsPlace {X : Type 0} (test : X → Bool) (xs : List X) (i : ℕ) : Ty
 is_place : {X : Type 0} (test : X → Bool) (xs : List X) (i : ℕ) → position test xs ≡ Some i → IsPlace test xs i
 is_place test xs i at = by (nat_lt (position_or_len test xs) (length xs)) refl at
   where
-    by : (b : Bool) → nat_lt (position_or_len test xs) (length xs) ≡ b → cond b (Some (position_or_len test xs)) None ≡ Some i → IsPlace test xs i
+    by : (b : Bool) → nat_lt (position_or_len test xs) (length xs) ≡ b
+        → cond b (Some (position_or_len test xs)) None ≡ Some i → IsPlace test xs i
     by true e at =
         let same : position_or_len test xs ≡ i = cc in
         record {
@@ -170,7 +186,8 @@ is_number id number = nat_eq number id
 
 module _ {A : Type 0} where
   -- where no kept entry leads to a number, none that is listed does
-  unlisted_from : (id : ℕ) (es : List (Vec ℕ A × ℕ)) → find (is_number id) (values_of es) ≡ None → find (leads id) (listed es) ≡ None
+  unlisted_from : (id : ℕ) (es : List (Vec ℕ A × ℕ)) → find (is_number id) (values_of es) ≡ None
+      → find (leads id) (listed es) ≡ None
   unlisted_from id [] none = refl
   unlisted_from id (e ∷ es) none = by (nat_eq e.1 id) refl none (unlisted_from id es)
     where
@@ -184,7 +201,8 @@ module _ {A : Type 0} where
       by true is none rest = absurd (true≢false (ap is_some none))
       by false is none rest = unlisted_with id e.0.items e.1 (listed es) (turned is (nat_eq id e.1) refl) (rest none)
 
-  pub unlisted : (id : ℕ) (es : List (Vec ℕ A × ℕ)) → position (is_number id) (values_of es) ≡ None → find (leads id) (listed es) ≡ None
+  pub unlisted : (id : ℕ) (es : List (Vec ℕ A × ℕ)) → position (is_number id) (values_of es) ≡ None
+      → find (leads id) (listed es) ≡ None
   unlisted id es none = unlisted_from id es (no_place (is_number id) (values_of es) none)
 
   value_at : (es : List (Vec ℕ A × ℕ)) (i : ℕ) → slice_get (values_of es) i ≡ option_map (λ e. e.1) (slice_get es i)
@@ -200,7 +218,9 @@ module _ {A : Type 0} where
       eqb-true e.1 id (found_passes (is_number id) (values_of es) e.1
       (place.found ∙ value_at es i ∙ ap (option_map (λ (x : Vec ℕ A × ℕ). x.1)) found))
 
-  pub is_there : (id i : ℕ) (es : List (Vec ℕ A × ℕ)) → position (is_number id) (values_of es) ≡ Some i → slice_get es i ≡ None → ⊥
+  pub is_there : (id i : ℕ) (es : List (Vec ℕ A × ℕ)) → position (is_number id) (values_of es) ≡ Some i
+      → slice_get es i ≡ None → ⊥
   is_there id i es at none =
       let place = is_place (is_number id) (values_of es) i at in
-      true≢false (sym (within (values_of es) i place.near) ∙ ap is_some (value_at es i ∙ ap (option_map (λ (x : Vec ℕ A × ℕ). x.1)) none))
+      true≢false (sym (within (values_of es) i place.near)
+      ∙ ap is_some (value_at es i ∙ ap (option_map (λ (x : Vec ℕ A × ℕ). x.1)) none))

@@ -49,7 +49,8 @@ same_names : (xs ys : List (List ℕ)) → T (is_sorted name_cmp (marked xs)) �
 same_names xs ys p q alike =
     sym (names-marked xs)
     ∙ ap (map (λ e. e.0))
-    (same_entries name_cmp nat_list_cmp_total same_name (marked xs) (marked ys) p q (λ name. same_presence _ _ (found name)))
+    (same_entries name_cmp nat_list_cmp_total same_name (marked xs) (marked ys) p q
+    (λ name. same_presence _ _ (found name)))
     ∙ names-marked ys
   where
     among : (name : List ℕ) (names : List (List ℕ))

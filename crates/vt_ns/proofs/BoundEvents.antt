@@ -1,5 +1,5 @@
 -- What the events that attach mounts find: the places of their permits, and the parts.
-use Rattle.std.proofs.Common.{◌≡◌, refl, sym, ap, subst, ◌∙◌, ℕ, nat_eq, Bool, true, map, List, is_some}
+use Rattle.std.proofs.Common.{◌≡◌, sym, ap, ◌∙◌, ℕ, nat_eq, Bool, true, map, List}
 use Rattle.std.proofs.lemmas.Bool.{and_parts}
 use Rattle.vt_spec.specs.Language.Calls.{TaskName}
 use Rattle.vt_spec.specs.Lists.{is_among}
@@ -19,24 +19,31 @@ use Rattle.vt_detach.specs.Events.{Permits}
 use Rattle.vt_detach.specs.Held.{IsHeld}
 use Rattle.vt_detach.specs.WorldValue.{WorldValue, world_of}
 use Rattle.vt_detach.proofs.FileEvents.{permit_fits}
-use Rattle.vt_attach.proofs.Binding.{found_some, is_seen, source_there}
+use Rattle.vt_attach.proofs.Binding.{found_some, is_seen}
 use Rattle.vt_ns.specs.LyingUnder.{lies_under}
 
 -- a mount on which a location lies is there
-pub place_mounted : (value : WorldValue) (place : Location) → is_located_well nat_eq (world_of value) (location_of place) ≡ true
+pub place_mounted : (value : WorldValue) (place : Location)
+    → is_located_well nat_eq (world_of value) (location_of place) ≡ true
     → is_mounted value.mounts (counted place.mount.count) ≡ true
 place_mounted value place well =
     found_some (counted place.mount.count) (mounts_in value.mounts)
-    (and_parts (is_among nat_eq (counted place.mount.count) (map (λ (mount : meant.Mount ℕ). mount.number) (mounts_in value.mounts))) _ well).0
+    (and_parts (is_among nat_eq (counted place.mount.count)
+    (map (λ (mount : meant.Mount ℕ). mount.number) (mounts_in value.mounts))) _ well).0
 
-pub bind_place_there : (value : WorldValue) → IsHeld value → (name : TaskName) (source place : Location) (recursive : Bool)
-    → Permits value name (ToBind (location_of source) (location_of place) recursive) → is_located_well nat_eq (world_of value) (location_of place) ≡ true
+pub bind_place_there : (value : WorldValue) → IsHeld value
+    → (name : TaskName) (source place : Location) (recursive : Bool)
+    → Permits value name (ToBind (location_of source) (location_of place) recursive)
+    → is_located_well nat_eq (world_of value) (location_of place) ≡ true
 bind_place_there value whole name source place recursive permits =
-    (permit_fits value whole name (ToBind (location_of source) (location_of place) recursive) permits).names.2.directory.reached.there
+    (permit_fits value whole name (ToBind (location_of source)
+    (location_of place) recursive) permits).names.2.directory.reached.there
 
 -- the parts that code finds are the definitions'
-pub parts_found : (kept value : WorldValue) (is : kept ≡ value) → IsHeld kept → (place : Location) (parts found : List Mount) → found ≡ parts
-    → ((world : World ℕ) → IsSeen world kept.mounts kept.groups → ReachesAs world (lies_under value) → map mount_of parts ≡ parts_of nat_eq world (location_of place))
+pub parts_found : (kept value : WorldValue) (is : kept ≡ value) → IsHeld kept
+    → (place : Location) (parts found : List Mount) → found ≡ parts
+    → ((world : World ℕ) → IsSeen world kept.mounts kept.groups → ReachesAs world (lies_under value)
+    → map mount_of parts ≡ parts_of nat_eq world (location_of place))
     → map mount_of found ≡ parts_of nat_eq (world_of kept) (location_of place)
 parts_found kept value is whole place parts found same made =
     ap (map mount_of) same

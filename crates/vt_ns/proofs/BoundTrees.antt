@@ -14,7 +14,8 @@ use Rattle.vt_ns.specs.declared.trees.Branch.{Branch}
 use Rattle.vt_ns.specs.Trees.{bindable_numbers, bindable_to_come}
 
 -- numbers that pass a test, and mounts with these numbers that pass another
-filtered_alike : (p : MountId → Bool) (q : Mount ℕ → Bool) (ids : List MountId) (mounts : List (Mount ℕ)) → counts ids ≡ numbers mounts
+filtered_alike : (p : MountId → Bool) (q : Mount ℕ → Bool) (ids : List MountId) (mounts : List (Mount ℕ))
+    → counts ids ≡ numbers mounts
     → ((id : MountId) (mount : Mount ℕ) → Among mount mounts → counted id.count ≡ mount.number → p id ≡ q mount)
     → counts (filter p ids) ≡ numbers (filter q mounts)
 filtered_alike p q [] [] same agree = refl
@@ -27,7 +28,8 @@ filtered_alike p q (id ∷ ids) (mount ∷ mounts) same agree =
     ∙ by (q mount) heads (filtered_alike p q ids mounts tails (λ other one m. agree other one (inr m)))
   where
     by : (b : Bool) → counted id.count ≡ mount.number → counts (filter p ids) ≡ numbers (filter q mounts)
-        → counts (cond b (id ∷ filter p ids) (filter p ids)) ≡ numbers (cond b (mount ∷ filter q mounts) (filter q mounts))
+        → counts (cond b (id ∷ filter p ids) (filter p ids))
+        ≡ numbers (cond b (mount ∷ filter q mounts) (filter q mounts))
     by true head tail = λ i. head i ∷ tail i
     by false head tail = tail
 
@@ -44,7 +46,8 @@ filter_reverse {A} p (x ∷ xs) =
     filter_append (a ∷ one) other = first (p a) (filter_append one other)
       where
         first : (b : Bool) → filter p (one ++ other) ≡ filter p one ++ filter p other
-            → cond b (a ∷ filter p (one ++ other)) (filter p (one ++ other)) ≡ cond b (a ∷ filter p one) (filter p one) ++ filter p other
+            → cond b (a ∷ filter p (one ++ other)) (filter p (one ++ other)) ≡ cond b (a ∷ filter p one) (filter p one)
+            ++ filter p other
         first true later = ap (λ l. a ∷ l) later
         first false later = later
 
@@ -56,39 +59,48 @@ abbrev pub branch_of : ℕ → MountId → Branch
 branch_of depth id = record { mount = id; depth = depth }
 
 module _ (mounts : List (Mount ℕ)) where
-  flat-numbers : (f : Mount ℕ → List (Mount ℕ)) (g : ℕ → List ℕ) → ((mount : Mount ℕ) → numbers (f mount) ≡ g mount.number) → (all : List (Mount ℕ))
+  flat-numbers : (f : Mount ℕ → List (Mount ℕ)) (g : ℕ → List ℕ)
+      → ((mount : Mount ℕ) → numbers (f mount) ≡ g mount.number) → (all : List (Mount ℕ))
       → numbers (flat_map f all) ≡ flat_map g (numbers all)
   flat-numbers f g same [] = refl
   flat-numbers f g same (mount ∷ all) =
       map-append (λ mount. mount.number) (f mount) (flat_map f all) ∙ (λ i. same mount i ++ flat-numbers f g same all i)
 
-  pub numbers-bindable : (depth : ℕ) (mount : Mount ℕ) → numbers (bindable_tree nat_eq depth mounts mount) ≡ bindable_numbers mounts depth mount.number
+  pub numbers-bindable : (depth : ℕ) (mount : Mount ℕ)
+      → numbers (bindable_tree nat_eq depth mounts mount) ≡ bindable_numbers mounts depth mount.number
   numbers-bindable zero mount = refl
   numbers-bindable (suc depth) mount =
       ap (λ l. mount.number ∷ l)
-      (flat-numbers (bindable_tree nat_eq depth mounts) (bindable_numbers mounts depth) (numbers-bindable depth) (bindable_children nat_eq mounts mount.number))
+      (flat-numbers (bindable_tree nat_eq depth mounts) (bindable_numbers mounts depth) (numbers-bindable depth)
+      (bindable_children nat_eq mounts mount.number))
 
   come-last : (waiting : List Branch) (branch : Branch)
-      → bindable_to_come mounts (waiting ++ branch ∷ []) ≡ bindable_numbers mounts branch.depth (counted branch.mount.count) ++ bindable_to_come mounts waiting
+      → bindable_to_come mounts (waiting ++ branch ∷ [])
+      ≡ bindable_numbers mounts branch.depth (counted branch.mount.count) ++ bindable_to_come mounts waiting
   come-last [] branch = sym (append-nil (bindable_numbers mounts branch.depth (counted branch.mount.count)))
   come-last (other ∷ waiting) branch =
       ap (λ l. l ++ bindable_numbers mounts other.depth (counted other.mount.count)) (come-last waiting branch)
-      ∙ append_assoc (bindable_numbers mounts branch.depth (counted branch.mount.count)) (bindable_to_come mounts waiting)
+      ∙ append_assoc (bindable_numbers mounts branch.depth (counted branch.mount.count))
+      (bindable_to_come mounts waiting)
       (bindable_numbers mounts other.depth (counted other.mount.count))
 
   come-reversed : (depth : ℕ) (waiting : List Branch) (ids : List MountId)
-      → bindable_to_come mounts (waiting ++ map (branch_of depth) (reverse ids)) ≡ flat_map (bindable_numbers mounts depth) (counts ids) ++ bindable_to_come mounts waiting
+      → bindable_to_come mounts (waiting ++ map (branch_of depth) (reverse ids))
+      ≡ flat_map (bindable_numbers mounts depth) (counts ids) ++ bindable_to_come mounts waiting
   come-reversed depth waiting [] = ap (bindable_to_come mounts) (append-nil waiting)
   come-reversed depth waiting (id ∷ ids) =
       ap (λ l. bindable_to_come mounts (waiting ++ map (branch_of depth) l)) (reverse-append (id ∷ []) ids)
       ∙ ap (λ l. bindable_to_come mounts (waiting ++ l)) (map-append (branch_of depth) (reverse ids) (id ∷ []))
-      ∙ ap (bindable_to_come mounts) (sym (append_assoc waiting (map (branch_of depth) (reverse ids)) (branch_of depth id ∷ [])))
+      ∙ ap (bindable_to_come mounts)
+      (sym (append_assoc waiting (map (branch_of depth) (reverse ids)) (branch_of depth id ∷ [])))
       ∙ come-last (waiting ++ map (branch_of depth) (reverse ids)) (branch_of depth id)
       ∙ ap (λ l. bindable_numbers mounts depth (counted id.count) ++ l) (come-reversed depth waiting ids)
-      ∙ sym (append_assoc (bindable_numbers mounts depth (counted id.count)) (flat_map (bindable_numbers mounts depth) (counts ids)) (bindable_to_come mounts waiting))
+      ∙ sym (append_assoc (bindable_numbers mounts depth (counted id.count))
+      (flat_map (bindable_numbers mounts depth) (counts ids)) (bindable_to_come mounts waiting))
 
   -- what is chosen of some children comes first
-  pub chosen-come : (depth : ℕ) (waiting : List Branch) (p : MountId → Bool) (ids : List MountId) (chosen : List (Mount ℕ))
+  pub chosen-come : (depth : ℕ) (waiting : List Branch) (p : MountId → Bool) (ids : List MountId)
+      (chosen : List (Mount ℕ))
       → counts (filter p ids) ≡ numbers chosen
       → bindable_to_come mounts (waiting ++ map (branch_of depth) (filter p (reverse ids)))
       ≡ numbers (flat_map (bindable_tree nat_eq depth mounts) chosen) ++ bindable_to_come mounts waiting
@@ -97,15 +109,18 @@ module _ (mounts : List (Mount ℕ)) where
       ∙ come-reversed depth waiting (filter p ids)
       ∙ ap (λ l. flat_map (bindable_numbers mounts depth) l ++ bindable_to_come mounts waiting) same
       ∙ ap (λ l. l ++ bindable_to_come mounts waiting)
-      (sym (flat-numbers (bindable_tree nat_eq depth mounts) (bindable_numbers mounts depth) (numbers-bindable depth) chosen))
+      (sym (flat-numbers (bindable_tree nat_eq depth mounts) (bindable_numbers mounts depth)
+      (numbers-bindable depth) chosen))
 
   -- the next mount comes first, then its children, then what waits
   pub next-flat : (waiting : List Branch) (next : Branch) → next.depth ≡ 0
       → bindable_to_come mounts (waiting ++ next ∷ []) ≡ counted next.mount.count ∷ bindable_to_come mounts waiting
   next-flat waiting next flat =
-      come-last waiting next ∙ ap (λ depth. bindable_numbers mounts depth (counted next.mount.count) ++ bindable_to_come mounts waiting) flat
+      come-last waiting next ∙ ap (λ depth. bindable_numbers mounts depth (counted next.mount.count)
+      ++ bindable_to_come mounts waiting) flat
 
-  pub next-deep : (waiting : List Branch) (next : Branch) (depth : ℕ) (p : MountId → Bool) (ids : List MountId) → next.depth ≡ suc depth
+  pub next-deep : (waiting : List Branch) (next : Branch) (depth : ℕ) (p : MountId → Bool) (ids : List MountId)
+      → next.depth ≡ suc depth
       → counts (filter p ids) ≡ numbers (bindable_children nat_eq mounts (counted next.mount.count))
       → bindable_to_come mounts (waiting ++ next ∷ [])
       ≡ counted next.mount.count ∷ bindable_to_come mounts (waiting ++ map (branch_of depth) (filter p (reverse ids)))
@@ -119,9 +134,11 @@ module _ (mounts : List (Mount ℕ)) where
       ∙ sym (chosen-come depth waiting p ids (bindable_children nat_eq mounts (counted next.mount.count)) kids))
 
 -- one more of the tree is told
-pub told-more : (tree : List MountId) (id : MountId) (mounts : List (Mount ℕ)) (before after : List Branch) (whole : List ℕ)
+pub told-more : (tree : List MountId) (id : MountId) (mounts : List (Mount ℕ)) (before after : List Branch)
+    (whole : List ℕ)
     → bindable_to_come mounts before ≡ counted id.count ∷ bindable_to_come mounts after
-    → counts tree ++ bindable_to_come mounts before ≡ whole → counts (tree ++ id ∷ []) ++ bindable_to_come mounts after ≡ whole
+    → counts tree ++ bindable_to_come mounts before ≡ whole
+    → counts (tree ++ id ∷ []) ++ bindable_to_come mounts after ≡ whole
 told-more tree id mounts before after whole next is =
     ap (λ l. l ++ bindable_to_come mounts after) (map-append (λ id. counted id.count) tree (id ∷ []))
     ∙ append_assoc (counts tree) (counted id.count ∷ []) (bindable_to_come mounts after)
@@ -136,16 +153,20 @@ told-all tree whole is = sym (append-nil (counts tree)) ∙ is
 abbrev pub bindable : List (Mount ℕ) → MountId → Bool
 bindable mounts id = not (is_unbindable (mount_in nat_eq mounts (counted id.count)).propagation)
 
-module _ (mounts : List (Mount ℕ)) (one : any_pair (λ (a b : Mount ℕ). nat_eq a.number b.number) mounts ≡ false) (number : ℕ)
+module _ (mounts : List (Mount ℕ)) (one : any_pair (λ (a b : Mount ℕ). nat_eq a.number b.number) mounts ≡ false)
+    (number : ℕ)
     (ids : List MountId) (kids : counts ids ≡ numbers (children nat_eq mounts number)) where
-  child_is : (id : MountId) (mount : Mount ℕ) → Among mount (children nat_eq mounts number) → counted id.count ≡ mount.number
+  child_is : (id : MountId) (mount : Mount ℕ) → Among mount (children nat_eq mounts number)
+      → counted id.count ≡ mount.number
       → mount_in nat_eq mounts (counted id.count) ≡ mount
   child_is id mount m same =
-      ap (mount_in nat_eq mounts) same ∙ found_itself mounts one mount (among-from_filter (stands_on nat_eq number) mounts mount m).0
+      ap (mount_in nat_eq mounts) same
+      ∙ found_itself mounts one mount (among-from_filter (stands_on nat_eq number) mounts mount m).0
 
   pub bindable_kids : counts (filter (bindable mounts) ids) ≡ numbers (bindable_children nat_eq mounts number)
   bindable_kids =
-      filtered_alike (bindable mounts) (λ mount. not (is_unbindable mount.propagation)) ids (children nat_eq mounts number) kids
+      filtered_alike (bindable mounts) (λ mount. not (is_unbindable mount.propagation)) ids
+      (children nat_eq mounts number) kids
       (λ id mount m same. ap (λ (x : Mount ℕ). not (is_unbindable x.propagation)) (child_is id mount m same))
 
   pub bound_kids : (under : Mount ℕ → Bool)
@@ -157,16 +178,26 @@ module _ (mounts : List (Mount ℕ)) (one : any_pair (λ (a b : Mount ℕ). nat_
       (λ id mount m same. ap (λ (x : Mount ℕ). not (is_unbindable x.propagation) && under x) (child_is id mount m same))
       ∙ ap numbers (sym (filter_twice (children nat_eq mounts number)))
     where
-      filter_twice : (list : List (Mount ℕ)) → filter under (filter (λ mount. not (is_unbindable mount.propagation)) list)
+      filter_twice : (list : List (Mount ℕ))
+          → filter under (filter (λ mount. not (is_unbindable mount.propagation)) list)
           ≡ filter (λ mount. not (is_unbindable mount.propagation) && under mount) list
       filter_twice [] = refl
       filter_twice (mount ∷ list) = by (not (is_unbindable mount.propagation)) (under mount) refl (filter_twice list)
         where
           by : (b c : Bool) → under mount ≡ c
-              → filter under (filter (λ mount. not (is_unbindable mount.propagation)) list) ≡ filter (λ mount. not (is_unbindable mount.propagation) && under mount) list
-              → filter under (cond b (mount ∷ filter (λ mount. not (is_unbindable mount.propagation)) list) (filter (λ mount. not (is_unbindable mount.propagation)) list))
-              ≡ cond (b && under mount) (mount ∷ filter (λ mount. not (is_unbindable mount.propagation) && under mount) list)
+              → filter under (filter (λ mount. not (is_unbindable mount.propagation)) list)
+              ≡ filter (λ mount. not (is_unbindable mount.propagation) && under mount) list
+              → filter under (cond b (mount ∷ filter (λ mount. not (is_unbindable mount.propagation)) list)
+              (filter (λ mount. not (is_unbindable mount.propagation)) list))
+              ≡ cond (b && under mount) (mount
+              ∷ filter (λ mount. not (is_unbindable mount.propagation) && under mount) list)
               (filter (λ mount. not (is_unbindable mount.propagation) && under mount) list)
-          by true true e later = (λ i. cond (e i) (mount ∷ later i) (later i)) ∙ (λ i. cond (sym e i) (mount ∷ filter (λ mount. not (is_unbindable mount.propagation) && under mount) list) (filter (λ mount. not (is_unbindable mount.propagation) && under mount) list))
-          by true false e later = (λ i. cond (e i) (mount ∷ later i) (later i)) ∙ (λ i. cond (sym e i) (mount ∷ filter (λ mount. not (is_unbindable mount.propagation) && under mount) list) (filter (λ mount. not (is_unbindable mount.propagation) && under mount) list))
+          by true true e later = (λ i. cond (e i) (mount ∷ later i) (later i))
+              ∙ (λ i. cond (sym e i) (mount ∷ filter
+              (λ mount. not (is_unbindable mount.propagation) && under mount) list)
+              (filter (λ mount. not (is_unbindable mount.propagation) && under mount) list))
+          by true false e later = (λ i. cond (e i) (mount ∷ later i) (later i))
+              ∙ (λ i. cond (sym e i) (mount ∷ filter
+              (λ mount. not (is_unbindable mount.propagation) && under mount) list)
+              (filter (λ mount. not (is_unbindable mount.propagation) && under mount) list))
           by false c e later = later

@@ -68,11 +68,12 @@ use Rattle.vt_detach.proofs.NumbersBeside.{found_by_number}
 use Rattle.vt_detach.proofs.OwnInodesKept.{IsOwn}
 use Rattle.vt_detach.proofs.Remaining.{remade}
 use Rattle.vt_detach.proofs.Staying.{IsDone, becomes_so, held_is_settled, world_is_plain}
-use Rattle.vt_detach.proofs.TypedEvents.{counts_typed, swept_typed, typed_free, typed_value}
+use Rattle.vt_detach.proofs.TypedEvents.{counts_typed, swept_typed, typed_value}
 use Rattle.vt_detach.proofs.TypedWorlds.{settled_typed, settled_typed_has, typed_world}
 use Rattle.vt_detach.proofs.UnmountedLazily.{all_detached}
 
-module _ (value : WorldValue) (held : IsHeld value) (location : Location ℕ) (change : Change ℕ) (filesystems : Filesystems)
+module _ (value : WorldValue) (held : IsHeld value) (location : Location ℕ) (change : Change ℕ)
+    (filesystems : Filesystems)
     (made : ChangesFiles value location change filesystems) where
   abbrev world : World ℕ
   world = world_of value
@@ -81,7 +82,8 @@ module _ (value : WorldValue) (held : IsHeld value) (location : Location ℕ) (c
   changed_first fresh = with_change nat_eq fresh world location change
 
   abbrev changed_files : Filesystem ℕ
-  changed_files = with_files (filesystem_at nat_eq world location) (Trees.changed nat_eq (filesystem_at nat_eq world location).files change)
+  changed_files = with_files (filesystem_at nat_eq world location)
+      (Trees.changed nat_eq (filesystem_at nat_eq world location).files change)
 
   no_overlay : (filesystem_at nat_eq world location).overlay ≡ None
   no_overlay =
@@ -91,15 +93,18 @@ module _ (value : WorldValue) (held : IsHeld value) (location : Location ℕ) (c
       ∙ ap (λ found. filesystem_seen (unwrap_or found (no_entry made.entry.count))) made.found)
 
   pub changed_is : (fresh : Fresh ℕ) → changed_first fresh ≡ with_filesystem nat_eq world changed_files
-  changed_is fresh = ap (λ overlay. filesystem_changed nat_eq fresh world (filesystem_at nat_eq world location) overlay change) no_overlay
+  changed_is fresh = ap (λ overlay.
+      filesystem_changed nat_eq fresh world (filesystem_at nat_eq world location) overlay change) no_overlay
 
   -- mounts that are detached and a tree that is changed are apart
   pub changed_detached : (fresh : Fresh ℕ) (gone : List ℕ)
       → with_change nat_eq fresh (detached_world gone world) location change ≡ detached_world gone (changed_first fresh)
   changed_detached fresh gone =
-      ap (λ n. filesystem_changed nat_eq fresh (detached_world gone world) (filesystem_numbered nat_eq world n) (filesystem_numbered nat_eq world n).overlay change)
+      ap (λ n. filesystem_changed nat_eq fresh (detached_world gone world) (filesystem_numbered nat_eq world n)
+      (filesystem_numbered nat_eq world n).overlay change)
       (filesystem_kept (detached_in gone) (pending_number gone) (pending_filesystem gone) world.mounts location.mount)
-      ∙ ap (λ overlay. filesystem_changed nat_eq fresh (detached_world gone world) (filesystem_at nat_eq world location) overlay change) no_overlay
+      ∙ ap (λ overlay. filesystem_changed nat_eq fresh (detached_world gone world)
+      (filesystem_at nat_eq world location) overlay change) no_overlay
       ∙ ap (detached_world gone) (sym (changed_is fresh))
 
   -- also where the groups that lost their last member end
@@ -118,11 +123,15 @@ module _ (value : WorldValue) (held : IsHeld value) (location : Location ℕ) (c
           ≡ regrouped_by nat_eq b (detached_world gone (changed_first fresh))
       by false = changed_detached fresh gone
       by true =
-          ap (λ n. filesystem_changed nat_eq fresh (regrouped_by nat_eq true (detached_world gone world)) (filesystem_numbered nat_eq world n)
+          ap (λ n. filesystem_changed nat_eq fresh (regrouped_by nat_eq true (detached_world gone world))
+          (filesystem_numbered nat_eq world n)
           (filesystem_numbered nat_eq world n).overlay change)
-          (filesystem_kept (inheriting nat_eq (detached_world gone world)) (λ mount. refl) (λ mount. refl) (detached_world gone world).mounts location.mount
-          ∙ filesystem_kept (detached_in gone) (pending_number gone) (pending_filesystem gone) world.mounts location.mount)
-          ∙ ap (λ overlay. filesystem_changed nat_eq fresh (regrouped_by nat_eq true (detached_world gone world)) (filesystem_at nat_eq world location)
+          (filesystem_kept (inheriting nat_eq (detached_world gone world)) (λ mount. refl) (λ mount. refl)
+          (detached_world gone world).mounts location.mount
+          ∙ filesystem_kept (detached_in gone) (pending_number gone)
+          (pending_filesystem gone) world.mounts location.mount)
+          ∙ ap (λ overlay. filesystem_changed nat_eq fresh (regrouped_by nat_eq true (detached_world gone world))
+          (filesystem_at nat_eq world location)
           overlay change) no_overlay
           ∙ ap (λ w. regrouped_by nat_eq true (detached_world gone w)) (sym (changed_is fresh))
 
@@ -145,7 +154,8 @@ module _ (value : WorldValue) (held : IsHeld value) (location : Location ℕ) (c
     last_under_way : IsWorldButForUse (regrouped nat_eq (detached_world gone (changed_first fresh)))
     last_under_way =
         subst IsWorldButForUse (leaves fresh)
-        (given_permits_are_under_way world fresh permits.task permit held.in_world (files_are_plain value.filesystems) permits.given)
+        (given_permits_are_under_way world fresh permits.task permit held.in_world
+        (files_are_plain value.filesystems) permits.given)
 
     -- groups that end leave the trees as they are
     trees_under_way : (b : Bool) → IsWorldButForUse (regrouped_by nat_eq b (detached_world gone (changed_first fresh)))
@@ -174,7 +184,8 @@ module _ (value : WorldValue) (held : IsHeld value) (location : Location ℕ) (c
     fit : IsFitPermit fresh world permits.task (ToChange location change)
     fit = record {
       names = names;
-      few_mounts = subst (λ (w : World ℕ). has_too_many nat_eq w ≡ false) (sym (changed_is fresh)) held.in_world.namespaces.few_mounts;
+      few_mounts = subst (λ (w : World ℕ). has_too_many nat_eq w ≡ false)
+          (sym (changed_is fresh)) held.in_world.namespaces.few_mounts;
     }
 
     first_under_way : IsWorldButForUse (changed_first fresh)
@@ -192,10 +203,14 @@ module _ (value : WorldValue) (held : IsHeld value) (location : Location ℕ) (c
           namespaces = namespaces_kept world fresh task (ToChange location change) is plain serves found fit;
           tasks = record {
             one_task = permits_keep_names world fresh task (ToChange location change) is plain serves found fit;
-            small_tasks = subst (λ (w : World ℕ). list_all is_within_limits w.tasks ≡ true) (sym (changed_is fresh)) is.tasks.small_tasks;
-            forks_counted = permits_keep_counting_forks world fresh task (ToChange location change) is plain serves found fit;
-            locations_live = permits_keep_locations world fresh task (ToChange location change) is plain serves found fit;
-            directories = permits_keep_directories world fresh task (ToChange location change) is plain serves found fit;
+            small_tasks = subst (λ (w : World ℕ). list_all is_within_limits w.tasks ≡ true)
+                (sym (changed_is fresh)) is.tasks.small_tasks;
+            forks_counted = permits_keep_counting_forks world fresh task
+                (ToChange location change) is plain serves found fit;
+            locations_live = permits_keep_locations world fresh task
+                (ToChange location change) is plain serves found fit;
+            directories = permits_keep_directories world fresh task
+                (ToChange location change) is plain serves found fit;
             open_files = permits_keep_open_files world fresh task (ToChange location change) is plain serves found fit;
           };
           roots = permits_keep_mounts_showing world fresh task (ToChange location change) is plain serves found fit;
@@ -223,7 +238,8 @@ module _ (value : WorldValue) (held : IsHeld value) (location : Location ℕ) (c
 
     seen_among : Among (filesystem_at nat_eq world location) world.filesystems
     seen_among =
-        subst (λ f. Among f world.filesystems) (sym filesystem_is) (among-map filesystem_seen value.filesystems made.entry made.among)
+        subst (λ f. Among f world.filesystems) (sym filesystem_is)
+        (among-map filesystem_seen value.filesystems made.entry made.among)
 
     abbrev changed_plainly : World ℕ
     changed_plainly = with_filesystem nat_eq world changed_files
@@ -231,8 +247,10 @@ module _ (value : WorldValue) (held : IsHeld value) (location : Location ℕ) (c
     changed_among : Among changed_files changed_plainly.filesystems
     changed_among =
         subst (λ f. Among f changed_plainly.filesystems)
-        (ap (λ b. cond b changed_files (filesystem_at nat_eq world location)) (eq-eqb changed_files.number (filesystem_at nat_eq world location).number refl))
-        (among-map (replaced_if_numbered nat_eq changed_files) world.filesystems (filesystem_at nat_eq world location) seen_among)
+        (ap (λ b. cond b changed_files (filesystem_at nat_eq world location))
+        (eq-eqb changed_files.number (filesystem_at nat_eq world location).number refl))
+        (among-map (replaced_if_numbered nat_eq changed_files) world.filesystems
+        (filesystem_at nat_eq world location) seen_among)
 
     listed_after : IsListedTree changed_files.files
     listed_after =
@@ -245,13 +263,15 @@ module _ (value : WorldValue) (held : IsHeld value) (location : Location ℕ) (c
     -- Where the one object that loses its name is a mount point, nothing goes by the change alone.
     module _ (object : ℕ) (lost_is : names_lost (filesystem_at nat_eq world location).files change ≡ object ∷ [])
         (may : MayChange (filesystem_at nat_eq world location).files change)
-        (mount : Mount ℕ) (among : Among mount world.mounts) (place : Location ℕ) (placed : mount.mount_point ≡ Some place)
+        (mount : Mount ℕ) (among : Among mount world.mounts) (place : Location ℕ)
+        (placed : mount.mount_point ≡ Some place)
         (at : place.node ≡ object) (shows : filesystem_of world place ≡ number) where
       changes_tree : ChangesTree (filesystem_at nat_eq world location).files changed_files.files (object ∷ [])
       changes_tree =
           subst (ChangesTree (filesystem_at nat_eq world location).files changed_files.files) lost_is
           (changes_keep_names (filesystem_at nat_eq world location).files change
-          (among_from_all (λ (f : Filesystem ℕ). IsListedTree f.files) world.filesystems (worlds_have_trees world held.in_world) (filesystem_at nat_eq world location) seen_among)
+          (among_from_all (λ (f : Filesystem ℕ). IsListedTree f.files) world.filesystems
+          (worlds_have_trees world held.in_world) (filesystem_at nat_eq world location) seen_among)
           listed_after may)
 
       there : is_among nat_eq number (map (λ (f : Filesystem ℕ). f.number) world.filesystems) ≡ true
@@ -261,44 +281,54 @@ module _ (value : WorldValue) (held : IsHeld value) (location : Location ℕ) (c
           (among-map (λ (f : Filesystem ℕ). f.number) world.filesystems (filesystem_seen made.entry)
           (among-map filesystem_seen value.filesystems made.entry made.among)))
 
-      located : (f : Filesystem ℕ) → nat_eq f.number number ≡ true → is_among nat_eq object (located_in nat_eq changed_plainly f.number) ≡ true
+      located : (f : Filesystem ℕ) → nat_eq f.number number ≡ true
+          → is_among nat_eq object (located_in nat_eq changed_plainly f.number) ≡ true
       located f same =
           is_among_numbers object (located_in nat_eq changed_plainly f.number)
           (subst (λ n. Among n (located_in nat_eq changed_plainly f.number)) at
           (among-map (λ (one : Location ℕ). one.node)
           (filter (λ (one : Location ℕ). nat_eq f.number (mount_at nat_eq world one).filesystem)
-          (all_locations world ++ map root_of world.mounts ++ filter_map (λ (x : Mount ℕ). x.mount_point) world.mounts)) place
+          (all_locations world ++ map root_of world.mounts
+          ++ filter_map (λ (x : Mount ℕ). x.mount_point) world.mounts)) place
           (among-filter (λ (one : Location ℕ). nat_eq f.number (mount_at nat_eq world one).filesystem)
-          (all_locations world ++ map root_of world.mounts ++ filter_map (λ (x : Mount ℕ). x.mount_point) world.mounts) place
-          (among-append_right (all_locations world ++ map root_of world.mounts) (filter_map (λ (x : Mount ℕ). x.mount_point) world.mounts) place
+          (all_locations world ++ map root_of world.mounts
+          ++ filter_map (λ (x : Mount ℕ). x.mount_point) world.mounts) place
+          (among-append_right (all_locations world ++ map root_of world.mounts)
+          (filter_map (λ (x : Mount ℕ). x.mount_point) world.mounts) place
           (among-filter_map (λ (x : Mount ℕ). x.mount_point) world.mounts mount place among placed))
           (ap (nat_eq f.number) shows ∙ same))))
 
       used : (f : Filesystem ℕ) → nat_eq f.number number ≡ true → is_inode_used changed_plainly f object ≡ true
       used f same =
           or_second (nat_eq object f.files.tree.root) _
-          (is_among_left object ((named_in f.files ++ located_in nat_eq changed_plainly f.number) ++ layers_in nat_eq changed_plainly f.number)
+          (is_among_left object ((named_in f.files ++ located_in nat_eq changed_plainly f.number)
+          ++ layers_in nat_eq changed_plainly f.number)
           (flat_map (objects_of_overlay nat_eq f.number) changed_plainly.filesystems)
-          (is_among_left object (named_in f.files ++ located_in nat_eq changed_plainly f.number) (layers_in nat_eq changed_plainly f.number)
+          (is_among_left object (named_in f.files ++ located_in nat_eq changed_plainly f.number)
+          (layers_in nat_eq changed_plainly f.number)
           (is_among_right object (named_in f.files) (located_in nat_eq changed_plainly f.number) (located f same))))
 
       object_stays : let_go_inode changed_plainly (number, object) ≡ changed_plainly
       object_stays =
           ap (λ all. record changed_plainly { filesystems = all })
-          (map_same (let_go_inode_of changed_plainly (number, object)) changed_plainly.filesystems (λ f m. by f (nat_eq f.number number) refl))
+          (map_same (let_go_inode_of changed_plainly (number, object)) changed_plainly.filesystems
+          (λ f m. by f (nat_eq f.number number) refl))
         where
           by : (f : Filesystem ℕ) (b : Bool) → nat_eq f.number number ≡ b
-              → cond (b && not (is_inode_used changed_plainly f object)) (record f { files = without_inode object f.files }) f ≡ f
+              → cond (b && not (is_inode_used changed_plainly f object))
+              (record f { files = without_inode object f.files }) f ≡ f
           by f true e = ap (λ c. cond (not c) (record f { files = without_inode object f.files }) f) (used f e)
           by f false e = refl
 
       pub nothing_goes : settled nat_eq (changed_first fresh) ≡ changed_first fresh
       nothing_goes =
           subst (λ w. settled nat_eq w ≡ w) (sym (changed_is fresh))
-          (unnamed_go world number changed_files.files (object ∷ []) (held_is_settled value held.in_world) there changes_tree ∙ object_stays)
+          (unnamed_go world number changed_files.files (object ∷ [])
+          (held_is_settled value held.in_world) there changes_tree ∙ object_stays)
 
     -- Where nothing goes by the change alone, the mounts are detached in the world with the tree changed.
-    module _ (still : settled nat_eq (changed_first fresh) ≡ changed_first fresh) (closed : HasChildrenOf gone world.mounts) where
+    module _ (still : settled nat_eq (changed_first fresh) ≡ changed_first fresh)
+        (closed : HasChildrenOf gone world.mounts) where
       abbrev value_changed : WorldValue
       value_changed = with_filesystems value filesystems
 
@@ -309,7 +339,8 @@ module _ (value : WorldValue) (held : IsHeld value) (location : Location ℕ) (c
       last = detached_world gone (changed_first fresh)
 
       same_first : SameWorlds (changed_first fresh) (world_of value_changed)
-      same_first = subst (λ w. SameWorlds w (world_of value_changed)) still (change_is_swept value held location change filesystems made fresh)
+      same_first = subst (λ w. SameWorlds w (world_of value_changed)) still
+          (change_is_swept value held location change filesystems made fresh)
 
       same_left : SameWorlds (settled nat_eq (regrouped nat_eq last)) (settled nat_eq (regrouped nat_eq after))
       same_left =
@@ -323,10 +354,12 @@ module _ (value : WorldValue) (held : IsHeld value) (location : Location ℕ) (c
             tasks = alike.tasks;
           })))
 
-      left_world : IsWorld nat_eq (settled nat_eq (regrouped nat_eq last)) × IsPlain (settled nat_eq (regrouped nat_eq last))
+      left_world : IsWorld nat_eq (settled nat_eq (regrouped nat_eq last))
+          × IsPlain (settled nat_eq (regrouped nat_eq last))
       left_world =
           subst (λ w. IsWorld nat_eq (settled nat_eq w) × IsPlain (settled nat_eq w)) (leaves fresh)
-          (given_permits_leave_worlds world fresh permits.task permit held.in_world (files_are_plain value.filesystems) permits.given)
+          (given_permits_leave_worlds world fresh permits.task permit held.in_world
+          (files_are_plain value.filesystems) permits.given)
 
       -- They leave their groups at once, and all mounts get the types that the groups then tell.
       module _ (groups : Grouping) (follows : TakesAway value.groups groups gone) where
@@ -339,11 +372,13 @@ module _ (value : WorldValue) (held : IsHeld value) (location : Location ℕ) (c
         typed = typed_world groups after
 
         same_typed : SameWorlds (settled nat_eq (regrouped nat_eq last)) (settled nat_eq typed)
-        same_typed = subst (SameWorlds (settled nat_eq (regrouped nat_eq last))) (settled_typed after groups has_after) same_left
+        same_typed = subst (SameWorlds (settled nat_eq (regrouped nat_eq last)))
+            (settled_typed after groups has_after) same_left
 
         typed_is_world : IsWorld nat_eq (settled nat_eq typed) × IsPlain (settled nat_eq typed)
         typed_is_world =
-            same_worlds_are_worlds (settled nat_eq (regrouped nat_eq last)) (settled nat_eq typed) same_typed left_world.1 left_world.0
+            same_worlds_are_worlds (settled nat_eq (regrouped nat_eq last))
+            (settled nat_eq typed) same_typed left_world.1 left_world.0
 
         has_typed : Has (settled nat_eq typed) groups
         has_typed =
@@ -357,28 +392,35 @@ module _ (value : WorldValue) (held : IsHeld value) (location : Location ℕ) (c
             let untyped = remade value mounts others value.tasks in
             let new = typed_value groups untyped in
             let held_first = changed_first_is_held in
-            let detaching = all_detached value_changed [] (living after) gone (kept value.mounts filesystems) (kept mounts others)
-            (detaching_begins value_changed [] [] (world_of value_changed) (kept value.mounts filesystems) (held_is_kept value_changed held_first) gone closed) turn in
+            let detaching = all_detached value_changed [] (living after) gone (kept value.mounts filesystems)
+            (kept mounts others)
+            (detaching_begins value_changed [] [] (world_of value_changed) (kept value.mounts filesystems)
+            (held_is_kept value_changed held_first) gone closed) turn in
             let lost = detaching.lost in
-            let kept_last = subst (λ one. IsKeptBut value_changed [] [] [] lost one (kept mounts others)) detaching.ends detaching.is in
+            let kept_last = subst (λ one. IsKeptBut value_changed [] [] [] lost one
+            (kept mounts others)) detaching.ends detaching.is in
             let swept = swept_typed groups untyped value_changed after [] lost
-            (detached_swept value_changed after [] lost untyped kept_last refl (world_is_plain value_changed) refl refl) in
-            let same = sameness_is_an_equivalence.onward (settled nat_eq (regrouped nat_eq last)) (settled nat_eq typed) (world_of new) same_typed
+            (detached_swept value_changed after [] lost untyped kept_last refl
+            (world_is_plain value_changed) refl refl) in
+            let same = sameness_is_an_equivalence.onward (settled nat_eq (regrouped nat_eq last)) (settled nat_eq typed)
+            (world_of new) same_typed
             (swept_is_same value_changed held_first typed [] lost new swept has_typed typed_is_world) in
-            let is = (same_worlds_are_worlds (settled nat_eq (regrouped nat_eq last)) (world_of new) same left_world.1 left_world.0).0 in
+            let is = (same_worlds_are_worlds (settled nat_eq (regrouped nat_eq last))
+            (world_of new) same left_world.1 left_world.0).0 in
             let counts = counts_typed groups untyped
             (detached_counted value_changed after [] lost untyped kept_last refl
             (all_from_among (CountsWhatIsInIt (world_of untyped)) value.namespaces (λ entry m.
-            let was = among_from_all (CountsWhatIsInIt (world_of value)) value.namespaces held.namespaces entry m in record { tasks = was.tasks })))
-            (typed_free value held groups gone follows mounts) in
+            let was = among_from_all (CountsWhatIsInIt
+            (world_of value)) value.namespaces held.namespaces entry m in record { tasks = was.tasks }))) in
             record {
               held = record {
                 in_world = is;
                 groups = swept_has value_changed held_first typed [] lost new swept has_typed typed_is_world;
-                ungrouped = counts.ungrouped;
-                given = same_keeps_to_numbers_too (is_counted_before value.next) (λ k. 0) world permits.task permit (world_of new)
+                given = same_keeps_to_numbers_too (is_counted_before value.next) (λ k. 0) world permits.task permit
+                    (world_of new)
                     permits.given.called held.given (λ k. refl) is_named
-                    (subst (λ w. SameWorlds (settled nat_eq w) (world_of new)) (sym (leaves (λ k. 0))) same) (files_are_plain others);
+                    (subst (λ w. SameWorlds (settled nat_eq w) (world_of new)) (sym (leaves (λ k. 0))) same)
+                    (files_are_plain others);
                 mounts = counts.uses;
                 filesystems = all_from_among (CountsItsMounts (world_of new)) others (λ entry m. record {
                   mounts = counts.mounts entry m;
@@ -399,5 +441,6 @@ module _ (value : WorldValue) (held : IsHeld value) (location : Location ℕ) (c
           → LeaveTogether gone (kept value.mounts filesystems) value.groups (kept mounts others) groups
           → IsDone value name permit (record (remade value mounts others value.tasks) { groups = groups })
       changed_then_detached mounts groups others together =
-          subst (λ all. IsDone value name permit (record (remade value all others value.tasks) { groups = groups })) (sym (together.types (has_ordered (world_of value) value.groups held.groups) (own_types value held)))
+          subst (λ all. IsDone value name permit (record (remade value all others value.tasks) { groups = groups }))
+          (sym (together.types (has_ordered (world_of value) value.groups held.groups) (own_types value held)))
           (typed_then_detached groups together.groups together.entries others together.turn)

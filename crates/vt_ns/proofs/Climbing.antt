@@ -15,24 +15,33 @@ use Rattle.vt_detach.proofs.NumbersBeside.{one_test}
 abbrev pub meets : List (Mount ℕ) → ℕ → ℕ → ℕ → Bool
 meets mounts top zero number = nat_eq number top
 meets mounts top (suc steps) number =
-    nat_eq number top || holds_of (λ place. meets mounts top steps place.mount) (mount_in nat_eq mounts number).mount_point
+    nat_eq number top || holds_of (λ place. meets mounts top steps place.mount)
+    (mount_in nat_eq mounts number).mount_point
 
 pub met_here : (mounts : List (Mount ℕ)) (top steps number : ℕ) → number ≡ top → meets mounts top steps number ≡ true
 met_here mounts top zero number same = eq-eqb number top same
-met_here mounts top (suc steps) number same = ap (λ b. b || holds_of (λ place. meets mounts top steps place.mount) (mount_in nat_eq mounts number).mount_point) (eq-eqb number top same)
+met_here mounts top (suc steps) number same = ap
+    (λ b. b || holds_of (λ place. meets mounts top steps place.mount) (mount_in nat_eq mounts number).mount_point)
+    (eq-eqb number top same)
 
-pub met_nowhere : (mounts : List (Mount ℕ)) (top steps number : ℕ) → nat_eq number top ≡ false → (mount_in nat_eq mounts number).mount_point ≡ None
+pub met_nowhere : (mounts : List (Mount ℕ)) (top steps number : ℕ) → nat_eq number top ≡ false
+    → (mount_in nat_eq mounts number).mount_point ≡ None
     → meets mounts top steps number ≡ false
 met_nowhere mounts top zero number other none = other
-met_nowhere mounts top (suc steps) number other none = λ i. other i || holds_of (λ place. meets mounts top steps place.mount) (none i)
+met_nowhere mounts top (suc steps) number other none = λ i. other i
+    || holds_of (λ place. meets mounts top steps place.mount) (none i)
 
 pub met_above : (mounts : List (Mount ℕ)) (top steps number : ℕ) (place : Location ℕ) → nat_eq number top ≡ false
-    → (mount_in nat_eq mounts number).mount_point ≡ Some place → meets mounts top (suc steps) number ≡ meets mounts top steps place.mount
-met_above mounts top steps number place other is = λ i. other i || holds_of (λ place. meets mounts top steps place.mount) (is i)
+    → (mount_in nat_eq mounts number).mount_point ≡ Some place
+    → meets mounts top (suc steps) number ≡ meets mounts top steps place.mount
+met_above mounts top steps number place other is = λ i. other i
+    || holds_of (λ place. meets mounts top steps place.mount) (is i)
 
-any_append : {A : Type 0} (test : A → Bool) (one other : List A) → list_any test (one ++ other) ≡ (list_any test one || list_any test other)
+any_append : {A : Type 0} (test : A → Bool) (one other : List A)
+    → list_any test (one ++ other) ≡ (list_any test one || list_any test other)
 any_append test [] other = refl
-any_append test (a ∷ one) other = ap (λ b. test a || b) (any_append test one other) ∙ again (test a) (list_any test one) (list_any test other)
+any_append test (a ∷ one) other = ap (λ b. test a || b) (any_append test one other)
+    ∙ again (test a) (list_any test one) (list_any test other)
   where
     again : (x y z : Bool) → (x || (y || z)) ≡ ((x || y) || z)
     again true y z = refl
@@ -41,13 +50,15 @@ any_append test (a ∷ one) other = ap (λ b. test a || b) (any_append test one 
 any_flat : {A B : Type 0} (test : B → Bool) (f : A → List B) (list : List A)
     → list_any test (flat_map f list) ≡ list_any (λ a. list_any test (f a)) list
 any_flat test f [] = refl
-any_flat test f (a ∷ rest) = any_append test (f a) (flat_map f rest) ∙ ap (λ b. list_any test (f a) || b) (any_flat test f rest)
+any_flat test f (a ∷ rest) = any_append test (f a) (flat_map f rest)
+    ∙ ap (λ b. list_any test (f a) || b) (any_flat test f rest)
 
 any_either : {A : Type 0} (one other : A → Bool) (list : List A)
     → list_any (λ a. one a || other a) list ≡ (list_any one list || list_any other list)
 any_either one other [] = refl
 any_either one other (a ∷ rest) =
-    ap (λ b. (one a || other a) || b) (any_either one other rest) ∙ mixed (one a) (other a) (list_any one rest) (list_any other rest)
+    ap (λ b. (one a || other a) || b) (any_either one other rest)
+    ∙ mixed (one a) (other a) (list_any one rest) (list_any other rest)
   where
     mixed : (x y p q : Bool) → ((x || y) || (p || q)) ≡ ((x || p) || (y || q))
     mixed true y p q = refl
@@ -55,7 +66,8 @@ any_either one other (a ∷ rest) =
     mixed false true false q = refl
     mixed false false p q = refl
 
-pub any_alike : {A : Type 0} (one other : A → Bool) (list : List A) → ((a : A) → one a ≡ other a) → list_any one list ≡ list_any other list
+pub any_alike : {A : Type 0} (one other : A → Bool) (list : List A) → ((a : A) → one a ≡ other a)
+    → list_any one list ≡ list_any other list
 any_alike one other [] same = refl
 any_alike one other (a ∷ rest) same = λ i. same a i || any_alike one other rest same i
 
@@ -70,7 +82,8 @@ module _ (mounts : List (Mount ℕ)) (one : any_pair (λ (a b : Mount ℕ). nat_
       ≡ holds_of (λ place. nat_eq place.mount top) (mount_in nat_eq mounts number).mount_point
   child_stands top number = one_test _ _ there back
     where
-      on : (mount : Mount ℕ) (o : Option (Location ℕ)) → holds_of (λ place. nat_eq top place.mount) o ≡ holds_of (λ place. nat_eq place.mount top) o
+      on : (mount : Mount ℕ) (o : Option (Location ℕ))
+          → holds_of (λ place. nat_eq top place.mount) o ≡ holds_of (λ place. nat_eq place.mount top) o
       on mount None = refl
       on mount (Some place) = turned top place.mount
 
@@ -79,7 +92,8 @@ module _ (mounts : List (Mount ℕ)) (one : any_pair (λ (a b : Mount ℕ). nat_
       there any =
           let child = any_among (λ child. nat_eq number child.number) (children nat_eq mounts top) any in
           let from = among-from_filter (stands_on nat_eq top) mounts child.0 child.1 in
-          let is = ap (mount_in nat_eq mounts) (eqb-true number child.0.number child.2) ∙ found_itself mounts one child.0 from.0 in
+          let is = ap (mount_in nat_eq mounts) (eqb-true number child.0.number child.2)
+          ∙ found_itself mounts one child.0 from.0 in
           ap (λ (mount : Mount ℕ). holds_of (λ place. nat_eq place.mount top) mount.mount_point) is
           ∙ sym (on child.0 child.0.mount_point) ∙ from.1
 
@@ -91,7 +105,8 @@ module _ (mounts : List (Mount ℕ)) (one : any_pair (λ (a b : Mount ℕ). nat_
           (λ m. any_from_among (λ child. nat_eq number child.number) (children nat_eq mounts top) mount
           (among-filter (stands_on nat_eq top) mounts mount m (on mount mount.mount_point ∙ stands))
           (ap (nat_eq number) (number_found mounts number) ∙ itself number))
-          (λ none. absurd (true≢false (sym stands ∙ ap (λ (x : Mount ℕ). holds_of (λ place. nat_eq place.mount top) x.mount_point) none)))
+          (λ none. absurd (true≢false (sym stands
+          ∙ ap (λ (x : Mount ℕ). holds_of (λ place. nat_eq place.mount top) x.mount_point) none)))
           (found_or_none mounts number)
         where
           itself : (n : ℕ) → nat_eq n n ≡ true
@@ -102,34 +117,43 @@ module _ (mounts : List (Mount ℕ)) (one : any_pair (λ (a b : Mount ℕ). nat_
       ≡ holds_of (λ place. meets mounts top steps place.mount) (mount_in nat_eq mounts number).mount_point
   children_meet zero top number = child_stands top number
   children_meet (suc steps) top number =
-      by (mount_in nat_eq mounts number).mount_point (λ place. children_meet steps top place.mount) (child_stands top number)
+      by (mount_in nat_eq mounts number).mount_point (λ place. children_meet steps top place.mount)
+      (child_stands top number)
     where
       by : (o : Option (Location ℕ))
-          → ((place : Location ℕ) → list_any (λ child. meets mounts child.number steps place.mount) (children nat_eq mounts top)
+          → ((place : Location ℕ) → list_any (λ child. meets mounts child.number steps place.mount)
+          (children nat_eq mounts top)
           ≡ holds_of (λ up. meets mounts top steps up.mount) (mount_in nat_eq mounts place.mount).mount_point)
-          → list_any (λ child. nat_eq number child.number) (children nat_eq mounts top) ≡ holds_of (λ place. nat_eq place.mount top) o
-          → list_any (λ child. nat_eq number child.number || holds_of (λ place. meets mounts child.number steps place.mount) o) (children nat_eq mounts top)
+          → list_any (λ child. nat_eq number child.number) (children nat_eq mounts top)
+          ≡ holds_of (λ place. nat_eq place.mount top) o
+          → list_any (λ child. nat_eq number child.number
+          || holds_of (λ place. meets mounts child.number steps place.mount) o) (children nat_eq mounts top)
           ≡ holds_of (λ place. meets mounts top (suc steps) place.mount) o
       by None later first =
           any_either (λ child. nat_eq number child.number) (λ child. false) (children nat_eq mounts top)
           ∙ (λ i. first i || any_never (children nat_eq mounts top) i)
       by (Some place) later first =
-          any_either (λ child. nat_eq number child.number) (λ child. meets mounts child.number steps place.mount) (children nat_eq mounts top)
+          any_either (λ child. nat_eq number child.number) (λ child. meets mounts child.number steps place.mount)
+          (children nat_eq mounts top)
           ∙ (λ i. first i || later place i)
 
   pub met_in_tree : (steps : ℕ) (top : Mount ℕ) (number : ℕ)
-      → list_any (λ other. nat_eq other.number number) (tree_from nat_eq steps mounts top) ≡ meets mounts top.number steps number
+      → list_any (λ other. nat_eq other.number number) (tree_from nat_eq steps mounts top)
+      ≡ meets mounts top.number steps number
   met_in_tree zero top number = or_nothing (nat_eq top.number number) ∙ turned top.number number
   met_in_tree (suc steps) top number =
       (λ i. turned top.number number i
-      || (any_flat (λ other. nat_eq other.number number) (tree_from nat_eq steps mounts) (children nat_eq mounts top.number)
+      || (any_flat (λ other. nat_eq other.number number) (tree_from nat_eq steps mounts)
+      (children nat_eq mounts top.number)
       ∙ any_alike _ _ (children nat_eq mounts top.number) (λ child. met_in_tree steps child number)
       ∙ children_meet steps top.number number) i)
 
 -- in as many steps as there are mounts, going up meets what the tree has
-pub met_from : (mounts : List (Mount ℕ)) → any_pair (λ (a b : Mount ℕ). nat_eq a.number b.number) mounts ≡ false → (top number steps : ℕ)
+pub met_from : (mounts : List (Mount ℕ)) → any_pair (λ (a b : Mount ℕ). nat_eq a.number b.number) mounts ≡ false
+    → (top number steps : ℕ)
     → steps ≡ length mounts
-    → meets mounts top steps number ≡ list_any (λ other. nat_eq other.number number) (mount_tree nat_eq mounts (mount_in nat_eq mounts top))
+    → meets mounts top steps number
+    ≡ list_any (λ other. nat_eq other.number number) (mount_tree nat_eq mounts (mount_in nat_eq mounts top))
 met_from mounts one top number steps all =
     ap (λ n. meets mounts top n number) all
     ∙ ap (λ t. meets mounts t (length mounts) number) (sym (number_found mounts top))

@@ -21,7 +21,8 @@ use Rattle.vt_detach.proofs.NamespaceEntries.{Entries, entries_written, is_id, n
 
 -- with one use more somewhere no mount has more than one use more
 uses_grow : (m n : ℕ) (entries : List MountEntry)
-    → (uses_of (changed m (held false) entries) n ≤ uses_of entries n + 1) × (writers_of (changed m (held false) entries) n ≡ writers_of entries n)
+    → (uses_of (changed m (held false) entries) n ≤ uses_of entries n + 1)
+    × (writers_of (changed m (held false) entries) n ≡ writers_of entries n)
 uses_grow m n [] = (omega arith, refl)
 uses_grow m n (entry ∷ entries) = by (nat_eq m entry.mount.number) (uses_grow m n entries)
   where
@@ -30,11 +31,14 @@ uses_grow m n (entry ∷ entries) = by (nat_eq m entry.mount.number) (uses_grow 
 
     at : (one was : MountEntry) → one.mount ≡ was.mount → one.uses ≤ was.uses + 1 → one.writers ≡ was.writers
         → (uses_of later n ≤ uses_of entries n + 1) × (writers_of later n ≡ writers_of entries n)
-        → (uses_of (one ∷ later) n ≤ uses_of (was ∷ entries) n + 1) × (writers_of (one ∷ later) n ≡ writers_of (was ∷ entries) n)
+        → (uses_of (one ∷ later) n ≤ uses_of (was ∷ entries) n + 1)
+        × (writers_of (one ∷ later) n ≡ writers_of (was ∷ entries) n)
     at one was mount uses writers rest =
         subst (λ (x : ℕ).
-        (unwrap_or (option_map (λ (e : MountEntry). e.uses) (cond (nat_eq n x) (Some one) (entry_numbered later n))) 0 ≤ uses_of (was ∷ entries) n + 1)
-        × (unwrap_or (option_map (λ (e : MountEntry). e.writers) (cond (nat_eq n x) (Some one) (entry_numbered later n))) 0 ≡ writers_of (was ∷ entries) n))
+        (unwrap_or (option_map (λ (e : MountEntry). e.uses)
+        (cond (nat_eq n x) (Some one) (entry_numbered later n))) 0 ≤ uses_of (was ∷ entries) n + 1)
+        × (unwrap_or (option_map (λ (e : MountEntry). e.writers)
+        (cond (nat_eq n x) (Some one) (entry_numbered later n))) 0 ≡ writers_of (was ∷ entries) n))
         (ap (λ x. x.number) (sym mount)) (found (nat_eq n was.mount.number))
       where
         found : (b : Bool)
@@ -61,11 +65,14 @@ pins_grow filesystem inodes inode number = by (nat_eq filesystem inode.0)
     more (Some one) = omega arith
 
     at : (b : Bool) → nat_eq number inode.1 ≡ b
-        → uses_in (cond b (used_once_more (inodes.inode inode.1)) (inodes.inode number)) ≤ uses_in (inodes.inode number) + 1
-    at true e = subst (λ k. uses_in (used_once_more (inodes.inode k)) ≤ uses_in (inodes.inode number) + 1) (eqb-true number inode.1 e) (more (inodes.inode number))
+        → uses_in (cond b (used_once_more (inodes.inode inode.1)) (inodes.inode number)) ≤ uses_in
+        (inodes.inode number) + 1
+    at true e = subst (λ k. uses_in (used_once_more (inodes.inode k)) ≤ uses_in (inodes.inode number) + 1)
+        (eqb-true number inode.1 e) (more (inodes.inode number))
     at false e = omega arith
 
-    by : (b : Bool) → uses_in ((cond b (pinned nat_eq inodes inode.1) inodes).inode number) ≤ uses_in (inodes.inode number) + 1
+    by : (b : Bool) → uses_in ((cond b (pinned nat_eq inodes inode.1) inodes).inode number) ≤ uses_in
+        (inodes.inode number) + 1
     by true = at (nat_eq number inode.1) refl
     by false = omega arith
 
@@ -75,19 +82,25 @@ inodes_grow inode count number [] [] is = omega arith
 inodes_grow inode count number [] (new ∷ news) is = absurd cc
 inodes_grow inode count number (old ∷ olds) [] is = absurd cc
 inodes_grow inode count number (old ∷ olds) (new ∷ news) is =
-    let head : shown_entry new ≡ record (shown_entry old) { inodes = pinned_if (counted old.count) (inodes_seen old) inode } = cc in
+    let head : shown_entry new ≡ record
+    (shown_entry old) { inodes = pinned_if (counted old.count) (inodes_seen old) inode } = cc in
     let tail : shown news ≡ pinned_in inode (shown olds) = cc in
-    subst (λ k. uses_in ((inodes_seen (unwrap_or (cond (nat_eq count k) (Some new) (find (λ e. nat_eq count e.count) news)) (no_entry count))).inode number)
+    subst (λ k. uses_in ((inodes_seen
+    (unwrap_or (cond (nat_eq count k) (Some new) (find (λ e. nat_eq count e.count) news))
+    (no_entry count))).inode number)
     ≤ uses_in ((inodes_at (old ∷ olds) count).inode number) + 1)
     (ap (λ one. one.count) (sym head))
     (by (nat_eq count old.count) (ap (λ one. one.inodes) head) (inodes_grow inode count number olds news tail))
   where
     by : (b : Bool) → inodes_seen new ≡ pinned_if (counted old.count) (inodes_seen old) inode
         → uses_in ((inodes_at news count).inode number) ≤ uses_in ((inodes_at olds count).inode number) + 1
-        → uses_in ((inodes_seen (unwrap_or (cond b (Some new) (find (λ e. nat_eq count e.count) news)) (no_entry count))).inode number)
-        ≤ uses_in ((inodes_seen (unwrap_or (cond b (Some old) (find (λ e. nat_eq count e.count) olds)) (no_entry count))).inode number) + 1
+        → uses_in ((inodes_seen (unwrap_or (cond b (Some new) (find (λ e. nat_eq count e.count) news))
+        (no_entry count))).inode number)
+        ≤ uses_in ((inodes_seen (unwrap_or (cond b (Some old) (find (λ e. nat_eq count e.count) olds))
+        (no_entry count))).inode number) + 1
     by true here later =
-        subst (λ (inodes : Inodes ℕ). uses_in (inodes.inode number) ≤ uses_in ((inodes_seen old).inode number) + 1) (sym here)
+        subst (λ (inodes : Inodes ℕ). uses_in (inodes.inode number) ≤ uses_in ((inodes_seen old).inode number) + 1)
+        (sym here)
         (pins_grow (counted old.count) (inodes_seen old) inode number)
     by false here later = later
 
@@ -97,7 +110,8 @@ pub room_left : (other at : Location) (mounts news : List MountEntry) (filesyste
     → HasRoom 1 at news new_filesystems
 room_left other at mounts news filesystems new_filesystems room is =
     let grown = uses_grow (counted other.mount.count) (counted at.mount.count) mounts in
-    let inode = inodes_grow (counted other.node.filesystem.count, number_of other.node) at.node.filesystem.count (number_of at.node) filesystems new_filesystems
+    let inode = inodes_grow (counted other.node.filesystem.count, number_of other.node) at.node.filesystem.count
+    (number_of at.node) filesystems new_filesystems
     (ap (λ k. k.filesystems) is) in
     subst (λ all. HasRoom 1 at all new_filesystems) (sym (ap (λ k. k.mounts) is)) (record {
       uses = (let most = room.uses in let more = grown.0 in omega (arith, most, more));
@@ -107,11 +121,13 @@ room_left other at mounts news filesystems new_filesystems room is =
 
 -- Tasks of namespaces
 
-pub nothing_counted : (count : ℕ) (es : Entries) → lookup (is_id count) es ≡ None → entries_of es ≡ with_task_more count (entries_of es)
+pub nothing_counted : (count : ℕ) (es : Entries) → lookup (is_id count) es ≡ None
+    → entries_of es ≡ with_task_more count (entries_of es)
 nothing_counted count es absent = sym (none_written count more_tasks es absent)
 
 pub task_counted : (count : ℕ) (es new : Entries) (was now : Namespace) → IsDistinct same_namespace (keys_of es)
     → lookup (is_id count) es ≡ Some was → new ≡ set_value (is_id count) es now → now.tasks ≡ was.tasks + 1
     → entries_of new ≡ with_task_more count (entries_of es)
 task_counted count es new was now apart found is more =
-    ap entries_of is ∙ entries_written count more_tasks es was now apart found (λ id i. record { count = id.count; tasks = more i })
+    ap entries_of is ∙ entries_written count more_tasks es was now apart found
+    (λ id i. record { count = id.count; tasks = more i })

@@ -42,7 +42,8 @@ use Rattle.vt_ns.proofs.MountsOn.{none_on, one_on, tops_on, trees_collected}
 use Rattle.vt_detach.proofs.Remaining.{remade}
 use Rattle.vt_detach.proofs.Staying.{IsDone}
 
-module _ (value : WorldValue) (held : IsHeld value) (name : TaskName) (parent : Location) (entry : List ℕ) (directory : Location)
+module _ (value : WorldValue) (held : IsHeld value) (name : TaskName) (parent : Location) (entry : List ℕ)
+    (directory : Location)
     (small : IsSmall parent) (small_directory : IsSmall directory)
     (permits : Permits value name (ToRemoveDirectory (location_of parent) entry (location_of directory))) where
   abbrev world : World ℕ
@@ -70,12 +71,14 @@ module _ (value : WorldValue) (held : IsHeld value) (name : TaskName) (parent : 
   directory_seen = located value held directory small_directory names.1.reached.there
 
   sees : SeesTo world permits.task permit
-  sees = given_permits_are_seen_to world (supply_of value permit) permits.task permit held.in_world (files_are_plain value.filesystems) permits.given
+  sees = given_permits_are_seen_to world (supply_of value permit) permits.task permit held.in_world
+      (files_are_plain value.filesystems) permits.given
 
   -- what is collected are the mounts on the directory, with their descendants
   pub collected_are : (numbers : List ℕ)
       → numbers ≡ flat_map (tree_numbers (mounts_in value.mounts))
-      (map (λ (mount : Mount ℕ). mount.number) (filter (stands_over (number_of directory.node)) (mounts_in value.mounts)))
+      (map (λ (mount : Mount ℕ). mount.number)
+      (filter (stands_over (number_of directory.node)) (mounts_in value.mounts)))
       → numbers ≡ gone
   collected_are numbers is = is ∙ trees_collected value held directory small_directory names.1.reached.there
 
@@ -94,13 +97,17 @@ module _ (value : WorldValue) (held : IsHeld value) (name : TaskName) (parent : 
 
   -- where no mount stands on it
   pub alone_is_removed : gone ≡ [] → (filesystems : Filesystems)
-      → ChangesInodes parent.node.filesystem.count (λ inodes. changed nat_eq inodes change) value.filesystems filesystems
+      → ChangesInodes parent.node.filesystem.count
+      (λ inodes. changed nat_eq inodes change) value.filesystems filesystems
       → IsFilesEvent value name permit (with_filesystems value filesystems)
   alone_is_removed none filesystems changes =
-      removal_is_done value held name parent entry directory small small_directory permits (none_on world tops none) filesystems changes
+      removal_is_done value held name parent entry directory small small_directory permits
+      (none_on world tops none) filesystems changes
 
-  pub directory_is_removed : (filesystems others : Filesystems) (mounts : List MountEntry) (groups : Grouping) → gone ≢ []
-      → ChangesInodes parent.node.filesystem.count (λ inodes. changed nat_eq inodes change) value.filesystems filesystems
+  pub directory_is_removed : (filesystems others : Filesystems) (mounts : List MountEntry) (groups : Grouping)
+      → gone ≢ []
+      → ChangesInodes parent.node.filesystem.count
+      (λ inodes. changed nat_eq inodes change) value.filesystems filesystems
       → LeaveTogether gone (kept value.mounts filesystems) value.groups (kept mounts others) groups
       → IsDone value name permit (record (remade value mounts others value.tasks) { groups = groups })
   directory_is_removed filesystems others mounts groups some changes together =
@@ -112,16 +119,20 @@ module _ (value : WorldValue) (held : IsHeld value) (name : TaskName) (parent : 
         fits = fits (inodes_seen seen.entry) refl;
         links = tt;
         changes =
-            subst (λ count. ChangesInodes count (λ inodes. changed nat_eq inodes change) value.filesystems filesystems) (sym seen.count_is) changes;
+            subst (λ count. ChangesInodes count (λ inodes. changed nat_eq inodes change) value.filesystems filesystems)
+            (sym seen.count_is) changes;
         own = λ number other. tt;
       } in
-      let reached : NamesWhatIsThere world permits.task (ToChange (location_of parent) change) = (names.0.reached, tt) in
+      let reached : NamesWhatIsThere world permits.task (ToChange (location_of parent) change) =
+      (names.0.reached, tt) in
       let named : permit_named (is_counted_before value.next) (ToChange (location_of parent) change) ≡ true =
       (λ i. seen.named i && (inodes_named value.next parent.node.filesystem.count parent.node.slot i
       && inodes_named value.next directory.node.filesystem.count directory.node.slot i)) in
-      let is_named : permit_named (is_counted_before value.next) permit ≡ true = (λ i. seen.named i && directory_seen.named i) in
+      let is_named : permit_named (is_counted_before value.next) permit
+      ≡ true = (λ i. seen.named i && directory_seen.named i) in
       let on = one_on value held directory small_directory (λ none. some (ap (trees_numbers world) none)) in
-      changed_then_detached value held (location_of parent) change filesystems made name permit permits gone reached named is_named applied
+      changed_then_detached value held
+      (location_of parent) change filesystems made name permit permits gone reached named is_named applied
       (nothing_goes value held (location_of parent) change filesystems made name permit permits gone reached named is_named applied
       (number_of directory.node) (ap option_to_list sees.1.named) tt on.mount on.among on.place on.placed on.at_inode
       (on.shows ∙ ap (λ n. (mount_numbered nat_eq world n).filesystem) sees.0))

@@ -40,22 +40,29 @@ if_ok (Ok done) step p = step p
 if_ok (Err deny) step p = tt
 
 -- write(2)
-module _ (value : WorldValue) (held : IsHeld value) (name : TaskName) (file : Location) (bytes : List ℕ) (small : IsSmall file)
+module _ (value : WorldValue) (held : IsHeld value) (name : TaskName) (file : Location) (bytes : List ℕ)
+    (small : IsSmall file)
     (permits : Permits value name (ToChange (location_of file) (SetBytes (number_of file.node) bytes))) where
   pub write_is_done : (filesystems : Filesystems)
-      → ChangesInodes file.node.filesystem.count (λ inodes. changed nat_eq inodes (SetBytes (number_of file.node) bytes))
+      → ChangesInodes file.node.filesystem.count
+      (λ inodes. changed nat_eq inodes (SetBytes (number_of file.node) bytes))
       value.filesystems filesystems
-      → IsFilesEvent value name (ToChange (location_of file) (SetBytes (number_of file.node) bytes)) (with_filesystems value filesystems)
+      → IsFilesEvent value name (ToChange (location_of file) (SetBytes (number_of file.node) bytes))
+      (with_filesystems value filesystems)
   write_is_done filesystems changes =
       change_is_done value held name file small (SetBytes (number_of file.node) bytes) permits filesystems
       (inodes_named value.next file.node.filesystem.count file.node.slot) tt (λ number other. tt) changes
 
 -- link(2)
-module _ (value : WorldValue) (held : IsHeld value) (name : TaskName) (directory : Location) (entry : List ℕ) (object : NodeRef)
+module _ (value : WorldValue) (held : IsHeld value) (name : TaskName) (directory : Location) (entry : List ℕ)
+    (object : NodeRef)
     (small : IsSmall directory) (small_object : object.slot < 18446744073709551616)
-    (permits : Permits value name (ToChange (location_of directory) (AddName (number_of directory.node) entry (number_of object)))) where
-  linked_there : is_some ((filesystem_at nat_eq (world_of value) (location_of directory)).files.tree.node (number_of object)) ≡ true
-  linked_there = (change_sees value held name directory small (AddName (number_of directory.node) entry (number_of object)) permits).1.is_there
+    (permits : Permits value name (ToChange (location_of directory)
+    (AddName (number_of directory.node) entry (number_of object)))) where
+  linked_there : is_some ((filesystem_at nat_eq (world_of value) (location_of directory)).files.tree.node
+      (number_of object)) ≡ true
+  linked_there = (change_sees value held name directory small
+      (AddName (number_of directory.node) entry (number_of object)) permits).1.is_there
 
   pub linked_in : object.filesystem ≡ directory.node.filesystem
   linked_in =
@@ -69,42 +76,59 @@ module _ (value : WorldValue) (held : IsHeld value) (name : TaskName) (directory
 
   pub link_is_answered : (filesystems : Filesystems) (result : Result (Unit {0}) Deny)
       → OnOk result (ChangesInodes directory.node.filesystem.count
-      (λ inodes. changed nat_eq inodes (AddName (number_of directory.node) entry (number_of object))) value.filesystems filesystems)
+      (λ inodes. changed nat_eq inodes
+      (AddName (number_of directory.node) entry (number_of object))) value.filesystems filesystems)
       → OnErr result (filesystems ≡ value.filesystems)
-      → IsAnswered value name (ToChange (location_of directory) (AddName (number_of directory.node) entry (number_of object)))
+      → IsAnswered value name (ToChange (location_of directory)
+      (AddName (number_of directory.node) entry (number_of object)))
       (with_filesystems value filesystems) result
   link_is_answered filesystems result ok err =
-      let seen = change_at value held name directory small (AddName (number_of directory.node) entry (number_of object)) permits in
-      answered value held name (ToChange (location_of directory) (AddName (number_of directory.node) entry (number_of object))) filesystems
+      let seen = change_at value held name directory small
+      (AddName (number_of directory.node) entry (number_of object)) permits in
+      answered value held name (ToChange (location_of directory)
+      (AddName (number_of directory.node) entry (number_of object))) filesystems
       result
       (if_ok result
-      (change_is_done value held name directory small (AddName (number_of directory.node) entry (number_of object)) permits filesystems
-      (λ i. inodes_named value.next directory.node.filesystem.count directory.node.slot i && inodes_named value.next object.filesystem.count object.slot i)
+      (change_is_done value held name directory small
+      (AddName (number_of directory.node) entry (number_of object)) permits filesystems
+      (λ i. inodes_named value.next directory.node.filesystem.count directory.node.slot i
+      && inodes_named value.next object.filesystem.count object.slot i)
       (there_in ((inodes_seen seen.entry).inode (number_of object))
-      (ap (λ filesystem. is_some (filesystem.files.tree.node (number_of object))) (sym (located_filesystem value directory seen)) ∙ linked_there))
+      (ap (λ filesystem. is_some (filesystem.files.tree.node (number_of object)))
+      (sym (located_filesystem value directory seen)) ∙ linked_there))
       (λ number other. tt)) ok)
       err
 
 -- unlink(2)
-module _ (value : WorldValue) (held : IsHeld value) (name : TaskName) (directory : Location) (entry : List ℕ) (object : NodeRef)
+module _ (value : WorldValue) (held : IsHeld value) (name : TaskName) (directory : Location) (entry : List ℕ)
+    (object : NodeRef)
     (small : IsSmall directory) (small_object : object.slot < 18446744073709551616)
-    (permits : Permits value name (ToChange (location_of directory) (Remove (number_of directory.node) entry (number_of object)))) where
+    (permits : Permits value name (ToChange (location_of directory)
+    (Remove (number_of directory.node) entry (number_of object)))) where
   pub unlinked_in : object.filesystem ≡ directory.node.filesystem
   unlinked_in =
-      let seen = change_at value held name directory small (Remove (number_of directory.node) entry (number_of object)) permits in
-      let sees = change_sees value held name directory small (Remove (number_of directory.node) entry (number_of object)) permits in
+      let seen = change_at value held name directory small
+      (Remove (number_of directory.node) entry (number_of object)) permits in
+      let sees = change_sees value held name directory small
+      (Remove (number_of directory.node) entry (number_of object)) permits in
       also_there value held directory seen object small_object
-      (ap (λ filesystem. is_some (filesystem.files.tree.node (number_of object))) (located_filesystem value directory seen)
+      (ap (λ filesystem. is_some (filesystem.files.tree.node (number_of object)))
+      (located_filesystem value directory seen)
       ∙ (tree_of_entry value held seen.entry seen.among).alive (number_of directory.node) entry (number_of object)
-      (ap (λ filesystem. entry_at filesystem.files.tree (number_of directory.node) entry) (sym (located_filesystem value directory seen))
+      (ap (λ filesystem. entry_at filesystem.files.tree (number_of directory.node) entry)
+      (sym (located_filesystem value directory seen))
       ∙ sees.1.named))
 
   pub unlink_is_done : (filesystems : Filesystems)
       → ChangesInodes directory.node.filesystem.count
-      (λ inodes. changed nat_eq inodes (Remove (number_of directory.node) entry (number_of object))) value.filesystems filesystems
-      → IsFilesEvent value name (ToChange (location_of directory) (Remove (number_of directory.node) entry (number_of object)))
+      (λ inodes. changed nat_eq inodes
+      (Remove (number_of directory.node) entry (number_of object))) value.filesystems filesystems
+      → IsFilesEvent value name (ToChange (location_of directory)
+      (Remove (number_of directory.node) entry (number_of object)))
       (with_filesystems value filesystems)
   unlink_is_done filesystems changes =
-      change_is_done value held name directory small (Remove (number_of directory.node) entry (number_of object)) permits filesystems
-      (λ i. inodes_named value.next directory.node.filesystem.count directory.node.slot i && inodes_named value.next object.filesystem.count object.slot i)
+      change_is_done value held name directory small
+      (Remove (number_of directory.node) entry (number_of object)) permits filesystems
+      (λ i. inodes_named value.next directory.node.filesystem.count directory.node.slot i
+      && inodes_named value.next object.filesystem.count object.slot i)
       tt (λ number other. tt) changes

@@ -37,7 +37,8 @@ pub new_in_slot : (count slot : ℕ) → slot < 18446744073709551616 → (node :
     → IsNewIn (inode_number count slot) (node_seen count node) → IsNewIn slot node
 new_in_slot count slot small node fits = by node.content fits
   where
-    no_entries : (entries : Entries ℕ) → map (renamed_entry (exchanged count) (exchanged count)) entries ≡ [] → entries ≡ []
+    no_entries : (entries : Entries ℕ) → map (renamed_entry (exchanged count) (exchanged count)) entries ≡ []
+        → entries ≡ []
     no_entries [] e = refl
     no_entries (entry ∷ entries) e = absurd cc
 
@@ -50,7 +51,8 @@ new_in_slot count slot small node fits = by node.content fits
         let up : exchanged count parent ≡ inode_number count slot = cc in
         let names : map (renamed_entry (exchanged count) (exchanged count)) entries ≡ [] = cc in
         let mark : opaque ≡ false = cc in
-        inl (λ i. Directory (exchanged_same count parent slot (up ∙ sym (exchanged_slot count slot small)) i) (no_entries entries names i) (mark i)))
+        inl (λ i. Directory (exchanged_same count parent slot (up ∙ sym (exchanged_slot count slot small)) i)
+        (no_entries entries names i) (mark i)))
         (λ none. absurd (true≢false none)) new
     by (Regular bytes) new = inr refl
     by (Symlink text) new = inr refl
@@ -67,9 +69,11 @@ new_is_named named directory node there new =
     by (Symlink text) e = refl
     by Whiteout e = refl
 
-module _ (value : WorldValue) (held : IsHeld value) (name : TaskName) (directory : Location) (entry : List ℕ) (node : Node ℕ)
+module _ (value : WorldValue) (held : IsHeld value) (name : TaskName) (directory : Location) (entry : List ℕ)
+    (node : Node ℕ)
     (small : IsSmall directory)
-    (permits : Permits value name (ToMake (location_of directory) entry (node_seen directory.node.filesystem.count node))) where
+    (permits : Permits value name (ToMake (location_of directory) entry
+    (node_seen directory.node.filesystem.count node))) where
   abbrev permit : Permit ℕ
   permit = ToMake (location_of directory) entry (node_seen directory.node.filesystem.count node)
 
@@ -87,30 +91,37 @@ module _ (value : WorldValue) (held : IsHeld value) (name : TaskName) (directory
   abbrev change : ℕ → Change ℕ
   change number = Make (number_of directory.node) entry number (node_seen directory.node.filesystem.count node)
 
-  fits_next : (inodes : Inodes ℕ) → inodes ≡ inodes_seen seen.entry → Fits inodes (change (next_inode value (location_of directory)))
+  fits_next : (inodes : Inodes ℕ) → inodes ≡ inodes_seen seen.entry
+      → Fits inodes (change (next_inode value (location_of directory)))
   fits_next inodes same =
       given_changes_fit (world_of value) (supply_of value permit) permits.task permit (location_of directory)
-      (change (next_inode value (location_of directory))) inodes held.in_world (files_are_plain value.filesystems) permits.given refl
+      (change (next_inode value (location_of directory))) inodes held.in_world
+      (files_are_plain value.filesystems) permits.given refl
       (ap tree_of same ∙ ap (λ filesystem. filesystem.files.tree) (sym (located_filesystem value directory seen)))
 
   -- the parent is a directory, and the name is free
-  pub make_fits : Fits (inodes_at value.filesystems directory.node.filesystem.count) (change (next_inode value (location_of directory)))
-  make_fits = fits_next (inodes_at value.filesystems directory.node.filesystem.count) (located_inodes value directory seen)
+  pub make_fits : Fits (inodes_at value.filesystems directory.node.filesystem.count)
+      (change (next_inode value (location_of directory)))
+  make_fits = fits_next (inodes_at value.filesystems directory.node.filesystem.count)
+      (located_inodes value directory seen)
 
   pub make_is_done : (filesystems : Filesystems) (made : NodeRef) → made.slot < 18446744073709551616
       → made.filesystem ≡ directory.node.filesystem
       → number_of made ≡ next_seen (entry_at value.filesystems directory.node.filesystem.count)
-      → ChangesInodes directory.node.filesystem.count (λ inodes. changed nat_eq inodes (change (number_of made))) value.filesystems filesystems
+      → ChangesInodes directory.node.filesystem.count
+      (λ inodes. changed nat_eq inodes (change (number_of made))) value.filesystems filesystems
       → IsFilesEvent value name permit (with_filesystems value filesystems)
   make_is_done filesystems made small_made inside number changes =
       files_are_changed value name permit (location_of directory) (change (number_of made)) filesystems held permits
       (record {
         named = λ i. seen.named i
-            && new_is_named (is_counted_before value.next) (number_of directory.node) (node_seen directory.node.filesystem.count node)
+            && new_is_named (is_counted_before value.next) (number_of directory.node)
+            (node_seen directory.node.filesystem.count node)
             (inodes_named value.next directory.node.filesystem.count directory.node.slot) sees.fits i;
         rest = odds (supply_of value permit);
         applied =
-            ap (λ n. with_change nat_eq (odds (supply_of value permit)) (world_of value) (location_of directory) (change n)) next_is;
+            ap (λ n. with_change nat_eq (odds (supply_of value permit)) (world_of value) (location_of directory)
+            (change n)) next_is;
         named_supply = λ k. number_of made;
         are_named = λ k. inodes_named value.next made.filesystem.count made.slot;
         named_rest = λ k. number_of made;
@@ -124,10 +135,12 @@ module _ (value : WorldValue) (held : IsHeld value) (name : TaskName) (directory
         fits = subst (λ n. Fits (inodes_seen seen.entry) (change n)) next_is (fits_next (inodes_seen seen.entry) refl);
         links = tt;
         changes =
-            subst (λ count. ChangesInodes count (λ inodes. changed nat_eq inodes (change (number_of made))) value.filesystems filesystems)
+            subst (λ count. ChangesInodes count
+            (λ inodes. changed nat_eq inodes (change (number_of made))) value.filesystems filesystems)
             (sym seen.count_is) changes;
         own = λ n other same.
-            true≢false (sym (ap (λ count. is_inode_of count (number_of made)) (seen.count_is ∙ ap (λ filesystem. filesystem.count) (sym inside))
+            true≢false (sym (ap (λ count. is_inode_of count (number_of made))
+            (seen.count_is ∙ ap (λ filesystem. filesystem.count) (sym inside))
             ∙ is_inode made.filesystem.count made.slot small_made)
             ∙ ap (is_inode_of seen.entry.count) (sym same) ∙ other);
       })

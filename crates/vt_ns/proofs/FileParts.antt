@@ -35,14 +35,18 @@ use Rattle.vt_detach.proofs.FileEvents.{IsSmall}
 use Rattle.vt_detach.proofs.FilesSeen.{IsLocated, files_are_plain, located, located_filesystem, located_inodes}
 
 -- what a task has open is there
-pub open_there : (value : WorldValue) → IsHeld value → (name : TaskName) (permit : Permit ℕ) (permits : Permits value name permit)
+pub open_there : (value : WorldValue) → IsHeld value
+    → (name : TaskName) (permit : Permit ℕ) (permits : Permits value name permit)
     → (file : meant.Location ℕ) (fits : Descriptor ℕ → Bool) → HasOpen permits.task file fits
     → is_located_well nat_eq (world_of value) file ≡ true
 open_there value held name permit permits file fits held_open =
-    among_from_list_all (is_located_well nat_eq (world_of value)) (all_locations (world_of value)) held.in_world.tasks.locations_live file
+    among_from_list_all (is_located_well nat_eq (world_of value))
+    (all_locations (world_of value)) held.in_world.tasks.locations_live file
     (among-flat_map locations_of (world_of value).tasks permits.task file
-    (found_among (λ (other : Task ℕ). same_name permits.task.name other.name) (world_of value).tasks permits.task permits.given.called)
-    (inr (inr (subst (λ location. Among location (map (λ (descriptor : Descriptor ℕ). descriptor.location) permits.task.descriptors)) held_open.4
+    (found_among (λ (other : Task ℕ). same_name permits.task.name other.name)
+    (world_of value).tasks permits.task permits.given.called)
+    (inr (inr (subst (λ location. Among location
+    (map (λ (descriptor : Descriptor ℕ). descriptor.location) permits.task.descriptors)) held_open.4
     (among-map (λ (descriptor : Descriptor ℕ). descriptor.location) permits.task.descriptors held_open.1
     (found_among (λ (descriptor : Descriptor ℕ). nat_eq held_open.0 descriptor.number) permits.task.descriptors held_open.1 held_open.2))))))
 
@@ -58,14 +62,16 @@ some_bytes [] b is e none = true≢false (sym (is ∙ eq-eqb 0 0 refl) ∙ e)
 some_bytes (byte ∷ bytes) b is e none = omega (arith, none)
 
 -- no bytes change nothing
-pub nothing_is_written : (value : WorldValue) → IsHeld value → (name : TaskName) (file : meant.Location ℕ) (offset : ℕ) (bytes : List ℕ)
+pub nothing_is_written : (value : WorldValue) → IsHeld value
+    → (name : TaskName) (file : meant.Location ℕ) (offset : ℕ) (bytes : List ℕ)
     → bytes ≡ [] → Becomes value name (ToWritePart file offset bytes) value
 nothing_is_written value held name file offset bytes none =
     subst (λ others. Becomes value name (ToWritePart file offset others) value) (sym none) (λ task called.
     subst (λ world. SameWorlds world (world_of value)) (sym held.in_world.nothing_unused)
     (sameness_is_an_equivalence.itself (world_of value)))
 
-module _ (value : WorldValue) (held : IsHeld value) (name : TaskName) (file : Location) (offset byte : ℕ) (rest : List ℕ) (small : IsSmall file)
+module _ (value : WorldValue) (held : IsHeld value) (name : TaskName) (file : Location) (offset byte : ℕ)
+    (rest : List ℕ) (small : IsSmall file)
     (permits : Permits value name (ToWritePart (location_of file) offset (byte ∷ rest))) where
   abbrev permit : Permit ℕ
   permit = ToWritePart (location_of file) offset (byte ∷ rest)
@@ -81,7 +87,8 @@ module _ (value : WorldValue) (held : IsHeld value) (name : TaskName) (file : Lo
       (open_there value held name permit permits (location_of file) (λ descriptor. descriptor.writes) sees.0)
 
   abbrev change : Change ℕ
-  change = SetBytes (number_of file.node) (overwritten offset (byte ∷ rest) (bytes_in (node_at nat_eq (world_of value) (location_of file))))
+  change = SetBytes (number_of file.node)
+      (overwritten offset (byte ∷ rest) (bytes_in (node_at nat_eq (world_of value) (location_of file))))
 
   fits : (inodes : Inodes ℕ) → inodes ≡ inodes_seen seen.entry → Fits inodes change
   fits inodes same =
@@ -99,7 +106,8 @@ module _ (value : WorldValue) (held : IsHeld value) (name : TaskName) (file : Lo
       ∙ ap (λ filesystem. filesystem.files.tree.node (number_of file.node)) (sym (located_filesystem value file seen))
 
   -- the file is no directory, and the bytes end within the limit
-  part_fits : (is_directory_node ((files_at value.filesystems file.node.filesystem.count).tree.node (number_of file.node)) ≡ false)
+  part_fits : (is_directory_node
+      ((files_at value.filesystems file.node.filesystem.count).tree.node (number_of file.node)) ≡ false)
       × (offset + length (byte ∷ rest) ≤ largest_file)
   part_fits =
       ((fits here (located_inodes value file seen)).0, ltb-false largest_file (offset + length (byte ∷ rest)) sees.1)
@@ -107,7 +115,8 @@ module _ (value : WorldValue) (held : IsHeld value) (name : TaskName) (file : Lo
   part_is_answered : (filesystems : Filesystems) (result : Result (Unit {0}) Deny)
       → OnOk result (ChangesInodes file.node.filesystem.count
       (λ inodes. changed nat_eq inodes (SetBytes (number_of file.node)
-      (overwritten offset (byte ∷ rest) (bytes_in ((files_at value.filesystems file.node.filesystem.count).tree.node (number_of file.node))))))
+      (overwritten offset (byte ∷ rest)
+      (bytes_in ((files_at value.filesystems file.node.filesystem.count).tree.node (number_of file.node))))))
       value.filesystems filesystems)
       → OnErr result (filesystems ≡ value.filesystems)
       → IsAnswered value name permit (with_filesystems value filesystems) result
@@ -133,22 +142,26 @@ module _ (value : WorldValue) (held : IsHeld value) (name : TaskName) (file : Lo
         links = tt;
         changes =
             subst (λ node. ChangesInodes seen.entry.count
-            (λ inodes. changed nat_eq inodes (SetBytes (number_of file.node) (overwritten offset (byte ∷ rest) (bytes_in node))))
+            (λ inodes. changed nat_eq inodes
+            (SetBytes (number_of file.node) (overwritten offset (byte ∷ rest) (bytes_in node))))
             value.filesystems filesystems) same_node
             (subst (λ count. ChangesInodes count
             (λ inodes. changed nat_eq inodes (SetBytes (number_of file.node)
-            (overwritten offset (byte ∷ rest) (bytes_in ((files_at value.filesystems file.node.filesystem.count).tree.node (number_of file.node))))))
+            (overwritten offset (byte ∷ rest)
+            (bytes_in ((files_at value.filesystems file.node.filesystem.count).tree.node (number_of file.node))))))
             value.filesystems filesystems) (sym seen.count_is) changes);
         own = λ number other. tt;
       })) ok)
       err
 
-pub write_part_is_answered : (value : WorldValue) → IsHeld value → (name : TaskName) (file : Location) (offset : ℕ) (bytes : List ℕ) → IsSmall file
+pub write_part_is_answered : (value : WorldValue) → IsHeld value
+    → (name : TaskName) (file : Location) (offset : ℕ) (bytes : List ℕ) → IsSmall file
     → Permits value name (ToWritePart (location_of file) offset bytes) → (length bytes ≡ 0 → ⊥)
     → (filesystems : Filesystems) (result : Result (Unit {0}) Deny)
     → OnOk result (ChangesInodes file.node.filesystem.count
     (λ inodes. changed nat_eq inodes (SetBytes (number_of file.node)
-    (overwritten offset bytes (bytes_in ((files_at value.filesystems file.node.filesystem.count).tree.node (number_of file.node))))))
+    (overwritten offset bytes (bytes_in
+    ((files_at value.filesystems file.node.filesystem.count).tree.node (number_of file.node))))))
     value.filesystems filesystems)
     → OnErr result (filesystems ≡ value.filesystems)
     → IsAnswered value name (ToWritePart (location_of file) offset bytes) (with_filesystems value filesystems) result
@@ -156,9 +169,11 @@ write_part_is_answered value held name file offset [] small permits some filesys
 write_part_is_answered value held name file offset (byte ∷ rest) small permits some filesystems result ok err =
     part_is_answered value held name file offset byte rest small permits filesystems result ok err
 
-pub write_part_fits : (value : WorldValue) → IsHeld value → (name : TaskName) (file : Location) (offset : ℕ) (bytes : List ℕ) → IsSmall file
+pub write_part_fits : (value : WorldValue) → IsHeld value
+    → (name : TaskName) (file : Location) (offset : ℕ) (bytes : List ℕ) → IsSmall file
     → Permits value name (ToWritePart (location_of file) offset bytes) → (length bytes ≡ 0 → ⊥)
-    → (is_directory_node ((files_at value.filesystems file.node.filesystem.count).tree.node (number_of file.node)) ≡ false)
+    → (is_directory_node ((files_at value.filesystems file.node.filesystem.count).tree.node (number_of file.node))
+    ≡ false)
     × (offset + length bytes ≤ largest_file)
 write_part_fits value held name file offset [] small permits some = absurd (some refl)
 write_part_fits value held name file offset (byte ∷ rest) small permits some =

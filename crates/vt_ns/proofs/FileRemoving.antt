@@ -28,14 +28,16 @@ use Rattle.vt_detach.proofs.FilesSeen.{IsLocated, also_there, files_are_plain, l
 
 -- Where no mount stands nothing is detached
 
-pub nothing_detached : (value : WorldValue) → IsHeld value → (at : meant.Location ℕ) → mounts_on nat_eq (world_of value) at ≡ []
+pub nothing_detached : (value : WorldValue) → IsHeld value → (at : meant.Location ℕ)
+    → mounts_on nat_eq (world_of value) at ≡ []
     → without_mounts_on nat_eq (world_of value) at ≡ world_of value
 nothing_detached value held at none =
     ap (trees_taken_away nat_eq (world_of value)) none
     ∙ nothing_taken (world_of value)
     ∙ regrouped_living (world_of value) held.in_world.mounts.groups
 
-module _ (value : WorldValue) (held : IsHeld value) (name : TaskName) (parent : Location) (entry : List ℕ) (directory : Location)
+module _ (value : WorldValue) (held : IsHeld value) (name : TaskName) (parent : Location) (entry : List ℕ)
+    (directory : Location)
     (small : IsSmall parent) (small_directory : IsSmall directory)
     (permits : Permits value name (ToRemoveDirectory (location_of parent) entry (location_of directory))) where
   abbrev permit : Permit ℕ
@@ -45,7 +47,8 @@ module _ (value : WorldValue) (held : IsHeld value) (name : TaskName) (parent : 
   seen = located value held parent small (permit_fits value held name permit permits).names.0.reached.there
 
   directory_seen : IsLocated value directory
-  directory_seen = located value held directory small_directory (permit_fits value held name permit permits).names.1.reached.there
+  directory_seen = located value held directory small_directory
+      (permit_fits value held name permit permits).names.1.reached.there
 
   sees : SeesTo (world_of value) permits.task permit
   sees =
@@ -58,9 +61,11 @@ module _ (value : WorldValue) (held : IsHeld value) (name : TaskName) (parent : 
   pub removed_in : directory.node.filesystem ≡ parent.node.filesystem
   removed_in =
       also_there value held parent seen directory.node small_directory
-      (ap (λ filesystem. is_some (filesystem.files.tree.node (number_of directory.node))) (located_filesystem value parent seen)
+      (ap (λ filesystem. is_some (filesystem.files.tree.node (number_of directory.node)))
+      (located_filesystem value parent seen)
       ∙ (tree_of_entry value held seen.entry seen.among).alive (number_of parent.node) entry (number_of directory.node)
-      (ap (λ filesystem. entry_at filesystem.files.tree (number_of parent.node) entry) (sym (located_filesystem value parent seen))
+      (ap (λ filesystem. entry_at filesystem.files.tree (number_of parent.node) entry)
+      (sym (located_filesystem value parent seen))
       ∙ sees.1.named))
 
   fits : (inodes : Inodes ℕ) → inodes ≡ inodes_seen seen.entry → Fits inodes change
@@ -73,18 +78,21 @@ module _ (value : WorldValue) (held : IsHeld value) (name : TaskName) (parent : 
   removal_fits = fits (inodes_at value.filesystems parent.node.filesystem.count) (located_inodes value parent seen)
 
   pub removal_is_done : mounts_on nat_eq (world_of value) (location_of directory) ≡ [] → (filesystems : Filesystems)
-      → ChangesInodes parent.node.filesystem.count (λ inodes. changed nat_eq inodes change) value.filesystems filesystems
+      → ChangesInodes parent.node.filesystem.count
+      (λ inodes. changed nat_eq inodes change) value.filesystems filesystems
       → IsFilesEvent value name permit (with_filesystems value filesystems)
   removal_is_done none filesystems changes =
       files_are_changed value name permit (location_of parent) change filesystems held permits
       (record {
         named = λ i. seen.named i && directory_seen.named i;
         rest = supply_of value permit;
-        applied = ap (λ world. with_change nat_eq (supply_of value permit) world (location_of parent) change) (nothing_detached value held (location_of directory) none);
+        applied = ap (λ world. with_change nat_eq (supply_of value permit) world (location_of parent) change)
+            (nothing_detached value held (location_of directory) none);
         named_supply = λ k. 0;
         are_named = λ k. refl;
         named_rest = λ k. 0;
-        applied_named = ap (λ world. with_change nat_eq (λ k. 0) world (location_of parent) change) (nothing_detached value held (location_of directory) none);
+        applied_named = ap (λ world. with_change nat_eq (λ k. 0) world (location_of parent) change)
+            (nothing_detached value held (location_of directory) none);
       })
       (record {
         entry = seen.entry;
@@ -94,6 +102,7 @@ module _ (value : WorldValue) (held : IsHeld value) (name : TaskName) (parent : 
         fits = fits (inodes_seen seen.entry) refl;
         links = tt;
         changes =
-            subst (λ count. ChangesInodes count (λ inodes. changed nat_eq inodes change) value.filesystems filesystems) (sym seen.count_is) changes;
+            subst (λ count. ChangesInodes count (λ inodes. changed nat_eq inodes change) value.filesystems filesystems)
+            (sym seen.count_is) changes;
         own = λ number other. tt;
       })

@@ -35,9 +35,12 @@ use Rattle.vt_ns.proofs.FileRemoving.{nothing_detached}
 use Rattle.vt_detach.proofs.Places.{located_is_named}
 use Rattle.vt_detach.proofs.FilesSeen.{IsLocated, also_there, files_are_plain, located, located_filesystem, located_inodes}
 
-module _ (value : WorldValue) (held : IsHeld value) (name : TaskName) (from : Location) (old : List ℕ) (to : Location) (new : List ℕ)
-    (object : Location) (replaced : Option Location) (small : IsSmall from) (small_to : IsSmall to) (small_object : IsSmall object)
-    (permits : Permits value name (ToRename (location_of from) old (location_of to) new (location_of object) (option_map location_of replaced))) where
+module _ (value : WorldValue) (held : IsHeld value) (name : TaskName) (from : Location) (old : List ℕ) (to : Location)
+    (new : List ℕ)
+    (object : Location) (replaced : Option Location) (small : IsSmall from) (small_to : IsSmall to)
+    (small_object : IsSmall object)
+    (permits : Permits value name (ToRename (location_of from) old (location_of to) new (location_of object)
+    (option_map location_of replaced))) where
   abbrev permit : Permit ℕ
   permit = ToRename (location_of from) old (location_of to) new (location_of object) (option_map location_of replaced)
 
@@ -56,19 +59,24 @@ module _ (value : WorldValue) (held : IsHeld value) (name : TaskName) (from : Lo
   object_seen : IsLocated value object
   object_seen = located value held object small_object names.2.there
 
-  pub sees : MayBeRenamed (world_of value) (location_of from) old (location_of to) new (location_of object) (option_map location_of replaced)
+  pub sees : MayBeRenamed (world_of value) (location_of from) old (location_of to) new (location_of object)
+      (option_map location_of replaced)
   sees =
       given_permits_are_seen_to (world_of value) (supply_of value permit) permits.task permit held.in_world
       (files_are_plain value.filesystems) permits.given
 
   -- an inode that is seen through the same mount is in the same filesystem
-  same_filesystem : (at : Location) → IsSmall at → (location_of at).mount ≡ (location_of from).mount → is_located_well nat_eq (world_of value) (location_of at) ≡ true
+  same_filesystem : (at : Location) → IsSmall at → (location_of at).mount ≡ (location_of from).mount
+      → is_located_well nat_eq (world_of value) (location_of at) ≡ true
       → at.node.filesystem ≡ from.node.filesystem
   same_filesystem at small_at same well =
       also_there value held from seen at.node small_at
-      (ap (λ mount. is_some ((filesystem_numbered nat_eq (world_of value) (mount_numbered nat_eq (world_of value) mount).filesystem).files.tree.node (number_of at.node)))
-      (sym same) ∙ (and_parts (is_among nat_eq (location_of at).mount (map (λ mount. mount.number) (world_of value).mounts))
-      (is_there nat_eq (world_of value) (mount_at nat_eq (world_of value) (location_of at)).filesystem (location_of at).node) well).1)
+      (ap (λ mount. is_some ((filesystem_numbered nat_eq (world_of value)
+      (mount_numbered nat_eq (world_of value) mount).filesystem).files.tree.node (number_of at.node)))
+      (sym same) ∙ (and_parts (is_among nat_eq (location_of at).mount
+      (map (λ mount. mount.number) (world_of value).mounts))
+      (is_there nat_eq (world_of value) (mount_at nat_eq (world_of value) (location_of at)).filesystem
+      (location_of at).node) well).1)
 
   pub renamed_to : to.node.filesystem ≡ from.node.filesystem
   renamed_to = same_filesystem to small_to sees.to_mount names.1.reached.there
@@ -88,12 +96,14 @@ module _ (value : WorldValue) (held : IsHeld value) (name : TaskName) (from : Lo
   pub is_named : permit_named (is_counted_before value.next) permit ≡ true
   is_named = λ i. seen.named i && to_seen.named i && object_seen.named i && by replaced names.3 i
     where
-      by : (o : Option Location) → ((other : meant.Location ℕ) → option_map location_of o ≡ Some other → IsReached (world_of value) permits.task other)
+      by : (o : Option Location) → ((other : meant.Location ℕ) → option_map location_of o ≡ Some other
+          → IsReached (world_of value) permits.task other)
           → none_or (location_named (is_counted_before value.next)) (option_map location_of o) ≡ true
       by None there = refl
       by (Some other) there = located_is_named value held (location_of other) (there (location_of other) refl).there
 
-  nothing_replaced : (o : Option Location) → IfSome o (λ other. mounts_on nat_eq (world_of value) (location_of other) ≡ [])
+  nothing_replaced : (o : Option Location)
+      → IfSome o (λ other. mounts_on nat_eq (world_of value) (location_of other) ≡ [])
       → without_replaced nat_eq (world_of value) (option_map location_of o) ≡ world_of value
   nothing_replaced None none = refl
   nothing_replaced (Some other) none = nothing_detached value held (location_of other) none
@@ -107,11 +117,13 @@ module _ (value : WorldValue) (held : IsHeld value) (name : TaskName) (from : Lo
       (record {
         named = is_named;
         rest = supply_of value permit;
-        applied = ap (λ world. with_change nat_eq (supply_of value permit) world (location_of from) change) (nothing_replaced replaced none);
+        applied = ap (λ world. with_change nat_eq (supply_of value permit) world (location_of from) change)
+            (nothing_replaced replaced none);
         named_supply = λ k. 0;
         are_named = λ k. refl;
         named_rest = λ k. 0;
-        applied_named = ap (λ world. with_change nat_eq (λ k. 0) world (location_of from) change) (nothing_replaced replaced none);
+        applied_named = ap (λ world. with_change nat_eq (λ k. 0) world (location_of from) change)
+            (nothing_replaced replaced none);
       })
       (record {
         entry = seen.entry;
@@ -121,6 +133,7 @@ module _ (value : WorldValue) (held : IsHeld value) (name : TaskName) (from : Lo
         fits = fits (inodes_seen seen.entry) refl;
         links = tt;
         changes =
-            subst (λ count. ChangesInodes count (λ inodes. changed nat_eq inodes change) value.filesystems filesystems) (sym seen.count_is) changes;
+            subst (λ count. ChangesInodes count (λ inodes. changed nat_eq inodes change) value.filesystems filesystems)
+            (sym seen.count_is) changes;
         own = λ number other. tt;
       })

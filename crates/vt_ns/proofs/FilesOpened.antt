@@ -45,7 +45,8 @@ pub inserted_goes : (new : Descriptor ℕ) (all : List (Descriptor ℕ)) → Goe
 inserted_goes new [] = record { front = []; back = []; was = refl; is = refl }
 inserted_goes new (first ∷ rest) = by (nat_lt new.number first.number) (inserted_goes new rest)
   where
-    by : (b : Bool) → Goes new (inserted new rest) rest → Goes new (cond b (new ∷ first ∷ rest) (first ∷ inserted new rest)) (first ∷ rest)
+    by : (b : Bool) → Goes new (inserted new rest) rest
+        → Goes new (cond b (new ∷ first ∷ rest) (first ∷ inserted new rest)) (first ∷ rest)
     by true later = record { front = []; back = first ∷ rest; was = refl; is = refl }
     by false later = record {
       front = first ∷ later.front;
@@ -54,7 +55,8 @@ inserted_goes new (first ∷ rest) = by (nat_lt new.number first.number) (insert
       is = ap (λ all. first ∷ all) later.is;
     }
 
-module _ (value : WorldValue) (whole : IsHeld value) (name : TaskName) (task : Task ℕ) (found : task_called (world_of value) name ≡ Some task)
+module _ (value : WorldValue) (whole : IsHeld value) (name : TaskName) (task : Task ℕ)
+    (found : task_called (world_of value) name ≡ Some task)
     (descriptor : Descriptor ℕ)
     (well : is_located_well nat_eq (world_of value) descriptor.location ≡ true) where
   abbrev opens : Task ℕ
@@ -73,52 +75,65 @@ module _ (value : WorldValue) (whole : IsHeld value) (name : TaskName) (task : T
     was = ap locations_in split.was ∙ locations_around split.front task split.back
         ∙ ap (λ places. locations_in split.front ++ ((task.root ∷ task.directory ∷ places) ++ locations_in split.back))
         (ap (map place) goes.is ∙ map-append place goes.front goes.back)
-        ∙ around (locations_in split.front) (task.root ∷ task.directory ∷ map place goes.front) (map place goes.back) (locations_in split.back);
+        ∙ around (locations_in split.front) (task.root ∷ task.directory ∷ map place goes.front) (map place goes.back)
+        (locations_in split.back);
     is = ap locations_in split.is ∙ locations_around split.front opens split.back
         ∙ ap (λ places. locations_in split.front ++ ((task.root ∷ task.directory ∷ places) ++ locations_in split.back))
         (ap (map place) goes.was ∙ map-append place goes.front (descriptor ∷ goes.back))
-        ∙ around (locations_in split.front) (task.root ∷ task.directory ∷ map place goes.front) (descriptor.location ∷ map place goes.back) (locations_in split.back);
+        ∙ around (locations_in split.front) (task.root ∷ task.directory ∷ map place goes.front)
+        (descriptor.location ∷ map place goes.back) (locations_in split.back);
     there = ap (λ b. b && true) well;
     writes = λ mount.
         let moved = writes_replaced name value.tasks task opens whole.in_world.tasks.one_task found refl mount in
-        let is : writes_of_task mount opens ≡ times (writes_on mount) (goes.front ++ goes.back) + cond (writes_on mount descriptor) 1 0 =
+        let is : writes_of_task mount opens
+        ≡ times (writes_on mount) (goes.front ++ goes.back) + cond (writes_on mount descriptor) 1 0 =
         ap (times (writes_on mount)) goes.was ∙ times_around (writes_on mount) goes.front goes.back descriptor in
-        let was : writes_of_task mount task ≡ times (writes_on mount) (goes.front ++ goes.back) = ap (times (writes_on mount)) goes.is in
+        let was : writes_of_task mount task
+        ≡ times (writes_on mount) (goes.front ++ goes.back) = ap (times (writes_on mount)) goes.is in
         omega (arith, moved, was, is);
   }
 
-  pub opened_stays : without_dead_mounts nat_eq (world_of (after value (replaced opens value.tasks))) ≡ world_of (after value (replaced opens value.tasks))
+  pub opened_stays : without_dead_mounts nat_eq (world_of (after value (replaced opens value.tasks)))
+      ≡ world_of (after value (replaced opens value.tasks))
   opened_stays =
       mounts_go_one_by_one (world_of (after value (replaced opens value.tasks))) []
       (mounts_but (world_of value) (replaced opens value.tasks) [] (worlds_are_in_use (world_of value) whole.in_world)
       (mounts_of_worlds_stand (world_of value) whole.in_world)
       (only_left value whole (replaced opens value.tasks) (used_by descriptor ∷ []) [] opened_moves))
 
-  pub opened_tasks : (namespace : ℕ) → times (λ one. nat_eq namespace one.namespace) (replaced opens value.tasks) ≡ times (λ one. nat_eq namespace one.namespace) value.tasks
+  pub opened_tasks : (namespace : ℕ)
+      → times (λ one. nat_eq namespace one.namespace) (replaced opens value.tasks)
+      ≡ times (λ one. nat_eq namespace one.namespace) value.tasks
   opened_tasks namespace =
-      let moved = times_replaced name value.tasks task opens whole.in_world.tasks.one_task found refl (λ one. nat_eq namespace one.namespace) in
+      let moved = times_replaced name value.tasks task opens whole.in_world.tasks.one_task found refl
+      (λ one. nat_eq namespace one.namespace) in
       omega (arith, moved)
 
 -- a file is opened that needs no copy
-pub file_is_opened : (value : WorldValue) (name : TaskName) (opened : OpenFile) (mounts : List MountEntry) (filesystems : Filesystems) (tasks : Tasks)
+pub file_is_opened : (value : WorldValue) (name : TaskName) (opened : OpenFile) (mounts : List MountEntry)
+    (filesystems : Filesystems) (tasks : Tasks)
     → IsHeld value → Permits value name (ToOpen (location_of opened.location) (access_of opened.access))
     → is_copied_up nat_eq (world_of value) (location_of opened.location) (access_of opened.access) ≡ false
     → opened.location.node.slot < 18446744073709551616
     → tasks ≡ changed_called name (with_open opened) value.tasks
-    → kept mounts filesystems ≡ with_location opened.location (access_of opened.access).writes (kept value.mounts value.filesystems)
-    → IsDone value name (ToOpen (location_of opened.location) (access_of opened.access)) (remade value mounts filesystems tasks)
+    → kept mounts filesystems ≡ with_location opened.location (access_of opened.access).writes
+    (kept value.mounts value.filesystems)
+    → IsDone value name (ToOpen (location_of opened.location) (access_of opened.access))
+    (remade value mounts filesystems tasks)
 file_is_opened value name opened mounts filesystems tasks whole permits uncopied few is is_kept =
     let task = permits.task in
     let file = location_of opened.location in
     let access = access_of opened.access in
-    let well : is_located_well nat_eq (world_of value) file ≡ true = (permit_fits value whole name (ToOpen file access) permits).names.reached.there in
+    let well : is_located_well nat_eq (world_of value) file
+    ≡ true = (permit_fits value whole name (ToOpen file access) permits).names.reached.there in
     let descriptor : Descriptor ℕ = record { number = free_number task; location = file; reads = access.reads; writes = access.writes } in
     let opens = with_descriptor task file access in
     subst (λ all. IsDone value name (ToOpen file access) (remade value mounts filesystems all))
     (sym (is ∙ ap (changed_by (with_open opened) value.tasks) permits.called))
     (remains_done value whole (replaced opens value.tasks) (used_by descriptor ∷ []) []
     (opened_moves value whole name task permits.called descriptor well) mounts filesystems
-    (is_kept ∙ (λ i. with_use (counted opened.location.mount.count) (sym (seen_where_located value whole opened.location few well) i, number_of opened.location.node)
+    (is_kept ∙ (λ i. with_use (counted opened.location.mount.count)
+    (sym (seen_where_located value whole opened.location few well) i, number_of opened.location.node)
     access.writes (kept value.mounts value.filesystems)))
     (opened_stays value whole name task permits.called descriptor well) name (ToOpen file access) task
     (record {
@@ -130,7 +145,8 @@ file_is_opened value name opened mounts filesystems tasks whole permits uncopied
     (opened_tasks value whole name task permits.called descriptor well))
 
 -- in a world of plain filesystems nothing is copied
-pub nothing_copied : (value : WorldValue) (file : meant.Location ℕ) (access : spoken.Access) → is_copied_up nat_eq (world_of value) file access ≡ false
+pub nothing_copied : (value : WorldValue) (file : meant.Location ℕ) (access : spoken.Access)
+    → is_copied_up nat_eq (world_of value) file access ≡ false
 nothing_copied value file access =
     ap (λ (o : Option (Overlay ℕ)). access.writes && overlay_or false (λ overlay. lies_below overlay file.node) o)
     (no_overlay value.filesystems (mount_at nat_eq (world_of value) file).filesystem)
@@ -141,19 +157,24 @@ nothing_copied value file access =
     never false = refl
 
     no_overlay : (entries : Filesystems) (number : ℕ)
-        → (unwrap_or (find (λ f. nat_eq number f.number) (filesystems_seen entries)) (no_filesystem number)).overlay ≡ None
+        → (unwrap_or (find (λ f. nat_eq number f.number) (filesystems_seen entries)) (no_filesystem number)).overlay
+        ≡ None
     no_overlay [] number = refl
     no_overlay (entry ∷ rest) number = by (nat_eq number (counted entry.count)) (no_overlay rest number)
       where
-        by : (b : Bool) → (unwrap_or (find (λ f. nat_eq number f.number) (filesystems_seen rest)) (no_filesystem number)).overlay ≡ None
-            → (unwrap_or (cond b (Some (filesystem_seen entry)) (find (λ f. nat_eq number f.number) (filesystems_seen rest))) (no_filesystem number)).overlay ≡ None
+        by : (b : Bool) → (unwrap_or (find (λ f. nat_eq number f.number) (filesystems_seen rest))
+            (no_filesystem number)).overlay ≡ None
+            → (unwrap_or (cond b (Some (filesystem_seen entry))
+            (find (λ f. nat_eq number f.number) (filesystems_seen rest))) (no_filesystem number)).overlay ≡ None
         by true later = refl
         by false later = later
 
 -- the task may open another file
-pub may_open_more : (value : WorldValue) → IsHeld value → (name : TaskName) (file : meant.Location ℕ) (access : spoken.Access)
+pub may_open_more : (value : WorldValue) → IsHeld value
+    → (name : TaskName) (file : meant.Location ℕ) (access : spoken.Access)
     → Permits value name (ToOpen file access) → MayOpenMore (called name value.tasks)
 may_open_more value whole name file access permits =
     subst MayOpenMore (sym permits.called)
-    (leb-false _ _ (given_permits_are_seen_to (world_of value) (supply_of value (ToOpen file access)) permits.task (ToOpen file access)
+    (leb-false _ _ (given_permits_are_seen_to (world_of value) (supply_of value (ToOpen file access)) permits.task
+    (ToOpen file access)
     whole.in_world (files_are_plain value.filesystems) permits.given).1)

@@ -25,13 +25,16 @@ listed_node value held name directory small permits =
     (given_permits_are_seen_to (world_of value) (supply_of value (ToList (location_of directory))) permits.task
     (ToList (location_of directory)) held.in_world (files_are_plain value.filesystems) permits.given))
 
-pub read_node : (value : WorldValue) → IsHeld value → (name : TaskName) (file : Location) (offset size : ℕ) → IsSmall file
+pub read_node : (value : WorldValue) → IsHeld value → (name : TaskName) (file : Location) (offset size : ℕ)
+    → IsSmall file
     → Permits value name (ToReadPart (location_of file) offset size)
     → (files_at value.filesystems file.node.filesystem.count).tree.node (number_of file.node)
     ≡ node_at nat_eq (world_of value) (location_of file)
 read_node value held name file offset size small permits =
     looked_node value held file small
     (and_parts _ _
-    (open_there value held name (ToReadPart (location_of file) offset size) permits (location_of file) (λ descriptor. descriptor.reads)
-    (given_permits_are_seen_to (world_of value) (supply_of value (ToReadPart (location_of file) offset size)) permits.task
+    (open_there value held name (ToReadPart (location_of file) offset size) permits (location_of file)
+    (λ descriptor. descriptor.reads)
+    (given_permits_are_seen_to (world_of value)
+    (supply_of value (ToReadPart (location_of file) offset size)) permits.task
     (ToReadPart (location_of file) offset size) held.in_world (files_are_plain value.filesystems) permits.given))).1

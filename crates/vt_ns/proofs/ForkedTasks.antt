@@ -56,22 +56,29 @@ module _ (value : WorldValue) (whole : IsHeld value) (count : ℕ) (tasks : Task
   pub task_is_counted : CountsTasks value (with_task_more count value.namespaces) tasks
   task_is_counted = record {
     same = map_twice namespace_of (λ entry. cond (nat_eq count entry.count) (more_tasks entry) entry) value.namespaces
-        ∙ map_alike (λ entry. namespace_of (cond (nat_eq count entry.count) (more_tasks entry) entry)) namespace_of value.namespaces
+        ∙ map_alike (λ entry. namespace_of
+        (cond (nat_eq count entry.count) (more_tasks entry) entry)) namespace_of value.namespaces
         (λ entry m. same_namespace entry (nat_eq count entry.count));
     counts = λ entry m.
-        let from = among-from_map (λ one. cond (nat_eq count one.count) (more_tasks one) one) value.namespaces entry m in
+        let from = among-from_map (λ one.
+        cond (nat_eq count one.count) (more_tasks one) one) value.namespaces entry m in
         let was = among_from_all (CountsWhatIsInIt (world_of value)) value.namespaces whole.namespaces from.0 from.1 in
-        subst (λ (one : NamespaceEntry). one.tasks ≡ times (λ task. nat_eq (counted one.count) task.namespace) tasks) (sym from.2)
-        (counts_so from.0 was.tasks (nat_eq count from.0.count) (counted_test from.0.count count ∙ swap_eq from.0.count count));
+        subst (λ (one : NamespaceEntry). one.tasks ≡ times (λ task. nat_eq (counted one.count) task.namespace) tasks)
+        (sym from.2)
+        (counts_so from.0 was.tasks (nat_eq count from.0.count)
+        (counted_test from.0.count count ∙ swap_eq from.0.count count));
   }
     where
-      same_namespace : (entry : NamespaceEntry) (b : Bool) → namespace_of (cond b (more_tasks entry) entry) ≡ namespace_of entry
+      same_namespace : (entry : NamespaceEntry) (b : Bool)
+          → namespace_of (cond b (more_tasks entry) entry) ≡ namespace_of entry
       same_namespace entry true = refl
       same_namespace entry false = refl
 
-      counts_so : (entry : NamespaceEntry) → entry.tasks ≡ times (λ task. nat_eq (counted entry.count) task.namespace) value.tasks
+      counts_so : (entry : NamespaceEntry)
+          → entry.tasks ≡ times (λ task. nat_eq (counted entry.count) task.namespace) value.tasks
           → (b : Bool) → nat_eq (counted entry.count) (counted count) ≡ b
-          → (cond b (more_tasks entry) entry).tasks ≡ times (λ task. nat_eq (counted (cond b (more_tasks entry) entry).count) task.namespace) tasks
+          → (cond b (more_tasks entry) entry).tasks
+          ≡ times (λ task. nat_eq (counted (cond b (more_tasks entry) entry).count) task.namespace) tasks
       counts_so entry was true e =
           let later = more (counted entry.count) in
           let one : one_if (nat_eq (counted entry.count) (counted count)) ≡ 1 = ap one_if e in
@@ -83,7 +90,8 @@ module _ (value : WorldValue) (whole : IsHeld value) (count : ℕ) (tasks : Task
 
 -- The child is where its parent is.
 
-module _ (value : WorldValue) (whole : IsHeld value) (name : TaskName) (task : Task ℕ) (found : task_called (world_of value) name ≡ Some task)
+module _ (value : WorldValue) (whole : IsHeld value) (name : TaskName) (task : Task ℕ)
+    (found : task_called (world_of value) name ≡ Some task)
     (credentials : Credentials) where
   abbrev pub tasks_forked : Tasks
   tasks_forked = with_child_behind task (child_of task credentials) value.tasks
@@ -95,9 +103,11 @@ module _ (value : WorldValue) (whole : IsHeld value) (name : TaskName) (task : T
   split = replaced_split name value.tasks task (forked_once task) whole.in_world.tasks.one_task found refl
 
   -- the root and the working directory are there
-  place_there : (place : meant.Location ℕ) → Among place (locations_of task) → is_located_well nat_eq (world_of value) place ≡ true
+  place_there : (place : meant.Location ℕ) → Among place (locations_of task)
+      → is_located_well nat_eq (world_of value) place ≡ true
   place_there place m =
-      passes (is_located_well nat_eq (world_of value)) (all_locations (world_of value)) whole.in_world.tasks.locations_live place
+      passes (is_located_well nat_eq (world_of value))
+      (all_locations (world_of value)) whole.in_world.tasks.locations_live place
       (subst (λ all. Among place all) (sym (ap locations_in split.was ∙ locations_around split.front task split.back))
       (among-append_right (locations_in split.front) (locations_of task ++ locations_in split.back) place
       (among-append_left (locations_of task) (locations_in split.back) place m)))
@@ -114,10 +124,12 @@ module _ (value : WorldValue) (whole : IsHeld value) (name : TaskName) (task : T
     back = [];
     was = sym (append-nil (locations_in value.tasks));
     is = flat_map-append locations_of once (child_of task credentials ∷ [])
-        ∙ ap (λ all. all ++ (task.root ∷ task.directory ∷ [])) (locations_stay task (forked_once task) value.tasks once split refl);
+        ∙ ap (λ all. all ++ (task.root ∷ task.directory ∷ []))
+        (locations_stay task (forked_once task) value.tasks once split refl);
     there = (λ i. root_there i && (directory_there i && true));
     writes = λ mount.
-        let moved = writes_replaced name value.tasks task (forked_once task) whole.in_world.tasks.one_task found refl mount in
+        let moved = writes_replaced name value.tasks task
+        (forked_once task) whole.in_world.tasks.one_task found refl mount in
         let own : writes_of_task mount (forked_once task) ≡ writes_of_task mount task = refl in
         let all = writes_append mount once (child_of task credentials ∷ []) in
         let is : writes_of mount tasks_forked ≡ writes_of mount value.tasks = omega (arith, moved, own, all) in
@@ -134,7 +146,8 @@ module _ (value : WorldValue) (whole : IsHeld value) (name : TaskName) (task : T
   forked_inside : (namespace : ℕ) → times (λ one. nat_eq namespace one.namespace) tasks_forked
       ≡ times (λ one. nat_eq namespace one.namespace) value.tasks + one_if (nat_eq namespace task.namespace)
   forked_inside namespace =
-      let moved = times_replaced name value.tasks task (forked_once task) whole.in_world.tasks.one_task found refl (λ one. nat_eq namespace one.namespace) in
+      let moved = times_replaced name value.tasks task (forked_once task) whole.in_world.tasks.one_task found refl
+      (λ one. nat_eq namespace one.namespace) in
       let all = times_append (λ (one : Task ℕ). nat_eq namespace one.namespace) once (child_of task credentials ∷ []) in
       omega (arith, moved, all)
 
@@ -143,7 +156,8 @@ module _ (value : WorldValue) (whole : IsHeld value) (name : TaskName) (task : T
       → (root directory : Location) → location_of root ≡ task.root → location_of directory ≡ task.directory
       → root.node.slot < 18446744073709551616 → directory.node.slot < 18446744073709551616
       → (mounts : List MountEntry) (filesystems : Filesystems)
-      → kept mounts filesystems ≡ with_location directory false (with_location root false (kept value.mounts value.filesystems))
+      → kept mounts filesystems ≡ with_location directory false
+      (with_location root false (kept value.mounts value.filesystems))
       → IsDone value name (ToFork credentials)
       (remade_in value mounts filesystems (with_task_more count value.namespaces) tasks_forked)
   forked_done permits is_task count in_namespace root directory root_is directory_is root_few directory_few mounts filesystems is_kept =
@@ -152,36 +166,49 @@ module _ (value : WorldValue) (whole : IsHeld value) (name : TaskName) (task : T
       (is_kept ∙ seen)
       (task_is_counted value whole count tasks_forked
       (λ namespace. forked_inside namespace
-      ∙ ap (λ number. times (λ one. nat_eq namespace one.namespace) value.tasks + one_if (nat_eq namespace number)) (sym in_namespace)))
+      ∙ ap (λ number. times (λ one. nat_eq namespace one.namespace) value.tasks + one_if (nat_eq namespace number))
+      (sym in_namespace)))
       forked_stays name (ToFork credentials) task
       (record {
         called = found;
-        given = subst (λ one. IsGiven (supply_of value (ToFork credentials)) (world_of value) one (ToFork credentials)) is_task permits.given;
+        given = subst (λ one. IsGiven (supply_of value (ToFork credentials)) (world_of value) one
+            (ToFork credentials)) is_task permits.given;
         named = refl;
         applied = λ fresh. refl;
       })
     where
       use_at : (place : meant.Location ℕ) (at : Location) → location_of at ≡ place → at.node.slot < 18446744073709551616
           → is_located_well nat_eq (world_of value) place ≡ true → (k : Kept)
-          → with_location at false k ≡ with_use place.mount ((mount_at nat_eq (world_of value) place).filesystem, place.node) false k
+          → with_location at false k ≡ with_use place.mount
+          ((mount_at nat_eq (world_of value) place).filesystem, place.node) false k
       use_at place at is few well k =
-          (λ i. with_use (counted at.mount.count)
-          (sym (seen_where_located value whole at few (subst (λ one. is_located_well nat_eq (world_of value) one ≡ true) (sym is) well)) i, number_of at.node) false k)
-          ∙ ap (λ (one : meant.Location ℕ). with_use one.mount ((mount_at nat_eq (world_of value) one).filesystem, one.node) false k) is
+          (λ i. with_use (counted at.mount.count) (
+            sym (seen_where_located value whole at few
+                (subst (λ one. is_located_well nat_eq (world_of value) one ≡ true)
+                (sym is) well)) i,
+            number_of at.node,
+          ) false k)
+          ∙ ap (λ (one : meant.Location ℕ). with_use one.mount
+          ((mount_at nat_eq (world_of value) one).filesystem, one.node) false k) is
 
       seen : with_location directory false (with_location root false (kept value.mounts value.filesystems))
-          ≡ with_use task.directory.mount ((mount_at nat_eq (world_of value) task.directory).filesystem, task.directory.node) false
-          (with_use task.root.mount ((mount_at nat_eq (world_of value) task.root).filesystem, task.root.node) false (kept value.mounts value.filesystems))
+          ≡ with_use task.directory.mount
+          ((mount_at nat_eq (world_of value) task.directory).filesystem, task.directory.node) false
+          (with_use task.root.mount ((mount_at nat_eq (world_of value) task.root).filesystem, task.root.node) false
+          (kept value.mounts value.filesystems))
       seen =
-          use_at task.directory directory directory_is directory_few directory_there (with_location root false (kept value.mounts value.filesystems))
-          ∙ ap (with_use task.directory.mount ((mount_at nat_eq (world_of value) task.directory).filesystem, task.directory.node) false)
+          use_at task.directory directory directory_is directory_few directory_there
+          (with_location root false (kept value.mounts value.filesystems))
+          ∙ ap (with_use task.directory.mount
+          ((mount_at nat_eq (world_of value) task.directory).filesystem, task.directory.node) false)
           (use_at task.root root root_is root_few root_there (kept value.mounts value.filesystems))
 
 -- the task may fork
 pub may_fork : (value : WorldValue) → IsHeld value → (name : TaskName) (credentials : Credentials)
     → Permits value name (ToFork credentials) → MayFork (called name value.tasks)
 may_fork value whole name credentials permits =
-    let sees = given_permits_are_seen_to (world_of value) (supply_of value (ToFork credentials)) permits.task (ToFork credentials)
+    let sees = given_permits_are_seen_to (world_of value) (supply_of value (ToFork credentials)) permits.task
+    (ToFork credentials)
     whole.in_world (files_are_plain value.filesystems) permits.given in
     subst MayFork (sym permits.called) (leb-false _ _ sees.0, leb-false _ _ sees.1)
 
@@ -191,12 +218,17 @@ pub task_is_forked : (value : WorldValue) → IsHeld value → (name : TaskName)
     → own.root.node.slot < 18446744073709551616 → own.directory.node.slot < 18446744073709551616
     → (mounts : List MountEntry) (filesystems : Filesystems) (namespaces : List NamespaceEntry) (tasks : Tasks)
     → namespaces ≡ with_task_more own.namespace.count value.namespaces → tasks ≡ forked name credentials value.tasks
-    → kept mounts filesystems ≡ with_location own.directory false (with_location own.root false (kept value.mounts value.filesystems))
+    → kept mounts filesystems ≡ with_location own.directory false
+    (with_location own.root false (kept value.mounts value.filesystems))
     → IsDone value name (ToFork credentials) (remade_in value mounts filesystems namespaces tasks)
 task_is_forked value whole name credentials permits own is root_few directory_few mounts filesystems namespaces tasks counted_so forked_so is_kept =
     let same : task_of own ≡ permits.task = same_Some (task_of own) permits.task (is ∙ permits.called) in
-    subst (λ all. IsDone value name (ToFork credentials) (remade_in value mounts filesystems all tasks)) (sym counted_so)
-    (subst (λ all. IsDone value name (ToFork credentials) (remade_in value mounts filesystems (with_task_more own.namespace.count value.namespaces) all))
+    subst (λ all. IsDone value name (ToFork credentials) (remade_in value mounts filesystems all tasks))
+    (sym counted_so)
+    (subst (λ all. IsDone value name (ToFork credentials)
+    (remade_in value mounts filesystems (with_task_more own.namespace.count value.namespaces) all))
     (sym (forked_so ∙ ap (forked_by credentials value.tasks) permits.called))
-    (forked_done value whole name permits.task permits.called credentials permits refl own.namespace.count (ap (λ one. one.namespace) same)
-    own.root own.directory (ap (λ one. one.root) same) (ap (λ one. one.directory) same) root_few directory_few mounts filesystems is_kept))
+    (forked_done value whole name permits.task permits.called credentials permits refl own.namespace.count
+    (ap (λ one. one.namespace) same)
+    own.root own.directory (ap (λ one. one.root) same)
+    (ap (λ one. one.directory) same) root_few directory_few mounts filesystems is_kept))

@@ -9,6 +9,7 @@ pub mod LookingAlone
 pub mod FileRemoving
 pub mod BoundTrees
 pub mod BoundEvents
+pub mod MovedEvents
 pub mod Climbing
 pub mod FilesOpened
 pub mod OpeningNew

@@ -1,5 +1,5 @@
 -- The list of peer groups, by the places and types of all attached mounts.
-use Rattle.std.proofs.Common.{◌≡◌, ◌<◌, ◌≤◌, refl, sym, ap, ◌∙◌, ℕ, zero, suc, ◌+◌, Bool, true, false, cond, not, ◌&&◌, nat_eq, List, [], ◌∷◌, ◌++◌, map, filter, length, take, get_or, append_assoc, Option, Some, None, option_map, arith}
+use Rattle.std.proofs.Common.{◌≡◌, ◌<◌, ◌≤◌, refl, sym, ap, ◌∙◌, ℕ, zero, suc, ◌+◌, Bool, true, false, cond, nat_eq, List, [], ◌∷◌, ◌++◌, map, filter, length, take, get_or, append_assoc, Option, Some, None, option_map, arith}
 use Rattle.std.specs.Prelude.{filter_map, flat_map}
 use Rattle.std.specs.List.{cons_option}
 use Rattle.std.specs.Map.{keys_of}
@@ -9,21 +9,21 @@ use Rattle.vt_letting_go.proofs.Lists.{map_twice}
 use Rattle.vt_location.specs.declared.numbers.MountId.{MountId}
 use Rattle.vt_location.specs.declared.numbers.NamespaceId.{NamespaceId}
 use Rattle.vt_location.specs.Numbers.{counted}
-use Rattle.vt_spec.specs.Language.Answers as answers
-use Rattle.vt_spec.specs.Lists.{counted_from, each_once, holds_of, when}
+use Rattle.vt_spec.specs.Lists.{counted_from, each_once, when}
 use Rattle.vt_spec.specs.Machine.Listing.{all_attached, attached_in, groups_in_type, groups_seen, groups_shown, is_slave_of, number_among, peer_line, peer_lines}
-use Rattle.vt_spec.specs.Machine.Mounts.{Mount, Propagation, group_of, is_shared, source_of}
+use Rattle.vt_spec.specs.Machine.Mounts.{Mount, Propagation}
 use Rattle.vt_spec.specs.Machine.Receives.{is_member_of}
 use Rattle.vt_spec.specs.Machine.World.{Namespace, World, mounts_of}
 use Rattle.vt_attach.proofs.CopyLemmas.{picked_next}
 use Rattle.vt_detach.specs.declared.namespaces.Namespace.{Namespace as Kept}
-use Rattle.vt_detach.specs.WorldValue.{NamespaceEntry, entries_of, entry_of, namespace_of}
+use Rattle.vt_detach.specs.WorldValue.{entries_of, namespace_of}
 use Rattle.vt_ns.specs.GroupsListed.{all_seen, line_from, member_place, placed_from, placed_in, placed_seen, slave_place}
 use Rattle.vt_ns.specs.declared.peer_lines.Placed.{Placed}
 
 -- Lists so far, with the next element
 
-pub taken_more : {A : Type 0} (i : ℕ) (d : A) (xs : List A) → i < length xs → take (i + 1) xs ≡ take i xs ++ get_or xs i d ∷ []
+pub taken_more : {A : Type 0} (i : ℕ) (d : A) (xs : List A) → i < length xs
+    → take (i + 1) xs ≡ take i xs ++ get_or xs i d ∷ []
 taken_more {A} i d xs within = ap (λ k. take k xs) (let same : i + 1 ≡ suc i = omega arith in same) ∙ by i xs within
   where
     by : (i : ℕ) (xs : List A) → i < length xs → take (suc i) xs ≡ take i xs ++ get_or xs i d ∷ []
@@ -36,11 +36,13 @@ length_taken i [] within = absurd (omega (arith, within))
 length_taken zero (x ∷ xs) within = refl
 length_taken (suc i) (x ∷ xs) within = ap suc (length_taken i xs (omega (arith, within)))
 
-counted_more : {A : Type 0} (k : ℕ) (xs : List A) (x : A) → counted_from k (xs ++ x ∷ []) ≡ counted_from k xs ++ (k + length xs, x) ∷ []
+counted_more : {A : Type 0} (k : ℕ) (xs : List A) (x : A)
+    → counted_from k (xs ++ x ∷ []) ≡ counted_from k xs ++ (k + length xs, x) ∷ []
 counted_more k [] x = ap (λ n. (n, x) ∷ []) (let same : k ≡ k + 0 = omega arith in same)
 counted_more k (first ∷ xs) x =
     ap (λ rest. (k, first) ∷ rest) (counted_more (k + 1) xs x
-    ∙ ap (λ n. counted_from (k + 1) xs ++ (n, x) ∷ []) (let same : k + 1 + length xs ≡ k + suc (length xs) = omega arith in same))
+    ∙ ap (λ n. counted_from (k + 1) xs ++ (n, x) ∷ [])
+    (let same : k + 1 + length xs ≡ k + suc (length xs) = omega arith in same))
 
 flat_last : {A B : Type 0} (f : A → List B) (xs : List A) (x : A) → flat_map f (xs ++ x ∷ []) ≡ flat_map f xs ++ f x
 flat_last f xs x = flat_map-append f xs (x ∷ []) ∙ ap (λ last. flat_map f xs ++ last) (append-nil (f x))
@@ -49,7 +51,8 @@ pub all_some : {A B : Type 0} (f : A → B) (xs : List A) → filter_map (λ x. 
 all_some f [] = refl
 all_some f (x ∷ xs) = ap (λ rest. f x ∷ rest) (all_some f xs)
 
-pub filter_map_map : {A B C : Type 0} (h : B → Option C) (f : A → B) (xs : List A) → filter_map (λ x. h (f x)) xs ≡ filter_map h (map f xs)
+pub filter_map_map : {A B C : Type 0} (h : B → Option C) (f : A → B) (xs : List A)
+    → filter_map (λ x. h (f x)) xs ≡ filter_map h (map f xs)
 filter_map_map h f [] = refl
 filter_map_map h f (x ∷ xs) = ap (cons_option (h (f x))) (filter_map_map h f xs)
 
@@ -60,8 +63,10 @@ pub when_false : {A : Type 0} (b : Bool) (x : A) → b ≡ false → when b x �
 when_false b x e = ap (λ c. when c x) e
 
 -- the namespaces so far
-pub next_placed : (world : World ℕ) (i number : ℕ) (d : NamespaceId) (ids : List NamespaceId) → i < length ids → number ≡ i
-    → (so_far new : List (ℕ × ℕ × Propagation ℕ)) → new ≡ so_far ++ placed_in world (number + 1) (counted (get_or ids i d).count)
+pub next_placed : (world : World ℕ) (i number : ℕ) (d : NamespaceId) (ids : List NamespaceId) → i < length ids
+    → number ≡ i
+    → (so_far new : List (ℕ × ℕ × Propagation ℕ))
+    → new ≡ so_far ++ placed_in world (number + 1) (counted (get_or ids i d).count)
     → so_far ≡ placed_from world 1 (map (λ (id : NamespaceId). counted id.count) (take i ids))
     → new ≡ placed_from world 1 (map (λ (id : NamespaceId). counted id.count) (take (i + 1) ids))
 next_placed world i number d ids within same so_far new is before_is =
@@ -74,7 +79,8 @@ next_placed world i number d ids within same so_far new is before_is =
     ∙ ap (λ k. placed_from world 1 before ++ placed_in world k last) size
     ∙ sym (flat_last (λ (one : ℕ × ℕ). placed_in world one.0 one.1) (counted_from 1 before) (1 + length before, last))
     ∙ ap (flat_map (λ (one : ℕ × ℕ). placed_in world one.0 one.1)) (sym (counted_more 1 before last))
-    ∙ ap (placed_from world 1) (sym (map-append count (take i ids) (get_or ids i d ∷ [])) ∙ ap (map count) (sym (taken_more i d ids within)))
+    ∙ ap (placed_from world 1) (sym (map-append count (take i ids) (get_or ids i d ∷ []))
+    ∙ ap (map count) (sym (taken_more i d ids within)))
   where
     lengths : {A B : Type 0} (f : A → B) (xs : List A) → length (map f xs) ≡ length xs
     lengths f [] = refl
@@ -84,28 +90,34 @@ next_placed world i number d ids within same so_far new is before_is =
 abbrev pub each_placed : ℕ → List (Mount ℕ) → List (ℕ × ℕ × Propagation ℕ)
 each_placed k mounts = map (λ mount. (k, mount.0, mount.1.propagation)) (counted_from 1 mounts)
 
-pub next_mount : (k place : ℕ) (mounts later : List (Mount ℕ)) (mount : Mount ℕ) (before so_far : List (ℕ × ℕ × Propagation ℕ)) → place ≡ length mounts
+pub next_mount : (k place : ℕ) (mounts later : List (Mount ℕ)) (mount : Mount ℕ)
+    (before so_far : List (ℕ × ℕ × Propagation ℕ)) → place ≡ length mounts
     → so_far ≡ before ++ each_placed k mounts → mounts ++ mount ∷ [] ≡ later
     → so_far ++ (k, place + 1, mount.propagation) ∷ [] ≡ before ++ each_placed k later
 next_mount k place mounts later mount before so_far same is next =
     ap (λ list. list ++ (k, place + 1, mount.propagation) ∷ []) is
     ∙ append_assoc before (each_placed k mounts) ((k, place + 1, mount.propagation) ∷ [])
     ∙ ap (λ list. before ++ list) (
-    ap (λ n. each_placed k mounts ++ (k, n, mount.propagation) ∷ []) (let sum : place + 1 ≡ 1 + length mounts = omega (arith, same) in sum)
-    ∙ sym (map-append (λ (one : ℕ × Mount ℕ). (k, one.0, one.1.propagation)) (counted_from 1 mounts) ((1 + length mounts, mount) ∷ []))
+    ap (λ n. each_placed k mounts ++ (k, n, mount.propagation) ∷ [])
+    (let sum : place + 1 ≡ 1 + length mounts = omega (arith, same) in sum)
+    ∙ sym (map-append (λ (one : ℕ × Mount ℕ). (k, one.0, one.1.propagation)) (counted_from 1 mounts)
+    ((1 + length mounts, mount) ∷ []))
     ∙ ap (map (λ (one : ℕ × Mount ℕ). (k, one.0, one.1.propagation))) (sym (counted_more 1 mounts mount))
     ∙ ap (each_placed k) next)
 
 -- what types tell so far
 pub next_kind : (f : ℕ × ℕ × Propagation ℕ → List ℕ) (i : ℕ) (d : Placed) (placed : List Placed) → i < length placed
-    → flat_map f (all_seen (take i placed)) ++ f (placed_seen (get_or placed i d)) ≡ flat_map f (all_seen (take (i + 1) placed))
+    → flat_map f (all_seen (take i placed))
+    ++ f (placed_seen (get_or placed i d)) ≡ flat_map f (all_seen (take (i + 1) placed))
 next_kind f i d placed within =
     sym (flat_last f (all_seen (take i placed)) (placed_seen (get_or placed i d)))
-    ∙ ap (flat_map f) (sym (map-append placed_seen (take i placed) (get_or placed i d ∷ [])) ∙ ap all_seen (sym (taken_more i d placed within)))
+    ∙ ap (flat_map f) (sym (map-append placed_seen (take i placed) (get_or placed i d ∷ []))
+    ∙ ap all_seen (sym (taken_more i d placed within)))
 
 -- namespaces as they are kept
 pub namespaces_kept : (kept : List (NamespaceId × Kept))
-    → map (λ (id : NamespaceId). counted id.count) (keys_of kept) ≡ map (λ (namespace : Namespace ℕ). namespace.number) (map namespace_of (entries_of kept))
+    → map (λ (id : NamespaceId). counted id.count) (keys_of kept)
+    ≡ map (λ (namespace : Namespace ℕ). namespace.number) (map namespace_of (entries_of kept))
 namespaces_kept [] = refl
 namespaces_kept (one ∷ rest) = ap (λ numbers. counted one.0.count ∷ numbers) (namespaces_kept rest)
 
@@ -115,8 +127,11 @@ module _ (world : World ℕ) where
   abbrev pub kinded : ℕ × ℕ × Mount ℕ → ℕ × ℕ × Propagation ℕ
   kinded mount = (mount.0, mount.1, mount.2.propagation)
 
-  one_namespace : (k : ℕ) (namespace : Namespace ℕ) → placed_in world k namespace.number ≡ map kinded (attached_in nat_eq world (k, namespace))
-  one_namespace k namespace = sym (map_twice kinded (λ (mount : ℕ × Mount ℕ). (k, mount.0, mount.1)) (counted_from 1 (mounts_of nat_eq world namespace.number)))
+  one_namespace : (k : ℕ) (namespace : Namespace ℕ)
+      → placed_in world k namespace.number ≡ map kinded (attached_in nat_eq world (k, namespace))
+  one_namespace k namespace = sym
+      (map_twice kinded (λ (mount : ℕ × Mount ℕ). (k, mount.0, mount.1))
+      (counted_from 1 (mounts_of nat_eq world namespace.number)))
 
   pub all_namespaces : (k : ℕ) (namespaces : List (Namespace ℕ))
       → placed_from world k (map (λ (namespace : Namespace ℕ). namespace.number) namespaces)
@@ -124,9 +139,11 @@ module _ (world : World ℕ) where
   all_namespaces k [] = refl
   all_namespaces k (namespace ∷ rest) =
       (λ i. one_namespace k namespace i ++ all_namespaces (k + 1) rest i)
-      ∙ sym (map-append kinded (attached_in nat_eq world (k, namespace)) (flat_map (attached_in nat_eq world) (counted_from (k + 1) rest)))
+      ∙ sym (map-append kinded (attached_in nat_eq world (k, namespace))
+      (flat_map (attached_in nat_eq world) (counted_from (k + 1) rest)))
 
-  groups_so : (mounts : List (ℕ × ℕ × Mount ℕ)) → flat_map (λ (one : ℕ × ℕ × Propagation ℕ). groups_in_type world one.2) (map kinded mounts)
+  groups_so : (mounts : List (ℕ × ℕ × Mount ℕ))
+      → flat_map (λ (one : ℕ × ℕ × Propagation ℕ). groups_in_type world one.2) (map kinded mounts)
       ≡ flat_map (groups_shown world) (map (λ (mount : ℕ × ℕ × Mount ℕ). mount.2) mounts)
   groups_so [] = refl
   groups_so (mount ∷ rest) = ap (λ groups. groups_in_type world mount.2.propagation ++ groups) (groups_so rest)
@@ -135,7 +152,8 @@ module _ (world : World ℕ) where
   first mount = (mount.0, mount.1)
 
   places_so : (test : Mount ℕ → Bool) (place : ℕ × ℕ × Propagation ℕ → Option (ℕ × ℕ))
-      → ((mount : ℕ × ℕ × Mount ℕ) → place (kinded mount) ≡ when (test mount.2) (first mount)) → (mounts : List (ℕ × ℕ × Mount ℕ))
+      → ((mount : ℕ × ℕ × Mount ℕ) → place (kinded mount) ≡ when (test mount.2) (first mount))
+      → (mounts : List (ℕ × ℕ × Mount ℕ))
       → filter_map place (map kinded mounts) ≡ map first (filter (λ mount. test mount.2) mounts)
   places_so test place same [] = refl
   places_so test place same (mount ∷ rest) =
@@ -146,55 +164,68 @@ module _ (world : World ℕ) where
       by true = refl
       by false = refl
 
-  pub lines_so : (placed : List (ℕ × ℕ × Propagation ℕ)) (seen : List ℕ) → placed ≡ map kinded (all_attached nat_eq world)
+  pub lines_so : (placed : List (ℕ × ℕ × Propagation ℕ)) (seen : List ℕ)
+      → placed ≡ map kinded (all_attached nat_eq world)
       → seen ≡ each_once nat_eq (flat_map (λ (one : ℕ × ℕ × Propagation ℕ). groups_in_type world one.2) placed)
       → map (line_from world seen placed) seen ≡ peer_lines nat_eq world
   lines_so placed seen is told =
-      (λ i. map (line_from world (seen_is i) (is i)) (seen_is i)) ∙ ap (λ line. map line groups) (λ i group. each group i)
+      (λ i. map (line_from world (seen_is i) (is i)) (seen_is i))
+      ∙ ap (λ line. map line groups) (λ i group. each group i)
     where
       groups : List ℕ
       groups = groups_seen nat_eq world (map (λ (mount : ℕ × ℕ × Mount ℕ). mount.2) (all_attached nat_eq world))
 
       seen_is : seen ≡ groups_seen nat_eq world (map (λ (mount : ℕ × ℕ × Mount ℕ). mount.2) (all_attached nat_eq world))
       seen_is =
-          told ∙ ap (λ list. each_once nat_eq (flat_map (λ (one : ℕ × ℕ × Propagation ℕ). groups_in_type world one.2) list)) is
+          told ∙ ap (λ list. each_once nat_eq
+          (flat_map (λ (one : ℕ × ℕ × Propagation ℕ). groups_in_type world one.2) list)) is
           ∙ ap (each_once nat_eq) (groups_so (all_attached nat_eq world))
 
-      each : (group : ℕ) → line_from world (groups_seen nat_eq world (map (λ (mount : ℕ × ℕ × Mount ℕ). mount.2) (all_attached nat_eq world)))
+      each : (group : ℕ) → line_from world
+          (groups_seen nat_eq world (map (λ (mount : ℕ × ℕ × Mount ℕ). mount.2) (all_attached nat_eq world)))
           (map kinded (all_attached nat_eq world)) group
-          ≡ peer_line nat_eq world (groups_seen nat_eq world (map (λ (mount : ℕ × ℕ × Mount ℕ). mount.2) (all_attached nat_eq world))) group
+          ≡ peer_line nat_eq world (groups_seen nat_eq world
+          (map (λ (mount : ℕ × ℕ × Mount ℕ). mount.2) (all_attached nat_eq world))) group
       each group = λ i. record {
         group = number_among nat_eq groups group;
         master = option_map (number_among nat_eq groups) (world.master group);
-        peers = places_so (is_member_of nat_eq group) (member_place group) (λ mount. refl) (all_attached nat_eq world) i;
+        peers = places_so (is_member_of nat_eq group) (member_place group) (λ mount. refl)
+            (all_attached nat_eq world) i;
         slaves = places_so (is_slave_of nat_eq group) (slave_place group) (λ mount. refl) (all_attached nat_eq world) i;
       }
 
 -- the mounts of a namespace so far, by their identifiers
-module _ (h : MountId → Option (Mount ℕ)) (i : ℕ) (d : MountId) (ids : List MountId) (within : i < length ids) (k place : ℕ)
+module _ (h : MountId → Option (Mount ℕ)) (i : ℕ) (d : MountId) (ids : List MountId) (within : i < length ids)
+    (k place : ℕ)
     (before so_far : List (ℕ × ℕ × Propagation ℕ)) (low : place ≤ i) (size : place ≡ length (filter_map h (take i ids)))
     (is : so_far ≡ before ++ each_placed k (filter_map h (take i ids))) where
   abbrev Now : ℕ → List (ℕ × ℕ × Propagation ℕ) → Type 0
   Now number list =
-      (number ≤ i + 1) × (number ≡ length (filter_map h (take (i + 1) ids))) × (list ≡ before ++ each_placed k (filter_map h (take (i + 1) ids)))
+      (number ≤ i + 1) × (number ≡ length (filter_map h (take (i + 1) ids)))
+      × (list ≡ before ++ each_placed k (filter_map h (take (i + 1) ids)))
 
-  grown : (o : Option (Mount ℕ)) → h (get_or ids i d) ≡ o → filter_map h (take i ids) ++ cons_option o [] ≡ filter_map h (take (i + 1) ids)
+  grown : (o : Option (Mount ℕ)) → h (get_or ids i d) ≡ o
+      → filter_map h (take i ids) ++ cons_option o [] ≡ filter_map h (take (i + 1) ids)
   grown o found =
       (λ j. filter_map h (take i ids) ++ cons_option (sym found j) []) ∙ sym (picked_next h i d ids within)
       ∙ ap (λ n. filter_map h (take n ids)) (let same : suc i ≡ i + 1 = omega arith in same)
 
-  pub mounts_next : (mount : Mount ℕ) → h (get_or ids i d) ≡ Some mount → Now (place + 1) (so_far ++ (k, place + 1, mount.propagation) ∷ [])
+  pub mounts_next : (mount : Mount ℕ) → h (get_or ids i d) ≡ Some mount
+      → Now (place + 1) (so_far ++ (k, place + 1, mount.propagation) ∷ [])
   mounts_next mount found =
       let more = length-append (filter_map h (take i ids)) (mount ∷ []) in
-      let all : length (filter_map h (take i ids) ++ mount ∷ []) ≡ length (filter_map h (take (i + 1) ids)) = ap length (grown (Some mount) found) in (
+      let all : length (filter_map h (take i ids) ++ mount ∷ [])
+      ≡ length (filter_map h (take (i + 1) ids)) = ap length (grown (Some mount) found) in (
         omega (arith, low),
         omega (arith, size, more, all),
-        next_mount k place (filter_map h (take i ids)) (filter_map h (take (i + 1) ids)) mount before so_far size is (grown (Some mount) found),
+        next_mount k place (filter_map h (take i ids)) (filter_map h (take (i + 1) ids)) mount before so_far size is
+            (grown (Some mount) found),
       )
 
   pub mounts_same : h (get_or ids i d) ≡ None → Now place so_far
   mounts_same none =
-      let same : filter_map h (take i ids) ≡ filter_map h (take (i + 1) ids) = sym (append-nil (filter_map h (take i ids))) ∙ grown None none in (
+      let same : filter_map h (take i ids)
+      ≡ filter_map h (take (i + 1) ids) = sym (append-nil (filter_map h (take i ids))) ∙ grown None none in (
         omega (arith, low),
         size ∙ ap length same,
         is ∙ ap (λ list. before ++ each_placed k list) same,

@@ -11,7 +11,8 @@ use Rattle.vt_detach.specs.WorldValue.{WorldValue, world_of}
 
 pub looking_changes_nothing : (value : WorldValue) → IsHeld value → LookingChangesNothing value
 looking_changes_nothing value held name permit looks permits task called =
-    subst (λ world. SameWorlds world (world_of value)) (sym (by permit looks)) (sameness_is_an_equivalence.itself (world_of value))
+    subst (λ world. SameWorlds world (world_of value)) (sym (by permit looks))
+    (sameness_is_an_equivalence.itself (world_of value))
   where
     by : (permit : Permit ℕ) → looks_alone permit ≡ true → left_by value task permit ≡ world_of value
     by Allowed e = held.in_world.nothing_unused

@@ -33,20 +33,25 @@ use Rattle.vt_detach.proofs.LookLemmas.{any_point, missing_root, seen_filesystem
 
 -- the mount that is found, or what stands for one that is not there
 module _ (value : WorldValue) (number : ℕ) (got : Option Mount)
-    (is_found : option_map mount_of got ≡ find (λ (mount : meant.Mount ℕ). nat_eq number mount.number) (mounts_in value.mounts)) where
+    (is_found : option_map mount_of got
+    ≡ find (λ (mount : meant.Mount ℕ). nat_eq number mount.number) (mounts_in value.mounts)) where
   pub mount_found : (mount : Mount) → got ≡ Some mount → mount_numbered nat_eq (world_of value) number ≡ mount_of mount
   mount_found mount is = ap (λ o. unwrap_or o (no_mount number)) (sym is_found ∙ ap (option_map mount_of) is)
 
   pub mount_missing : got ≡ None → mount_numbered nat_eq (world_of value) number ≡ no_mount number
   mount_missing is = ap (λ o. unwrap_or o (no_mount number)) (sym is_found ∙ ap (option_map mount_of) is)
 
-module _ (kept value : WorldValue) (is : kept ≡ value) (held : IsHeld kept) (at : Location) (small : at.node.slot < 18446744073709551616) where
+module _ (kept value : WorldValue) (is : kept ≡ value) (held : IsHeld kept) (at : Location)
+    (small : at.node.slot < 18446744073709551616) where
   pub node_is : is_seen value at ≡ true
-      → (files_at kept.filesystems at.node.filesystem.count).tree.node (number_of at.node) ≡ node_at nat_eq (world_of value) (location_of at)
+      → (files_at kept.filesystems at.node.filesystem.count).tree.node (number_of at.node)
+      ≡ node_at nat_eq (world_of value) (location_of at)
   node_is =
       subst (λ (v : WorldValue). is_seen v at ≡ true
-      → (files_at kept.filesystems at.node.filesystem.count).tree.node (number_of at.node) ≡ node_at nat_eq (world_of v) (location_of at)) is
-      (λ seen. ap (λ (filesystem : Filesystem ℕ). filesystem.files.tree.node (number_of at.node)) (sym (seen_filesystem kept held at small seen)))
+      → (files_at kept.filesystems at.node.filesystem.count).tree.node (number_of at.node)
+      ≡ node_at nat_eq (world_of v) (location_of at)) is
+      (λ seen. ap (λ (filesystem : Filesystem ℕ). filesystem.files.tree.node (number_of at.node))
+      (sym (seen_filesystem kept held at small seen)))
 
   pub no_node : is_seen value at ≡ false → node_at nat_eq (world_of value) (location_of at) ≡ None
   no_node =
@@ -54,11 +59,14 @@ module _ (kept value : WorldValue) (is : kept ≡ value) (held : IsHeld kept) (a
       (unseen_node kept held at small)
 
   pub removed_is : is_seen value at ≡ true
-      → is_removed nat_eq (files_at kept.filesystems at.node.filesystem.count).tree (number_of at.node) ≡ is_removed_at nat_eq (world_of value) (location_of at)
+      → is_removed nat_eq (files_at kept.filesystems at.node.filesystem.count).tree (number_of at.node)
+      ≡ is_removed_at nat_eq (world_of value) (location_of at)
   removed_is =
       subst (λ (v : WorldValue). is_seen v at ≡ true
-      → is_removed nat_eq (files_at kept.filesystems at.node.filesystem.count).tree (number_of at.node) ≡ is_removed_at nat_eq (world_of v) (location_of at)) is
-      (λ seen. ap (λ (filesystem : Filesystem ℕ). is_removed nat_eq filesystem.files.tree (number_of at.node)) (sym (seen_filesystem kept held at small seen)))
+      → is_removed nat_eq (files_at kept.filesystems at.node.filesystem.count).tree (number_of at.node)
+      ≡ is_removed_at nat_eq (world_of v) (location_of at)) is
+      (λ seen. ap (λ (filesystem : Filesystem ℕ). is_removed nat_eq filesystem.files.tree (number_of at.node))
+      (sym (seen_filesystem kept held at small seen)))
 
   pub removed_unseen : is_seen value at ≡ false → is_removed_at nat_eq (world_of value) (location_of at) ≡ true
   removed_unseen =
@@ -66,24 +74,32 @@ module _ (kept value : WorldValue) (is : kept ≡ value) (held : IsHeld kept) (a
       (unseen_removed kept held at small)
 
   pub under_is : (directory : NodeRef) → is_seen value at ≡ true
-      → is_directory_under nat_eq (files_at kept.filesystems at.node.filesystem.count) (number_of at.node) (number_of directory)
-      ≡ is_directory_under nat_eq (filesystem_at nat_eq (world_of value) (location_of at)).files (number_of at.node) (number_of directory)
+      → is_directory_under nat_eq (files_at kept.filesystems at.node.filesystem.count) (number_of at.node)
+      (number_of directory)
+      ≡ is_directory_under nat_eq (filesystem_at nat_eq (world_of value) (location_of at)).files (number_of at.node)
+      (number_of directory)
   under_is directory =
       subst (λ (v : WorldValue). is_seen v at ≡ true
-      → is_directory_under nat_eq (files_at kept.filesystems at.node.filesystem.count) (number_of at.node) (number_of directory)
-      ≡ is_directory_under nat_eq (filesystem_at nat_eq (world_of v) (location_of at)).files (number_of at.node) (number_of directory)) is
-      (λ seen. ap (λ (filesystem : Filesystem ℕ). is_directory_under nat_eq filesystem.files (number_of at.node) (number_of directory))
+      → is_directory_under nat_eq (files_at kept.filesystems at.node.filesystem.count) (number_of at.node)
+      (number_of directory)
+      ≡ is_directory_under nat_eq (filesystem_at nat_eq (world_of v) (location_of at)).files (number_of at.node)
+      (number_of directory)) is
+      (λ seen. ap (λ (filesystem : Filesystem ℕ). is_directory_under nat_eq filesystem.files (number_of at.node)
+      (number_of directory))
       (sym (seen_filesystem kept held at small seen)))
 
   pub under_apart : (directory : NodeRef) → directory.slot < 18446744073709551616
       → (is_seen value at && nat_eq directory.filesystem.count at.node.filesystem.count) ≡ false
       → (nat_eq at.node.filesystem.count directory.filesystem.count && nat_eq at.node.slot directory.slot)
-      ≡ is_directory_under nat_eq (filesystem_at nat_eq (world_of value) (location_of at)).files (number_of at.node) (number_of directory)
+      ≡ is_directory_under nat_eq (filesystem_at nat_eq (world_of value) (location_of at)).files (number_of at.node)
+      (number_of directory)
   under_apart directory directory_small =
       subst (λ (v : WorldValue). (is_seen v at && nat_eq directory.filesystem.count at.node.filesystem.count) ≡ false
       → (nat_eq at.node.filesystem.count directory.filesystem.count && nat_eq at.node.slot directory.slot)
-      ≡ is_directory_under nat_eq (filesystem_at nat_eq (world_of v) (location_of at)).files (number_of at.node) (number_of directory)) is
-      (λ apart. sym (under_another kept held at small directory directory_small apart ∙ nodes_test at.node directory small directory_small))
+      ≡ is_directory_under nat_eq (filesystem_at nat_eq (world_of v) (location_of at)).files (number_of at.node)
+      (number_of directory)) is
+      (λ apart. sym (under_another kept held at small directory directory_small apart
+      ∙ nodes_test at.node directory small directory_small))
 
   pub points_seen : (test : meant.Mount ℕ → Bool) → is_seen value at ≡ true
       → list_any (λ mount. stands_over (number_of at.node) mount && test mount) (mounts_in kept.mounts)
@@ -93,70 +109,89 @@ module _ (kept value : WorldValue) (is : kept ≡ value) (held : IsHeld kept) (a
       → list_any (λ mount. stands_over (number_of at.node) mount && test mount) (mounts_in kept.mounts)
       ≡ list_any test (mounts_on nat_eq (world_of v) (location_of at))) is
       (λ seen. sym (any_point kept held at small test
-      ∙ ap (λ b. b && list_any (λ mount. stands_over (number_of at.node) mount && test mount) (mounts_in kept.mounts)) seen))
+      ∙ ap (λ b. b && list_any (λ mount. stands_over (number_of at.node) mount && test mount)
+      (mounts_in kept.mounts)) seen))
 
   pub no_points : (test : meant.Mount ℕ → Bool) → is_seen value at ≡ false
       → list_any test (mounts_on nat_eq (world_of value) (location_of at)) ≡ false
   no_points test =
-      subst (λ (v : WorldValue). is_seen v at ≡ false → list_any test (mounts_on nat_eq (world_of v) (location_of at)) ≡ false) is
+      subst (λ (v : WorldValue). is_seen v at ≡ false
+      → list_any test (mounts_on nat_eq (world_of v) (location_of at)) ≡ false) is
       (λ unseen. any_point kept held at small test
-      ∙ ap (λ b. b && list_any (λ mount. stands_over (number_of at.node) mount && test mount) (mounts_in kept.mounts)) unseen)
+      ∙ ap (λ b. b && list_any (λ mount. stands_over (number_of at.node) mount && test mount)
+      (mounts_in kept.mounts)) unseen)
 
   -- under the root of the mount, as it is found
   module _ (got : Option Mount)
-      (is_found : option_map mount_of got ≡ find (λ (mount : meant.Mount ℕ). nat_eq (counted at.mount.count) mount.number) (mounts_in kept.mounts)) where
+      (is_found : option_map mount_of got
+      ≡ find (λ (mount : meant.Mount ℕ). nat_eq (counted at.mount.count) mount.number) (mounts_in kept.mounts)) where
     abbrev UnderRoot : Bool → WorldValue → Type 0
     UnderRoot answer v =
         answer ≡ is_directory_under nat_eq (filesystem_at nat_eq (world_of v) (location_of at)).files
         (mount_at nat_eq (world_of v) (location_of at)).root (number_of at.node)
 
     pub under_root : (mount : Mount) → got ≡ Some mount
-        → UnderRoot (is_directory_under nat_eq (files_at kept.filesystems mount.root.filesystem.count) (number_of mount.root) (number_of at.node)) value
+        → UnderRoot (is_directory_under nat_eq (files_at kept.filesystems mount.root.filesystem.count)
+        (number_of mount.root) (number_of at.node)) value
     under_root mount some =
-        subst (UnderRoot (is_directory_under nat_eq (files_at kept.filesystems mount.root.filesystem.count) (number_of mount.root) (number_of at.node))) is
-        (sym (ap (λ (m : meant.Mount ℕ). is_directory_under nat_eq (filesystem_numbered nat_eq (world_of kept) m.filesystem).files m.root (number_of at.node))
+        subst (UnderRoot (is_directory_under nat_eq (files_at kept.filesystems mount.root.filesystem.count)
+        (number_of mount.root) (number_of at.node))) is
+        (sym (ap (λ (m : meant.Mount ℕ). is_directory_under nat_eq
+        (filesystem_numbered nat_eq (world_of kept) m.filesystem).files m.root (number_of at.node))
         (mount_found kept (counted at.mount.count) got is_found mount some)
-        ∙ ap (λ (filesystem : Filesystem ℕ). is_directory_under nat_eq filesystem.files (number_of mount.root) (number_of at.node))
+        ∙ ap (λ (filesystem : Filesystem ℕ). is_directory_under nat_eq filesystem.files (number_of mount.root)
+        (number_of at.node))
         (found_by_number kept.filesystems mount.root.filesystem.count)))
 
-    pub under_root_apart : (mount : Mount) → got ≡ Some mount → nat_eq mount.root.filesystem.count at.node.filesystem.count ≡ false → UnderRoot false value
+    pub under_root_apart : (mount : Mount) → got ≡ Some mount
+        → nat_eq mount.root.filesystem.count at.node.filesystem.count ≡ false → UnderRoot false value
     under_root_apart mount some other =
         subst (UnderRoot false) is
         (sym (unseen_root kept held at small
-        (ap (λ (m : meant.Mount ℕ). nat_eq m.filesystem (counted at.node.filesystem.count)) (mount_found kept (counted at.mount.count) got is_found mount some)
+        (ap (λ (m : meant.Mount ℕ). nat_eq m.filesystem (counted at.node.filesystem.count))
+        (mount_found kept (counted at.mount.count) got is_found mount some)
         ∙ counted_test mount.root.filesystem.count at.node.filesystem.count ∙ other)))
 
     pub under_root_missing : got ≡ None → UnderRoot false value
     under_root_missing none =
-        subst (UnderRoot false) is (sym (missing_root kept held at small (mount_missing kept (counted at.mount.count) got is_found none)))
+        subst (UnderRoot false) is (sym
+        (missing_root kept held at small (mount_missing kept (counted at.mount.count) got is_found none)))
 
 -- no mount is over a location on a mount that none stands on
-not_on : (at : meant.Location ℕ) (place : Option (meant.Location ℕ)) → holds_of (λ (place : meant.Location ℕ). nat_eq at.mount place.mount) place ≡ false
+not_on : (at : meant.Location ℕ) (place : Option (meant.Location ℕ))
+    → holds_of (λ (place : meant.Location ℕ). nat_eq at.mount place.mount) place ≡ false
     → holds_of (same_location nat_eq at) place ≡ false
 not_on at None none = refl
 not_on at (Some place) none = ap (λ b. b && nat_eq at.node place.node) none
 
-none_at : (at : meant.Location ℕ) (mounts : List (meant.Mount ℕ)) → list_any (stands_on nat_eq at.mount) mounts ≡ false → child_at nat_eq mounts at ≡ None
+none_at : (at : meant.Location ℕ) (mounts : List (meant.Mount ℕ)) → list_any (stands_on nat_eq at.mount) mounts ≡ false
+    → child_at nat_eq mounts at ≡ None
 none_at at [] none = refl
 none_at at (mount ∷ mounts) none =
-    ap (λ b. cond b (Some mount) (child_at nat_eq mounts at)) (not_on at mount.mount_point (or_first _ _ none)) ∙ none_at at mounts (or_second _ _ none)
+    ap (λ b. cond b (Some mount) (child_at nat_eq mounts at)) (not_on at mount.mount_point (or_first _ _ none))
+    ∙ none_at at mounts (or_second _ _ none)
 
-last_of_chain : (n : ℕ) (next : meant.Location ℕ → Option (meant.Location ℕ)) (at : meant.Location ℕ) → next at ≡ None → last_or at (chain n next at) ≡ at
+last_of_chain : (n : ℕ) (next : meant.Location ℕ → Option (meant.Location ℕ)) (at : meant.Location ℕ) → next at ≡ None
+    → last_or at (chain n next at) ≡ at
 last_of_chain zero next at none = refl
-last_of_chain (suc n) next at none = ap (λ o. last_or at (elim o [ None ↦ at ∷ [] | Some b ↦ at ∷ chain n next b ])) none
+last_of_chain (suc n) next at none = ap
+    (λ o. last_or at (elim o [ None ↦ at ∷ [] | Some b ↦ at ∷ chain n next b ])) none
 
 pub bare_top : (value : WorldValue) (mount : ℕ) → list_any (stands_on nat_eq mount) (mounts_in value.mounts) ≡ false
     → (at : meant.Location ℕ) → at.mount ≡ mount → topmost (looks_of_value value) at ≡ at
 bare_top value mount none at on =
-    last_of_chain (length (mounts_in value.mounts)) (λ here. option_map root_of (child_at nat_eq (mounts_in value.mounts) here)) at
-    (ap (option_map root_of) (none_at at (mounts_in value.mounts) (ap (λ n. list_any (stands_on nat_eq n) (mounts_in value.mounts)) on ∙ none)))
+    last_of_chain (length (mounts_in value.mounts))
+    (λ here. option_map root_of (child_at nat_eq (mounts_in value.mounts) here)) at
+    (ap (option_map root_of) (none_at at (mounts_in value.mounts)
+    (ap (λ n. list_any (stands_on nat_eq n) (mounts_in value.mounts)) on ∙ none)))
 
 pub no_child : (b : Bool) → not b ≡ true → b ≡ false
 no_child false is = refl
 no_child true is = sym is
 
 -- an inode that is in the filesystem of the ground is seen
-pub seen_on : (value : WorldValue) (at : Location) (ground : Ground) (b : Bool) → IsGround (looks_of_value value) at.mount ground
+pub seen_on : (value : WorldValue) (at : Location) (ground : Ground) (b : Bool)
+    → IsGround (looks_of_value value) at.mount ground
     → nat_eq ground.filesystem.count at.node.filesystem.count ≡ b → is_seen value at ≡ b
 seen_on value at ground b is same =
     ap (λ n. nat_eq n (counted at.node.filesystem.count)) (sym is.filesystem)
@@ -171,11 +206,16 @@ pub has_no_overlays : (value : WorldValue) → HasNoOverlays (looks_of_value val
 has_no_overlays value =
     record {
       overlay = λ location. plain location;
-      mounter = λ location change. ap (overlay_or [] (overlay_rules nat_eq (filesystem_at nat_eq (world_of value) location) change)) (plain location);
+      mounter = λ location change. ap
+          (overlay_or [] (overlay_rules nat_eq (filesystem_at nat_eq (world_of value) location) change))
+          (plain location);
       lower = λ location name. ap (overlay_or false (λ overlay. has_lower_directory
-          (map (open_layer nat_eq (world_of value)) (option_to_list overlay.upper)) (map (open_layer nat_eq (world_of value)) overlay.lowers)
+          (map (open_layer nat_eq (world_of value)) (option_to_list overlay.upper))
+          (map (open_layer nat_eq (world_of value)) overlay.lowers)
           (path_of_name nat_eq (world_of value) location name))) (plain location);
-      unlocked = λ location. ap (λ all. list_any (lies_or_counts_under nat_eq (world_of value) (mount_at nat_eq (world_of value) location).filesystem location.node)
+      unlocked = λ location. ap (λ all.
+          list_any (lies_or_counts_under nat_eq (world_of value)
+          (mount_at nat_eq (world_of value) location).filesystem location.node)
           (flat_map (of_overlay [] layers_of) all)) (no_overlays value.filesystems);
     }
   where

@@ -17,9 +17,11 @@ use Rattle.vt_ns.specs.LyingUnder.{lies_under}
 
 module _ (value : WorldValue) (top directory : NodeRef) where
   pub lies_so : lies_under value (counted top.filesystem.count) (number_of top) (number_of directory)
-      ≡ is_directory_under nat_eq (files_at value.filesystems top.filesystem.count) (number_of top) (number_of directory)
+      ≡ is_directory_under nat_eq (files_at value.filesystems top.filesystem.count) (number_of top)
+      (number_of directory)
   lies_so =
-      ap (λ (filesystem : Filesystem ℕ). is_directory_under nat_eq filesystem.files (number_of top) (number_of directory))
+      ap (λ (filesystem : Filesystem ℕ). is_directory_under nat_eq filesystem.files (number_of top)
+      (number_of directory))
       (found_by_number value.filesystems top.filesystem.count)
 
   -- what is in another filesystem does not
@@ -28,8 +30,10 @@ module _ (value : WorldValue) (top directory : NodeRef) where
       → lies_under value (counted top.filesystem.count) (number_of top) (number_of directory) ≡ false
   lies_apart held small directory_small other =
       let apart = turned top.filesystem.count directory.filesystem.count ∙ other in
-      nowhere_under (filesystem_numbered nat_eq (world_of value) (counted top.filesystem.count)).files (number_of top) (number_of directory)
-      (in_no_other value.filesystems held.own_inodes (counted top.filesystem.count) directory.filesystem.count directory.slot directory_small
+      nowhere_under (filesystem_numbered nat_eq (world_of value) (counted top.filesystem.count)).files (number_of top)
+      (number_of directory)
+      (in_no_other value.filesystems held.own_inodes
+      (counted top.filesystem.count) directory.filesystem.count directory.slot directory_small
       (counted_test top.filesystem.count directory.filesystem.count ∙ apart))
       ∙ nodes_test top directory small directory_small
       ∙ ap (λ b. b && nat_eq top.slot directory.slot) apart

@@ -22,7 +22,8 @@ use Rattle.vt_attach.proofs.CopyLemmas.{picked_next, place_of, places_alike}
 
 -- Each once, with one more
 
-any_other : (a x : ℕ) (ks : List ℕ) → nat_eq x a ≡ false → list_any (nat_eq x) (filter (λ b. not (nat_eq a b)) ks) ≡ list_any (nat_eq x) ks
+any_other : (a x : ℕ) (ks : List ℕ) → nat_eq x a ≡ false
+    → list_any (nat_eq x) (filter (λ b. not (nat_eq a b)) ks) ≡ list_any (nat_eq x) ks
 any_other a x [] apart = refl
 any_other a x (k ∷ ks) apart = by (nat_eq a k) refl (any_other a x ks apart)
   where
@@ -33,7 +34,8 @@ any_other a x (k ∷ ks) apart = by (nat_eq a k) refl (any_other a x ks apart)
     by false e rest = ap (λ t. nat_eq x k || t) rest
 
 inserted_after : (a x : ℕ) (ks : List ℕ)
-    → a ∷ filter (λ b. not (nat_eq a b)) (insert_key nat_eq ks x) ≡ insert_key nat_eq (a ∷ filter (λ b. not (nat_eq a b)) ks) x
+    → a ∷ filter (λ b. not (nat_eq a b)) (insert_key nat_eq ks x)
+    ≡ insert_key nat_eq (a ∷ filter (λ b. not (nat_eq a b)) ks) x
 inserted_after a x ks = by (nat_eq x a) refl (list_any (nat_eq x) ks) refl
   where
     kept : List ℕ
@@ -63,17 +65,20 @@ once_more x (a ∷ xs) =
 
 -- Keys by their numbers
 
-module _ {A : Type 0} (number : A → ℕ) (same : A → A → Bool) (tested : (a b : A) → nat_eq (number a) (number b) ≡ same a b) where
+module _ {A : Type 0} (number : A → ℕ) (same : A → A → Bool)
+    (tested : (a b : A) → nat_eq (number a) (number b) ≡ same a b) where
   any_numbered : (k : A) (ids : List A) → list_any (nat_eq (number k)) (map number ids) ≡ list_any (same k) ids
   any_numbered k [] = refl
   any_numbered k (id ∷ ids) = λ i. tested k id i || any_numbered k ids i
 
-  inserted_numbers : (k : A) (ids : List A) → map number (insert_key same ids k) ≡ insert_key nat_eq (map number ids) (number k)
+  inserted_numbers : (k : A) (ids : List A)
+      → map number (insert_key same ids k) ≡ insert_key nat_eq (map number ids) (number k)
   inserted_numbers k ids =
       by (list_any (same k) ids)
       ∙ ap (λ t. cond t (map number ids) (map number ids ++ (number k ∷ []))) (sym (any_numbered k ids))
     where
-      by : (t : Bool) → map number (cond t ids (ids ++ (k ∷ []))) ≡ cond t (map number ids) (map number ids ++ (number k ∷ []))
+      by : (t : Bool) → map number (cond t ids (ids ++ (k ∷ [])))
+          ≡ cond t (map number ids) (map number ids ++ (number k ∷ []))
       by true = refl
       by false = map-append number ids (k ∷ [])
 
@@ -111,13 +116,15 @@ module _ (h : MountId → Option ℕ) (i : ℕ) (d : MountId) (ids : List MountI
 
 -- Groups: one more, several one after the other, and none
 
-pub one_more : (seen : List GroupId) (group : GroupId) → SeesMore seen (insert_key group_eq seen group) (counted group.count ∷ [])
+pub one_more : (seen : List GroupId) (group : GroupId)
+    → SeesMore seen (insert_key group_eq seen group) (counted group.count ∷ [])
 one_more seen group before is =
     inserted_numbers (λ (id : GroupId). counted id.count) group_eq groups_tested group seen
     ∙ ap (λ ks. insert_key nat_eq ks (counted group.count)) is
     ∙ sym (once_more (counted group.count) before)
 
-pub more_after : (old between new : List GroupId) (more others : List ℕ) → SeesMore old between more → SeesMore between new others
+pub more_after : (old between new : List GroupId) (more others : List ℕ) → SeesMore old between more
+    → SeesMore between new others
     → SeesMore old new (more ++ others)
 more_after old between new more others first then before is =
     then (before ++ more) (first before is) ∙ ap (each_once nat_eq) (append_assoc before more others)
@@ -127,9 +134,11 @@ none_more seen before is = is ∙ ap (each_once nat_eq) (sym (append-nil before)
 
 -- the groups of mounts so far, with those of the next one
 module _ (h : MountId → Option (List ℕ)) (i : ℕ) (d : MountId) (ids : List MountId) (within : i < length ids)
-    (seen : List GroupId) (so_far : group_numbers seen ≡ each_once nat_eq (flat_map (λ more. more) (filter_map h (take i ids)))) where
+    (seen : List GroupId) (so_far : group_numbers seen
+    ≡ each_once nat_eq (flat_map (λ more. more) (filter_map h (take i ids)))) where
   taken_next : (o : Option (List ℕ)) → h (get_or ids i d) ≡ o
-      → flat_map (λ more. more) (filter_map h (take i ids)) ++ unwrap_or o [] ≡ flat_map (λ more. more) (filter_map h (take (i + 1) ids))
+      → flat_map (λ more. more) (filter_map h (take i ids))
+      ++ unwrap_or o [] ≡ flat_map (λ more. more) (filter_map h (take (i + 1) ids))
   taken_next o is =
       by o
       ∙ sym (flat_map-append (λ more. more) (filter_map h (take i ids)) (cons_option o []))
@@ -146,7 +155,8 @@ module _ (h : MountId → Option (List ℕ)) (i : ℕ) (d : MountId) (ids : List
       → group_numbers later ≡ each_once nat_eq (flat_map (λ more. more) (filter_map h (take (i + 1) ids)))
   next_groups more later is sees = sees _ so_far ∙ ap (each_once nat_eq) (taken_next (Some more) is)
 
-  pub no_groups : h (get_or ids i d) ≡ None → group_numbers seen ≡ each_once nat_eq (flat_map (λ more. more) (filter_map h (take (i + 1) ids)))
+  pub no_groups : h (get_or ids i d) ≡ None
+      → group_numbers seen ≡ each_once nat_eq (flat_map (λ more. more) (filter_map h (take (i + 1) ids)))
   no_groups is = so_far ∙ ap (each_once nat_eq) (sym (append-nil _) ∙ taken_next None is)
 
 -- Places, from 1 on
@@ -157,10 +167,13 @@ next_to a b m n up over = by (nat_lt m n) refl (nat_lt a b) refl
     by : (s : Bool) → nat_lt m n ≡ s → (t : Bool) → nat_lt a b ≡ t → s ≡ t
     by true e true f = refl
     by false e false f = refl
-    by true e false f = let less = ltb-true m n e in let more = ltb-false a b f in absurd (omega (arith, less, more, up, over))
-    by false e true f = let more = ltb-false m n e in let less = ltb-true a b f in absurd (omega (arith, less, more, up, over))
+    by true e false f = let less = ltb-true m n e in let more = ltb-false a b f in absurd
+        (omega (arith, less, more, up, over))
+    by false e true f = let more = ltb-false m n e in let less = ltb-true a b f in absurd
+        (omega (arith, less, more, up, over))
 
-place_by_position : {A : Type 0} (test : A → Bool) (k : ℕ) (xs : List A) → place_from test k xs ≡ option_map (λ i. k + i) (position test xs)
+place_by_position : {A : Type 0} (test : A → Bool) (k : ℕ) (xs : List A)
+    → place_from test k xs ≡ option_map (λ i. k + i) (position test xs)
 place_by_position test k [] = refl
 place_by_position {A} test k (x ∷ xs) = by (test x) (place_by_position test (k + 1) xs)
   where
@@ -170,7 +183,8 @@ place_by_position {A} test k (x ∷ xs) = by (test x) (place_by_position test (k
     place : Bool → ℕ
     place b = cond (not b) (1 + position_or_len test xs) 0
 
-    later : (b : Bool) → option_map (λ i. k + 1 + i) (cond b (Some first) None) ≡ option_map (λ i. k + i) (cond b (Some (1 + first)) None)
+    later : (b : Bool) → option_map (λ i. k + 1 + i) (cond b (Some first) None)
+        ≡ option_map (λ i. k + i) (cond b (Some (1 + first)) None)
     later true = ap Some (let same : k + 1 + first ≡ k + (1 + first) = omega arith in same)
     later false = refl
 
@@ -185,30 +199,36 @@ place_by_position {A} test k (x ∷ xs) = by (test x) (place_by_position test (k
         ∙ ap (λ b. option_map (λ i. k + i) (cond b (Some (1 + first)) None))
         (sym (next_to first (length xs) (1 + first) (length (x ∷ xs)) refl (omega arith)))
 
-module _ {A : Type 0} (number : A → ℕ) (same : A → A → Bool) (tested : (a b : A) → nat_eq (number a) (number b) ≡ same a b) where
-  place_by_number : (id : A) (k : ℕ) (ids : List A) → place_from (nat_eq (number id)) k (map number ids) ≡ place_from (same id) k ids
+module _ {A : Type 0} (number : A → ℕ) (same : A → A → Bool)
+    (tested : (a b : A) → nat_eq (number a) (number b) ≡ same a b) where
+  place_by_number : (id : A) (k : ℕ) (ids : List A)
+      → place_from (nat_eq (number id)) k (map number ids) ≡ place_from (same id) k ids
   place_by_number id k [] = refl
   place_by_number id k (x ∷ ids) = λ i. cond (tested id x i) (Some k) (place_by_number id (k + 1) ids i)
 
   index_by_number : (id : A) (ids : List A) (o : Option ℕ) → position (same id) ids ≡ o
       → number_among nat_eq (map number ids) (number id) ≡ unwrap_or (option_map (λ i. 1 + i) o) 0
   index_by_number id ids o is =
-      ap (λ place. unwrap_or place 0) (place_by_number id 1 ids ∙ place_by_position (same id) 1 ids ∙ ap (option_map (λ i. 1 + i)) is)
+      ap (λ place. unwrap_or place 0)
+      (place_by_number id 1 ids ∙ place_by_position (same id) 1 ids ∙ ap (option_map (λ i. 1 + i)) is)
 
 pub numbered_index : (id : FilesystemId) (ids : List FilesystemId) (o : Option ℕ) → position (key_eq id) ids ≡ o
     → number_among nat_eq (numbers_of ids) (counted id.count) ≡ unwrap_or (option_map (λ i. 1 + i) o) 0
-numbered_index id ids o is = index_by_number (λ (one : FilesystemId). counted one.count) key_eq filesystems_tested id ids o is
+numbered_index id ids o is = index_by_number
+    (λ (one : FilesystemId). counted one.count) key_eq filesystems_tested id ids o is
 
 pub grouped_index : (id : GroupId) (ids : List GroupId) (o : Option ℕ) → position (group_eq id) ids ≡ o
     → number_among nat_eq (group_numbers ids) (counted id.count) ≡ unwrap_or (option_map (λ i. 1 + i) o) 0
 grouped_index id ids o is = index_by_number (λ (one : GroupId). counted one.count) group_eq groups_tested id ids o is
 
 mapped_places : (n k : ℕ) (all : List (Mount ℕ))
-    → place_from (λ (mount : Mount ℕ). nat_eq n mount.number) k all ≡ place_from (nat_eq n) k (map (λ (mount : Mount ℕ). mount.number) all)
+    → place_from (λ (mount : Mount ℕ). nat_eq n mount.number) k all
+    ≡ place_from (nat_eq n) k (map (λ (mount : Mount ℕ). mount.number) all)
 mapped_places n k [] = refl
 mapped_places n k (mount ∷ all) = λ i. cond (nat_eq n mount.number) (Some k) (mapped_places n (k + 1) all i)
 
 pub numbered_mount : (id : MountId) (ids : List MountId) (all : List (Mount ℕ)) → AreOf ids all
-    → unwrap_or (place_of id.count 1 ids) 0 ≡ number_among nat_eq (map (λ (mount : Mount ℕ). mount.number) all) (counted id.count)
+    → unwrap_or (place_of id.count 1 ids) 0
+    ≡ number_among nat_eq (map (λ (mount : Mount ℕ). mount.number) all) (counted id.count)
 numbered_mount id ids all are =
     ap (λ place. unwrap_or place 0) (places_alike id.count 1 ids all are ∙ mapped_places (counted id.count) 1 all)

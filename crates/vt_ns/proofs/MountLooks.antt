@@ -1,5 +1,5 @@
 -- What the rules of mount calls look at, by what is counted beside the mounts.
-use Rattle.std.proofs.Common.{◌≡◌, refl, sym, ap, ◌∙◌, ⊎_elim, inr, ℕ, zero, suc, ◌+◌, nat_eq, nat_lt, eqb-true, Bool, true, false, cond, ◌||◌, ◌&&◌, List, [], ◌∷◌, map, Option, Some, None, option_map, unwrap_or, arith}
+use Rattle.std.proofs.Common.{◌≡◌, refl, sym, ap, ◌∙◌, inr, ℕ, zero, suc, ◌+◌, nat_eq, nat_lt, eqb-true, Bool, true, false, cond, ◌||◌, ◌&&◌, List, [], ◌∷◌, map, Option, Some, None, option_map, unwrap_or, arith}
 use Rattle.std.specs.List.{list_any}
 use Rattle.std.proofs.lemmas.Bool.{and_parts}
 use Rattle.std.proofs.lemmas.Bool.Decides.{nat_tests}
@@ -9,7 +9,7 @@ use Rattle.vt_spec.specs.Machine.Mounts as meant
 use Rattle.vt_spec.specs.Machine.Settled.{is_located}
 use Rattle.vt_spec.specs.Machine.World.{Descriptor, Task, all_locations, locations_of, mount_at}
 use Rattle.vt_spec.specs.Machine.Invariants.{is_located_well, is_there}
-use Rattle.vt_spec.proofs.Lists.{Among, among-flat_map, among-from_map, among-map, among_from_all, among_from_list_all, none_among, none_from_among}
+use Rattle.vt_spec.proofs.Lists.{Among, among-flat_map, among-map, among_from_all, among_from_list_all, none_among, none_from_among}
 use Rattle.vt_letting_go.specs.Counts.{mount_uses, times}
 use Rattle.vt_letting_go.proofs.UsesCounted.{located_while_counted}
 use Rattle.vt_mount.specs.MountsValue.{MountEntry, entry_numbered, mounts_in, uses_of, writers_of}
@@ -25,11 +25,13 @@ any_counted : {A : Type 0} (test : A → Bool) (list : List A) → list_any test
 any_counted test [] = refl
 any_counted test (a ∷ rest) = by (test a) (any_counted test rest)
   where
-    by : (b : Bool) → list_any test rest ≡ nat_lt 0 (times test rest) → (b || list_any test rest) ≡ nat_lt 0 (cond b 1 0 + times test rest)
+    by : (b : Bool) → list_any test rest ≡ nat_lt 0 (times test rest)
+        → (b || list_any test rest) ≡ nat_lt 0 (cond b 1 0 + times test rest)
     by true e = either_counted 1 (times test rest)
     by false e = e ∙ either_counted 0 (times test rest)
 
-any_written : (mount : ℕ) (tasks : List (Task ℕ)) → list_any (λ task. list_any (writes_on mount) task.descriptors) tasks ≡ nat_lt 0 (writes_of mount tasks)
+any_written : (mount : ℕ) (tasks : List (Task ℕ))
+    → list_any (λ task. list_any (writes_on mount) task.descriptors) tasks ≡ nat_lt 0 (writes_of mount tasks)
 any_written mount [] = refl
 any_written mount (task ∷ rest) =
     (λ i. any_counted (writes_on mount) task.descriptors i || any_written mount rest i)
@@ -42,7 +44,8 @@ entry_missing [] number e = refl
 entry_missing (x ∷ entries) number e = by (nat_eq number x.mount.number) e (entry_missing entries number)
   where
     by : (b : Bool) → cond b (Some x) (entry_numbered entries number) ≡ None
-        → (entry_numbered entries number ≡ None → is_among nat_eq number (map (λ mount. mount.number) (mounts_in entries)) ≡ false)
+        → (entry_numbered entries number ≡ None
+        → is_among nat_eq number (map (λ mount. mount.number) (mounts_in entries)) ≡ false)
         → (b || is_among nat_eq number (map (λ mount. mount.number) (mounts_in entries))) ≡ false
     by true e rest = absurd cc
     by false e rest = rest e
@@ -54,14 +57,18 @@ module _ (value : WorldValue) (held : IsHeld value) (number : ℕ) where
       none_from_among (λ location. nat_eq number location.mount) (all_locations (world_of value))
       (λ location m. by location m (nat_eq number location.mount) refl)
     where
-      by : (location : meant.Location ℕ) → Among location (all_locations (world_of value)) → (b : Bool) → nat_eq number location.mount ≡ b → b ≡ false
+      by : (location : meant.Location ℕ) → Among location (all_locations (world_of value)) → (b : Bool)
+          → nat_eq number location.mount ≡ b → b ≡ false
       by location m false e = refl
       by location m true e =
-          let well = and_parts (is_among nat_eq location.mount (map (λ (mount : meant.Mount ℕ). mount.number) (mounts_in value.mounts)))
+          let well = and_parts (is_among nat_eq location.mount
+          (map (λ (mount : meant.Mount ℕ). mount.number) (mounts_in value.mounts)))
           (is_there nat_eq (world_of value) (mount_at nat_eq (world_of value) location).filesystem location.node)
-          (among_from_list_all (is_located_well nat_eq (world_of value)) (all_locations (world_of value)) held.in_world.tasks.locations_live location m) in
+          (among_from_list_all (is_located_well nat_eq (world_of value))
+          (all_locations (world_of value)) held.in_world.tasks.locations_live location m) in
           sym well.0
-          ∙ ap (λ n. is_among nat_eq n (map (λ (mount : meant.Mount ℕ). mount.number) (mounts_in value.mounts))) (sym (eqb-true number location.mount e))
+          ∙ ap (λ n. is_among nat_eq n (map (λ (mount : meant.Mount ℕ). mount.number) (mounts_in value.mounts)))
+          (sym (eqb-true number location.mount e))
           ∙ entry_missing value.mounts number missing
 
   pub uses_tested : nat_lt 0 (uses_of value.mounts number) ≡ is_located nat_eq (world_of value) number
@@ -69,7 +76,8 @@ module _ (value : WorldValue) (held : IsHeld value) (number : ℕ) where
     where
       by : (o : Option MountEntry) → entry_numbered value.mounts number ≡ o
           → nat_lt 0 (uses_of value.mounts number) ≡ is_located nat_eq (world_of value) number
-      by None e = ap (λ o. nat_lt 0 (unwrap_or (option_map (λ (entry : MountEntry). entry.uses) o) 0)) e ∙ sym (none_located e)
+      by None e = ap (λ o. nat_lt 0 (unwrap_or (option_map (λ (entry : MountEntry). entry.uses) o) 0)) e
+          ∙ sym (none_located e)
       by (Some entry) e =
           let found = entry_found_at value.mounts number entry e in
           let counts = among_from_all (CountsItsUses (world_of value)) value.mounts held.mounts entry found.0 in
@@ -80,12 +88,14 @@ module _ (value : WorldValue) (held : IsHeld value) (number : ℕ) where
   pub written_through : nat_lt 0 (writers_of value.mounts number) ≡ is_written_through nat_eq (world_of value) number
   written_through = by (entry_numbered value.mounts number) refl
     where
-      none_written : entry_numbered value.mounts number ≡ None → is_written_through nat_eq (world_of value) number ≡ false
+      none_written : entry_numbered value.mounts number ≡ None
+          → is_written_through nat_eq (world_of value) number ≡ false
       none_written missing =
           none_from_among (λ task. list_any (writes_on number) task.descriptors) value.tasks (λ task t.
           none_from_among (writes_on number) task.descriptors (λ descriptor d.
           ap (λ b. descriptor.writes && b)
-          (none_among (λ location. nat_eq number location.mount) (all_locations (world_of value)) (none_located missing) descriptor.location
+          (none_among (λ location. nat_eq number location.mount) (all_locations (world_of value))
+          (none_located missing) descriptor.location
           (among-flat_map locations_of value.tasks task descriptor.location t
           (inr (inr (among-map (λ (one : Descriptor ℕ). one.location) task.descriptors descriptor d)))))
           ∙ nothing descriptor.writes))
@@ -96,7 +106,8 @@ module _ (value : WorldValue) (held : IsHeld value) (number : ℕ) where
 
       by : (o : Option MountEntry) → entry_numbered value.mounts number ≡ o
           → nat_lt 0 (writers_of value.mounts number) ≡ is_written_through nat_eq (world_of value) number
-      by None e = ap (λ o. nat_lt 0 (unwrap_or (option_map (λ (entry : MountEntry). entry.writers) o) 0)) e ∙ sym (none_written e)
+      by None e = ap (λ o. nat_lt 0 (unwrap_or (option_map (λ (entry : MountEntry). entry.writers) o) 0)) e
+          ∙ sym (none_written e)
       by (Some entry) e =
           let found = entry_found_at value.mounts number entry e in
           let counts = among_from_all (CountsItsUses (world_of value)) value.mounts held.mounts entry found.0 in

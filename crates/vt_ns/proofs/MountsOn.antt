@@ -27,13 +27,16 @@ use Rattle.vt_detach.proofs.TreesLookedAt.{or_nothing}
 
 -- Trees by the numbers of their mounts
 
-tree_by_numbers : (mounts tops : List (Mount ℕ)) → ((top : Mount ℕ) → Among top tops → mount_in nat_eq mounts top.number ≡ top)
+tree_by_numbers : (mounts tops : List (Mount ℕ))
+    → ((top : Mount ℕ) → Among top tops → mount_in nat_eq mounts top.number ≡ top)
     → flat_map (tree_numbers mounts) (map (λ (top : Mount ℕ). top.number) tops)
     ≡ map (λ (mount : Mount ℕ). mount.number) (flat_map (mount_tree nat_eq mounts) tops)
 tree_by_numbers mounts [] itself = refl
 tree_by_numbers mounts (top ∷ tops) itself =
-    (λ i. map (λ (mount : Mount ℕ). mount.number) (mount_tree nat_eq mounts (itself top (inl refl) i)) ++ tree_by_numbers mounts tops (λ other m. itself other (inr m)) i)
-    ∙ sym (map-append (λ (mount : Mount ℕ). mount.number) (mount_tree nat_eq mounts top) (flat_map (mount_tree nat_eq mounts) tops))
+    (λ i. map (λ (mount : Mount ℕ). mount.number) (mount_tree nat_eq mounts (itself top (inl refl) i))
+    ++ tree_by_numbers mounts tops (λ other m. itself other (inr m)) i)
+    ∙ sym (map-append (λ (mount : Mount ℕ). mount.number) (mount_tree nat_eq mounts top)
+    (flat_map (mount_tree nat_eq mounts) tops))
 
 trees_are_some : (depth : ℕ) (mounts : List (Mount ℕ)) (top : Mount ℕ) (rest : List (Mount ℕ))
     → map (λ (mount : Mount ℕ). mount.number) (tree_from nat_eq depth mounts top ++ rest) ≢ []
@@ -65,14 +68,16 @@ pub record IsOn (value : WorldValue) (at : Location) : Type 0 where
   pub place : meant.Location ℕ
   pub placed : mount.mount_point ≡ Some place
   pub at_inode : place.node ≡ number_of at.node
-  pub shows : (mount_at nat_eq (world_of value) place).filesystem ≡ (mount_at nat_eq (world_of value) (location_of at)).filesystem
+  pub shows : (mount_at nat_eq (world_of value) place).filesystem
+      ≡ (mount_at nat_eq (world_of value) (location_of at)).filesystem
 
 module _ (value : WorldValue) (held : IsHeld value) (at : Location) (small : IsSmall at) where
   abbrev world : World ℕ
   world = world_of value
 
   abbrev stands_there : Mount ℕ → Bool
-  stands_there mount = list_any (λ (point : ℕ × ℕ). is_point nat_eq world point.0 point.1 mount) (points_of nat_eq world (location_of at))
+  stands_there mount = list_any (λ (point : ℕ × ℕ). is_point nat_eq world point.0 point.1 mount)
+      (points_of nat_eq world (location_of at))
 
   -- what is collected is what is there
   pub trees_collected : is_located_well nat_eq world (location_of at) ≡ true
@@ -94,7 +99,8 @@ module _ (value : WorldValue) (held : IsHeld value) (at : Location) (small : IsS
   one_on = among_tops (tops_on value at) refl
     where
       by : (mount : Mount ℕ) → Among mount world.mounts → (o : Option (meant.Location ℕ)) → mount.mount_point ≡ o
-          → is_point nat_eq world (mount_at nat_eq world (location_of at)).filesystem (number_of at.node) mount ≡ true → IsOn value at
+          → is_point nat_eq world (mount_at nat_eq world (location_of at)).filesystem (number_of at.node) mount ≡ true
+          → IsOn value at
       by mount m None p on =
           absurd (true≢false (sym on ∙ ap (holds_of (λ (place : meant.Location ℕ). nat_eq place.node (number_of at.node)
           && nat_eq (mount_at nat_eq world place).filesystem (mount_at nat_eq world (location_of at)).filesystem)) p))
@@ -102,20 +108,25 @@ module _ (value : WorldValue) (held : IsHeld value) (at : Location) (small : IsS
           let parts = and_parts (nat_eq place.node (number_of at.node))
           (nat_eq (mount_at nat_eq world place).filesystem (mount_at nat_eq world (location_of at)).filesystem)
           (sym (ap (holds_of (λ (place : meant.Location ℕ). nat_eq place.node (number_of at.node)
-          && nat_eq (mount_at nat_eq world place).filesystem (mount_at nat_eq world (location_of at)).filesystem)) p) ∙ on) in
+          && nat_eq (mount_at nat_eq world place).filesystem (mount_at nat_eq world (location_of at)).filesystem)) p)
+          ∙ on) in
           record {
             mount = mount;
             among = m;
             place = place;
             placed = p;
             at_inode = eqb-true place.node (number_of at.node) parts.0;
-            shows = eqb-true (mount_at nat_eq world place).filesystem (mount_at nat_eq world (location_of at)).filesystem parts.1;
+            shows = eqb-true (mount_at nat_eq world place).filesystem
+                (mount_at nat_eq world (location_of at)).filesystem parts.1;
           }
 
       among_tops : (all : List (Mount ℕ)) → tops_on value at ≡ all → all ≢ [] → IsOn value at
       among_tops [] is some = absurd (some refl)
       among_tops (top ∷ rest) is some =
-          let from = among-from_filter stands_there world.mounts top (subst (λ all. Among top all) (sym is) (inl refl)) in
+          let from = among-from_filter stands_there world.mounts top
+          (subst (λ all. Among top all) (sym is) (inl refl)) in
           by top from.0 top.mount_point refl
-          (sym (or_nothing (is_point nat_eq world (mount_at nat_eq world (location_of at)).filesystem (number_of at.node) top))
-          ∙ ap (list_any (λ (point : ℕ × ℕ). is_point nat_eq world point.0 point.1 top)) (sym (points_are value held at small)) ∙ from.1)
+          (sym (or_nothing (is_point nat_eq world (mount_at nat_eq world (location_of at)).filesystem
+          (number_of at.node) top))
+          ∙ ap (list_any (λ (point : ℕ × ℕ). is_point nat_eq world point.0 point.1 top))
+          (sym (points_are value held at small)) ∙ from.1)

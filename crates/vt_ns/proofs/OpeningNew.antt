@@ -79,12 +79,15 @@ use Rattle.vt_detach.proofs.Staying.{IsDone, after, becomes_so}
 used_when_made : (inodes : Inodes ℕ) (directory : ℕ) (name : List ℕ) (number : ℕ) (node : Node ℕ)
     → uses_in ((changed nat_eq inodes (Make directory name number node)).inode number) ≡ 1
 used_when_made inodes directory name number node =
-    ap (λ b. uses_in (cond b (Some (record { node = node; uses = 1 })) ((with_changed nat_eq inodes directory (node_with_entry name number)).inode number)))
+    ap (λ b. uses_in (cond b (Some (record { node = node; uses = 1 }))
+    ((with_changed nat_eq inodes directory (node_with_entry name number)).inode number)))
     (eq-eqb number number refl)
 
-module _ (value : WorldValue) (held : IsHeld value) (name : TaskName) (directory : Location) (entry : List ℕ) (node : Node ℕ)
+module _ (value : WorldValue) (held : IsHeld value) (name : TaskName) (directory : Location) (entry : List ℕ)
+    (node : Node ℕ)
     (access : spoken.Access) (small : IsSmall directory)
-    (permits : Permits value name (ToOpenNew (location_of directory) entry (node_seen directory.node.filesystem.count node) access)) where
+    (permits : Permits value name (ToOpenNew (location_of directory) entry
+    (node_seen directory.node.filesystem.count node) access)) where
   abbrev count : ℕ
   count = directory.node.filesystem.count
 
@@ -123,7 +126,8 @@ module _ (value : WorldValue) (held : IsHeld value) (name : TaskName) (directory
 
   fits_next : (inodes : Inodes ℕ) → inodes ≡ inodes_seen seen.entry → Fits inodes (change next_number)
   fits_next inodes same =
-      given_changes_fit (world_of value) handed permits.task permit (location_of directory) (change next_number) inodes held.in_world
+      given_changes_fit (world_of value) handed permits.task permit (location_of directory)
+      (change next_number) inodes held.in_world
       (files_are_plain value.filesystems) permits.given refl
       (ap tree_of same ∙ ap (λ filesystem. filesystem.files.tree) (sym (located_filesystem value directory seen)))
 
@@ -135,15 +139,19 @@ module _ (value : WorldValue) (held : IsHeld value) (name : TaskName) (directory
   has_filesystem : entry_of value.filesystems count ≡ Some seen.entry
   has_filesystem = ap (entry_of value.filesystems) (sym seen.count_is) ∙ seen.found
 
-  pub has_next : (next : Option NodeRef) → option_map number_of next ≡ option_map next_seen (entry_of value.filesystems count) → is_some next ≡ true
-  has_next next is = sym (is_some_mapped number_of next) ∙ ap is_some is ∙ ap (λ o. is_some (option_map next_seen o)) has_filesystem
+  pub has_next : (next : Option NodeRef)
+      → option_map number_of next ≡ option_map next_seen (entry_of value.filesystems count) → is_some next ≡ true
+  has_next next is = sym (is_some_mapped number_of next) ∙ ap is_some is
+      ∙ ap (λ o. is_some (option_map next_seen o)) has_filesystem
 
-  pub next_is_numbered : (next : Option NodeRef) (file : NodeRef) → option_map number_of next ≡ option_map next_seen (entry_of value.filesystems count)
+  pub next_is_numbered : (next : Option NodeRef) (file : NodeRef)
+      → option_map number_of next ≡ option_map next_seen (entry_of value.filesystems count)
       → next ≡ Some file → number_of file ≡ next_seen (entry_at value.filesystems count)
   next_is_numbered next file is some =
       let same : Some (number_of file) ≡ Some (next_seen seen.entry) =
       ap (option_map number_of) (sym some) ∙ is ∙ ap (option_map next_seen) has_filesystem in
-      same_Some (number_of file) (next_seen seen.entry) same ∙ ap (λ o. next_seen (unwrap_or o (no_entry count))) (sym has_filesystem)
+      same_Some (number_of file) (next_seen seen.entry) same
+      ∙ ap (λ o. next_seen (unwrap_or o (no_entry count))) (sym has_filesystem)
 
   named : permit_named (is_counted_before value.next) making ≡ true
   named =
@@ -153,7 +161,8 @@ module _ (value : WorldValue) (held : IsHeld value) (name : TaskName) (directory
 
   under_way : IsWorldButForUse (apply nat_eq handed (world_of value) permits.task permit).world
   under_way =
-      given_permits_are_under_way (world_of value) handed permits.task permit held.in_world (files_are_plain value.filesystems) permits.given
+      given_permits_are_under_way (world_of value) handed permits.task permit held.in_world
+      (files_are_plain value.filesystems) permits.given
 
   making_fits : IsFitPermit handed (world_of value) permits.task making
   making_fits = record { names = fits.names.0; few_mounts = fits.few_mounts }
@@ -162,7 +171,8 @@ module _ (value : WorldValue) (held : IsHeld value) (name : TaskName) (directory
   module _ (made_in : Filesystems) (made : NodeRef) (small_made : made.slot < 18446744073709551616)
       (inside : made.filesystem ≡ directory.node.filesystem)
       (number : number_of made ≡ next_seen (entry_at value.filesystems count))
-      (changes : ChangesInodes count (λ inodes. changed nat_eq inodes (change (number_of made))) value.filesystems made_in) where
+      (changes : ChangesInodes count
+      (λ inodes. changed nat_eq inodes (change (number_of made))) value.filesystems made_in) where
     abbrev mid : WorldValue
     mid = with_filesystems value made_in
 
@@ -184,10 +194,12 @@ module _ (value : WorldValue) (held : IsHeld value) (name : TaskName) (directory
       fits = subst (λ n. Fits (inodes_seen seen.entry) (change n)) next_is (fits_next (inodes_seen seen.entry) refl);
       links = tt;
       changes =
-          subst (λ n. ChangesInodes n (λ inodes. changed nat_eq inodes (change (number_of made))) value.filesystems made_in)
+          subst (λ n. ChangesInodes n (λ inodes.
+          changed nat_eq inodes (change (number_of made))) value.filesystems made_in)
           (sym seen.count_is) changes;
       own = λ n other same.
-          true≢false (sym (ap (λ k. is_inode_of k (number_of made)) (seen.count_is ∙ ap (λ filesystem. filesystem.count) (sym inside))
+          true≢false (sym (ap (λ k. is_inode_of k (number_of made))
+          (seen.count_is ∙ ap (λ filesystem. filesystem.count) (sym inside))
           ∙ is_inode made.filesystem.count made.slot small_made)
           ∙ ap (is_inode_of seen.entry.count) (sym same) ∙ other);
     }
@@ -198,13 +210,15 @@ module _ (value : WorldValue) (held : IsHeld value) (name : TaskName) (directory
 
     nothing_goes : (rest : Fresh ℕ) → settled nat_eq (with_made rest) ≡ with_made rest
     nothing_goes rest =
-        names_keep_all rest (world_of value) (location_of directory) (inodes_seen is_made.entry) (change (number_of made))
+        names_keep_all rest (world_of value) (location_of directory) (inodes_seen is_made.entry)
+        (change (number_of made))
         (is_change value held (location_of directory) (change (number_of made)) made_in is_made) tt
 
     same_tasks : (rest : Fresh ℕ) → (with_made rest).tasks ≡ value.tasks
     same_tasks rest =
         ap (λ (world : World ℕ). world.tasks) (sym (nothing_goes rest)
-        ∙ only_files_change rest (world_of value) (location_of directory) (inodes_seen is_made.entry) (change (number_of made))
+        ∙ only_files_change rest (world_of value) (location_of directory) (inodes_seen is_made.entry)
+        (change (number_of made))
         (is_change value held (location_of directory) (change (number_of made)) made_in is_made))
 
     made_same : (rest : Fresh ℕ) → SameWorlds (with_made rest) (world_of mid)
@@ -249,14 +263,17 @@ module _ (value : WorldValue) (held : IsHeld value) (name : TaskName) (directory
         let left = subst (λ world. IsWorld nat_eq (settled nat_eq world) × IsPlain (settled nat_eq world)) is_applied
         (settling_leaves_a_world (apply nat_eq handed (world_of value) permits.task making).world unsettled) in
         (same_worlds_are_worlds (settled nat_eq (with_made (odds handed))) (world_of mid)
-        (change_is_swept value held (location_of directory) (change (number_of made)) made_in is_made (odds handed)) left.1 left.0).0
+        (change_is_swept value held (location_of directory) (change (number_of made)) made_in is_made
+        (odds handed)) left.1 left.0).0
 
     pub mid_held : IsHeld mid
     mid_held =
         change_is_held value held (location_of directory) (change (number_of made)) made_in is_made mid_is_world
-        (same_keeps_to_numbers_too (is_counted_before value.next) (λ k. number_of made) (world_of value) permits.task making (world_of mid)
+        (same_keeps_to_numbers_too (is_counted_before value.next) (λ k. number_of made)
+        (world_of value) permits.task making (world_of mid)
         permits.given.called held.given (λ k. inodes_named value.next made.filesystem.count made.slot) named
-        (change_is_swept value held (location_of directory) (change (number_of made)) made_in is_made (λ k. number_of made))
+        (change_is_swept value held (location_of directory) (change (number_of made)) made_in is_made
+        (λ k. number_of made))
         (files_are_plain made_in))
 
     -- the new inode has one use
@@ -270,7 +287,8 @@ module _ (value : WorldValue) (held : IsHeld value) (name : TaskName) (directory
         ap (λ o. uses_in ((inodes_seen (unwrap_or o (no_entry count))).inode (number_of made))) found
         ∙ ap (λ (inodes : Inodes ℕ). uses_in (inodes.inode (number_of made)))
         (inodes_after value held (location_of directory) (change (number_of made)) made_in is_made)
-        ∙ used_when_made (inodes_seen is_made.entry) (number_of directory.node) entry (number_of made) (node_seen count node)
+        ∙ used_when_made (inodes_seen is_made.entry) (number_of directory.node) entry (number_of made)
+        (node_seen count node)
 
     -- and then it is opened
     abbrev file : Location
@@ -297,7 +315,8 @@ module _ (value : WorldValue) (held : IsHeld value) (name : TaskName) (directory
       master = same.master;
       filesystems = same.filesystems;
       namespaces = same.namespaces;
-      tasks = ap (λ all. map (λ (task : Task ℕ). record task { change = 0 }) (map (replaced_if_called opens) all)) (same_tasks rest);
+      tasks = ap (λ all. map (λ (task : Task ℕ). record task { change = 0 }) (map (replaced_if_called opens) all))
+          (same_tasks rest);
     }
 
     opened_applied : (apply nat_eq handed (world_of value) permits.task permit).world ≡ opened_at (odds handed)
@@ -307,23 +326,27 @@ module _ (value : WorldValue) (held : IsHeld value) (name : TaskName) (directory
 
     under_next : IsWorldButForUse next
     under_next =
-        same_worlds_are_under_way (opened_at (odds handed)) next (opened_same (odds handed)) (subst IsWorldButForUse opened_applied under_way)
+        same_worlds_are_under_way (opened_at (odds handed)) next (opened_same (odds handed))
+        (subst IsWorldButForUse opened_applied under_way)
 
     there : is_located_well nat_eq (world_of mid) (location_of file) ≡ true
     there =
-        among_from_list_all (is_located_well nat_eq next) (all_locations next) under_next.tasks.locations_live (location_of file)
+        among_from_list_all (is_located_well nat_eq next) (all_locations next) under_next.tasks.locations_live
+        (location_of file)
         (among-flat_map locations_of tasks opens (location_of file) opens_among (inr (inr file_among)))
       where
         opens_among : Among opens tasks
         opens_among =
             let split = replaced_split name value.tasks permits.task opens held.in_world.tasks.one_task permits.called refl in
-            subst (λ all. Among opens all) (sym split.is) (among-append_right split.front (opens ∷ split.back) opens (inl refl))
+            subst (λ all. Among opens all) (sym split.is)
+            (among-append_right split.front (opens ∷ split.back) opens (inl refl))
 
         file_among : Among (location_of file) (map (λ (one : Descriptor ℕ). one.location) opens.descriptors)
         file_among =
             let goes = inserted_goes descriptor permits.task.descriptors in
             among-map (λ (one : Descriptor ℕ). one.location) opens.descriptors descriptor
-            (subst (λ all. Among descriptor all) (sym goes.was) (among-append_right goes.front (descriptor ∷ goes.back) descriptor (inl refl)))
+            (subst (λ all. Among descriptor all) (sym goes.was)
+            (among-append_right goes.front (descriptor ∷ goes.back) descriptor (inl refl)))
 
     moves : Moves mid tasks (used_by descriptor ∷ []) []
     moves = opened_moves mid mid_held name permits.task permits.called descriptor there
@@ -340,9 +363,12 @@ module _ (value : WorldValue) (held : IsHeld value) (name : TaskName) (directory
 
     left : IsWorld nat_eq (settled nat_eq next) × IsPlain (settled nat_eq next)
     left =
-        let given = subst (λ world. IsWorld nat_eq (settled nat_eq world) × IsPlain (settled nat_eq world)) opened_applied
-        (given_permits_leave_worlds (world_of value) handed permits.task permit held.in_world (files_are_plain value.filesystems) permits.given) in
-        same_worlds_are_worlds (settled nat_eq (opened_at (odds handed))) (settled nat_eq next) (opened_alike (odds handed)) given.1 given.0
+        let given = subst (λ world. IsWorld nat_eq (settled nat_eq world)
+        × IsPlain (settled nat_eq world)) opened_applied
+        (given_permits_leave_worlds (world_of value) handed permits.task permit held.in_world
+        (files_are_plain value.filesystems) permits.given) in
+        same_worlds_are_worlds (settled nat_eq (opened_at (odds handed))) (settled nat_eq next)
+        (opened_alike (odds handed)) given.1 given.0
 
     -- a use of its mount and of its inode
     module _ (mounts : List MountEntry) (filesystems : Filesystems)
@@ -351,9 +377,11 @@ module _ (value : WorldValue) (held : IsHeld value) (name : TaskName) (directory
       new = remade mid mounts filesystems tasks
 
       moved : kept mounts filesystems
-          ≡ with_use (counted directory.mount.count) (inode_at (world_of mid) (location_of file)) access.writes (kept value.mounts made_in)
+          ≡ with_use (counted directory.mount.count) (inode_at (world_of mid) (location_of file)) access.writes
+          (kept value.mounts made_in)
       moved =
-          is_kept ∙ (λ i. with_use (counted directory.mount.count) (sym (seen_where_located mid mid_held file small_made there) i, number_of made)
+          is_kept ∙ (λ i. with_use (counted directory.mount.count)
+          (sym (seen_where_located mid mid_held file small_made there) i, number_of made)
           access.writes (kept value.mounts made_in))
 
       swept : IsSwept mid next (inode_at (world_of mid) (location_of file) ∷ []) [] new
@@ -364,7 +392,8 @@ module _ (value : WorldValue) (held : IsHeld value) (name : TaskName) (directory
 
       same : (rest : Fresh ℕ) → SameWorlds (settled nat_eq (opened_at rest)) (world_of new)
       same rest =
-          sameness_is_an_equivalence.onward (settled nat_eq (opened_at rest)) (settled nat_eq next) (world_of new) (opened_alike rest)
+          sameness_is_an_equivalence.onward (settled nat_eq (opened_at rest)) (settled nat_eq next) (world_of new)
+          (opened_alike rest)
           (swept_is_same mid mid_held next (inode_at (world_of mid) (location_of file) ∷ []) [] new swept has left)
 
       new_is_opened : IsDone value name permit new
@@ -372,16 +401,20 @@ module _ (value : WorldValue) (held : IsHeld value) (name : TaskName) (directory
         held = swept_held mid mid_held next left (inode_at (world_of mid) (location_of file) ∷ []) [] new swept has
             (remains_counted mid mid_held tasks (used_by descriptor ∷ []) [] moves mounts filesystems moved stay
             (opened_tasks mid mid_held name permits.task permits.called descriptor there))
-            (same_keeps_to_numbers_too (is_counted_before value.next) (λ k. number_of made) (world_of value) permits.task permit (world_of new)
+            (same_keeps_to_numbers_too (is_counted_before value.next) (λ k. number_of made)
+            (world_of value) permits.task permit (world_of new)
             permits.given.called held.given (λ k. inodes_named value.next made.filesystem.count made.slot) named
             (same (λ k. number_of made)) (files_are_plain filesystems));
         becomes = becomes_so value name permit new permits.task permits.called
-            (subst (λ world. SameWorlds (settled nat_eq world) (world_of new)) (sym opened_applied) (same (odds handed)));
+            (subst (λ world. SameWorlds (settled nat_eq world) (world_of new)) (sym opened_applied)
+            (same (odds handed)));
       }
 
       -- with the tasks as code opens the file
-      pub new_opens : (opened : Tasks) → opened ≡ changed_called name (λ task. with_descriptor task (location_of file) access) value.tasks
+      pub new_opens : (opened : Tasks)
+          → opened ≡ changed_called name (λ task. with_descriptor task (location_of file) access) value.tasks
           → IsDone value name permit (remade mid mounts filesystems opened)
       new_opens opened is =
           subst (λ all. IsDone value name permit (remade mid mounts filesystems all))
-          (sym (is ∙ ap (changed_by (λ task. with_descriptor task (location_of file) access) value.tasks) permits.called)) new_is_opened
+          (sym (is ∙ ap (changed_by (λ task.
+          with_descriptor task (location_of file) access) value.tasks) permits.called)) new_is_opened

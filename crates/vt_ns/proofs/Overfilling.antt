@@ -18,7 +18,6 @@ use Rattle.vt_location.specs.MountValue.{mount_of}
 use Rattle.vt_location.specs.Numbers.{counted}
 use Rattle.vt_mount.specs.MountsValue.{mounts_in}
 use Rattle.vt_mount_laws.proofs.MountsFound.{found_in}
-use Rattle.vt_mount_laws.proofs.MountsReplaced.{found_itself}
 use Rattle.vt_mount_laws.proofs.Standing.{trees_have_each_once}
 use Rattle.vt_permit_laws.proofs.PartsKept.{receivers_there, same_parts}
 use Rattle.vt_propagate.specs.Filling.{GrowsBy, MovesFrom, mount_count}
@@ -33,23 +32,31 @@ use Rattle.vt_detach.specs.WorldValue.{WorldValue, world_of}
 use Rattle.vt_detach.proofs.UnbindableBelow.{alone_in_tree, in_tree}
 
 -- A place on a mount that is not there is in no namespace, and nothing is received there.
-module _ (mounts : List (Mount ℕ)) (place : Location ℕ) (none : find (λ (mount : Mount ℕ). nat_eq place.mount mount.number) mounts ≡ None) where
+module _ (mounts : List (Mount ℕ)) (place : Location ℕ)
+    (none : find (λ (mount : Mount ℕ). nat_eq place.mount mount.number) mounts ≡ None) where
   missing_at : (world : World ℕ) → mounts ≡ world.mounts → mount_at nat_eq world place ≡ no_mount place.mount
   missing_at world same =
-      ap (λ list. unwrap_or (find (λ (mount : Mount ℕ). nat_eq place.mount mount.number) list) (no_mount place.mount)) (sym same)
+      ap (λ list. unwrap_or (find (λ (mount : Mount ℕ). nat_eq place.mount mount.number) list) (no_mount place.mount))
+      (sym same)
       ∙ ap (λ o. unwrap_or o (no_mount place.mount)) none
 
-  no_parts : (world : World ℕ) → mounts ≡ world.mounts → (size namespace : ℕ) → mount_count (parts_of nat_eq world place) namespace * size ≡ 0
+  no_parts : (world : World ℕ) → mounts ≡ world.mounts → (size namespace : ℕ)
+      → mount_count (parts_of nat_eq world place) namespace * size ≡ 0
   no_parts world same size namespace =
-      ap (λ mount. mount_count (mount ∷ filter (takes_part nat_eq world place) (receivers_of nat_eq world mount)) namespace * size)
+      ap (λ mount. mount_count (mount
+      ∷ filter (takes_part nat_eq world place) (receivers_of nat_eq world mount)) namespace * size)
       (missing_at world same)
       ∙ (let zero : 0 * size ≡ 0 = omega arith in zero)
 
-  pub nothing_added : (world : World ℕ) (new : Copies ℕ) (tree : List (Mount ℕ)) → mounts ≡ world.mounts → NamespaceInvariants nat_eq world
+  pub nothing_added : (world : World ℕ) (new : Copies ℕ) (tree : List (Mount ℕ)) → mounts ≡ world.mounts
+      → NamespaceInvariants nat_eq world
       → false ≡ has_too_many nat_eq (attached_by nat_eq world new place false tree)
   nothing_added world new tree same invariants =
-      sym (shrinks_few world (attached_by nat_eq world new place false tree)
-      (λ namespace. let all = added_counted world place new tree namespace in let zero = no_parts world same (length tree) namespace in omega (arith, all, zero), refl)
+      sym (shrinks_few world (attached_by nat_eq world new place false tree) (
+        λ namespace. let all = added_counted world place new tree namespace in let zero = no_parts world same
+            (length tree) namespace in omega (arith, all, zero),
+        refl,
+      )
       invariants.few_mounts)
 
 -- what no mount has is no number of one
@@ -76,33 +83,43 @@ module _ (value : WorldValue) (held : IsHeld value) (number : ℕ) (place : Loca
   tree = mount_tree nat_eq (mounts_in value.mounts) (mount_numbered nat_eq (world_of value) number)
 
   abbrev pub new : Copies ℕ
-  new = copies_from nat_eq (counts_from value.next) (parts_of nat_eq (world_of value) place) (mount_tree nat_eq (mounts_in value.mounts) (mount_numbered nat_eq (world_of value) number))
+  new = copies_from nat_eq (counts_from value.next) (parts_of nat_eq (world_of value) place)
+      (mount_tree nat_eq (mounts_in value.mounts) (mount_numbered nat_eq (world_of value) number))
 
   abbrev moved : World ℕ
   moved = attached_by nat_eq (world_of value) new place true tree
 
   -- A mount that is there moves with its descendants, which are in its namespace.
-  module _ (mount : Mount ℕ) (found : find (λ (one : Mount ℕ). nat_eq number one.number) (mounts_in value.mounts) ≡ Some mount) where
+  module _ (mount : Mount ℕ) (found : find (λ (one : Mount ℕ). nat_eq number one.number) (mounts_in value.mounts)
+      ≡ Some mount) where
     top_is : top ≡ mount
     top_is = ap (λ o. unwrap_or o (no_mount number)) found
 
     top_there : Among top (mounts_in value.mounts)
-    top_there = subst (λ one. Among one (mounts_in value.mounts)) (sym top_is) (found_in (λ (one : Mount ℕ). nat_eq number one.number) (mounts_in value.mounts) mount found).0
+    top_there = subst (λ one. Among one (mounts_in value.mounts)) (sym top_is)
+        (found_in (λ (one : Mount ℕ). nat_eq number one.number) (mounts_in value.mounts) mount found).0
 
     in_it : (o : Option ℕ) → top.namespace ≡ o → (x : Mount ℕ) → Among x tree
         → Among x (mounts_in value.mounts) × (x.namespace ≡ top.namespace)
     in_it (Some namespace) is x m = let own = in_tree value held number namespace is x m in (own.0, own.2 ∙ sym is)
     in_it None is x m =
         ⊎_elim
-        (λ same. (subst (λ y. Among y (mounts_in value.mounts)) (sym same) top_there, ap (λ (y : Mount ℕ). y.namespace) same))
+        (λ same. (
+          subst (λ y. Among y (mounts_in value.mounts)) (sym same) top_there,
+          ap
+              (λ (y : Mount ℕ). y.namespace) same,
+        ))
         (λ none. absurd none)
         (subst (Among x) (alone_in_tree value held number is (length (mounts_in value.mounts))) m)
 
-    pub moves_from : (namespace : Option NamespaceId) → mount.namespace ≡ option_map (λ one. counted one.count) namespace
+    pub moves_from : (namespace : Option NamespaceId)
+        → mount.namespace ≡ option_map (λ one. counted one.count) namespace
         → MovesFrom (world_of value) namespace tree
     moves_from namespace is = record {
-      there = all_from_among (Contains (mounts_in value.mounts)) tree (λ x m. contains_from_among (mounts_in value.mounts) x (in_it top.namespace refl x m).0);
-      inside = all_from_among (λ (x : Mount ℕ). x.namespace ≡ option_map (λ (one : NamespaceId). counted one.count) namespace) tree (λ x m.
+      there = all_from_among (Contains (mounts_in value.mounts)) tree
+          (λ x m. contains_from_among (mounts_in value.mounts) x (in_it top.namespace refl x m).0);
+      inside = all_from_among (λ (x : Mount ℕ). x.namespace
+          ≡ option_map (λ (one : NamespaceId). counted one.count) namespace) tree (λ x m.
           (in_it top.namespace refl x m).1 ∙ ap (λ (y : Mount ℕ). y.namespace) top_is ∙ is);
       one_number = held.in_world.mounts.one_number;
       each_once = trees_have_each_once world number held.in_world.mounts.one_number held.in_world.mounts.standing;
@@ -127,22 +144,27 @@ module _ (value : WorldValue) (held : IsHeld value) (number : ℕ) (place : Loca
   module _ (missing : find (λ (one : Mount ℕ). nat_eq number one.number) (mounts_in value.mounts) ≡ None) where
     alone : tree ≡ no_mount number ∷ []
     alone =
-        alone_in_tree value held number (ap (λ o. (unwrap_or o (no_mount number)).namespace) missing) (length (mounts_in value.mounts))
+        alone_in_tree value held number (ap (λ o. (unwrap_or o (no_mount number)).namespace) missing)
+        (length (mounts_in value.mounts))
         ∙ ap (λ o. unwrap_or o (no_mount number) ∷ []) missing
 
     abbrev others : List (Mount ℕ)
     others = rest_of (parts_of nat_eq (world_of value) place)
 
-    counted_so : (namespace : ℕ) → mount_count moved.mounts namespace ≡ mount_count (mounts_in value.mounts) namespace + mount_count others namespace * 1
+    counted_so : (namespace : ℕ) → mount_count moved.mounts namespace
+        ≡ mount_count (mounts_in value.mounts) namespace + mount_count others namespace * 1
     counted_so namespace =
-        absent_counted world place new tree (no_mount number) alone (none_has number (mounts_in value.mounts) missing) namespace
+        absent_counted world place new tree (no_mount number) alone
+        (none_has number (mounts_in value.mounts) missing) namespace
         ∙ ap (λ list. mount_count (mounts_in value.mounts) namespace + mount_count others namespace * length list) alone
 
-    pub absent_grows : GrowsBy (world_of value) (attached_by nat_eq (world_of value) new place true tree) (rest_of (parts_of nat_eq (world_of value) place)) 1
+    pub absent_grows : GrowsBy (world_of value) (attached_by nat_eq (world_of value) new place true tree)
+        (rest_of (parts_of nat_eq (world_of value) place)) 1
     absent_grows = record {
       there = all_from_among (Contains (mounts_in value.mounts)) others (λ x m.
           contains_from_among (mounts_in value.mounts) x (receivers_there world (mount_at nat_eq world place) x
-          (among-from_filter (takes_part nat_eq world place) (receivers_of nat_eq world (mount_at nat_eq world place)) x m).0));
+          (among-from_filter (takes_part nat_eq world place)
+          (receivers_of nat_eq world (mount_at nat_eq world place)) x m).0));
       namespaces = refl;
       counts = counted_so;
     }
@@ -154,7 +176,8 @@ module _ (value : WorldValue) (held : IsHeld value) (number : ℕ) (place : Loca
           λ namespace.
               let all = counted_so namespace in
               let zero : mount_count others namespace * 1 ≡ 0 =
-              ap (λ one. mount_count (filter (takes_part nat_eq world place) (receivers_of nat_eq world one)) namespace * 1)
+              ap (λ one. mount_count (filter (takes_part nat_eq world place)
+              (receivers_of nat_eq world one)) namespace * 1)
               (missing_at (mounts_in value.mounts) place none world refl) in
               omega (arith, all, zero),
           refl,
@@ -173,12 +196,14 @@ module _ (value : WorldValue) (held : IsHeld value) (number : ℕ) (place : Loca
 -- what is said of each world with these mounts and the parts of the code's world
 abbrev pub TellsAdded : WorldValue → Location ℕ → ℕ → Bool → Type 0
 TellsAdded value place size too_many =
-    (one : World ℕ) (copies : Copies ℕ) (added : List (Mount ℕ)) → mounts_in value.mounts ≡ one.mounts → NamespaceInvariants nat_eq one
+    (one : World ℕ) (copies : Copies ℕ) (added : List (Mount ℕ)) → mounts_in value.mounts ≡ one.mounts
+    → NamespaceInvariants nat_eq one
     → parts_of nat_eq one place ≡ parts_of nat_eq (world_of value) place → length added ≡ size
     → too_many ≡ has_too_many nat_eq (attached_by nat_eq one copies place false added)
 
 module _ (value : WorldValue) (held : IsHeld value) (place : Location ℕ) (too_many : Bool) where
-  pub plain_overfills : (flags : MountFlags) → TellsAdded value place 1 too_many → too_many ≡ overfills_of value (ToMountPlain place flags)
+  pub plain_overfills : (flags : MountFlags) → TellsAdded value place 1 too_many
+      → too_many ≡ overfills_of value (ToMountPlain place flags)
   plain_overfills flags tells =
       let fresh = counts_from value.next in
       let filesystem = plain_filesystem nat_eq fresh in
@@ -201,11 +226,13 @@ module _ (value : WorldValue) (held : IsHeld value) (place : Location ℕ) (too_
       → too_many ≡ overfills_of value (ToBind source place recursive)
   bind_overfills source recursive tells =
       let added = bind_tree nat_eq (world_of value) source recursive in
-      tells (world_of value) (copies_from nat_eq (counts_from value.next) (parts_of nat_eq (world_of value) place) added) added refl
+      tells (world_of value) (copies_from nat_eq (counts_from value.next)
+      (parts_of nat_eq (world_of value) place) added) added refl
       held.in_world.namespaces refl refl
 
 -- what is found as it is kept
-pub none_found : (got : Option Kept) (found : Option (Mount ℕ)) → option_map mount_of got ≡ found → is_some got ≡ false → found ≡ None
+pub none_found : (got : Option Kept) (found : Option (Mount ℕ)) → option_map mount_of got ≡ found → is_some got ≡ false
+    → found ≡ None
 none_found None found is none = sym is
 none_found (Some kept) found is none = absurd (true≢false none)
 
@@ -217,7 +244,9 @@ rest_kept kept mounts is = ap rest_of (sym is) ∙ by kept
     by [] = refl
     by (first ∷ rest) = ap (map mount_of) (sym (all_taken (length (first ∷ rest) - 1) rest (omega arith)))
 
-pub tree_sized : (ids : List MountId) (mounts : List (Mount ℕ)) → map (λ (id : MountId). counted id.count) ids ≡ map (λ (mount : Mount ℕ). mount.number) mounts
+pub tree_sized : (ids : List MountId) (mounts : List (Mount ℕ))
+    → map (λ (id : MountId). counted id.count) ids ≡ map (λ (mount : Mount ℕ). mount.number) mounts
     → length mounts ≡ length ids
 tree_sized ids mounts same =
-    sym (length-map mounts (λ (mount : Mount ℕ). mount.number)) ∙ ap length (sym same) ∙ length-map ids (λ (id : MountId). counted id.count)
+    sym (length-map mounts (λ (mount : Mount ℕ). mount.number)) ∙ ap length (sym same)
+    ∙ length-map ids (λ (id : MountId). counted id.count)

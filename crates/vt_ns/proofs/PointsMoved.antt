@@ -52,7 +52,8 @@ use Rattle.vt_detach.proofs.Moving.{map_itself}
 use Rattle.vt_detach.proofs.Staying.{world_is_plain}
 
 -- what is looked up in a list stands there
-pub looked_up : {B : Type 0} (number : ℕ) (pairs : List (ℕ × B)) (b : B) → lookup (nat_eq number) pairs ≡ Some b → Among (number, b) pairs
+pub looked_up : {B : Type 0} (number : ℕ) (pairs : List (ℕ × B)) (b : B) → lookup (nat_eq number) pairs ≡ Some b
+    → Among (number, b) pairs
 looked_up number [] b e = absurd (true≢false (sym (ap is_some e)))
 looked_up {B} number (pair ∷ rest) b e = by (nat_eq number pair.0) refl e (looked_up number rest b)
   where
@@ -68,7 +69,8 @@ module _ (value : WorldValue) (whole : IsHeld value) where
   -- Locations that are there
 
   -- the mount points that mounts get from a list of such are there
-  located_moved : (points : List Point) → ((point : Point) → Among point points → is_located_well nat_eq world (location_of point.place) ≡ true)
+  located_moved : (points : List Point)
+      → ((point : Point) → Among point points → is_located_well nat_eq world (location_of point.place) ≡ true)
       → (mount : Mount ℕ) → Among mount world.mounts → (place : Location ℕ)
       → (moved_by (map point_seen points) mount).mount_point ≡ Some place → is_located_well nat_eq world place ≡ true
   located_moved points each mount m place = by (lookup (nat_eq mount.number) (map point_seen points)) refl
@@ -77,11 +79,14 @@ module _ (value : WorldValue) (whole : IsHeld value) where
           → or_else o mount.mount_point ≡ Some place → is_located_well nat_eq world place ≡ true
       by None e is = point_located value whole mount m place is
       by (Some other) e is =
-          let from = among-from_map point_seen points (mount.number, other) (looked_up mount.number (map point_seen points) other e) in
-          ap (is_located_well nat_eq world) (sym (same_Some other place is) ∙ ap (λ (pair : ℕ × Location ℕ). pair.1) from.2)
+          let from = among-from_map point_seen points (mount.number, other)
+          (looked_up mount.number (map point_seen points) other e) in
+          ap (is_located_well nat_eq world)
+          (sym (same_Some other place is) ∙ ap (λ (pair : ℕ × Location ℕ). pair.1) from.2)
           ∙ each from.0 from.1
 
-  taken_located : (points : List Point) → ((point : Point) → Among point points → is_located_well nat_eq world (location_of point.place) ≡ true)
+  taken_located : (points : List Point)
+      → ((point : Point) → Among point points → is_located_well nat_eq world (location_of point.place) ≡ true)
       → (at : At) → Among at (points_taken points value.mounts) → is_located_well nat_eq world (location_of at) ≡ true
   taken_located [] each at m = absurd m
   taken_located (point ∷ rest) each at m =
@@ -91,10 +96,12 @@ module _ (value : WorldValue) (whole : IsHeld value) where
     where
       here : (b : Bool) → Among at (cond b (point.place ∷ []) []) → is_located_well nat_eq world (location_of at) ≡ true
       here true n =
-          ⊎_elim (λ same. ap (λ (one : At). is_located_well nat_eq world (location_of one)) same ∙ each point (inl refl)) (λ none. absurd none) n
+          ⊎_elim (λ same. ap (λ (one : At). is_located_well nat_eq world (location_of one)) same
+          ∙ each point (inl refl)) (λ none. absurd none) n
       here false n = absurd n
 
-  left_located : (points : List Point) → ((point : Point) → Among point points → is_located_well nat_eq world (location_of point.place) ≡ true)
+  left_located : (points : List Point)
+      → ((point : Point) → Among point points → is_located_well nat_eq world (location_of point.place) ≡ true)
       → (place : Location ℕ) → Among place (points_left points value.mounts) → is_located_well nat_eq world place ≡ true
   left_located [] each place m = absurd m
   left_located (point ∷ rest) each place m =
@@ -108,7 +115,8 @@ module _ (value : WorldValue) (whole : IsHeld value) where
       here None e n = absurd n
       here (Some entry) e n = by entry.mount.mount_point refl n
         where
-          by : (o : Option (Location ℕ)) → entry.mount.mount_point ≡ o → Among place (option_to_list o) → is_located_well nat_eq world place ≡ true
+          by : (o : Option (Location ℕ)) → entry.mount.mount_point ≡ o → Among place (option_to_list o)
+              → is_located_well nat_eq world place ≡ true
           by None f k = absurd k
           by (Some other) f k =
               let found = (entry_found_at (with_points rest value.mounts) (counted point.mount.count) entry e).0 in
@@ -116,16 +124,22 @@ module _ (value : WorldValue) (whole : IsHeld value) where
               (subst (Among entry.mount) (points_are_moved value.mounts rest)
               (among-map (λ (one : MountEntry). one.mount) (with_points rest value.mounts) entry found)) in
               ⊎_elim (λ same. ap (is_located_well nat_eq world) same
-              ∙ located_moved rest (λ one l. each one (inr l)) from.0 from.1 other (ap (λ (x : Mount ℕ). x.mount_point) (sym from.2) ∙ f))
+              ∙ located_moved rest (λ one l. each one (inr l)) from.0 from.1 other
+              (ap (λ (x : Mount ℕ). x.mount_point) (sym from.2) ∙ f))
               (λ none. absurd none) k
 
   -- the inodes there are those that the definitions see
-  inodes_are : (ats : List At) → ((at : At) → Among at ats → is_located_well nat_eq world (location_of at) ≡ true) → list_all is_small ats ≡ true
+  inodes_are : (ats : List At) → ((at : At) → Among at ats → is_located_well nat_eq world (location_of at) ≡ true)
+      → list_all is_small ats ≡ true
       → inodes_of_points ats ≡ map (inode_at world) (map location_of ats)
   inodes_are [] there small = refl
   inodes_are (at ∷ rest) there small =
       let parts = and_parts (is_small at) (list_all is_small rest) small in
-      λ i. (sym (seen_where_located value whole at (ltb-true at.node.slot 18446744073709551616 parts.0) (there at (inl refl))) i, number_of at.node)
+      λ i. (
+        sym (seen_where_located value whole at (ltb-true at.node.slot 18446744073709551616 parts.0)
+            (there at (inl refl))) i,
+        number_of at.node,
+      )
       ∷ inodes_are rest (λ one m. there one (inr m)) parts.1 i
 
   -- and they are there
@@ -133,7 +147,8 @@ module _ (value : WorldValue) (whole : IsHeld value) where
       → ((place : Location ℕ) → Among place places → is_located_well nat_eq world place ≡ true)
       → AreThere (counted was.count) (inodes_seen was) (map (inode_at world) places)
   inodes_there was m places there =
-      all_pass (λ inode. not (nat_eq (counted was.count) inode.0) || is_some ((inodes_seen was).inode inode.1)) (map (inode_at world) places)
+      all_pass (λ inode. not (nat_eq (counted was.count) inode.0) || is_some ((inodes_seen was).inode inode.1))
+      (map (inode_at world) places)
       (λ inode n. let from = among-from_map (inode_at world) places inode n in
       ap (λ (one : Inode). not (nat_eq (counted was.count) one.0) || is_some ((inodes_seen was).inode one.1)) from.2
       ∙ by from.0 (nat_eq (counted was.count) (mount_at nat_eq world from.0).filesystem) refl (there from.0 from.1))
@@ -142,14 +157,17 @@ module _ (value : WorldValue) (whole : IsHeld value) where
       some_inode None = refl
       some_inode (Some inode) = refl
 
-      by : (place : Location ℕ) (b : Bool) → nat_eq (counted was.count) (mount_at nat_eq world place).filesystem ≡ b → is_located_well nat_eq world place ≡ true
+      by : (place : Location ℕ) (b : Bool) → nat_eq (counted was.count) (mount_at nat_eq world place).filesystem ≡ b
+          → is_located_well nat_eq world place ≡ true
           → (not b || is_some ((inodes_seen was).inode place.node)) ≡ true
       by place true e well =
           let number : counted was.count ≡ (mount_at nat_eq world place).filesystem = eqb-true _ _ e in
-          let seen : is_there nat_eq world (mount_at nat_eq world place).filesystem place.node ≡ true = (and_parts _ _ well).1 in
+          let seen : is_there nat_eq world (mount_at nat_eq world place).filesystem place.node
+          ≡ true = (and_parts _ _ well).1 in
           sym (some_inode ((inodes_seen was).inode place.node))
           ∙ ap (λ (f : Filesystem ℕ). is_some (f.files.tree.node place.node))
-          (sym (found_filesystem world.filesystems whole.in_world.files.one_filesystem (filesystem_seen was) (among-map filesystem_seen value.filesystems was m))
+          (sym (found_filesystem world.filesystems whole.in_world.files.one_filesystem (filesystem_seen was)
+          (among-map filesystem_seen value.filesystems was m))
           ∙ ap (filesystem_numbered nat_eq world) number)
           ∙ seen
       by place false e well = refl
@@ -161,9 +179,11 @@ moved_world value points = with_mounts (world_of value) (map (moved_by (map poin
 
 -- each new mount point is there, and each mount point is on a mount that is attached
 pub record MayMove (value : WorldValue) (points : List Point) : Type 0 where
-  pub each : (point : Point) → Among point points → is_located_well nat_eq (world_of value) (location_of point.place) ≡ true
+  pub each : (point : Point) → Among point points
+      → is_located_well nat_eq (world_of value) (location_of point.place) ≡ true
   pub attached : (mount : Mount ℕ) → Among mount (world_of value).mounts → (place : Location ℕ)
-      → (moved_by (map point_seen points) mount).mount_point ≡ Some place → is_some (mount_at nat_eq (world_of value) place).namespace ≡ true
+      → (moved_by (map point_seen points) mount).mount_point ≡ Some place
+      → is_some (mount_at nat_eq (world_of value) place).namespace ≡ true
   pub outside : (mount : Mount ℕ) → Among mount (world_of value).mounts → is_some mount.namespace ≡ false
       → (moved_by (map point_seen points) mount).mount_point ≡ None
 
@@ -182,38 +202,47 @@ module _ (value : WorldValue) (whole : IsHeld value) (points : List Point) (may 
       ap (λ o. (unwrap_or o (no_mount n)).namespace) (found_mapped moved (λ mount. refl) before.mounts n)
       ∙ by (find (λ (mount : Mount ℕ). nat_eq n mount.number) before.mounts)
     where
-      by : (o : Option (Mount ℕ)) → (unwrap_or (option_map moved o) (no_mount n)).namespace ≡ (unwrap_or o (no_mount n)).namespace
+      by : (o : Option (Mount ℕ)) → (unwrap_or (option_map moved o) (no_mount n)).namespace
+          ≡ (unwrap_or o (no_mount n)).namespace
       by None = refl
       by (Some mount) = refl
 
   stand : MountsStand after
   stand = record {
     one_number = pair_mapped moved (λ mount. refl) before.mounts ∙ whole.in_world.mounts.one_number;
-    nowhere = all_pass is_nowhere_or_attached after.mounts (λ mount m. let from = among-from_map moved before.mounts mount m in
+    nowhere = all_pass is_nowhere_or_attached after.mounts
+        (λ mount m. let from = among-from_map moved before.mounts mount m in
         ap is_nowhere_or_attached from.2
-        ∙ outside from.0 (is_some from.0.namespace) refl (passes is_nowhere_or_attached before.mounts whole.in_world.mounts.nowhere from.0 from.1)
+        ∙ outside from.0 (is_some from.0.namespace) refl
+        (passes is_nowhere_or_attached before.mounts whole.in_world.mounts.nowhere from.0 from.1)
         (may.outside from.0 from.1));
-    on_attached = all_pass (stands_on_attached after) after.mounts (λ mount m. let from = among-from_map moved before.mounts mount m in
+    on_attached = all_pass (stands_on_attached after) after.mounts
+        (λ mount m. let from = among-from_map moved before.mounts mount m in
         ap (stands_on_attached after) from.2 ∙ on from.0 from.1 (moved from.0).mount_point refl);
   }
     where
       outside : (mount : Mount ℕ) (b : Bool) → is_some mount.namespace ≡ b → is_nowhere_or_attached mount ≡ true
           → (is_some mount.namespace ≡ false → (moved mount).mount_point ≡ None)
-          → (is_some mount.namespace || (not (is_some (moved mount).mount_point) && is_private mount.propagation)) ≡ true
-      outside mount true e is none = ap (λ b. b || (not (is_some (moved mount).mount_point) && is_private mount.propagation)) e
+          → (is_some mount.namespace || (not (is_some (moved mount).mount_point) && is_private mount.propagation))
+          ≡ true
+      outside mount true e is none = ap
+          (λ b. b || (not (is_some (moved mount).mount_point) && is_private mount.propagation)) e
       outside mount false e is none =
           (λ i. e i || (not (is_some (none e i)) && is_private (stays_private mount is false e i)))
 
       on : (mount : Mount ℕ) → Among mount before.mounts → (o : Option (Location ℕ)) → (moved mount).mount_point ≡ o
-          → list_all (λ place. is_some (mount_at nat_eq after place).namespace) (option_to_list (moved mount).mount_point) ≡ true
-      on mount m None e = ap (λ o. list_all (λ place. is_some (mount_at nat_eq after place).namespace) (option_to_list o)) e
+          → list_all (λ place. is_some (mount_at nat_eq after place).namespace)
+          (option_to_list (moved mount).mount_point) ≡ true
+      on mount m None e = ap (λ o. list_all (λ place. is_some (mount_at nat_eq after place).namespace)
+          (option_to_list o)) e
       on mount m (Some place) e =
           ap (λ o. list_all (λ place. is_some (mount_at nat_eq after place).namespace) (option_to_list o)) e
           ∙ ap (λ b. b && true) (ap is_some (same_mount place.mount) ∙ may.attached mount m place e)
 
   located : LocationsStand after
   located =
-      subst (λ numbers. list_all (λ (location : Location ℕ). is_among nat_eq location.mount numbers) (all_locations before) ≡ true)
+      subst (λ numbers. list_all (λ (location : Location ℕ). is_among nat_eq location.mount numbers)
+      (all_locations before) ≡ true)
       (sym (map_twice (λ (mount : Mount ℕ). mount.number) moved before.mounts))
       (Roots.locations_of_worlds_stand before whole.in_world)
 
@@ -230,7 +259,8 @@ module _ (value : WorldValue) (whole : IsHeld value) (points : List Point) (may 
       lives_plainly after (world_is_plain value) f
       ∙ any-map (λ (mount : Mount ℕ). nat_eq f.number mount.filesystem) moved before.mounts (λ mount. refl)
       ∙ sym (lives_plainly before (world_is_plain value) f)
-      ∙ passes (filesystem_lives nat_eq before) before.filesystems (worlds_are_in_use before whole.in_world).filesystems f m)
+      ∙ passes (filesystem_lives nat_eq before) before.filesystems
+      (worlds_are_in_use before whole.in_world).filesystems f m)
 
   showing : (n : ℕ) → mounts_showing after n ≡ mounts_showing before n
   showing n = times_map (λ (mount : Mount ℕ). nat_eq n mount.filesystem) moved before.mounts
@@ -241,8 +271,10 @@ module _ (value : WorldValue) (whole : IsHeld value) (points : List Point) (may 
   abbrev pub lost : List Inode
   lost = map (inode_at before) (points_left points value.mounts)
 
-  module _ (left : List At) (left_are : map location_of left ≡ points_left points value.mounts) (left_small : list_all is_small left ≡ true)
-      (taken_small : list_all is_small (points_taken points value.mounts) ≡ true) (mounts : List MountEntry) (filesystems : Filesystems)
+  module _ (left : List At) (left_are : map location_of left ≡ points_left points value.mounts)
+      (left_small : list_all is_small left ≡ true)
+      (taken_small : list_all is_small (points_taken points value.mounts) ≡ true) (mounts : List MountEntry)
+      (filesystems : Filesystems)
       (is_kept : kept mounts filesystems ≡ with_planned [] points left (kept value.mounts value.filesystems)) where
     entries_are : mounts ≡ with_points points value.mounts
     entries_are = ap (λ (k : Kept). k.mounts) is_kept ∙ append-nil (with_points points value.mounts)
@@ -254,12 +286,14 @@ module _ (value : WorldValue) (whole : IsHeld value) (points : List Point) (may 
     changed = exchanged_on (inodes_of_points (points_taken points value.mounts) ++ []) (inodes_of_points left) 0
 
     shown_are : shown filesystems ≡ map changed (shown value.filesystems)
-    shown_are = ap (λ (k : Kept). k.filesystems) is_kept ∙ planned_shown (points_taken points value.mounts) left [] (shown value.filesystems)
+    shown_are = ap (λ (k : Kept). k.filesystems) is_kept
+        ∙ planned_shown (points_taken points value.mounts) left [] (shown value.filesystems)
 
     taken_is : inodes_of_points (points_taken points value.mounts) ++ [] ≡ gained
     taken_is =
         append-nil (inodes_of_points (points_taken points value.mounts))
-        ∙ inodes_are value whole (points_taken points value.mounts) (taken_located value whole points may.each) taken_small
+        ∙ inodes_are value whole (points_taken points value.mounts)
+        (taken_located value whole points may.each) taken_small
 
     left_is : inodes_of_points left ≡ lost
     left_is =
@@ -269,7 +303,8 @@ module _ (value : WorldValue) (whole : IsHeld value) (points : List Point) (may 
 
     uses_exchanged : (filesystem : ℕ) → Exchanges gained lost filesystem before after
     uses_exchanged filesystem =
-        subst (λ all. Exchanges gained lost filesystem before (with_mounts before all)) (points_are_moved value.mounts points)
+        subst (λ all. Exchanges gained lost filesystem before (with_mounts before all))
+        (points_are_moved value.mounts points)
         (points_are_uses before value.mounts points refl whole.in_world.mounts.one_number filesystem)
 
     no_more : (inodes : List Inode) → inodes ≡ inodes ++ []
@@ -287,7 +322,8 @@ module _ (value : WorldValue) (whole : IsHeld value) (points : List Point) (may 
           was = entry.0;
           among = entry.1;
           count = ap (λ (x : Shown). x.count) from.2 ∙ ap (λ (x : Shown). x.count) entry.2;
-          there = inodes_there value whole entry.0 entry.1 (map location_of (points_taken points value.mounts)) (λ place n.
+          there = inodes_there value whole entry.0 entry.1 (map location_of (points_taken points value.mounts))
+              (λ place n.
               let at = among-from_map location_of (points_taken points value.mounts) place n in
               ap (is_located_well nat_eq before) at.2 ∙ taken_located value whole points may.each at.0 at.1);
           inodes = ap (λ (x : Shown). x.inodes) from.2
@@ -296,14 +332,16 @@ module _ (value : WorldValue) (whole : IsHeld value) (points : List Point) (may 
           mounts = ap (λ (x : Shown). x.mounts) from.2 ∙ none_added from.0.mounts ∙ ap (λ (x : Shown). x.mounts) entry.2
               ∙ (among_from_all (CountsItsMounts before) value.filesystems whole.filesystems entry.0 entry.1).mounts
               ∙ sym (showing f)
-              ∙ ap (λ n. mounts_showing after (counted n)) (sym (ap (λ (x : Shown). x.count) from.2 ∙ ap (λ (x : Shown). x.count) entry.2));
+              ∙ ap (λ n. mounts_showing after (counted n))
+              (sym (ap (λ (x : Shown). x.count) from.2 ∙ ap (λ (x : Shown). x.count) entry.2));
         }
 
     pub moved_is_kept : IsKeptBut value [] [] gained lost after (kept mounts filesystems)
     moved_is_kept = record {
       mounts = mounts_are ∙ map_itself (mounts_in mounts);
       uses = all_from_among (CountsItsUses after) mounts (λ entry m.
-          let was = among_from_all (CountsItsUses before) (with_points points value.mounts) (points_count before points value.mounts whole.mounts)
+          let was = among_from_all (CountsItsUses before) (with_points points value.mounts)
+          (points_count before points value.mounts whole.mounts)
           entry (subst (Among entry) entries_are m) in
           record { uses = was.uses; writers = was.writers });
       numbers = map_twice (λ (f : Filesystem ℕ). f.number) filesystem_seen value.filesystems
@@ -311,10 +349,6 @@ module _ (value : WorldValue) (whole : IsHeld value) (points : List Point) (may 
           ∙ sym (map_twice (λ (one : Shown). counted one.count) changed (shown value.filesystems))
           ∙ ap (map (λ (one : Shown). counted one.count)) (sym shown_are);
       filesystems = shown_is;
-      ungrouped = all_pass (λ (mount : Mount ℕ). is_ungrouped mount.propagation) after.mounts (λ mount m.
-          let from = among-from_map moved before.mounts mount m in
-          ap (λ (x : Mount ℕ). is_ungrouped x.propagation) from.2
-          ∙ passes (λ (x : Mount ℕ). is_ungrouped x.propagation) before.mounts (held_is_kept value whole).ungrouped from.0 from.1);
       stand = stand;
       located = located;
       in_use = in_use;
@@ -323,6 +357,7 @@ module _ (value : WorldValue) (whole : IsHeld value) (points : List Point) (may 
       points = λ mount m point p few.
           let from = among-from_map moved before.mounts mount (subst (Among mount) (sym mounts_are) m) in
           seen_where_located value whole point few
-          (located_moved value whole points may.each from.0 from.1 (location_of point) (ap (λ (x : Mount ℕ). x.mount_point) (sym from.2) ∙ p));
+          (located_moved value whole points may.each from.0 from.1 (location_of point)
+          (ap (λ (x : Mount ℕ). x.mount_point) (sym from.2) ∙ p));
       places = λ mount m place p. filesystem_kept moved (λ one. refl) (λ one. refl) before.mounts place.mount;
     }

@@ -24,7 +24,8 @@ use Rattle.vt_detach.proofs.Staying.{IsDone, after}
 
 -- the code's world with other mounts, filesystems, namespaces and tasks
 abbrev pub remade_in : WorldValue → List MountEntry → Filesystems → List NamespaceEntry → Tasks → WorldValue
-remade_in value mounts filesystems namespaces tasks = record (remade value mounts filesystems tasks) { namespaces = namespaces }
+remade_in value mounts filesystems namespaces tasks = record
+    (remade value mounts filesystems tasks) { namespaces = namespaces }
 
 -- the same namespaces, each with the count of its tasks now
 pub record CountsTasks (value : WorldValue) (namespaces : List NamespaceEntry) (tasks : Tasks) : Type 0 where
@@ -32,7 +33,8 @@ pub record CountsTasks (value : WorldValue) (namespaces : List NamespaceEntry) (
   pub counts : (entry : NamespaceEntry) → Among entry namespaces
       → entry.tasks ≡ times (λ task. nat_eq (counted entry.count) task.namespace) tasks
 
-module _ (value : WorldValue) (whole : IsHeld value) (tasks : Tasks) (more less : List Use) (moves : Moves value tasks more less)
+module _ (value : WorldValue) (whole : IsHeld value) (tasks : Tasks) (more less : List Use)
+    (moves : Moves value tasks more less)
     (mounts : List MountEntry) (filesystems : Filesystems) (namespaces : List NamespaceEntry)
     (is_kept : kept mounts filesystems ≡ moved_kept (world_of value) more less (kept value.mounts value.filesystems))
     (inside : CountsTasks value namespaces tasks)
@@ -57,25 +59,24 @@ module _ (value : WorldValue) (whole : IsHeld value) (tasks : Tasks) (more less 
 
   counted_in : CountsBeside new
   counted_in = record {
-    ungrouped = all_pass (λ entry. is_ungrouped entry.mount.propagation) mounts (λ entry m.
-        let from = entry_was value whole tasks more less moves mounts filesystems is_kept entry m in
-        ap (λ (one : MountEntry). is_ungrouped one.mount.propagation) from.2
-        ∙ ap (λ (mount : Mount ℕ). is_ungrouped mount.propagation) (same_mount value whole tasks more less moves mounts filesystems is_kept from.0)
-        ∙ passes (λ one. is_ungrouped one.mount.propagation) value.mounts whole.ungrouped from.0 from.1);
     uses = all_from_among (CountsItsUses (world_of new)) mounts (λ entry m.
         let from = entry_was value whole tasks more less moves mounts filesystems is_kept entry m in
-        let counts = subst (CountsItsUses next) (sym from.2) (entry_counts value whole tasks more less moves from.0 from.1) in
+        let counts = subst (CountsItsUses next) (sym from.2)
+        (entry_counts value whole tasks more less moves from.0 from.1) in
         record { uses = counts.uses; writers = counts.writers });
     mounts = λ entry m. let from = shown_was value whole tasks more less moves mounts filesystems is_kept entry m in
         ap (λ (one : Shown). one.mounts) from.2
         ∙ (among_from_all (CountsItsMounts (world_of value)) value.filesystems whole.filesystems from.0 from.1).mounts
-        ∙ (λ i. times (λ (mount : Mount ℕ). nat_eq (counted (sym (ap (λ (one : Shown). one.count) from.2) i)) mount.filesystem)
+        ∙ (λ i. times (λ (mount : Mount ℕ). nat_eq
+        (counted (sym (ap (λ (one : Shown). one.count) from.2) i)) mount.filesystem)
         (sym (same_mounts value whole tasks more less moves mounts filesystems is_kept) i));
-    namespaces = all_from_among (CountsWhatIsInIt (world_of new)) namespaces (λ entry m. record { tasks = inside.counts entry m });
+    namespaces = all_from_among (CountsWhatIsInIt (world_of new)) namespaces
+        (λ entry m. record { tasks = inside.counts entry m });
   }
 
   pub remains_done_in : (name : TaskName) (permit : Permit ℕ) (task : Task ℕ) → IsApplied value name permit task next
       → IsDone value name permit new
   remains_done_in name permit task is =
-      finished value whole name permit task next is (inodes_of_uses (world_of value) more) (inodes_of_uses (world_of value) less) new
+      finished value whole name permit task next is (inodes_of_uses (world_of value) more)
+      (inodes_of_uses (world_of value) less) new
       swept_in (left_has value whole next refl (λ group. refl)) counted_in refl

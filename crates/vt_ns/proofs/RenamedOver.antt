@@ -52,10 +52,13 @@ abbrev pub tops_on_replaced : WorldValue → Option Location → List (Mount ℕ
 tops_on_replaced value None = []
 tops_on_replaced value (Some other) = tops_on value other
 
-module _ (value : WorldValue) (held : IsHeld value) (name : TaskName) (from : Location) (old : List ℕ) (to : Location) (new : List ℕ)
-    (object : Location) (replaced : Option Location) (small : IsSmall from) (small_to : IsSmall to) (small_object : IsSmall object)
+module _ (value : WorldValue) (held : IsHeld value) (name : TaskName) (from : Location) (old : List ℕ) (to : Location)
+    (new : List ℕ)
+    (object : Location) (replaced : Option Location) (small : IsSmall from) (small_to : IsSmall to)
+    (small_object : IsSmall object)
     (small_replaced : IfSome replaced IsSmall)
-    (permits : Permits value name (ToRename (location_of from) old (location_of to) new (location_of object) (option_map location_of replaced))) where
+    (permits : Permits value name (ToRename (location_of from) old (location_of to) new (location_of object)
+    (option_map location_of replaced))) where
   abbrev world : World ℕ
   world = world_of value
 
@@ -71,22 +74,27 @@ module _ (value : WorldValue) (held : IsHeld value) (name : TaskName) (from : Lo
   names : NamesWhatIsThere world permits.task permit
   names = Renaming.names value held name from old to new object replaced small small_to small_object permits
 
-  sees : MayBeRenamed world (location_of from) old (location_of to) new (location_of object) (option_map location_of replaced)
+  sees : MayBeRenamed world (location_of from) old (location_of to) new (location_of object)
+      (option_map location_of replaced)
   sees = Renaming.sees value held name from old to new object replaced small small_to small_object permits
 
-  pub replaced_collected : (numbers : List ℕ) → numbers ≡ trees_of_replaced (mounts_in value.mounts) replaced → numbers ≡ gone
+  pub replaced_collected : (numbers : List ℕ) → numbers ≡ trees_of_replaced (mounts_in value.mounts) replaced
+      → numbers ≡ gone
   replaced_collected numbers is = is ∙ by replaced small_replaced names.3
     where
       by : (o : Option Location) → IfSome o IsSmall
-          → ((other : meant.Location ℕ) → option_map location_of o ≡ Some other → IsReached (world_of value) permits.task other)
+          → ((other : meant.Location ℕ) → option_map location_of o ≡ Some other
+          → IsReached (world_of value) permits.task other)
           → trees_of_replaced (mounts_in value.mounts) o ≡ trees_numbers (world_of value) (tops_on_replaced value o)
       by None few there = refl
       by (Some other) few there = trees_collected value held other few (there (location_of other) refl).there
 
-  pub nothing_on_replaced : gone ≡ [] → IfSome replaced (λ other. mounts_on nat_eq (world_of value) (location_of other) ≡ [])
+  pub nothing_on_replaced : gone ≡ []
+      → IfSome replaced (λ other. mounts_on nat_eq (world_of value) (location_of other) ≡ [])
   nothing_on_replaced none = by replaced none
     where
-      by : (o : Option Location) → trees_numbers (world_of value) (tops_on_replaced value o) ≡ [] → IfSome o (λ other. mounts_on nat_eq (world_of value) (location_of other) ≡ [])
+      by : (o : Option Location) → trees_numbers (world_of value) (tops_on_replaced value o) ≡ []
+          → IfSome o (λ other. mounts_on nat_eq (world_of value) (location_of other) ≡ [])
       by None e = tt
       by (Some other) e = none_on world (tops_on value other) e
 
@@ -96,7 +104,8 @@ module _ (value : WorldValue) (held : IsHeld value) (name : TaskName) (from : Lo
   taken : (o : Option Location) → without_replaced nat_eq world (option_map location_of o)
       ≡ regrouped nat_eq (detached_world (trees_numbers world (tops_on_replaced value o)) world)
   taken None =
-      sym (regrouped_living world held.in_world.mounts.groups) ∙ ap (λ mounts. regrouped nat_eq (with_mounts world mounts)) (map_itself world.mounts)
+      sym (regrouped_living world held.in_world.mounts.groups)
+      ∙ ap (λ mounts. regrouped nat_eq (with_mounts world mounts)) (map_itself world.mounts)
   taken (Some other) =
       taken_regroups world (trees_numbers world (tops_on value other))
       (trees_have_children world held.in_world.mounts (tops_on value other))
@@ -117,23 +126,29 @@ module _ (value : WorldValue) (held : IsHeld value) (name : TaskName) (from : Lo
     shows : (mount_at nat_eq world place).filesystem ≡ (mount_at nat_eq world (location_of from)).filesystem
 
   facts : (other : Location) → replaced ≡ Some other
-      → (names_lost (filesystem_at nat_eq world (location_of from)).files change ≡ number_of other.node ∷ []) × ((location_of other).mount ≡ (location_of from).mount)
+      → (names_lost (filesystem_at nat_eq world (location_of from)).files change ≡ number_of other.node ∷ [])
+      × ((location_of other).mount ≡ (location_of from).mount)
   facts other is =
-      by (entry_at (filesystem_at nat_eq world (location_of to)).files.tree (number_of to.node) new) refl (sym (ap (option_map location_of) is) ∙ sees.replaces)
+      by (entry_at (filesystem_at nat_eq world (location_of to)).files.tree (number_of to.node) new) refl
+      (sym (ap (option_map location_of) is) ∙ sees.replaces)
     where
-      by : (o : Option ℕ) → entry_at (filesystem_at nat_eq world (location_of to)).files.tree (number_of to.node) new ≡ o
+      by : (o : Option ℕ) → entry_at (filesystem_at nat_eq world (location_of to)).files.tree (number_of to.node) new
+          ≡ o
           → Some (location_of other) ≡ option_map (λ number. record { mount = (location_of to).mount; node = number }) o
-          → (names_lost (filesystem_at nat_eq world (location_of from)).files change ≡ number_of other.node ∷ []) × ((location_of other).mount ≡ (location_of from).mount)
+          → (names_lost (filesystem_at nat_eq world (location_of from)).files change ≡ number_of other.node ∷ [])
+          × ((location_of other).mount ≡ (location_of from).mount)
       by None e h = absurd cc
       by (Some n) e h =
           let same : location_of other ≡ record { mount = (location_of to).mount; node = n } = same_Some _ _ h in (
             ap option_to_list
-                (ap (λ m. entry_at (filesystem_numbered nat_eq world (mount_numbered nat_eq world m).filesystem).files.tree (number_of to.node) new) (sym sees.to_mount) ∙ e)
+                (ap (λ m. entry_at (filesystem_numbered nat_eq world
+                (mount_numbered nat_eq world m).filesystem).files.tree (number_of to.node) new) (sym sees.to_mount) ∙ e)
                 ∙ ap (λ k. k ∷ []) (sym (ap (λ (l : meant.Location ℕ). l.node) same)),
             ap (λ (l : meant.Location ℕ). l.mount) same ∙ sees.to_mount,
           )
 
-  some_on : (o : Option Location) → replaced ≡ o → IfSome o IsSmall → trees_numbers world (tops_on_replaced value o) ≢ [] → IsOnReplaced
+  some_on : (o : Option Location) → replaced ≡ o → IfSome o IsSmall
+      → trees_numbers world (tops_on_replaced value o) ≢ [] → IsOnReplaced
   some_on None is few some = absurd (some refl)
   some_on (Some other) is few some =
       let on = one_on value held other few (λ none. some (ap (trees_numbers world) none)) in record {
@@ -158,19 +173,23 @@ module _ (value : WorldValue) (held : IsHeld value) (name : TaskName) (from : Lo
         among = seen.among;
         found = seen.found;
         shows = seen.shows;
-        fits = Renaming.fits value held name from old to new object replaced small small_to small_object permits (inodes_seen seen.entry) refl;
+        fits = Renaming.fits value held name from old to new object replaced small small_to small_object permits
+            (inodes_seen seen.entry) refl;
         links = tt;
         changes =
-            subst (λ count. ChangesInodes count (λ inodes. changed nat_eq inodes change) value.filesystems filesystems) (sym seen.count_is) changes;
+            subst (λ count. ChangesInodes count (λ inodes. changed nat_eq inodes change) value.filesystems filesystems)
+            (sym seen.count_is) changes;
         own = λ number other. tt;
       } in
       let reached : NamesWhatIsThere world permits.task (ToChange (location_of from) change) = (names.0.reached, tt) in
       let named : permit_named (is_counted_before value.next) (ToChange (location_of from) change) ≡ true =
       (λ i. seen.named i && (inodes_named value.next from.node.filesystem.count from.node.slot i
-      && inodes_named value.next to.node.filesystem.count to.node.slot i && inodes_named value.next object.node.filesystem.count object.node.slot i)) in
+      && inodes_named value.next to.node.filesystem.count to.node.slot i
+      && inodes_named value.next object.node.filesystem.count object.node.slot i)) in
       let is_named = Renaming.is_named value held name from old to new object replaced small small_to small_object permits in
       let on = some_on replaced refl small_replaced some in
-      changed_then_detached value held (location_of from) change filesystems made name permit permits gone reached named is_named applied
+      changed_then_detached value held
+      (location_of from) change filesystems made name permit permits gone reached named is_named applied
       (nothing_goes value held (location_of from) change filesystems made name permit permits gone reached named is_named applied
       on.inode on.lost (record { named = sees.moves.named; in_directory = sees.moves.in_directory }) on.mount on.among on.place on.placed on.at on.shows)
       closed mounts groups others together

@@ -1,37 +1,44 @@
 -- Mounts that get types, and leave their groups.
-use Rattle.std.proofs.Common.{None, ◌≡◌, ◌<◌, refl, sym, ap, subst, ◌∙◌, ℕ, ◌+◌, Bool, true, false, cond, ◌||◌, nat_eq, List, [], ◌∷◌, ◌++◌, map, get_or, length, take}
-use Rattle.std.specs.Prelude.{All, Contains, if◌then◌else◌}
+use Rattle.std.proofs.Common.{None, ◌≡◌, ◌<◌, refl, sym, ap, subst, ◌∙◌, ℕ, ◌+◌, Bool, true, false, cond, ◌||◌, nat_eq, List, [], ◌∷◌, ◌++◌, map, get_or, length, take, arith, Result, Ok, Err}
+use Rattle.std.specs.Prelude.{All, Contains, IfOk, OnOk, if◌then◌else◌}
 use Rattle.std.specs.List.{list_all, list_any}
+use Rattle.std.proofs.lemmas.Bool.{or_parts}
 use Rattle.std.proofs.lemmas.List.{map-append, take_more}
+use Rattle.vt_spec.specs.declared.errors.Deny.{Deny}
 use Rattle.vt_spec.specs.Language.Calls.{TypeWord}
-use Rattle.vt_spec.specs.Language.Calls.TypeWord.{ToPrivate, ToSlave, ToUnbindable}
+use Rattle.vt_spec.specs.Language.Calls.TypeWord.{ToShared, ToSlave}
 use Rattle.vt_spec.specs.Lists.{is_among}
 use Rattle.vt_spec.specs.Machine.Mounts.{Mount, Propagation, is_unbindable, source_of}
 use Rattle.vt_spec.specs.Machine.Mounts.Propagation.{Private, Shared, Slave, Unbindable}
-use Rattle.vt_spec.specs.Machine.Types.{retyped_mount, type_after}
+use Rattle.vt_spec.specs.Machine.Types.{retyped as policy_retyped, retyped_mount, type_after}
 use Rattle.vt_spec.specs.Machine.World.{World}
 use Rattle.vt_group.specs.Grouping.{Grouping, GroupsLive, numbers_of, propagation_in}
-use Rattle.vt_group.specs.Together.{Retypes}
+use Rattle.vt_group.specs.Together.{Retypes, Shares}
 use Rattle.vt_group.proofs.Together.{eqb-swapped, is_among-snoc, named_numbers}
 use Rattle.vt_group.proofs.Others.{has_ordered}
-use Rattle.vt_letting_go.proofs.Lists.{all_from_among, among-from_map, map_twice}
+use Rattle.vt_letting_go.proofs.Lists.{all_from_among, among-from_map, map_alike, map_twice}
 use Rattle.vt_location.specs.declared.numbers.MountId.{MountId}
 use Rattle.vt_location.specs.Numbers.{counted}
 use Rattle.vt_mount.specs.MountsValue.{MountEntry, changed, mounts_in, retyped}
-use Rattle.vt_propagate.specs.Retyping.{FollowsTypes, FollowsTypesLeft, HaveNoSource, typed_entry, with_kind}
+use Rattle.vt_propagate.specs.Retyping.{FollowsTypes, FollowsTypesLeft, HaveNoSource, shared_by, typed_entry, with_kind}
+use Rattle.vt_propagate.specs.Pushing.{EachOnce}
 use Rattle.vt_propagate.specs.Seen.{IsSeen}
-use Rattle.vt_propagate.proofs.Seeing.{are_typed, retyping_is_seen, slaves_are_seen}
-use Rattle.vt_ns.specs.Retyped.{IsRetyped, set_if}
+use Rattle.vt_propagate.proofs.Seeing.{are_typed, retyping_is_seen, sharing_is_seen, slaves_are_seen}
+use Rattle.vt_run_laws.specs.Handed.{counts_from}
+use Rattle.vt_attach.proofs.CopiesAscend.{place_first, place_in, place_later}
+use Rattle.vt_ns.specs.Retyped.{IsRetyped, counted_after, set_if, with_counts}
 
 -- One after the other
 
 module _ (numbers : List ℕ) (kind : Propagation ℕ) (number : ℕ) where
   one_more : (entry : MountEntry)
-      → (if nat_eq number entry.mount.number then with_kind kind (retyped (set_if numbers kind) entry) else retyped (set_if numbers kind) entry)
+      → (if nat_eq number entry.mount.number then with_kind kind (retyped (set_if numbers kind) entry)
+      else retyped (set_if numbers kind) entry)
       ≡ retyped (set_if (numbers ++ number ∷ []) kind) entry
   one_more entry =
       by (is_among nat_eq entry.mount.number numbers) (nat_eq number entry.mount.number) refl
-      ∙ sym (ap (λ b. with_kind (if b then kind else entry.mount.propagation) entry) (is_among-snoc entry.mount.number number numbers))
+      ∙ sym (ap (λ b. with_kind (if b then kind else entry.mount.propagation) entry)
+      (is_among-snoc entry.mount.number number numbers))
     where
       by : (a b : Bool) → nat_eq number entry.mount.number ≡ b
           → (if b then with_kind kind (with_kind (if a then kind else entry.mount.propagation) entry)
@@ -39,15 +46,19 @@ module _ (numbers : List ℕ) (kind : Propagation ℕ) (number : ℕ) where
           ≡ with_kind (if a || nat_eq entry.mount.number number then kind else entry.mount.propagation) entry
       by true true is = refl
       by true false is = refl
-      by false true is = sym (ap (λ b. with_kind (if b then kind else entry.mount.propagation) entry) (eqb-swapped number entry.mount.number true is))
-      by false false is = sym (ap (λ b. with_kind (if b then kind else entry.mount.propagation) entry) (eqb-swapped number entry.mount.number false is))
+      by false true is = sym (ap (λ b. with_kind (if b then kind else entry.mount.propagation) entry)
+          (eqb-swapped number entry.mount.number true is))
+      by false false is = sym (ap (λ b. with_kind (if b then kind else entry.mount.propagation) entry)
+          (eqb-swapped number entry.mount.number false is))
 
   all_more : (entries : List MountEntry)
-      → changed number (with_kind kind) (map (retyped (set_if numbers kind)) entries) ≡ map (retyped (set_if (numbers ++ number ∷ []) kind)) entries
+      → changed number (with_kind kind) (map (retyped (set_if numbers kind)) entries)
+      ≡ map (retyped (set_if (numbers ++ number ∷ []) kind)) entries
   all_more [] = refl
   all_more (entry ∷ entries) = λ i. one_more entry i ∷ all_more entries i
 
-pub set_next : (old now new : List MountEntry) (kind : Propagation ℕ) (ids : List MountId) (i : ℕ) (d : MountId) → i < length ids
+pub set_next : (old now new : List MountEntry) (kind : Propagation ℕ) (ids : List MountId) (i : ℕ) (d : MountId)
+    → i < length ids
     → new ≡ changed (counted (get_or ids i d).count) (with_kind kind) now
     → now ≡ map (retyped (set_if (map (λ (id : MountId). counted id.count) (take i ids)) kind)) old
     → new ≡ map (retyped (set_if (map (λ (id : MountId). counted id.count) (take (i + 1) ids)) kind)) old
@@ -68,16 +79,19 @@ none_set kind (entry ∷ entries) = ap (λ rest. entry ∷ rest) (none_set kind 
 abbrev told : Grouping → ℕ → Propagation ℕ → Propagation ℕ
 told now number kind = if is_unbindable kind then Unbindable else propagation_in now number
 
-pub slaves_retyped : (numbers : List ℕ) (before now : Grouping) (old new : List MountEntry) → Retypes before now ToSlave numbers
-    → FollowsTypes before now [] old new → IsRetyped ToSlave numbers before now old new
-slaves_retyped numbers before now old new retypes follows = record {
-  seen = λ world group named seen there same lacks.
+pub slaves_retyped : (next : ℕ) (numbers : List ℕ) (before now : Grouping) (old new : List MountEntry)
+    → Retypes before now ToSlave numbers
+    → FollowsTypes before now [] old new → IsRetyped ToSlave next next numbers before now old new
+slaves_retyped next numbers before now old new retypes follows = record {
+  counts = refl;
+  seen = λ world group named seen there same lacks counted.
       slaves_are_seen world group named old new before now seen there lacks
       (subst (Retypes before now ToSlave) (sym same) retypes)
       follows;
   kinds = λ world seen. (
     told now,
-    follows (are_typed world old before seen [] old (λ mount. mount) (seen.mounts ∙ unchanged world.mounts) (λ mount apart. (refl, refl))),
+    follows (are_typed world old before seen [] old (λ mount. mount) (seen.mounts ∙ unchanged world.mounts)
+        (λ mount apart. (refl, refl))),
   );
 }
   where
@@ -86,14 +100,18 @@ slaves_retyped numbers before now old new retypes follows = record {
     unchanged (mount ∷ mounts) = ap (λ rest. mount ∷ rest) (unchanged mounts)
 
 -- the type is set before the mounts leave
-pub set_retyped : (word : TypeWord) (kind : Propagation ℕ) → ((new : ℕ) (old : Propagation ℕ) → type_after new word old ≡ kind)
-    → (numbers : List ℕ) (before now : Grouping) (old left new : List MountEntry)
+pub set_retyped : (word : TypeWord) (kind : Propagation ℕ)
+    → ((new : ℕ) (old : Propagation ℕ) → type_after new word old ≡ kind)
+    → (next : ℕ) (numbers : List ℕ) → counted_after word next numbers ≡ next
+    → (before now : Grouping) (old left new : List MountEntry)
     → source_of kind ≡ None → left ≡ map (retyped (set_if numbers kind)) old → Retypes before now word numbers
-    → FollowsTypesLeft before now numbers left new → IsRetyped word numbers before now old new
-set_retyped word kind sets numbers before now old left new alone is retypes follows_left = record {
-  seen = λ world group named seen there same lacks.
+    → FollowsTypesLeft before now numbers left new → IsRetyped word next next numbers before now old new
+set_retyped word kind sets next numbers none before now old left new alone is retypes follows_left = record {
+  counts = sym none;
+  seen = λ world group named seen there same lacks counted.
       retyping_is_seen world group word named old left new before now seen there lacks
-      (all_set world seen ∙ ap (λ some. map (set_mount some) world.mounts) (sym same) ∙ named_set world seen.living group named world.mounts)
+      (all_set world seen ∙ ap (λ some. map (set_mount some) world.mounts) (sym same)
+      ∙ named_set world seen.living group named world.mounts)
       (subst (Retypes before now word) (sym same) retypes)
       (subst (λ some. FollowsTypes before now some left new) (sym same) (follows world seen));
   kinds = λ world seen. (
@@ -108,10 +126,12 @@ set_retyped word kind sets numbers before now old left new alone is retypes foll
     follows world seen =
         follows_left (has_ordered world before seen.groups)
         (subst (HaveNoSource numbers) (sym is)
-        (all_from_among (λ (entry : MountEntry). is_among nat_eq entry.mount.number numbers ≡ true → source_of entry.mount.propagation ≡ None)
+        (all_from_among (λ (entry : MountEntry). is_among nat_eq entry.mount.number numbers ≡ true
+        → source_of entry.mount.propagation ≡ None)
         (map (retyped (set_if numbers kind)) old) (λ entry m.
         let from = among-from_map (retyped (set_if numbers kind)) old entry m in
-        subst (λ (one : MountEntry). is_among nat_eq one.mount.number numbers ≡ true → source_of one.mount.propagation ≡ None) (sym from.2)
+        subst (λ (one : MountEntry). is_among nat_eq one.mount.number numbers ≡ true
+        → source_of one.mount.propagation ≡ None) (sym from.2)
         (λ there. ap (λ b. source_of (if b then kind else from.0.mount.propagation)) there ∙ alone))))
 
     set_mount : List ℕ → Mount ℕ → Mount ℕ
@@ -128,15 +148,95 @@ set_retyped word kind sets numbers before now old left new alone is retypes foll
         → map (set_mount (numbers_of named)) mounts ≡ map (retyped_mount nat_eq group word named) mounts
     named_set world live group named [] = refl
     named_set world live group named (mount ∷ rest) =
-        λ i. (ap (λ b. record mount { propagation = if b then kind else mount.propagation }) (sym (named_numbers world live mount.number named))
+        λ i. (ap (λ b. record mount { propagation = if b then kind else mount.propagation })
+        (sym (named_numbers world live mount.number named))
         ∙ by (list_any (λ (other : Mount ℕ). nat_eq mount.number other.number) named)) i
         ∷ named_set world live group named rest i
       where
         by : (b : Bool) → record mount { propagation = if b then kind else mount.propagation }
-            ≡ (if b then record mount { propagation = type_after (group mount.number) word mount.propagation } else mount)
+            ≡ (if b then record mount { propagation = type_after (group mount.number) word mount.propagation }
+            else mount)
         by true = λ i. record mount { propagation = sym (sets (group mount.number) mount.propagation) i }
         by false = refl
 
     kept : (mount : Mount ℕ) → is_among nat_eq (set_mount numbers mount).number numbers ≡ false
-        → ((set_mount numbers mount).number ≡ mount.number) × ((set_mount numbers mount).propagation ≡ mount.propagation)
+        → ((set_mount numbers mount).number ≡ mount.number)
+        × ((set_mount numbers mount).propagation ≡ mount.propagation)
     kept mount apart = (refl, ap (λ b. if b then kind else mount.propagation) apart)
+
+-- each shared mount has the type that the groups tell
+pub shared_retyped : (next later : ℕ) (numbers : List ℕ) (before now : Grouping) (old new : List MountEntry)
+    → later ≡ next + length numbers → Shares before now (with_counts next numbers)
+    → new ≡ map (shared_by now numbers) old
+    → IsRetyped ToShared next later numbers before now old new
+shared_retyped next later numbers before now old new counts shares is = record {
+  counts = counts;
+  seen = λ world group named seen there same lacks counted.
+      subst (λ all. IsSeen (policy_retyped nat_eq world group ToShared named) all now)
+      (ap (λ some. map (shared_by now some) old) same ∙ sym is)
+      (sharing_is_seen world group named old before now seen there lacks
+      (subst (Shares before now) (sym (pairs group named same ∙ counted)) shares));
+  kinds = λ world seen. (shared_kind, is ∙ shares_each old);
+}
+  where
+    numbered : (ℕ → ℕ) → ℕ → ℕ × ℕ
+    numbered group number = (number, group number)
+
+    pairs : (group : ℕ → ℕ) (named : List (Mount ℕ)) → numbers_of named ≡ numbers
+        → map {B = ℕ × ℕ} (λ (mount : Mount ℕ). (mount.number, group mount.number)) named
+        ≡ map {B = ℕ × ℕ} (λ number. (number, group number)) numbers
+    pairs group named same =
+        sym (map_twice (numbered group) (λ (mount : Mount ℕ). mount.number) named) ∙ ap (map (numbered group)) same
+
+    shared_kind : ℕ → Propagation ℕ → Propagation ℕ
+    shared_kind number kind = if is_among nat_eq number numbers then propagation_in now number else kind
+
+    shares_each : (entries : List MountEntry) → map (shared_by now numbers) entries ≡ map (retyped shared_kind) entries
+    shares_each [] = refl
+    shares_each (entry ∷ entries) = λ i. by (is_among nat_eq entry.mount.number numbers) i ∷ shares_each entries i
+      where
+        by : (b : Bool) → (if b then with_kind (propagation_in now entry.mount.number) entry else entry)
+            ≡ with_kind (if b then propagation_in now entry.mount.number else entry.mount.propagation) entry
+        by true = refl
+        by false = refl
+
+pub shared_if_ok : (result : Result ℕ Deny) (next : ℕ) (numbers : List ℕ) (before now : Grouping)
+    (old new : List MountEntry)
+    → OnOk result (Shares before now (with_counts next numbers)) → OnOk result (new ≡ map (shared_by now numbers) old)
+    → (many : ℕ) → many ≡ length numbers → IfOk result (λ later. later ≡ next + many)
+    → IfOk result (λ later. IsRetyped ToShared next later numbers before now old new)
+shared_if_ok (Ok later) next numbers before now old new shares is many all counts =
+    shared_retyped next later numbers before now old new (counts ∙ ap (λ n. next + n) all) shares is
+shared_if_ok (Err deny) next numbers before now old new shares is many all counts = tt
+
+-- New groups
+
+pub each_numbered : (next : ℕ) (numbers : List ℕ) → map (λ (pair : ℕ × ℕ). pair.0) (with_counts next numbers) ≡ numbers
+each_numbered next [] = refl
+each_numbered next (number ∷ rest) = ap (λ others. number ∷ others) (each_numbered (next + 1) rest)
+
+-- Mounts with different numbers have their new groups counted in their order.
+pub places_are_counted : (next k : ℕ) (mounts : List (Mount ℕ)) → EachOnce mounts
+    → map {B = ℕ × ℕ} (λ (mount : Mount ℕ). (mount.number, counts_from next (place_in k mounts mount.number))) mounts
+    ≡ with_counts (next + k) (numbers_of mounts)
+places_are_counted next k [] once = refl
+places_are_counted next k (first ∷ rest) once =
+    λ i. (first.number, counts_from next (place_first k first rest i))
+    ∷ others (places_are_counted next (k + 1) rest
+    (or_parts (list_any (λ (other : Mount ℕ). nat_eq first.number other.number) rest) _ once).1) i
+  where
+    at : ℕ → List (Mount ℕ) → Mount ℕ → ℕ × ℕ
+    at j list mount = (mount.number, counts_from next (place_in j list mount.number))
+
+    pair : Mount ℕ → ℕ → ℕ × ℕ
+    pair mount place = (mount.number, counts_from next place)
+
+    sum : next + (k + 1) ≡ next + k + 1
+    sum = omega arith
+
+    others : map (at (k + 1) rest) rest ≡ with_counts (next + (k + 1)) (numbers_of rest)
+        → map (at k (first ∷ rest)) rest ≡ with_counts (next + k + 1) (numbers_of rest)
+    others later =
+        map_alike (at k (first ∷ rest)) (at (k + 1) rest) rest
+        (λ mount m. ap (pair mount) (place_later k first rest once mount m))
+        ∙ later ∙ ap (λ n. with_counts n (numbers_of rest)) sum

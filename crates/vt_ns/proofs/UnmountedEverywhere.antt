@@ -1,27 +1,29 @@
--- A mount is unmounted, with the mounts at the receivers of its parent: umount(2).
+-- Mounts are unmounted, with the mounts at the receivers of their parents: umount(2).
 use Rattle.std.proofs.Common.{◌∷◌, ◌≡◌, refl, sym, ap, subst, ◌∙◌, ℕ, nat_eq, eqb-true, Bool, true, false, true≢false, cond, List, [], map, find, Option, Some, None, option_map, is_some, unwrap_or}
 use Rattle.std.proofs.lemmas.List.{append-nil}
 use Rattle.std.specs.Prelude.{All}
-use Rattle.std.specs.List.{list_all, list_any}
+use Rattle.std.specs.List.{list_any}
 use Rattle.vt_spec.specs.Language.Calls.{TaskName}
-use Rattle.vt_spec.specs.Machine.Detach.{after_going, going, is_going, mount_point_left, taken_away, unmounted}
+use Rattle.vt_spec.specs.Machine.Detach.{after_going, going, is_going, lazily_unmounted, mount_point_left, taken_away, unmounted}
 use Rattle.vt_spec.specs.Machine.Mounts.{Location, Mount, detached, no_mount}
-use Rattle.vt_spec.specs.Machine.Permits.Permit.{ToUnmount}
+use Rattle.vt_spec.specs.Machine.Permits.{Permit}
+use Rattle.vt_spec.specs.Machine.Permits.Permit.{ToUnmount, ToUnmountLazily}
 use Rattle.vt_spec.specs.Machine.Receives.{inheriting, lost_a_group, regrouped, regrouped_by}
 use Rattle.vt_spec.specs.Machine.Settled.{without_dead_groups}
-use Rattle.vt_spec.specs.Machine.World.{World, mount_numbered, with_mounts}
+use Rattle.vt_spec.specs.Machine.World.{Task, World, mount_numbered, with_mounts}
 use Rattle.vt_fs.specs.FilesystemsValue.{Filesystems}
-use Rattle.vt_group.specs.Grouping.{Grouping, Has, HasGroup}
+use Rattle.vt_group.specs.Grouping.{Grouping, Has, HasGroup, are_rising, numbers_of, peers_of}
 use Rattle.vt_group.specs.Together.{GrowsTo, TakesAway}
 use Rattle.vt_group.proofs.Showing.{has_one_grouping}
 use Rattle.vt_group.proofs.Typed.{regrouped_is_typed}
 use Rattle.vt_letting_go.proofs.Lists.{all_from_among, among-map, among_from_all}
-use Rattle.vt_location.specs.declared.locations.Location.{Location as At}
 use Rattle.vt_location.specs.Locations.{location_of}
 use Rattle.vt_location.specs.Numbers.{counted}
 use Rattle.vt_mount.specs.MountsValue.{MountEntry}
-use Rattle.vt_propagate.specs.Falling.{FallsTo, left_by}
-use Rattle.vt_attach.specs.Planned.{Point, is_small, placed_entry, points_left, points_taken, with_planned, with_points}
+use Rattle.vt_propagate.specs.Falling.{FallsTo, LeavesBy, left_by}
+use Rattle.vt_propagate.specs.LazyUnmounts.{gone_lazily}
+use Rattle.vt_propagate.proofs.LazyUnmounts.{lazy_unmounts_are_at_once}
+use Rattle.vt_attach.specs.Planned.{Point, placed_entry, with_points}
 use Rattle.vt_attach.specs.PlannedUses.{point_seen}
 use Rattle.vt_detach.specs.Detached.{LeaveTogether}
 use Rattle.vt_detach.specs.Events.{Permits}
@@ -32,18 +34,19 @@ use Rattle.vt_detach.proofs.FollowedTypes.{changed_typed, own_types}
 use Rattle.vt_group.proofs.Others.{has_ordered}
 use Rattle.vt_detach.specs.WorldValue.{WorldValue, world_of}
 use Rattle.vt_detach.proofs.FileEvents.{permit_fits}
-use Rattle.vt_detach.proofs.Grouped.{held_has_none}
+use Rattle.vt_detach.proofs.Finishing.{IsApplied}
 use Rattle.vt_detach.proofs.Leaving.{found_it}
 use Rattle.vt_detach.proofs.MountsGone.{found_mapped}
 use Rattle.vt_detach.proofs.Remaining.{remade}
 use Rattle.vt_detach.proofs.Staying.{IsDone}
-use Rattle.vt_detach.proofs.TypedEvents.{none_taken}
 use Rattle.vt_detach.proofs.UnmountedAlone.{attached_is_named}
+use Rattle.vt_ns.specs.Unmounting.{GoTogether}
 use Rattle.vt_ns.proofs.UnmountedWorlds.{moved_then_detached}
 
 -- groups that end leave mounts where they are
 pub regrouped_places : (world : World ℕ) (number : ℕ)
-    → (mount_numbered nat_eq (regrouped nat_eq world) number).mount_point ≡ (mount_numbered nat_eq world number).mount_point
+    → (mount_numbered nat_eq (regrouped nat_eq world) number).mount_point
+    ≡ (mount_numbered nat_eq world number).mount_point
 regrouped_places world number = by (list_any (lost_a_group nat_eq world) world.mounts)
   where
     found : (o : Option (Mount ℕ)) → (unwrap_or (option_map (inheriting nat_eq world) o) (no_mount number)).mount_point
@@ -51,10 +54,12 @@ regrouped_places world number = by (list_any (lost_a_group nat_eq world) world.m
     found None = refl
     found (Some mount) = refl
 
-    by : (b : Bool) → (mount_numbered nat_eq (regrouped_by nat_eq b world) number).mount_point ≡ (mount_numbered nat_eq world number).mount_point
+    by : (b : Bool) → (mount_numbered nat_eq (regrouped_by nat_eq b world) number).mount_point
+        ≡ (mount_numbered nat_eq world number).mount_point
     by false = refl
     by true =
-        ap (λ o. (unwrap_or o (no_mount number)).mount_point) (found_mapped (inheriting nat_eq world) (λ mount. refl) world.mounts number)
+        ap (λ o. (unwrap_or o (no_mount number)).mount_point)
+        (found_mapped (inheriting nat_eq world) (λ mount. refl) world.mounts number)
         ∙ found (find (λ (mount : Mount ℕ). nat_eq number mount.number) world.mounts)
 
 -- a mount that falls is where it falls to
@@ -62,13 +67,16 @@ pub fallen_to : (world : World ℕ) (gone : List ℕ) (number : ℕ) (place : Lo
     → (mount_numbered nat_eq (taken_away nat_eq world gone) number).mount_point ≡ Some place
 fallen_to world gone number place falls =
     regrouped_places (with_mounts world (map (after_going nat_eq world gone) world.mounts)) number
-    ∙ ap (λ o. (unwrap_or o (no_mount number)).mount_point) (found_mapped (after_going nat_eq world gone) same_number world.mounts number)
+    ∙ ap (λ o. (unwrap_or o (no_mount number)).mount_point)
+    (found_mapped (after_going nat_eq world gone) same_number world.mounts number)
     ∙ by (find (λ (mount : Mount ℕ). nat_eq number mount.number) world.mounts) refl falls.1
   where
     same_number : (mount : Mount ℕ) → (after_going nat_eq world gone mount).number ≡ mount.number
     same_number mount = either (is_going nat_eq gone mount.number)
       where
-        either : (b : Bool) → (cond b (detached mount) (record mount { mount_point = option_map (mount_point_left nat_eq world gone) mount.mount_point })).number ≡ mount.number
+        either : (b : Bool) → (cond b (detached mount)
+            (record mount { mount_point = option_map (mount_point_left nat_eq world gone) mount.mount_point })).number
+            ≡ mount.number
         either true = refl
         either false = refl
 
@@ -80,8 +88,14 @@ fallen_to world gone number place falls =
         → (unwrap_or (option_map (after_going nat_eq world gone) o) (no_mount number)).mount_point ≡ Some place
     by None e is = absurd (none_some is)
     by (Some mount) e is =
-        let its = eqb-true number mount.number (found_it (λ (x : Mount ℕ). nat_eq number x.number) world.mounts mount e).1 in
-        ap (λ b. (cond b (detached mount) (record mount { mount_point = option_map (mount_point_left nat_eq world gone) mount.mount_point })).mount_point) (ap (is_going nat_eq gone) (sym its) ∙ falls.0) ∙ is
+        let its = eqb-true number mount.number
+        (found_it (λ (x : Mount ℕ). nat_eq number x.number) world.mounts mount e).1 in
+        ap (λ b. (cond b (detached mount)
+        (record mount {
+          mount_point = option_map
+              (mount_point_left nat_eq world gone) mount.mount_point;
+        })).mount_point)
+        (ap (is_going nat_eq gone) (sym its) ∙ falls.0) ∙ is
 
 -- groups that grow by nothing stay
 pub nothing_grows : (world : World ℕ) (old new : Grouping) → Has world old → GrowsTo old new [] [] → new ≡ old
@@ -92,7 +106,8 @@ nothing_grows world old new has grows =
       peers = refl;
       master = λ group. refl;
       stay = λ group there. there;
-      begin = all_from_among (λ (entry : ℕ × Option ℕ). is_some entry.1 ≡ true → HasGroup world entry.0) [] (λ entry m. absurd m);
+      begin = all_from_among (λ (entry : ℕ × Option ℕ). is_some entry.1 ≡ true → HasGroup world entry.0) []
+          (λ entry m. absurd m);
       named = λ group lacks there. absurd (true≢false (sym there ∙ lacks));
     }))
     has
@@ -106,42 +121,91 @@ points_typed groups entries typed (point ∷ rest) =
     (λ entry is. λ i. record (placed_entry point.place entry).mount { propagation = (is i).propagation })
     (with_points rest entries) (points_typed groups entries typed rest)
 
-pub unmounted_everywhere : (value : WorldValue) → IsHeld value → (name : TaskName) (number : ℕ) → Permits value name (ToUnmount number)
-    → (gone : List ℕ) (points : List Point) → gone ≡ going nat_eq (world_of value) (mount_numbered nat_eq (world_of value) number)
-    → unmounted nat_eq (world_of value) number
-    ≡ regrouped nat_eq (with_mounts (world_of value) (map (left_by gone (map point_seen points)) (world_of value).mounts))
+-- groups of masters without members do not count
+same_groups : (one other : World ℕ) (groups : Grouping)
+    → without_dead_groups nat_eq one ≡ without_dead_groups nat_eq other → Has other groups → Has one groups
+same_groups one other groups same has = record {
+  order = ap (λ (w : World ℕ). are_rising (numbers_of w.mounts)) same ∙ has.order;
+  peers = has.peers ∙ sym (ap (λ (w : World ℕ). peers_of w.mounts) same);
+  masters_order = has.masters_order;
+  masters = λ group. has.masters group ∙ sym (ap (λ (w : World ℕ). w.master group) same);
+}
+
+-- Where mounts are detached at once, those that stay have moved, and the groups follow, the policy's world is left.
+pub gone_together : (value : WorldValue) → IsHeld value → (name : TaskName) (permit : Permit ℕ) (task : Task ℕ)
+    (policy : World ℕ) → IsApplied value name permit task policy → (gone : List ℕ) (points : List Point)
+    → without_dead_groups nat_eq policy ≡ without_dead_groups nat_eq (taken_away nat_eq (world_of value) gone)
+    → LeavesBy (world_of value) gone (map point_seen points)
     → All (FallsTo (world_of value) gone) (map point_seen points)
-    → (left : List At) → map location_of left ≡ points_left points value.mounts → list_all is_small left ≡ true
-    → list_all is_small (points_taken points value.mounts) ≡ true
-    → (between : List MountEntry) (between_files : Filesystems)
-    → kept between between_files ≡ with_planned [] points left (kept value.mounts value.filesystems)
     → (mounts : List MountEntry) (groups : Grouping) (filesystems : Filesystems)
-    → LeaveTogether gone (kept between between_files) value.groups (kept mounts filesystems) groups
-    → IsDone value name (ToUnmount number) (record (remade value mounts filesystems value.tasks) { groups = groups })
-unmounted_everywhere value whole name number permits gone points gone_is regroups falls left left_are left_small taken_small between between_files
-    is_kept mounts groups filesystems together =
+    → GoTogether gone points (kept value.mounts value.filesystems) value.groups (kept mounts filesystems) groups
+    → IsDone value name permit (record (remade value mounts filesystems value.tasks) { groups = groups })
+gone_together value whole name permit task policy is gone points alike regroups falls mounts groups filesystems go =
     let world = world_of value in
     let start = with_mounts world (map (left_by gone (map point_seen points)) world.mounts) in
-    let names = (permit_fits value whole name (ToUnmount number) permits).names in
-    let moved_typed : AreTyped value.groups between =
-    subst (AreTyped value.groups) (sym (ap (λ (k : Kept). k.mounts) is_kept ∙ append-nil (with_points points value.mounts)))
+    let together : LeaveTogether gone (kept go.between go.files) value.groups (kept mounts filesystems) groups =
+    subst (λ before. LeaveTogether gone (kept go.between go.files) before (kept mounts filesystems) groups)
+    (nothing_grows world value.groups go.groups whole.groups go.grown) go.together in
+    let moved_typed : AreTyped value.groups go.between =
+    subst (AreTyped value.groups) (sym
+    (ap (λ (k : Kept). k.mounts) go.moved ∙ append-nil (with_points points value.mounts)))
     (points_typed value.groups value.mounts (own_types value whole) points) in
-    let has : Has (unmounted nat_eq world number) groups =
-    subst (λ all. Has (taken_away nat_eq world all) groups) gone_is (together.groups world whole.groups whole.in_world.mounts.groups) in
-    subst (λ all. IsDone value name (ToUnmount number) (record (remade value all filesystems value.tasks) { groups = groups })) (sym (together.types (has_ordered world value.groups whole.groups) moved_typed))
-    (moved_then_detached value whole name (ToUnmount number) permits.task (unmounted nat_eq world number)
+    let taken : Has (taken_away nat_eq world gone) groups =
+    together.groups world whole.groups whole.in_world.mounts.groups in
+    subst (λ all. IsDone value name permit (record (remade value all filesystems value.tasks) { groups = groups }))
+    (sym (together.types (has_ordered world value.groups whole.groups) moved_typed))
+    (moved_then_detached value whole name permit task policy is gone points groups
+    (same_groups policy (taken_away nat_eq world gone) groups alike taken)
+    (alike ∙ ap (without_dead_groups nat_eq) regroups
+    ∙ regrouped_is_typed start groups (subst (λ one. Has one groups) regroups taken))
+    (λ point m.
+    ap (λ (w : World ℕ). (mount_numbered nat_eq w (counted point.mount.count)).mount_point) alike
+    ∙ fallen_to world gone (counted point.mount.count) (location_of point.place)
+    (among_from_all (FallsTo world gone) (map point_seen points) falls (point_seen point)
+    (among-map point_seen points point m)))
+    go.left go.left_are go.left_small go.taken_small go.between go.files go.moved
+    together.entries filesystems together.turn)
+
+pub unmounted_everywhere : (value : WorldValue) → IsHeld value → (name : TaskName) (number : ℕ)
+    → Permits value name (ToUnmount number)
+    → (gone : List ℕ) (points : List Point)
+    → gone ≡ going nat_eq (world_of value) (mount_numbered nat_eq (world_of value) number)
+    → LeavesBy (world_of value) gone (map point_seen points)
+    → All (FallsTo (world_of value) gone) (map point_seen points)
+    → (mounts : List MountEntry) (groups : Grouping) (filesystems : Filesystems)
+    → GoTogether gone points (kept value.mounts value.filesystems) value.groups (kept mounts filesystems) groups
+    → IsDone value name (ToUnmount number) (record (remade value mounts filesystems value.tasks) { groups = groups })
+unmounted_everywhere value whole name number permits gone points gone_is =
+    let names = (permit_fits value whole name (ToUnmount number) permits).names in
+    gone_together value whole name (ToUnmount number) permits.task (unmounted nat_eq (world_of value) number)
     (record {
       called = permits.called;
       given = permits.given;
       named = attached_is_named value whole number (ap is_some names.0);
       applied = λ fresh. refl;
     })
-    gone points groups has
-    (ap (without_dead_groups nat_eq) regroups ∙ regrouped_is_typed start groups (subst (λ one. Has one groups) regroups has))
-    (λ point m.
-    ap (λ all. (mount_numbered nat_eq (taken_away nat_eq world all) (counted point.mount.count)).mount_point) (sym gone_is)
-    ∙ fallen_to world gone (counted point.mount.count) (location_of point.place)
-    (among_from_all (FallsTo world gone) (map point_seen points) falls (point_seen point) (among-map point_seen points point m)))
-    left left_are left_small taken_small between between_files is_kept
-    (none_taken groups gone (subst (λ before. TakesAway before groups gone) (held_has_none value whole) together.groups))
-    together.entries filesystems together.turn)
+    gone points (ap (λ all. without_dead_groups nat_eq (taken_away nat_eq (world_of value) all)) (sym gone_is))
+
+-- a mount and its descendants, with what propagation detaches with each of them: umount(2) with MNT_DETACH
+pub unmounted_lazily : (value : WorldValue) → IsHeld value → (name : TaskName) (number : ℕ)
+    → Permits value name (ToUnmountLazily number)
+    → (gone : List ℕ) (points : List Point) → gone ≡ gone_lazily (world_of value) number
+    → LeavesBy (world_of value) gone (map point_seen points)
+    → All (FallsTo (world_of value) gone) (map point_seen points)
+    → (mounts : List MountEntry) (groups : Grouping) (filesystems : Filesystems)
+    → GoTogether gone points (kept value.mounts value.filesystems) value.groups (kept mounts filesystems) groups
+    → IsDone value name (ToUnmountLazily number)
+    (record (remade value mounts filesystems value.tasks) { groups = groups })
+unmounted_lazily value whole name number permits gone points gone_is =
+    let names = (permit_fits value whole name (ToUnmountLazily number) permits).names in
+    gone_together value whole name (ToUnmountLazily number) permits.task
+    (lazily_unmounted nat_eq (world_of value) number)
+    (record {
+      called = permits.called;
+      given = permits.given;
+      named = attached_is_named value whole number (ap is_some names.0);
+      applied = λ fresh. refl;
+    })
+    gone points
+    (lazy_unmounts_are_at_once (world_of value) number whole.in_world.mounts
+    ∙ ap (λ all. without_dead_groups nat_eq (taken_away nat_eq (world_of value) all)) (sym gone_is))

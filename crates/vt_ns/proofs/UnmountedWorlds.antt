@@ -47,7 +47,7 @@ use Rattle.vt_detach.proofs.MidwayBegins.{parent_inside}
 use Rattle.vt_detach.proofs.MountsGone.{found_mapped}
 use Rattle.vt_detach.proofs.Remaining.{remade}
 use Rattle.vt_detach.proofs.Staying.{IsDone, world_is_plain}
-use Rattle.vt_detach.proofs.TypedEvents.{counts_typed, no_groups_free, swept_typed, typed_value}
+use Rattle.vt_detach.proofs.TypedEvents.{counts_typed, swept_typed, typed_value}
 use Rattle.vt_detach.proofs.TypedWorlds.{settled_without_groups, typed_world}
 use Rattle.vt_detach.proofs.UnmountedLazily.{all_detached}
 use Rattle.vt_ns.proofs.PointsMoved.{MayMove, gained, looked_up, lost, moved_is_kept, moved_world}
@@ -56,7 +56,8 @@ none_some : {A : Type 0} (a : A) → None ≡ Some a → ⊥
 none_some a e = cc
 
 -- a mount with a mount point is in a namespace
-placed_is_attached : (mount : Mount ℕ) → is_nowhere_or_attached mount ≡ true → is_some mount.mount_point ≡ true → is_some mount.namespace ≡ true
+placed_is_attached : (mount : Mount ℕ) → is_nowhere_or_attached mount ≡ true → is_some mount.mount_point ≡ true
+    → is_some mount.namespace ≡ true
 placed_is_attached mount is placed = by (is_some mount.namespace) (is_some mount.mount_point) is placed
   where
     by : (b c : Bool) → (b || (not c && is_private mount.propagation)) ≡ true → c ≡ true → b ≡ true
@@ -65,7 +66,8 @@ placed_is_attached mount is placed = by (is_some mount.namespace) (is_some mount
     by false false e f = absurd (true≢false (sym f))
 
 -- one that is in none has no mount point
-outside_is_placeless : (mount : Mount ℕ) → is_nowhere_or_attached mount ≡ true → is_some mount.namespace ≡ false → mount.mount_point ≡ None
+outside_is_placeless : (mount : Mount ℕ) → is_nowhere_or_attached mount ≡ true → is_some mount.namespace ≡ false
+    → mount.mount_point ≡ None
 outside_is_placeless mount is none = by mount.mount_point refl
   where
     by : (o : Option (Location ℕ)) → mount.mount_point ≡ o → mount.mount_point ≡ None
@@ -73,7 +75,8 @@ outside_is_placeless mount is none = by mount.mount_point refl
     by (Some place) e = absurd (true≢false (sym (placed_is_attached mount is (ap is_some e)) ∙ none))
 
 -- a mount with a mount point that is found is there
-placed_is_there : (mounts : List (Mount ℕ)) (number : ℕ) (place : Location ℕ) → (mount_in nat_eq mounts number).mount_point ≡ Some place
+placed_is_there : (mounts : List (Mount ℕ)) (number : ℕ) (place : Location ℕ)
+    → (mount_in nat_eq mounts number).mount_point ≡ Some place
     → Among (mount_in nat_eq mounts number) mounts
 placed_is_there mounts number place is = by (find (λ (x : Mount ℕ). nat_eq number x.number) mounts) refl is
   where
@@ -82,12 +85,16 @@ placed_is_there mounts number place is = by (find (λ (x : Mount ℕ). nat_eq nu
     by None e f = absurd (none_some place f)
     by (Some mount) e f = (found_it (λ (x : Mount ℕ). nat_eq number x.number) mounts mount e).0
 
--- The policy's world, before what nothing uses goes: `gone` are detached, the others stand at these mount points, and each mount has
+-- The policy's world, before what nothing uses goes: `gone` are detached, the others stand at these mount points, and
+-- each mount has
 -- the type that the groups tell.
-module _ (value : WorldValue) (whole : IsHeld value) (name : TaskName) (permit : Permit ℕ) (task : Task ℕ) (policy : World ℕ)
-    (is : IsApplied value name permit task policy) (gone : List ℕ) (points : List Point) (groups : Grouping) (has : Has policy groups)
+module _ (value : WorldValue) (whole : IsHeld value) (name : TaskName) (permit : Permit ℕ) (task : Task ℕ)
+    (policy : World ℕ)
+    (is : IsApplied value name permit task policy) (gone : List ℕ) (points : List Point) (groups : Grouping)
+    (has : Has policy groups)
     (same : without_dead_groups nat_eq policy
-    ≡ typed_world groups (with_mounts (world_of value) (map (left_by gone (map point_seen points)) (world_of value).mounts)))
+    ≡ typed_world groups (with_mounts (world_of value)
+    (map (left_by gone (map point_seen points)) (world_of value).mounts)))
     (tells : (point : Point) → Among point points
     → (mount_numbered nat_eq policy (counted point.mount.count)).mount_point ≡ Some (location_of point.place)) where
   abbrev world : World ℕ
@@ -103,10 +110,12 @@ module _ (value : WorldValue) (whole : IsHeld value) (name : TaskName) (permit :
   under_way : IsWorldButForUse policy
   under_way =
       subst IsWorldButForUse (is.applied (supply_of value permit))
-      (given_permits_are_under_way world (supply_of value permit) task permit whole.in_world (world_is_plain value) is.given)
+      (given_permits_are_under_way world (supply_of value permit) task permit whole.in_world
+      (world_is_plain value) is.given)
 
   same_mounts : policy.mounts ≡ map final world.mounts
-  same_mounts = ap (λ (w : World ℕ). w.mounts) same ∙ map_twice (typed_by groups) (left_by gone (map point_seen points)) world.mounts
+  same_mounts = ap (λ (w : World ℕ). w.mounts) same
+      ∙ map_twice (typed_by groups) (left_by gone (map point_seen points)) world.mounts
 
   same_filesystems : policy.filesystems ≡ world.filesystems
   same_filesystems = ap (λ (w : World ℕ). w.filesystems) same
@@ -127,13 +136,19 @@ module _ (value : WorldValue) (whole : IsHeld value) (name : TaskName) (permit :
 
   final_gone : (mount : Mount ℕ) → is_going nat_eq gone mount.number ≡ true
       → ((final mount).namespace ≡ None) × ((final mount).mount_point ≡ None)
-  final_gone mount e =
-      (ap (λ b. (cond b (detached mount) (moved mount)).namespace) e, ap (λ b. (cond b (detached mount) (moved mount)).mount_point) e)
+  final_gone mount e = (
+    ap (λ b. (cond b (detached mount) (moved mount)).namespace) e,
+    ap
+        (λ b. (cond b (detached mount) (moved mount)).mount_point) e,
+  )
 
   final_stays : (mount : Mount ℕ) → is_going nat_eq gone mount.number ≡ false
       → ((final mount).namespace ≡ mount.namespace) × ((final mount).mount_point ≡ (moved mount).mount_point)
-  final_stays mount e =
-      (ap (λ b. (cond b (detached mount) (moved mount)).namespace) e, ap (λ b. (cond b (detached mount) (moved mount)).mount_point) e)
+  final_stays mount e = (
+    ap (λ b. (cond b (detached mount) (moved mount)).namespace) e,
+    ap
+        (λ b. (cond b (detached mount) (moved mount)).mount_point) e,
+  )
 
   final_among : (mount : Mount ℕ) → Among mount world.mounts → Among (final mount) policy.mounts
   final_among mount m = subst (Among (final mount)) (sym same_mounts) (among-map final world.mounts mount m)
@@ -158,7 +173,8 @@ module _ (value : WorldValue) (whole : IsHeld value) (name : TaskName) (permit :
       by (Some mount) e f = going (is_going nat_eq gone mount.number) refl
         where
           its : mount.number ≡ number
-          its = sym (eqb-true number mount.number (found_it (λ (x : Mount ℕ). nat_eq number x.number) world.mounts mount e).1)
+          its = sym (eqb-true number mount.number
+              (found_it (λ (x : Mount ℕ). nat_eq number x.number) world.mounts mount e).1)
 
           going : (b : Bool) → is_going nat_eq gone mount.number ≡ b
               → (is_going nat_eq gone number ≡ false) × (is_some mount.namespace ≡ true)
@@ -166,12 +182,14 @@ module _ (value : WorldValue) (whole : IsHeld value) (name : TaskName) (permit :
           going false g = (ap (is_going nat_eq gone) (sym its) ∙ g, ap is_some (sym (final_stays mount g).0) ∙ f)
 
   -- the mount that it stands on is attached
-  parent_attached : (mount : Mount ℕ) → Among mount policy.mounts → (place : Location ℕ) → mount.mount_point ≡ Some place
+  parent_attached : (mount : Mount ℕ) → Among mount policy.mounts → (place : Location ℕ)
+      → mount.mount_point ≡ Some place
       → is_some (mount_at nat_eq policy place).namespace ≡ true
   parent_attached mount m place at =
       ap is_some (sym (parent_inside policy under_way.mounts.one_number
       (λ x n. among_from_all (λ (y : Mount ℕ). Stands nat_eq policy y.number) policy.mounts under_way.mounts.standing x n) mount m place at))
-      ∙ placed_is_attached mount (passes is_nowhere_or_attached policy.mounts under_way.mounts.nowhere mount m) (ap is_some at)
+      ∙ placed_is_attached mount (passes is_nowhere_or_attached policy.mounts under_way.mounts.nowhere mount m)
+      (ap is_some at)
 
   -- a mount point is there
   place_is_there : (mount : Mount ℕ) → Among mount policy.mounts → (place : Location ℕ) → mount.mount_point ≡ Some place
@@ -207,13 +225,16 @@ module _ (value : WorldValue) (whole : IsHeld value) (name : TaskName) (permit :
       there_before = λ i. is_there nat_eq (record world { filesystems = sym same_filesystems i }) (shows i) place.node
 
   -- a mount that goes is in no list of new mount points
-  gone_stays : (mount : Mount ℕ) → Among mount world.mounts → is_going nat_eq gone mount.number ≡ true → (moved mount).mount_point ≡ mount.mount_point
+  gone_stays : (mount : Mount ℕ) → Among mount world.mounts → is_going nat_eq gone mount.number ≡ true
+      → (moved mount).mount_point ≡ mount.mount_point
   gone_stays mount m goes = by (lookup (nat_eq mount.number) (map point_seen points)) refl
     where
-      by : (o : Option (Location ℕ)) → lookup (nat_eq mount.number) (map point_seen points) ≡ o → or_else o mount.mount_point ≡ mount.mount_point
+      by : (o : Option (Location ℕ)) → lookup (nat_eq mount.number) (map point_seen points) ≡ o
+          → or_else o mount.mount_point ≡ mount.mount_point
       by None e = refl
       by (Some place) e =
-          let from = among-from_map point_seen points (mount.number, place) (looked_up mount.number (map point_seen points) place e) in
+          let from = among-from_map point_seen points (mount.number, place)
+          (looked_up mount.number (map point_seen points) place e) in
           absurd (none_some (location_of from.0.place)
           (sym (final_gone mount goes).1 ∙ ap (λ (x : Mount ℕ). x.mount_point) (sym (final_found mount m))
           ∙ ap (λ n. (mount_numbered nat_eq policy n).mount_point) (ap (λ (pair : ℕ × Location ℕ). pair.0) from.2)
@@ -223,19 +244,24 @@ module _ (value : WorldValue) (whole : IsHeld value) (name : TaskName) (permit :
   may = record {
     each = λ point m.
         place_is_there (mount_numbered nat_eq policy (counted point.mount.count))
-        (placed_is_there policy.mounts (counted point.mount.count) (location_of point.place) (tells point m)) (location_of point.place) (tells point m);
+        (placed_is_there policy.mounts (counted point.mount.count) (location_of point.place) (tells point m))
+        (location_of point.place) (tells point m);
     attached = λ mount m place at. attached mount m place at (is_going nat_eq gone mount.number) refl;
     outside = λ mount m none. outside mount m none (is_going nat_eq gone mount.number) refl;
   }
     where
-      attached : (mount : Mount ℕ) → Among mount world.mounts → (place : Location ℕ) → (moved mount).mount_point ≡ Some place
+      attached : (mount : Mount ℕ) → Among mount world.mounts → (place : Location ℕ)
+          → (moved mount).mount_point ≡ Some place
           → (b : Bool) → is_going nat_eq gone mount.number ≡ b → is_some (mount_at nat_eq world place).namespace ≡ true
       attached mount m place at true goes =
-          passes (λ (one : Location ℕ). is_some (mount_at nat_eq world one).namespace) (option_to_list mount.mount_point)
-          (passes (stands_on_attached world) world.mounts (mounts_of_worlds_stand world whole.in_world).on_attached mount m) place
+          passes (λ (one : Location ℕ). is_some (mount_at nat_eq world one).namespace)
+          (option_to_list mount.mount_point)
+          (passes (stands_on_attached world) world.mounts
+          (mounts_of_worlds_stand world whole.in_world).on_attached mount m) place
           (subst (λ o. Among place (option_to_list o)) (sym at ∙ gone_stays mount m goes) (inl refl))
       attached mount m place at false goes =
-          (attached_before place.mount (parent_attached (final mount) (final_among mount m) place ((final_stays mount goes).1 ∙ at))).1
+          (attached_before place.mount (parent_attached (final mount) (final_among mount m) place
+          ((final_stays mount goes).1 ∙ at))).1
 
       outside : (mount : Mount ℕ) → Among mount world.mounts → is_some mount.namespace ≡ false → (b : Bool)
           → is_going nat_eq gone mount.number ≡ b → (moved mount).mount_point ≡ None
@@ -253,14 +279,16 @@ module _ (value : WorldValue) (whole : IsHeld value) (name : TaskName) (permit :
   closed mount m place at on =
       let from = among-from_map moved world.mounts mount m in
       ap (λ (x : Mount ℕ). is_among nat_eq x.number gone) from.2
-      ∙ by from.0 from.1 (ap (λ (x : Mount ℕ). x.mount_point) (sym from.2) ∙ at) (is_going nat_eq gone from.0.number) refl
+      ∙ by from.0 from.1 (ap (λ (x : Mount ℕ). x.mount_point) (sym from.2) ∙ at)
+      (is_going nat_eq gone from.0.number) refl
     where
       by : (was : Mount ℕ) → Among was world.mounts → (moved was).mount_point ≡ Some place → (b : Bool)
           → is_going nat_eq gone was.number ≡ b → is_going nat_eq gone was.number ≡ true
       by was n at true e = e
       by was n at false e =
           absurd (true≢false (sym on
-          ∙ (attached_before place.mount (parent_attached (final was) (final_among was n) place ((final_stays was e).1 ∙ at))).0))
+          ∙ (attached_before place.mount
+          (parent_attached (final was) (final_among was n) place ((final_stays was e).1 ∙ at))).0))
 
   -- the mounts move first, and are detached then
   abbrev start : World ℕ
@@ -273,7 +301,8 @@ module _ (value : WorldValue) (whole : IsHeld value) (name : TaskName) (permit :
       (λ mount m. by mount (is_going nat_eq gone mount.number))
       ∙ sym (map_twice (detached_in gone) moved world.mounts))
     where
-      by : (mount : Mount ℕ) (b : Bool) → cond b (detached mount) (moved mount) ≡ cond b (detached (moved mount)) (moved mount)
+      by : (mount : Mount ℕ) (b : Bool)
+          → cond b (detached mount) (moved mount) ≡ cond b (detached (moved mount)) (moved mount)
       by mount true = refl
       by mount false = refl
 
@@ -306,20 +335,24 @@ module _ (value : WorldValue) (whole : IsHeld value) (name : TaskName) (permit :
   alike : settled nat_eq policy ≡ settled nat_eq typed
   alike = sym (settled_without_groups policy) ∙ ap (settled nat_eq) same_typed
 
-  module _ (left : List At) (left_are : map location_of left ≡ points_left points value.mounts) (left_small : list_all is_small left ≡ true)
-      (taken_small : list_all is_small (points_taken points value.mounts) ≡ true) (between : List MountEntry) (between_files : Filesystems)
+  module _ (left : List At) (left_are : map location_of left ≡ points_left points value.mounts)
+      (left_small : list_all is_small left ≡ true)
+      (taken_small : list_all is_small (points_taken points value.mounts) ≡ true) (between : List MountEntry)
+      (between_files : Filesystems)
       (is_kept : kept between between_files ≡ with_planned [] points left (kept value.mounts value.filesystems)) where
-    pub moved_then_detached : groups ≡ no_groups → (mounts : List MountEntry) (filesystems : Filesystems)
+    pub moved_then_detached : (mounts : List MountEntry) (filesystems : Filesystems)
         → LeaveInTurn gone (kept between between_files) (kept mounts filesystems)
         → IsDone value name permit (typed_value groups (remade value mounts filesystems value.tasks))
-    moved_then_detached none mounts filesystems turn =
+    moved_then_detached mounts filesystems turn =
         let come = gained value whole points may in
         let go = lost value whole points may in
         let untyped = remade value mounts filesystems value.tasks in
-        let detaching = all_detached value come (living start) gone (kept between between_files) (kept mounts filesystems)
+        let detaching = all_detached value come (living start) gone (kept between between_files)
+        (kept mounts filesystems)
         (detaching_begins value come go (moved_world value points) (kept between between_files)
         (moved_is_kept value whole points may left left_are left_small taken_small between between_files is_kept) gone closed) turn in
-        let kept_last = subst (λ one. IsKeptBut value [] [] come detaching.lost one (kept mounts filesystems)) detaching.ends detaching.is in
+        let kept_last = subst (λ one. IsKeptBut value [] [] come detaching.lost one
+        (kept mounts filesystems)) detaching.ends detaching.is in
         finished_as value whole name permit task policy is typed alike come detaching.lost (typed_value groups untyped)
         (swept_typed groups untyped value start come detaching.lost
         (detached_swept value start come detaching.lost untyped kept_last refl (world_is_plain value) refl refl))
@@ -327,6 +360,5 @@ module _ (value : WorldValue) (whole : IsHeld value) (name : TaskName) (permit :
         (counts_typed groups untyped
         (detached_counted value start come detaching.lost untyped kept_last refl
         (all_from_among (CountsWhatIsInIt (world_of untyped)) value.namespaces (λ entry m.
-        let was = among_from_all (CountsWhatIsInIt world) value.namespaces whole.namespaces entry m in record { tasks = was.tasks })))
-        (no_groups_free groups none mounts))
+        let was = among_from_all (CountsWhatIsInIt world) value.namespaces whole.namespaces entry m in record { tasks = was.tasks }))))
         refl

@@ -47,18 +47,23 @@ module _ (count slot : ℕ) (small : slot < 18446744073709551616) where
       let own = and_parts (has_counted_source entry.mount) _ sources in
       by entry.mount.propagation own.0 (eqb-true (entry.mount.number % 4) 1 odds.0) (in_no_mount rest odds.1 own.1)
     where
-      by : (propagation : Propagation ℕ) → list_all (λ group. group % 4 == 1) (option_to_list (source_of propagation)) ≡ true
+      by : (propagation : Propagation ℕ)
+          → list_all (λ group. group % 4 == 1) (option_to_list (source_of propagation)) ≡ true
           → entry.mount.number % 4 ≡ 1
           → is_among nat_eq number (flat_map used_by_mount (mounts_in rest)) ≡ false
-          → is_among nat_eq number ((entry.mount.number ∷ option_to_list (source_of propagation)) ++ flat_map used_by_mount (mounts_in rest)) ≡ false
+          → is_among nat_eq number ((entry.mount.number ∷ option_to_list (source_of propagation))
+          ++ flat_map used_by_mount (mounts_in rest)) ≡ false
       by (Shared group) e one none =
-          λ i. not_odd entry.mount.number one i || (not_odd group (eqb-true (group % 4) 1 (and_parts (group % 4 == 1) true e).0) i || none i)
+          λ i. not_odd entry.mount.number one i
+          || (not_odd group (eqb-true (group % 4) 1 (and_parts (group % 4 == 1) true e).0) i || none i)
       by (Slave master) e one none =
-          λ i. not_odd entry.mount.number one i || (not_odd master (eqb-true (master % 4) 1 (and_parts (master % 4 == 1) true e).0) i || none i)
+          λ i. not_odd entry.mount.number one i
+          || (not_odd master (eqb-true (master % 4) 1 (and_parts (master % 4 == 1) true e).0) i || none i)
       by Private e one none = λ i. not_odd entry.mount.number one i || none i
       by Unbindable e one none = λ i. not_odd entry.mount.number one i || none i
 
-  in_no_filesystem : (all : Filesystems) → ((entry : FilesystemEntry) → Among entry all → is_among nat_eq number (numbers_seen entry) ≡ false)
+  in_no_filesystem : (all : Filesystems)
+      → ((entry : FilesystemEntry) → Among entry all → is_among nat_eq number (numbers_seen entry) ≡ false)
       → is_among nat_eq number (flat_map used_by_filesystem (filesystems_seen all)) ≡ false
   in_no_filesystem [] none = refl
   in_no_filesystem (entry ∷ rest) none =
@@ -74,11 +79,13 @@ module _ (count slot : ℕ) (small : slot < 18446744073709551616) where
   module _ (value : WorldValue) (whole : IsHeld value)
       (odd : list_all (λ mount. mount.number % 4 == 1) (mounts_in value.mounts) ≡ true)
       (sources : list_all has_counted_source (mounts_in value.mounts) ≡ true)
-      (missing : (entry : FilesystemEntry) → entry_of value.filesystems count ≡ Some entry → (inodes_seen entry).inode number ≡ None) where
+      (missing : (entry : FilesystemEntry) → entry_of value.filesystems count ≡ Some entry
+      → (inodes_seen entry).inode number ≡ None) where
     in_no_entry : (entry : FilesystemEntry) → Among entry value.filesystems → (inodes_seen entry).inode number ≡ None
     in_no_entry entry m = by (nat_eq entry.count count) refl
       where
-        other : (own : Bool) → is_inode_of entry.count number ≡ own → nat_eq entry.count count ≡ false → (inodes_seen entry).inode number ≡ None
+        other : (own : Bool) → is_inode_of entry.count number ≡ own → nat_eq entry.count count ≡ false
+            → (inodes_seen entry).inode number ≡ None
         other true e apart =
             absurd (true≢false (sym (eq-eqb entry.count count (inode_of_one entry.count count slot small e)) ∙ apart))
         other false e apart = among_from_all HasOwnInodes value.filesystems whole.own_inodes entry m number e
@@ -92,19 +99,23 @@ module _ (count slot : ℕ) (small : slot < 18446744073709551616) where
 
     pub is_unused : is_in_use (world_of value) number ≡ false
     is_unused =
-        list_any-append (nat_eq number) (flat_map used_by_mount (world_of value).mounts ++ flat_map used_by_filesystem (world_of value).filesystems)
+        list_any-append (nat_eq number)
+        (flat_map used_by_mount (world_of value).mounts ++ flat_map used_by_filesystem (world_of value).filesystems)
         (map (λ (namespace : Namespace ℕ). namespace.number) (world_of value).namespaces)
         ∙ (λ i.
-        (list_any-append (nat_eq number) (flat_map used_by_mount (world_of value).mounts) (flat_map used_by_filesystem (world_of value).filesystems)
+        (list_any-append (nat_eq number) (flat_map used_by_mount (world_of value).mounts)
+        (flat_map used_by_filesystem (world_of value).filesystems)
         ∙ (λ j. in_no_mount value.mounts odd sources j
         || in_no_filesystem value.filesystems (λ entry m.
         numbers_listed entry number ∙ ap (λ inode. is_some (node_in inode)) (in_no_entry entry m)) j)) i
         || in_no_namespace value.namespaces i)
 
-module _ (value : WorldValue) (whole : IsHeld value) (odd : list_all (λ mount. mount.number % 4 == 1) (mounts_in value.mounts) ≡ true)
+module _ (value : WorldValue) (whole : IsHeld value)
+    (odd : list_all (λ mount. mount.number % 4 == 1) (mounts_in value.mounts) ≡ true)
     (sources : list_all has_counted_source (mounts_in value.mounts) ≡ true) where
   is_vacant : (count slot : ℕ) → slot < 18446744073709551616
-      → ((entry : FilesystemEntry) → entry_of value.filesystems count ≡ Some entry → (inodes_seen entry).inode (inode_number count slot) ≡ None)
+      → ((entry : FilesystemEntry) → entry_of value.filesystems count ≡ Some entry
+      → (inodes_seen entry).inode (inode_number count slot) ≡ None)
       → IsVacant value (inode_number count slot)
   is_vacant count slot small missing =
       record { even = is_even count slot small; unused = is_unused count slot small value whole odd sources missing }
@@ -112,9 +123,11 @@ module _ (value : WorldValue) (whole : IsHeld value) (odd : list_all (λ mount. 
   -- the root of the next filesystem
   pub root_is_vacant : IsVacant value (inode_number value.next 0)
   root_is_vacant =
-      is_vacant value.next 0 (omega arith) (λ entry found. absurd (let none : None ≡ Some entry = sym (next_is_free value whole) ∙ found in cc))
+      is_vacant value.next 0 (omega arith)
+      (λ entry found. absurd (let none : None ≡ Some entry = sym (next_is_free value whole) ∙ found in cc))
 
-  module _ (location : meant.Location ℕ) (count : ℕ) (shows : counted count ≡ (mount_at nat_eq (world_of value) location).filesystem) where
+  module _ (location : meant.Location ℕ) (count : ℕ)
+      (shows : counted count ≡ (mount_at nat_eq (world_of value) location).filesystem) where
     at_count : filesystem_count value location ≡ count
     at_count = ap (λ n. n / 4) (sym shows) ∙ (let quarter : (4 * count + 1) / 4 ≡ count = omega arith in quarter)
 
@@ -124,11 +137,13 @@ module _ (value : WorldValue) (whole : IsHeld value) (odd : list_all (λ mount. 
     -- the next inode of a filesystem
     pub next_is_vacant : (slot : ℕ) → slot < 18446744073709551616
         → Some (inode_number count slot) ≡ option_map next_seen (entry_of value.filesystems count)
-        → (inodes_at value.filesystems count).inode (inode_number count slot) ≡ None → IsVacant value (next_inode value location)
+        → (inodes_at value.filesystems count).inode (inode_number count slot) ≡ None
+        → IsVacant value (next_inode value location)
     next_is_vacant slot small next none =
         subst (IsVacant value) (sym (next_at ∙ by (entry_of value.filesystems count) next))
         (is_vacant count slot small (λ entry found.
-        subst (λ one. (inodes_seen (unwrap_or one (no_entry count))).inode (inode_number count slot) ≡ None) found none))
+        subst (λ one. (inodes_seen (unwrap_or one (no_entry count))).inode (inode_number count slot)
+        ≡ None) found none))
       where
         by : (found : Option FilesystemEntry) → Some (inode_number count slot) ≡ option_map next_seen found
             → next_seen (unwrap_or found (no_entry count)) ≡ inode_number count slot
@@ -136,10 +151,13 @@ module _ (value : WorldValue) (whole : IsHeld value) (odd : list_all (λ mount. 
         by (Some entry) e = let same : inode_number count slot ≡ next_seen entry = cc in sym same
 
     -- in a filesystem that does not exist
-    pub none_is_vacant : None ≡ option_map next_seen (entry_of value.filesystems count) → IsVacant value (next_inode value location)
+    pub none_is_vacant : None ≡ option_map next_seen (entry_of value.filesystems count)
+        → IsVacant value (next_inode value location)
     none_is_vacant next =
         subst (IsVacant value) (sym (next_at ∙ by (entry_of value.filesystems count) next))
-        (is_vacant count 0 (omega arith) (λ entry found. absurd (let none : None ≡ Some (next_seen entry) = next ∙ ap (option_map next_seen) found in cc)))
+        (is_vacant count 0 (omega arith)
+        (λ entry found. absurd (let none : None ≡ Some (next_seen entry) = next
+        ∙ ap (option_map next_seen) found in cc)))
       where
         by : (found : Option FilesystemEntry) → None ≡ option_map next_seen found
             → next_seen (unwrap_or found (no_entry count)) ≡ inode_number count 0

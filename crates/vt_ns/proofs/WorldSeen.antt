@@ -1,5 +1,5 @@
 -- The code's world is one that propagation sees.
-use Rattle.std.proofs.Common.{refl, sym, ℕ}
+use Rattle.std.proofs.Common.{refl, sym}
 use Rattle.vt_propagate.specs.Going.{CountsUses}
 use Rattle.vt_propagate.specs.Seen.{IsSeen}
 use Rattle.vt_detach.specs.Held.{IsHeld}

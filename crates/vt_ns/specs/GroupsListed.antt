@@ -9,8 +9,6 @@ use Rattle.vt_spec.specs.Machine.Listing.{number_among}
 use Rattle.vt_spec.specs.Machine.Mounts as meant
 use Rattle.vt_spec.specs.Machine.Mounts.{group_of, is_shared, source_of}
 use Rattle.vt_spec.specs.Machine.World.{World, mounts_of}
-use Rattle.vt_ns.specs.declared.peer_lines.MountPlace.{MountPlace}
-use Rattle.vt_ns.specs.declared.peer_lines.PeerLine.{PeerLine}
 use Rattle.vt_ns.specs.declared.peer_lines.Placed.{Placed}
 
 abbrev pub group_numbers : List GroupId → List ℕ
@@ -23,9 +21,6 @@ SeesMore old new more =
     → group_numbers new ≡ each_once nat_eq (before ++ more)
 
 -- Attached mounts, each with the place of its namespace and its own in it, and its type
-
-abbrev pub place_of : MountPlace → ℕ × ℕ
-place_of place = (place.namespace, place.place)
 
 abbrev pub placed_seen : Placed → ℕ × ℕ × meant.Propagation ℕ
 placed_seen placed = (placed.at.namespace, placed.at.place, propagation_of placed.kind)
@@ -49,15 +44,7 @@ abbrev pub slave_place : ℕ → ℕ × ℕ × meant.Propagation ℕ → Option 
 slave_place group placed =
     when (not (is_shared placed.2) && holds_of (nat_eq group) (source_of placed.2)) (placed.0, placed.1)
 
--- a line of the list of groups, as code has it, and as these mounts tell it
-abbrev pub peer_line_of : PeerLine → answers.PeerLine
-peer_line_of line = record {
-  group = line.group;
-  master = line.master;
-  peers = map place_of line.members.items;
-  slaves = map place_of line.slaves.items;
-}
-
+-- a line of the list of groups, as these mounts tell it
 abbrev pub line_from : World ℕ → List ℕ → List (ℕ × ℕ × meant.Propagation ℕ) → ℕ → answers.PeerLine
 line_from world seen placed group = record {
   group = number_among nat_eq seen group;

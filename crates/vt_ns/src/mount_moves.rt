@@ -1,23 +1,33 @@
 //! The event of a mount that gets another mount point: mount(2) with `MS_MOVE`.
-ghost use Rattle.std.specs.Prelude.{◌<◌, ◌≡◌, IfErr, IfSome, OnErr, OnOk, nat_eq, option_map};
+ghost use Rattle.std.specs.Prelude.{◌<◌, ◌≡◌, IfErr, IfOk, IfSome, OnErr, OnOk, false, is_some, map, nat_eq, option_map, true};
 ghost use Rattle.vt_location.specs.Locations.{location_of};
+ghost use Rattle.vt_location.specs.MountValue.{mount_of};
 ghost use Rattle.vt_location.specs.Numbers.{counted};
+ghost use Rattle.vt_mount.specs.MountsValue.{mounts_in};
 ghost use Rattle.vt_spec.specs.declared.errors.Rule.TheVariants.{S5};
 ghost use Rattle.vt_spec.specs.Errors.{denial};
+ghost use Rattle.vt_spec.specs.Machine.Mounts.{is_shared, mount_in, mount_tree};
 ghost use Rattle.vt_spec.specs.Machine.Permits.Permit.{ToMove};
 ghost use Rattle.vt_spec.specs.Machine.World.{mount_numbered};
 ghost use Rattle.vt_detach.specs.Events.{Becomes, Permits};
 ghost use Rattle.vt_detach.specs.WorldValue.{world_of};
 
+use crate::grafting::numbers_taken;
+use crate::unmounting::{is_member, type_of};
 use crate::world::World;
-use vt_location::{Location, MountId};
+use vt_attach::bound::bound_mounts;
+use vt_attach::moved::move_tree;
+use vt_location::{Location, Mount, MountId};
+use vt_propagate::{Counts, Graft, parts};
 use vt_request::TaskName;
 use vt_spec::errors::{Deny, Rule};
 
 impl World {
-    /// Moves a mount, with all that is below it, to another mount point: mount(2) with `MS_MOVE`.
+    /// Moves a mount, with all that is below it, to another mount point: mount(2) with `MS_MOVE`. On a shared mount all
+    /// that moves is shared, and each receiver gets a copy of the whole tree.
     ///
-    /// S5 (ENOMEM): an allocation failed, or the inode at the new mount point has 2^64 - 1 uses.
+    /// S5 (ENOMEM): an allocation failed, no number is left, or an inode or a filesystem would have more than 2^64 - 1
+    /// uses.
     pub fn move_mount(
         &mut self,
         name: &TaskName,
@@ -25,6 +35,22 @@ impl World {
         place: Location,
     ) -> Result<(), Deny>
         requires { Permits self.old name.now (ToMove (counted mount.count) (location_of place)) }
+        ensures ok { OnOk result (Becomes self.old name.now
+            (ToMove (counted mount.count) (location_of place)) self.new) }
+        ensures memory { IfErr result (λ deny. deny ≡ denial S5) }
+        ensures err { OnErr result (self.new ≡ self.old) }
+    {
+        if is_member(type_of(&self.mounts, place.mount)) {
+            return self.move_everywhere(name, mount, place);
+        }
+        self.move_alone(name, mount, place)
+    }
+
+    // Moves a mount to one that is not shared. The mounts keep their types.
+    fn move_alone(&mut self, name: &TaskName, mount: MountId, place: Location) -> Result<(), Deny>
+        requires permitted { Permits self.old name.now (ToMove (counted mount.count) (location_of place)) }
+        requires alone { is_shared (mount_in nat_eq (mounts_in self.old.mounts) (counted place.mount.count)).propagation
+            ≡ false }
         ensures ok { OnOk result (Becomes self.old name.now
             (ToMove (counted mount.count) (location_of place)) self.new) }
         ensures memory { IfErr result (λ deny. deny ≡ denial S5) }
@@ -41,6 +67,72 @@ impl World {
             self.filesystems.unpin(point.node);
         }
         Ok(())
+    }
+
+    // Moves a mount to a shared one. All mounts are passed over.
+    fn move_everywhere(
+        &mut self,
+        name: &TaskName,
+        mount: MountId,
+        place: Location,
+    ) -> Result<(), Deny>
+        requires permitted { Permits self.old name.now (ToMove (counted mount.count) (location_of place)) }
+        requires shared { is_shared
+            (mount_in nat_eq (mounts_in self.old.mounts) (counted place.mount.count)).propagation ≡ true }
+        ensures ok { OnOk result (Becomes self.old name.now
+            (ToMove (counted mount.count) (location_of place)) self.new) }
+        ensures memory { IfErr result (λ deny. deny ≡ denial S5) }
+        ensures err { OnErr result (self.new ≡ self.old) }
+    {
+        self.mounts.are_ascending();
+        self.mounts.are_counted();
+        let tree = self.mounts_below(mount)?;
+        let parts = parts(self.alloc, &self.mounts, &self.groups, &*self, place)?;
+        let Some(taken) = numbers_taken(parts.len(), tree.len(), u64::MAX - self.next) else {
+            return Err(Rule::S5.denial());
+        };
+        let graft = Graft {
+            parts: &parts,
+            tree: &tree,
+            place,
+            moves: true,
+        };
+        let counts = Counts {
+            first: self.next,
+            step: 1,
+        };
+        move_tree(
+            self.alloc,
+            &mut self.mounts,
+            &mut self.groups,
+            &mut self.filesystems,
+            &graft,
+            counts,
+        )?;
+        self.next += taken;
+        Ok(())
+    }
+
+    // A mount that is there, with all its descendants: each mount before its children.
+    fn mounts_below(&self, mount: MountId) -> Result<Vec<Mount>, Deny>
+        requires { is_some (mount_numbered nat_eq (world_of self.now) (counted mount.count)).namespace ≡ true }
+        ensures ok { IfOk result (λ tree. map mount_of tree.items ≡ mount_tree nat_eq (mounts_in self.now.mounts)
+            (mount_numbered nat_eq (world_of self.now) (counted mount.count))) }
+        ensures memory { IfErr result (λ deny. deny ≡ denial S5) }
+    {
+        self.mounts.are_ascending();
+        let origins = self.mounts.tree(mount)?;
+        let Some(top) = self.mounts.get(mount) else {
+            return Err(Rule::S5.denial());
+        };
+        let source = Location {
+            mount: top.number,
+            node: top.root,
+        };
+        let Ok(tree) = bound_mounts(self.alloc, &self.mounts, &origins, source) else {
+            return Err(Rule::S5.denial());
+        };
+        Ok(tree)
     }
 
     /// Where a mount is attached.

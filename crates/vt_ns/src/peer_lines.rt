@@ -8,35 +8,16 @@ ghost use Rattle.vt_spec.specs.Lists.{each_once, holds_of};
 ghost use Rattle.vt_spec.specs.Machine.Listing as listing;
 ghost use Rattle.vt_spec.specs.Machine.Mounts.{group_of, is_shared, source_of};
 ghost use Rattle.vt_detach.specs.WorldValue.{world_of};
-ghost use Rattle.vt_ns.specs.GroupsListed.{all_seen, group_numbers, line_from, member_place, peer_line_of, place_of};
+ghost use Rattle.vt_ns.specs.GroupsListed.{all_seen, group_numbers, line_from, member_place};
 ghost use Rattle.vt_ns.specs.GroupsListed.{placed_from, placed_in, slave_place};
+ghost use Rattle.vt_request.specs.Answers.{mount_place_of, peer_line_of};
 
 use crate::mount_lines::group_place;
 use crate::world::World;
 use indexmap::IndexSet;
 use vt_location::{GroupId, NamespaceId, Propagation};
+use vt_request::{MountPlace, PeerLine};
 use vt_spec::errors::{Deny, Rule};
-
-/// A mount by its namespace and its place: the namespace by its creation, among those that did not end, the place as in
-/// the list of the namespace's mounts. Both from 1 on.
-#[derive(Clone, Copy, Debug, PartialEq, Eq)]
-pub struct MountPlace {
-    pub namespace: usize,
-    pub place: usize,
-}
-
-/// A line of the list of peer groups, in the product's form.
-#[derive(Debug, Drop, PartialEq, Eq)]
-pub struct PeerLine {
-    /// The group, by where it first stands among the types of all mounts, from 1 on.
-    pub group: usize,
-    /// The group from which it receives.
-    pub master: Option<usize>,
-    /// The mounts in the group.
-    pub members: Vec<MountPlace>,
-    /// The mounts that receive from the group and are in none.
-    pub slaves: Vec<MountPlace>,
-}
 
 // An attached mount: its place, and its type.
 #[derive(Clone, Copy, Debug)]
@@ -158,7 +139,7 @@ impl World {
 
     // The places of the members of a group. S5 (ENOMEM): an allocation failed.
     fn members(&self, placed: &[Placed], group: GroupId) -> Result<Vec<MountPlace>, Deny>
-        ensures ok { IfOk result (λ places. map place_of places.items
+        ensures ok { IfOk result (λ places. map mount_place_of places.items
             ≡ filter_map (member_place (counted group.count)) (all_seen placed.now)) }
         ensures memory { IfErr result (λ deny. deny ≡ denial S5) }
     {
@@ -175,7 +156,7 @@ impl World {
 
     // The places of the slaves of a group that are in none. S5 (ENOMEM): an allocation failed.
     fn slaves(&self, placed: &[Placed], group: GroupId) -> Result<Vec<MountPlace>, Deny>
-        ensures ok { IfOk result (λ places. map place_of places.items
+        ensures ok { IfOk result (λ places. map mount_place_of places.items
             ≡ filter_map (slave_place (counted group.count)) (all_seen placed.now)) }
         ensures memory { IfErr result (λ deny. deny ≡ denial S5) }
     {

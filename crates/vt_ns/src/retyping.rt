@@ -1,25 +1,28 @@
 //! Events that change mounts where they are: mount(2) with `MS_REMOUNT`, or with a propagation type.
-ghost use Rattle.std.specs.Prelude.{◌≡◌, IfErr, OnErr, OnOk, false, map, true};
+ghost use Rattle.std.specs.Prelude.{◌+◌, ◌<◌, ◌^◌, ◌||◌, ◌≡◌, IfErr, IfOk, OnErr, OnOk, false, length, map, true};
 ghost use Rattle.vt_cred.specs.MountFlags.{flags_of};
+ghost use Rattle.vt_group.specs.Together.{Shares, pair_of};
 ghost use Rattle.vt_location.specs.MountValue.{propagation_of};
 ghost use Rattle.vt_location.specs.Numbers.{counted};
 ghost use Rattle.vt_mount.specs.MountsValue.{retyped};
+ghost use Rattle.vt_propagate.specs.Retyping.{shared_by};
 ghost use Rattle.vt_request.specs.Requests.{type_word_of};
 ghost use Rattle.vt_spec.specs.declared.errors.Rule.TheVariants.{S5};
 ghost use Rattle.vt_spec.specs.Errors.{denial};
 ghost use Rattle.vt_spec.specs.Machine.Permits.Permit.{ToSetFlags, ToSetType};
 ghost use Rattle.vt_permit_laws.specs.Steps.{makes_shared};
 ghost use Rattle.vt_detach.specs.Events.{Becomes, Permits};
-ghost use Rattle.vt_ns.specs.Retyped.{IsRetyped, set_if};
+ghost use Rattle.vt_ns.specs.Retyped.{IsRetyped, set_if, with_counts};
 
 use crate::world::World;
+use std::alloc::{AllocError, Global};
 use vt_cred::MountFlags;
 use vt_group::Groups;
-use vt_location::{MountId, Propagation};
+use vt_location::{GroupId, MountId, Propagation};
 use vt_mount::Mounts;
-use vt_propagate::retyping::{leave_all, make_slaves};
+use vt_propagate::retyping::{leave_all, make_slaves, share};
 use vt_request::{TaskName, TypeWord};
-use vt_spec::errors::Deny;
+use vt_spec::errors::{Deny, Rule};
 
 impl World {
     /// Sets the flags of a mount: mount(2) with `MS_REMOUNT` and `MS_BIND`. It does not allocate.
@@ -30,11 +33,12 @@ impl World {
         self.mounts.set_flags(mount, flags);
     }
 
-    /// Makes a mount a slave, private or unbindable, also with all its descendants: mount(2) with `MS_SLAVE`,
-    /// `MS_PRIVATE` or
-    /// `MS_UNBINDABLE`, and `MS_REC`.
+    /// Makes a mount shared, a slave, private or unbindable, also with all its descendants: mount(2) with `MS_SHARED`,
+    /// `MS_SLAVE`, `MS_PRIVATE` or `MS_UNBINDABLE`, and `MS_REC`. A mount that becomes shared and is in no peer group is
+    /// the first member of a new one.
     ///
-    /// S5 (ENOMEM): an allocation failed. Nothing has changed then. One mount alone does not allocate.
+    /// S5 (ENOMEM): an allocation failed, or no number is left. Nothing has changed then. One mount alone that does not
+    /// become shared does not allocate.
     pub fn set_type(
         &mut self,
         name: &TaskName,
@@ -42,31 +46,48 @@ impl World {
         word: TypeWord,
         recursive: bool,
     ) -> Result<(), Deny>
-        requires permitted { Permits self.old name.now (ToSetType (counted mount.count) (type_word_of word) recursive) }
-        requires unshared { makes_shared (ToSetType (counted mount.count) (type_word_of word) recursive) ≡ false }
+        requires { Permits self.old name.now (ToSetType (counted mount.count) (type_word_of word) recursive) }
         ensures ok { OnOk result (Becomes self.old name.now
             (ToSetType (counted mount.count) (type_word_of word) recursive) self.new) }
         ensures memory { IfErr result (λ deny. deny ≡ denial S5) }
         ensures err { OnErr result (self.new ≡ self.old) }
-        ensures one { OnErr result (recursive ≡ true) }
+        ensures one { OnErr result
+            ((recursive || makes_shared (ToSetType (counted mount.count) (type_word_of word) recursive)) ≡ true) }
     {
+        let alloc = self.alloc;
+        let next = self.next;
+        let mounts = &mut self.mounts;
+        let groups = &mut self.groups;
         if recursive {
-            let tree = self.mounts.tree(mount)?;
-            change_types(&mut self.mounts, &mut self.groups, &tree, word);
+            let tree = mounts.tree(mount)?;
+            self.next = change_types(alloc, mounts, groups, &tree, word, next)?;
             return Ok(());
         }
-        change_types(&mut self.mounts, &mut self.groups, &[mount], word);
+        self.next = change_types(alloc, mounts, groups, &[mount], word, next)?;
         Ok(())
     }
 }
 
-// Mounts become slaves, private or unbindable, and leave their groups. It does not allocate.
-fn change_types(mounts: &mut Mounts, groups: &mut Groups, ids: &[MountId], word: TypeWord)
-    requires { makes_shared (ToSetType 0 (type_word_of word) false) ≡ false }
-    ensures { IsRetyped (type_word_of word)
-        (map (λ id. counted id.count) ids.now) groups.old groups.new mounts.old mounts.new }
+// Mounts become shared; or slaves, private or unbindable, and leave their groups. It tells what is counted next.
+//
+// S5 (ENOMEM): an allocation failed, or no number is left. Nothing has changed then. Only shared mounts take memory.
+fn change_types(
+    alloc: Global,
+    mounts: &mut Mounts,
+    groups: &mut Groups,
+    ids: &[MountId],
+    word: TypeWord,
+    next: u64,
+) -> Result<u64, Deny>
+    ensures ok { IfOk result (λ later. IsRetyped (type_word_of word) next later
+        (map (λ id. counted id.count) ids.now) groups.old groups.new mounts.old mounts.new) }
+    ensures memory { IfErr result (λ deny. deny ≡ denial S5) }
+    ensures groups_err { OnErr result (groups.new ≡ groups.old) }
+    ensures mounts_err { OnErr result (mounts.new ≡ mounts.old) }
+    ensures shared { OnErr result (makes_shared (ToSetType 0 (type_word_of word) false) ≡ true) }
 {
     match word {
+        TypeWord::Shared => return share_all(alloc, mounts, groups, ids, next),
         TypeWord::Slave => make_slaves(mounts, groups, ids),
         TypeWord::Private => {
             set_all(mounts, ids, Propagation::Private);
@@ -76,8 +97,55 @@ fn change_types(mounts: &mut Mounts, groups: &mut Groups, ids: &[MountId], word:
             set_all(mounts, ids, Propagation::Unbindable);
             leave_all(mounts, groups, ids);
         }
-        TypeWord::Shared => unreachable!(),
     }
+    Ok(next)
+}
+
+// Mounts become shared, each that is in no group as the first member of a new one. The groups are numbered from the next
+// count on, one for each mount. It tells what is counted next.
+//
+// S5 (ENOMEM): an allocation failed, or no number is left. Nothing has changed then.
+fn share_all(
+    alloc: Global,
+    mounts: &mut Mounts,
+    groups: &mut Groups,
+    ids: &[MountId],
+    next: u64,
+) -> Result<u64, Deny>
+    ensures groups_ok { OnOk result
+        (Shares groups.old groups.new (with_counts next (map (λ id. counted id.count) ids.now))) }
+    ensures types_ok { OnOk result (mounts.new
+        ≡ map (shared_by groups.new (map (λ id. counted id.count) ids.now)) mounts.old) }
+    ensures count { IfOk result (λ later. later ≡ next + length ids.now) }
+    ensures memory { IfErr result (λ deny. deny ≡ denial S5) }
+    ensures groups_err { OnErr result (groups.new ≡ groups.old) }
+    ensures mounts_err { OnErr result (mounts.new ≡ mounts.old) }
+{
+    let Some(later) = next.checked_add(ids.len() as u64) else {
+        return Err(Rule::S5.denial());
+    };
+    let Ok(named) = new_groups(alloc, ids, next) else {
+        return Err(Rule::S5.denial());
+    };
+    share(mounts, groups, &named)?;
+    Ok(later)
+}
+
+// Each mount with the number of a group, counted from the next one on.
+fn new_groups(
+    alloc: Global,
+    ids: &[MountId],
+    next: u64,
+) -> Result<Vec<(MountId, GroupId)>, AllocError>
+    requires { next + length ids.now < 2 ^ 64 }
+    ensures { IfOk result (λ named.
+        map pair_of named.items ≡ with_counts next (map (λ id. counted id.count) ids.now)) }
+{
+    let mut named = Vec::new(alloc);
+    for (index, id) in ids.iter().enumerate() {
+        named.push((*id, GroupId::new(next + index as u64)))?;
+    }
+    Ok(named)
 }
 
 // All these mounts get a type. It does not allocate.

@@ -1,22 +1,27 @@
 //! Events in which mounts leave their namespaces: umount(2).
-ghost use Rattle.std.specs.Prelude.{◌≡◌, IfErr, OnErr, OnOk, nat_eq, true};
+ghost use Rattle.std.specs.Prelude.{◌≡◌, ◌&&◌, IfErr, OnErr, OnOk, map, nat_eq, not, true};
 ghost use Rattle.vt_location.specs.MountValue.{propagation_of};
 ghost use Rattle.vt_location.specs.Numbers.{counted};
 ghost use Rattle.vt_mount.specs.MountsValue.{mounts_in};
-ghost use Rattle.vt_spec.specs.Lists.{holds_of};
 ghost use Rattle.vt_spec.specs.Machine.Mounts.{is_shared, mount_in};
 ghost use Rattle.vt_detach.specs.Held.{is_ungrouped};
-ghost use Rattle.vt_ns.specs.Unmounting.{unmounts_alone};
+ghost use Rattle.vt_ns.specs.Unmounting.{GoTogether, are_ungrouped, stands_on_shared, unmounts_alone};
+ghost use Rattle.vt_detach.specs.Detached.{tree_numbers};
+ghost use Rattle.vt_detach.specs.Uses.{kept};
 ghost use Rattle.vt_spec.specs.declared.errors.Rule.TheVariants.{S5};
 ghost use Rattle.vt_spec.specs.Errors.{denial};
 ghost use Rattle.vt_spec.specs.Machine.Permits.Permit.{ToUnmount, ToUnmountLazily};
 ghost use Rattle.vt_detach.specs.Events.{Becomes, Permits};
 
 use crate::world::World;
+use std::alloc::Global;
 use vt_attach::planned::{Planned, attach_planned};
 use vt_detach::detaching::{detach, detach_each, detach_together};
+use vt_fs::Filesystems;
+use vt_group::Groups;
 use vt_location::{MountId, Propagation};
 use vt_mount::Mounts;
+use vt_propagate::Detachment;
 use vt_request::TaskName;
 use vt_spec::errors::Deny;
 
@@ -63,24 +68,17 @@ impl World {
         ensures err { OnErr result (self.new ≡ self.old) }
     {
         let plan = vt_propagate::unmount(self.alloc, &self.mounts, &self.groups, mount)?;
-        let moved = Planned {
-            copies: &[],
-            groups: &[],
-            points: &plan.points,
-        };
-        self.mounts.are_ascending();
         let mounts = &mut self.mounts;
         let groups = &mut self.groups;
-        let filesystems = &mut self.filesystems;
-        attach_planned(self.alloc, mounts, groups, filesystems, &moved)?;
-        detach_together(mounts, groups, filesystems, &plan.gone);
+        take_away(self.alloc, mounts, groups, &mut self.filesystems, &plan)?;
         Ok(())
     }
 
-    /// Detaches a mount and all its descendants, in use or not: umount(2) with `MNT_DETACH`. Each goes with its last
-    /// use.
+    /// Detaches a mount and all its descendants, in use or not, and what propagation detaches with each of them:
+    /// umount(2) with `MNT_DETACH`. Each goes with its last use. Where none of the tree is in a peer group, and the
+    /// top's parent is not shared, it allocates no more than a list of the tree.
     ///
-    /// S5 (ENOMEM): an allocation failed.
+    /// S5 (ENOMEM): an allocation failed, or an inode would have more than 2^64 - 1 uses.
     pub fn unmount_lazily(&mut self, name: &TaskName, mount: MountId) -> Result<(), Deny>
         requires { Permits self.old name.now (ToUnmountLazily (counted mount.count)) }
         ensures ok { OnOk result (Becomes self.old name.now (ToUnmountLazily (counted mount.count)) self.new) }
@@ -88,13 +86,88 @@ impl World {
         ensures err { OnErr result (self.new ≡ self.old) }
     {
         let tree = self.mounts.tree(mount)?;
-        detach_each(&mut self.mounts, &mut self.filesystems, &tree);
+        if self.is_tree_alone(mount, &tree) {
+            self.unmount_tree_alone(name, mount, &tree);
+            return Ok(());
+        }
+        self.unmount_lazily_everywhere(name, mount)
+    }
+
+    // Whether no mount of a tree is in a peer group, and the parent of its top is not shared.
+    fn is_tree_alone(&self, top: MountId, tree: &[MountId]) -> bool
+        ensures { result ≡ are_ungrouped (mounts_in self.now.mounts) (map (λ id. counted id.count) tree.now)
+            && not (stands_on_shared (mounts_in self.now.mounts) (counted top.count)) }
+    {
+        are_in_no_group(&self.mounts, tree) && !stands_on_shared(&self.mounts, top)
+    }
+
+    // Detaches the mounts of such a tree.
+    fn unmount_tree_alone(&mut self, name: &TaskName, mount: MountId, tree: &[MountId])
+        requires permitted { Permits self.old name.now (ToUnmountLazily (counted mount.count)) }
+        requires tree { map (λ id. counted id.count) tree.now
+            ≡ tree_numbers (mounts_in self.old.mounts) (counted mount.count) }
+        requires alone { (are_ungrouped (mounts_in self.old.mounts) (map (λ id. counted id.count) tree.now)
+            && not (stands_on_shared (mounts_in self.old.mounts) (counted mount.count))) ≡ true }
+        ensures { Becomes self.old name.now (ToUnmountLazily (counted mount.count)) self.new }
+    {
+        detach_each(&mut self.mounts, &mut self.filesystems, tree);
+    }
+
+    // Detaches the mounts of a tree, and those that propagation detaches with them.
+    fn unmount_lazily_everywhere(&mut self, name: &TaskName, mount: MountId) -> Result<(), Deny>
+        requires { Permits self.old name.now (ToUnmountLazily (counted mount.count)) }
+        ensures ok { OnOk result (Becomes self.old name.now (ToUnmountLazily (counted mount.count)) self.new) }
+        ensures memory { IfErr result (λ deny. deny ≡ denial S5) }
+        ensures err { OnErr result (self.new ≡ self.old) }
+    {
+        let plan = vt_propagate::unmount_lazily(self.alloc, &self.mounts, &self.groups, mount)?;
+        let mounts = &mut self.mounts;
+        let groups = &mut self.groups;
+        take_away(self.alloc, mounts, groups, &mut self.filesystems, &plan)?;
         Ok(())
     }
 }
 
+// Mounts that stay move as a plan says, and those that go are detached: all or nothing.
+fn take_away(
+    alloc: Global,
+    mounts: &mut Mounts,
+    groups: &mut Groups,
+    filesystems: &mut Filesystems,
+    plan: &Detachment,
+) -> Result<(), Deny>
+    ensures ok { OnOk result (GoTogether (map (λ id. counted id.count) plan.now.gone.items) plan.now.points.items
+        (kept mounts.old filesystems.old) groups.old (kept mounts.new filesystems.new) groups.new) }
+    ensures memory { IfErr result (λ deny. deny ≡ denial S5) }
+    ensures err_mounts { OnErr result (mounts.new ≡ mounts.old) }
+    ensures err_groups { OnErr result (groups.new ≡ groups.old) }
+    ensures err_filesystems { OnErr result (filesystems.new ≡ filesystems.old) }
+{
+    let moved = Planned {
+        copies: &[],
+        groups: &[],
+        points: &plan.points,
+    };
+    mounts.are_ascending();
+    attach_planned(alloc, mounts, groups, filesystems, &moved)?;
+    detach_together(mounts, groups, filesystems, &plan.gone);
+    Ok(())
+}
+
+// Whether none of these mounts is in a peer group.
+fn are_in_no_group(mounts: &Mounts, ids: &[MountId]) -> bool
+    ensures { result ≡ are_ungrouped (mounts_in mounts.now) (map (λ id. counted id.count) ids.now) }
+{
+    for id in ids {
+        if !is_in_no_group(type_of(mounts, *id)) {
+            return false;
+        }
+    }
+    true
+}
+
 // The type of a mount.
-fn type_of(mounts: &Mounts, id: MountId) -> Propagation
+pub(crate) fn type_of(mounts: &Mounts, id: MountId) -> Propagation
     ensures { propagation_of result ≡ (mount_in nat_eq (mounts_in mounts.now) (counted id.count)).propagation }
 {
     match mounts.get(id) {
@@ -114,7 +187,7 @@ fn is_in_no_group(kind: Propagation) -> bool
 }
 
 // Whether a mount of this type is a member of a peer group.
-fn is_member(kind: Propagation) -> bool
+pub(crate) fn is_member(kind: Propagation) -> bool
     ensures { result ≡ is_shared (propagation_of kind) }
 {
     match kind {
@@ -125,8 +198,7 @@ fn is_member(kind: Propagation) -> bool
 
 // Whether a mount stands on one that is shared.
 fn stands_on_shared(mounts: &Mounts, id: MountId) -> bool
-    ensures { result ≡ holds_of (λ place. is_shared (mount_in nat_eq (mounts_in mounts.now) place.mount).propagation)
-        (mount_in nat_eq (mounts_in mounts.now) (counted id.count)).mount_point }
+    ensures { result ≡ stands_on_shared (mounts_in mounts.now) (counted id.count) }
 {
     let Some(mount) = mounts.get(id) else {
         return false;

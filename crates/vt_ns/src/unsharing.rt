@@ -6,8 +6,7 @@ ghost use Rattle.vt_spec.specs.Machine.Permits.Permit.{ToUnshare};
 ghost use Rattle.vt_detach.specs.Events.{Becomes, Permits};
 
 use crate::world::World;
-use vt_attach::attaching::attach_copies;
-use vt_attach::copying::{move_use, moved};
+use vt_attach::copying::{attach_copies, move_use, moved};
 use vt_detach::ending::leave_namespace;
 use vt_detach::namespaces::Namespace;
 use vt_location::NamespaceId;
@@ -16,7 +15,8 @@ use vt_spec::errors::{Deny, Rule};
 
 impl World {
     /// Moves a task to a new namespace, with copies of the mounts of the one that it leaves, which ends with its last
-    /// task. Its root and its working directory go along: unshare(2) with `CLONE_NEWNS`.
+    /// task. Its root and its working directory go along, and the copies of shared mounts are in their peer groups:
+    /// unshare(2) with `CLONE_NEWNS`.
     ///
     /// S5 (ENOMEM): an allocation failed, no number is left, or an inode or a filesystem would have more than 2^64 - 1
     /// uses.
@@ -35,10 +35,11 @@ impl World {
             return Err(Rule::S5.denial());
         }
         let mounts = &mut self.mounts;
+        let groups = &mut self.groups;
         let filesystems = &mut self.filesystems;
         let new_root = moved(mounts, left, root, next);
         let new_directory = moved(mounts, left, directory, next);
-        attach_copies(self.alloc, mounts, filesystems, left, next)?;
+        attach_copies(self.alloc, mounts, groups, filesystems, left, next)?;
         move_use(mounts, root.mount, new_root.mount);
         move_use(mounts, directory.mount, new_directory.mount);
         let new = NamespaceId::new(next);
@@ -46,13 +47,7 @@ impl World {
         let _ = self.namespaces.insert(new, Namespace { tasks: 1 });
         self.tasks
             .move_root_and_directory(name, new, new_root, new_directory);
-        leave_namespace(
-            mounts,
-            &mut self.groups,
-            filesystems,
-            &mut self.namespaces,
-            left,
-        );
+        leave_namespace(mounts, groups, filesystems, &mut self.namespaces, left);
         self.next += taken;
         Ok(())
     }

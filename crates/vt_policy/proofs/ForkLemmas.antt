@@ -15,7 +15,9 @@ differs : (a : ℕ) (lacking : Bool) → (not (a == a) && lacking) ≡ false
 differs a lacking = ap (λ same. not same && lacking) (eq-eqb a a refl)
 
 has_its_own : (task : Task ℕ) → lacks task task.credentials.capabilities ≡ false
-has_its_own task = ap not (eq-eqb (bit_and task.credentials.capabilities task.credentials.capabilities) task.credentials.capabilities (and_self task.credentials.capabilities))
+has_its_own task = ap not (eq-eqb
+    (bit_and task.credentials.capabilities task.credentials.capabilities) task.credentials.capabilities
+    (and_self task.credentials.capabilities))
 
 same_groups : (gid : ℕ) (groups : _) (lacking : Bool) → (not (gid == gid && bytes_eq groups groups) && lacking) ≡ false
 same_groups gid groups lacking =

@@ -22,7 +22,8 @@ use Rattle.vt_rules.proofs.Rows.{one_by_one}
 abbrev pub last_rows : Looks ℕ → Location ℕ → Bool → Rules
 last_rows looks source overfull = (overfull, M9) ∷ (not (is_some (mount_at looks source).mount_point), M10) ∷ []
 
-pub move_refused : (looks : Looks ℕ) (overfills : Permit ℕ → Bool) (task : Task ℕ) (old new : List ℕ) (source place : Location ℕ)
+pub move_refused : (looks : Looks ℕ) (overfills : Permit ℕ → Bool) (task : Task ℕ) (old new : List ℕ)
+    (source place : Location ℕ)
     → lacks task cap_sys_admin ≡ false
     → Reaches (walk_end (source_walk nat_eq looks task old)) source
     → Reaches (walk_end (destination_walk nat_eq looks task new)) place
@@ -32,9 +33,11 @@ move_refused looks overfills task old new source place admin from there deny ref
     let permit = ToMove source.mount place in
     move_asked looks overfills task old new source place admin from there
     ∙ one_by_one (move_table looks task source place) (last_rows looks source (overfills permit)) (Ok permit)
-    ∙ unless-stopped (move_table looks task source place) (unless (last_rows looks source (overfills permit)) (Ok permit)) deny refused
+    ∙ unless-stopped (move_table looks task source place)
+    (unless (last_rows looks source (overfills permit)) (Ok permit)) deny refused
 
-pub move_left : (looks : Looks ℕ) (overfills : Permit ℕ → Bool) (task : Task ℕ) (old new : List ℕ) (source place : Location ℕ)
+pub move_left : (looks : Looks ℕ) (overfills : Permit ℕ → Bool) (task : Task ℕ) (old new : List ℕ)
+    (source place : Location ℕ)
     → lacks task cap_sys_admin ≡ false
     → Reaches (walk_end (source_walk nat_eq looks task old)) source
     → Reaches (walk_end (destination_walk nat_eq looks task new)) place
@@ -45,4 +48,5 @@ move_left looks overfills task old new source place admin from there passed =
     let permit = ToMove source.mount place in
     move_asked looks overfills task old new source place admin from there
     ∙ one_by_one (move_table looks task source place) (last_rows looks source (overfills permit)) (Ok permit)
-    ∙ unless-let_through (move_table looks task source place) (unless (last_rows looks source (overfills permit)) (Ok permit)) passed
+    ∙ unless-let_through (move_table looks task source place)
+    (unless (last_rows looks source (overfills permit)) (Ok permit)) passed

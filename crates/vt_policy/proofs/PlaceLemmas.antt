@@ -26,7 +26,8 @@ use Rattle.vt_rules.proofs.PlainRows.{has_an_upper, mounter_may, neither}
 use Rattle.vt_rules.proofs.Rows.{kept, skipped}
 
 -- what comes after a walk that has ended
-pub went : {A B : Type 0} (end : Result A Deny) (a : A) (next : A → Result B Deny) → end ≡ Ok a → and_then end next ≡ next a
+pub went : {A B : Type 0} (end : Result A Deny) (a : A) (next : A → Result B Deny) → end ≡ Ok a
+    → and_then end next ≡ next a
 went end a next e = ap (λ walked. and_then walked next) e
 
 pub is_some_mapped : (object : Option Location) → is_some (option_map location_of object) ≡ is_some object
@@ -39,7 +40,8 @@ there_mapped None otherwise = refl
 there_mapped (Some object) otherwise = refl
 
 -- mkdir(2), symlink(2)
-pub made_asked : (looks : Looks ℕ) (task : Task ℕ) (end : Result (Place ℕ) Deny) (seen : Place ℕ) (node : Place ℕ → Node ℕ)
+pub made_asked : (looks : Looks ℕ) (task : Task ℕ) (end : Result (Place ℕ) Deny) (seen : Place ℕ)
+    (node : Place ℕ → Node ℕ)
     → end ≡ Ok seen → is_special seen.last ≡ false → is_some seen.object ≡ false
     → and_then end (λ place. made_permit nat_eq looks task place (node place))
     ≡ unless (make_rules looks task seen (unnumbered seen (node seen))) (Ok (make_permit seen (node seen)))
@@ -49,14 +51,17 @@ made_asked looks task end seen node walked named missing =
     ∙ skipped (is_some seen.object) E1 _ _ missing
 
 -- the caller's rights, and then what does not fail
-rights : {A : Type 0} (may_not kept_by mounter : Bool) (more : Rules) (answer : Result A Deny) → mounter ≡ false → more ≡ []
-    → unless ((may_not, C1) ∷ (kept_by, C3) ∷ (mounter, B1) ∷ more) answer ≡ unless ((may_not, C1) ∷ (kept_by, C3) ∷ []) answer
+rights : {A : Type 0} (may_not kept_by mounter : Bool) (more : Rules) (answer : Result A Deny) → mounter ≡ false
+    → more ≡ []
+    → unless ((may_not, C1) ∷ (kept_by, C3) ∷ (mounter, B1) ∷ more) answer
+    ≡ unless ((may_not, C1) ∷ (kept_by, C3) ∷ []) answer
 rights may_not kept_by mounter more answer e m =
     kept may_not C1 _ _ answer answer
     (kept kept_by C3 _ [] answer answer (skipped mounter B1 more answer e ∙ ap (λ rows. unless rows answer) m))
 
 -- unlink(2)
-pub unlink_asked : (looks : Looks ℕ) → HasNoOverlays looks → (task : Task ℕ) (path : List ℕ) (seen : Place ℕ) (parent object : meant.Location ℕ)
+pub unlink_asked : (looks : Looks ℕ) → HasNoOverlays looks
+    → (task : Task ℕ) (path : List ℕ) (seen : Place ℕ) (parent object : meant.Location ℕ)
     → walk_end (old_leaf_walk nat_eq looks task path) ≡ Ok seen → is_special seen.last ≡ false
     → seen.parent ≡ parent → object_there seen ≡ object
     → is_directory_at looks object ≡ false → is_read_only looks parent ≡ false
@@ -71,18 +76,21 @@ unlink_asked looks plain task path seen parent object walked named at there file
     ∙ skipped _ F1 _ answer (ap (is_read_only looks) at ∙ writable)
     ∙ skipped _ F2 _ answer (has_an_upper looks plain seen.parent)
     ∙ skipped _ L1 _ answer (neither _ _ (plain.unlocked (object_there seen)) (plain.unlocked seen.parent))
-    ∙ rights (may_not looks task seen.parent write_right) (is_kept looks task seen.parent (object_there seen)) _ _ answer
+    ∙ rights (may_not looks task seen.parent write_right)
+    (is_kept looks task seen.parent (object_there seen)) _ _ answer
     (mounter_may looks plain seen.parent write_right) (plain.mounter seen.parent (removing seen (object_there seen)))
     ∙ (λ i. unless (remove_rules looks task (at i) (there i)) answer)
 
 -- rmdir(2)
-pub rmdir_asked : (looks : Looks ℕ) → HasNoOverlays looks → (task : Task ℕ) (path : List ℕ) (seen : Place ℕ) (parent object : meant.Location ℕ) (name : List ℕ)
+pub rmdir_asked : (looks : Looks ℕ) → HasNoOverlays looks
+    → (task : Task ℕ) (path : List ℕ) (seen : Place ℕ) (parent object : meant.Location ℕ) (name : List ℕ)
     → walk_end (old_walk nat_eq looks task path) ≡ Ok seen → seen.last ≡ Named name
     → seen.parent ≡ parent → object_there seen ≡ object
     → is_directory_at looks object ≡ true → is_filled looks object ≡ false → is_read_only looks parent ≡ false
     → is_point_in nat_eq looks task.namespace object ≡ false
     → rmdir_permit nat_eq looks task path
-    ≡ unless (remove_rules looks task parent object) (Ok (ToRemoveDirectory seen.parent (name_of seen.last) (object_there seen)))
+    ≡ unless (remove_rules looks task parent object)
+    (Ok (ToRemoveDirectory seen.parent (name_of seen.last) (object_there seen)))
 unfolding rmdir_permit
 rmdir_asked looks plain task path seen parent object name walked named at there directory empty writable pointless =
     let answer : Result (Permit ℕ) Deny = Ok (ToRemoveDirectory seen.parent (name_of seen.last) (object_there seen)) in
@@ -96,12 +104,14 @@ rmdir_asked looks plain task path seen parent object name walked named at there 
     ∙ skipped _ F2 _ answer (has_an_upper looks plain seen.parent)
     ∙ skipped _ L1 _ answer (neither _ _ (plain.unlocked (object_there seen)) (plain.unlocked seen.parent))
     ∙ skipped _ P1 _ answer (ap (is_point_in nat_eq looks task.namespace) there ∙ pointless)
-    ∙ rights (may_not looks task seen.parent write_right) (is_kept looks task seen.parent (object_there seen)) _ _ answer
+    ∙ rights (may_not looks task seen.parent write_right)
+    (is_kept looks task seen.parent (object_there seen)) _ _ answer
     (mounter_may looks plain seen.parent write_right) (plain.mounter seen.parent (removing seen (object_there seen)))
     ∙ (λ i. unless (remove_rules looks task (at i) (there i)) answer)
 
 -- link(2)
-pub link_asked : (looks : Looks ℕ) → HasNoOverlays looks → (task : Task ℕ) (old new : List ℕ) (from : Here ℕ) (seen : Place ℕ) (object parent : meant.Location ℕ)
+pub link_asked : (looks : Looks ℕ) → HasNoOverlays looks
+    → (task : Task ℕ) (old new : List ℕ) (from : Here ℕ) (seen : Place ℕ) (object parent : meant.Location ℕ)
     → walk_end (symlink_walk nat_eq looks task old) ≡ Ok from → from.location ≡ object
     → walk_end (new_leaf_walk nat_eq looks task new) ≡ Ok seen → seen.parent ≡ parent
     → is_special seen.last ≡ false → is_some seen.object ≡ false
@@ -125,22 +135,27 @@ link_asked looks plain task old new from seen object parent walked_old there wal
     ∙ ap (λ rows. unless rows answer) (plain.mounter seen.parent (linking from.location seen))
 
 -- what is there is a directory if the object is
-pub there_holds : (test : meant.Location ℕ → Bool) (object : Option Location) (otherwise : Location) → is_some object ≡ true
+pub there_holds : (test : meant.Location ℕ → Bool) (object : Option Location) (otherwise : Location)
+    → is_some object ≡ true
     → holds_of test (option_map location_of object) ≡ test (location_of (unwrap_or object otherwise))
 there_holds test None otherwise e = absurd cc
 there_holds test (Some object) otherwise e = refl
 
 -- rename(2)
-pub rename_asked : (looks : Looks ℕ) (task : Task ℕ) (old new : List ℕ) (from to : Place ℕ) (object : meant.Location ℕ) (same : Bool)
-    → walk_end (old_leaf_walk nat_eq looks task old) ≡ Ok from → is_special from.last ≡ false → object_there from ≡ object
+pub rename_asked : (looks : Looks ℕ) (task : Task ℕ) (old new : List ℕ) (from to : Place ℕ) (object : meant.Location ℕ)
+    (same : Bool)
+    → walk_end (old_leaf_walk nat_eq looks task old) ≡ Ok from → is_special from.last ≡ false
+    → object_there from ≡ object
     → is_directory_there nat_eq looks from ≡ is_directory_at looks object
-    → walk_end (rename_new_walk nat_eq looks task new (is_directory_at looks object)) ≡ Ok to → is_special to.last ≡ false
+    → walk_end (rename_new_walk nat_eq looks task new (is_directory_at looks object)) ≡ Ok to
+    → is_special to.last ≡ false
     → is_one_object nat_eq looks object to.object ≡ same
     → rename_permit nat_eq looks task old new ≡ renamed_permit nat_eq same looks task from to object
 unfolding rename_permit
 rename_asked looks task old new from to object same walked_old old_named there kind walked_new new_named is_same =
     let next : Place ℕ → Judgement ℕ = λ place. unless (old_word_rules place)
-    (renamed_permit nat_eq (is_one_object nat_eq looks (object_there from) place.object) looks task from place (object_there from)) in
+    (renamed_permit nat_eq (is_one_object nat_eq looks (object_there from) place.object) looks task from place
+    (object_there from)) in
     went (walk_end (old_leaf_walk nat_eq looks task old)) from _ walked_old
     ∙ skipped (is_special from.last) P1 [] _ old_named
     ∙ ap (λ directory. and_then (walk_end (rename_new_walk nat_eq looks task new directory)) next) kind

@@ -14,19 +14,22 @@ okay a = Ok a
 same-ok : {A : Type 0} (a b : A) → okay a ≡ okay b → a ≡ b
 same-ok a b e = cc
 
-pub ends_at : (result : Result Location Deny) (end : Result (walked.Here ℕ) Deny) → location_result result ≡ location_end end
+pub ends_at : (result : Result Location Deny) (end : Result (walked.Here ℕ) Deny)
+    → location_result result ≡ location_end end
     → IfOk result (λ at. EndsAt end at)
 ends_at (Ok at) (Ok here) e = (here, refl, same-ok here.location (location_of at) (sym e))
 ends_at (Ok at) (Err deny) e = absurd cc
 ends_at (Err deny) end e = tt
 
-pub refused_by : (result : Result Location Deny) (end : Result (walked.Here ℕ) Deny) → location_result result ≡ location_end end
+pub refused_by : (result : Result Location Deny) (end : Result (walked.Here ℕ) Deny)
+    → location_result result ≡ location_end end
     → IfErr result (λ deny. end ≡ Err deny)
 refused_by (Ok at) end e = tt
 refused_by (Err deny) (Ok here) e = absurd cc
 refused_by (Err deny) (Err other) e = cc
 
-pub ends_at_place : (result : Result Place Deny) (end : Result (walked.Place ℕ) Deny) → place_result result ≡ place_end end
+pub ends_at_place : (result : Result Place Deny) (end : Result (walked.Place ℕ) Deny)
+    → place_result result ≡ place_end end
     → IfOk result (λ place. EndsAtPlace end place)
 ends_at_place (Ok place) (Ok seen) e =
     let same = same-ok (without_steps seen) (place_of place) (sym e) in (
@@ -42,7 +45,8 @@ ends_at_place (Ok place) (Ok seen) e =
 ends_at_place (Ok place) (Err deny) e = absurd cc
 ends_at_place (Err deny) end e = tt
 
-pub refused_place : (result : Result Place Deny) (end : Result (walked.Place ℕ) Deny) → place_result result ≡ place_end end
+pub refused_place : (result : Result Place Deny) (end : Result (walked.Place ℕ) Deny)
+    → place_result result ≡ place_end end
     → IfErr result (λ deny. end ≡ Err deny)
 refused_place (Ok place) end e = tt
 refused_place (Err deny) (Ok seen) e = absurd cc

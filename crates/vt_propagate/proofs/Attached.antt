@@ -55,9 +55,11 @@ attached_by_plans world graft counts copies new points copies_are groups_are pus
         (added_mounts graft.moves moved) elsewhere
         ∙ (λ j. map pushed (with_moved_mounts nat_eq (moves j) world.mounts moved) ++ (added_mounts
         (moves j) moved ++ elsewhere))
-        ∙ ap (λ mounts. mounts ++ elsewhere) (map_alike pushed (moved_by points) (folded (with_mount nat_eq) world.mounts moved)
+        ∙ ap (λ mounts. mounts ++ elsewhere)
+        (map_alike pushed (moved_by points) (folded (with_mount nat_eq) world.mounts moved)
         (all_pushed world graft counts points pushes keeps moves is))
-        ∙ (λ j. map (moved_by points) (folded (with_mount nat_eq) world.mounts (sym first_copies j)) ++ sym other_copies j)) i;
+        ∙ (λ j. map (moved_by points) (folded (with_mount nat_eq) world.mounts (sym first_copies j))
+        ++ sym other_copies j)) i;
     master = folded (masters_with nat_eq) world.master (sym groups_are i);
   };
 }

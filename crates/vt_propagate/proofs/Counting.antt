@@ -28,19 +28,23 @@ use Rattle.vt_propagate.proofs.TakingPart.{receivers_there}
 
 -- Counts
 
-pub count-append : (one other : List (Mount ℕ)) (namespace : ℕ) → mount_count (one ++ other) namespace ≡ mount_count one namespace + mount_count other namespace
+pub count-append : (one other : List (Mount ℕ)) (namespace : ℕ)
+    → mount_count (one ++ other) namespace ≡ mount_count one namespace + mount_count other namespace
 count-append one other namespace =
-    ap length (filter-append (is_in namespace) one other) ∙ length-append (filter (is_in namespace) one) (filter (is_in namespace) other)
+    ap length (filter-append (is_in namespace) one other)
+    ∙ length-append (filter (is_in namespace) one) (filter (is_in namespace) other)
 
 pub count-cons : (mount : Mount ℕ) (mounts : List (Mount ℕ)) (namespace : ℕ)
     → mount_count (mount ∷ mounts) namespace ≡ cond (is_in namespace mount) 1 0 + mount_count mounts namespace
 count-cons mount mounts namespace = by (is_in namespace mount)
   where
-    by : (b : Bool) → length (cond b (mount ∷ filter (is_in namespace) mounts) (filter (is_in namespace) mounts)) ≡ cond b 1 0 + mount_count mounts namespace
+    by : (b : Bool) → length (cond b (mount ∷ filter (is_in namespace) mounts) (filter (is_in namespace) mounts))
+        ≡ cond b 1 0 + mount_count mounts namespace
     by true = omega arith
     by false = omega arith
 
-pub count-map : {A : Type 0} (f g : A → Mount ℕ) → ((a : A) → (f a).namespace ≡ (g a).namespace) → (list : List A) (namespace : ℕ)
+pub count-map : {A : Type 0} (f g : A → Mount ℕ) → ((a : A) → (f a).namespace ≡ (g a).namespace)
+    → (list : List A) (namespace : ℕ)
     → mount_count (map f list) namespace ≡ mount_count (map g list) namespace
 count-map f g same [] namespace = refl
 count-map f g same (a ∷ list) namespace =
@@ -48,7 +52,8 @@ count-map f g same (a ∷ list) namespace =
     ∙ (λ i. cond (holds_of (nat_eq namespace) (same a i)) 1 0 + count-map f g same list namespace i)
     ∙ sym (count-cons (g a) (map g list) namespace)
 
-pub count-alike : {A : Type 0} (f : A → Mount ℕ) (o : Option ℕ) → ((a : A) → (f a).namespace ≡ o) → (list : List A) (namespace : ℕ)
+pub count-alike : {A : Type 0} (f : A → Mount ℕ) (o : Option ℕ) → ((a : A) → (f a).namespace ≡ o)
+    → (list : List A) (namespace : ℕ)
     → mount_count (map f list) namespace ≡ cond (holds_of (nat_eq namespace) o) (length list) 0
 count-alike f o same [] namespace = by (holds_of (nat_eq namespace) o)
   where
@@ -78,7 +83,8 @@ count-flat copies k namespace each (part ∷ parts) =
     by false = omega arith
 
 -- mounts that are all in one namespace, or all in none
-count-inside : (list : List (Mount ℕ)) (o : Option ℕ) → ((mount : Mount ℕ) → Among mount list → mount.namespace ≡ o) → (namespace : ℕ)
+count-inside : (list : List (Mount ℕ)) (o : Option ℕ) → ((mount : Mount ℕ) → Among mount list → mount.namespace ≡ o)
+    → (namespace : ℕ)
     → mount_count list namespace ≡ cond (holds_of (nat_eq namespace) o) (length list) 0
 count-inside [] o inside namespace = by (holds_of (nat_eq namespace) o)
   where
@@ -87,39 +93,48 @@ count-inside [] o inside namespace = by (holds_of (nat_eq namespace) o)
     by false = refl
 count-inside (mount ∷ list) o inside namespace =
     count-cons mount list namespace
-    ∙ (λ i. cond (holds_of (nat_eq namespace) (inside mount (inl refl) i)) 1 0 + count-inside list o (λ other m. inside other (inr m)) namespace i)
+    ∙ (λ i. cond (holds_of (nat_eq namespace) (inside mount (inl refl) i)) 1 0 + count-inside list o
+    (λ other m. inside other (inr m)) namespace i)
     ∙ by (holds_of (nat_eq namespace) o)
   where
     by : (b : Bool) → cond b 1 0 + cond b (length list) 0 ≡ cond b (suc (length list)) 0
     by true = omega arith
     by false = omega arith
 
-map_among : (f g : Mount ℕ → Mount ℕ) (list : List (Mount ℕ)) → ((mount : Mount ℕ) → Among mount list → f mount ≡ g mount) → map f list ≡ map g list
+map_among : (f g : Mount ℕ → Mount ℕ) (list : List (Mount ℕ))
+    → ((mount : Mount ℕ) → Among mount list → f mount ≡ g mount) → map f list ≡ map g list
 map_among f g [] same = refl
 map_among f g (mount ∷ list) same = λ i. same mount (inl refl) i ∷ map_among f g list (λ other m. same other (inr m)) i
 
 -- parts as they are kept
 
-pub parts_counted : (parts : List Kept) (namespace : NamespaceId) → mount_count (map mount_of parts) (counted namespace.count) ≡ parts_in parts namespace
+pub parts_counted : (parts : List Kept) (namespace : NamespaceId)
+    → mount_count (map mount_of parts) (counted namespace.count) ≡ parts_in parts namespace
 parts_counted parts namespace = all parts ∙ length-filter (is_part_in namespace) parts
   where
     same : (part : Kept) → is_in (counted namespace.count) (mount_of part) ≡ is_part_in namespace part
     same part = by part.namespace
       where
-        by : (o : Option NamespaceId) → holds_of (nat_eq (counted namespace.count)) (option_map (λ n. counted n.count) o) ≡ holds_of (same_namespace namespace) o
+        by : (o : Option NamespaceId) → holds_of (nat_eq (counted namespace.count))
+            (option_map (λ n. counted n.count) o) ≡ holds_of (same_namespace namespace) o
         by None = refl
         by (Some other) = same_count namespace.count other.count
 
-    grow : (b : Bool) (part : Kept) (parts : List Kept) → length (filter (is_in (counted namespace.count)) (map mount_of parts)) ≡ length (filter (is_part_in namespace) parts)
-        → length (cond b (mount_of part ∷ filter (is_in (counted namespace.count)) (map mount_of parts)) (filter (is_in (counted namespace.count)) (map mount_of parts)))
+    grow : (b : Bool) (part : Kept) (parts : List Kept)
+        → length (filter (is_in (counted namespace.count)) (map mount_of parts))
+        ≡ length (filter (is_part_in namespace) parts)
+        → length (cond b (mount_of part ∷ filter (is_in (counted namespace.count)) (map mount_of parts))
+        (filter (is_in (counted namespace.count)) (map mount_of parts)))
         ≡ length (cond b (part ∷ filter (is_part_in namespace) parts) (filter (is_part_in namespace) parts))
     grow true part parts rest = ap suc rest
     grow false part parts rest = rest
 
-    all : (parts : List Kept) → length (filter (is_in (counted namespace.count)) (map mount_of parts)) ≡ length (filter (is_part_in namespace) parts)
+    all : (parts : List Kept) → length (filter (is_in (counted namespace.count)) (map mount_of parts))
+        ≡ length (filter (is_part_in namespace) parts)
     all [] = refl
     all (part ∷ parts) =
-        ap (λ b. length (cond b (mount_of part ∷ filter (is_in (counted namespace.count)) (map mount_of parts)) (filter (is_in (counted namespace.count)) (map mount_of parts)))) (same part)
+        ap (λ b. length (cond b (mount_of part ∷ filter (is_in (counted namespace.count)) (map mount_of parts))
+        (filter (is_in (counted namespace.count)) (map mount_of parts)))) (same part)
         ∙ grow (is_part_in namespace part) part parts (all parts)
 
 -- Mounts in the place of others: as in MS_MOVE
@@ -127,7 +142,8 @@ parts_counted parts namespace = all parts ∙ length-filter (is_part_in namespac
 abbrev Own : List (Mount ℕ) → Type 0
 Own mounts = any_pair (λ (a b : Mount ℕ). nat_eq a.number b.number) mounts ≡ false
 
-put_nowhere : (mounts : List (Mount ℕ)) (new : Mount ℕ) → list_any (λ (other : Mount ℕ). nat_eq new.number other.number) mounts ≡ false
+put_nowhere : (mounts : List (Mount ℕ)) (new : Mount ℕ)
+    → list_any (λ (other : Mount ℕ). nat_eq new.number other.number) mounts ≡ false
     → with_mount nat_eq mounts new ≡ mounts
 put_nowhere [] new none = refl
 put_nowhere (mount ∷ rest) new none =
@@ -137,7 +153,8 @@ put_nowhere (mount ∷ rest) new none =
 -- one mount in the place of another of its number
 module _ (new : Mount ℕ) (namespace : ℕ) where
   one_counted : (mounts : List (Mount ℕ)) → Own mounts → is_among nat_eq new.number (numbers mounts) ≡ true
-      → mount_count (with_mount nat_eq mounts new) namespace + mount_count (mount_in nat_eq mounts new.number ∷ []) namespace
+      → mount_count (with_mount nat_eq mounts new) namespace + mount_count
+      (mount_in nat_eq mounts new.number ∷ []) namespace
       ≡ mount_count mounts namespace + mount_count (new ∷ []) namespace
   one_counted [] own there = absurd (true≢false (sym there))
   one_counted (mount ∷ rest) own there =
@@ -147,27 +164,42 @@ module _ (new : Mount ℕ) (namespace : ℕ) where
       by : (b : Bool) → nat_eq new.number mount.number ≡ b
           → list_any (λ (other : Mount ℕ). nat_eq mount.number other.number) rest ≡ false
           → (is_among nat_eq new.number (numbers rest) ≡ true
-          → mount_count (with_mount nat_eq rest new) namespace + mount_count (mount_in nat_eq rest new.number ∷ []) namespace ≡ mount_count rest namespace + mount_count (new ∷ []) namespace)
+          → mount_count (with_mount nat_eq rest new) namespace + mount_count
+          (mount_in nat_eq rest new.number ∷ []) namespace
+          ≡ mount_count rest namespace + mount_count (new ∷ []) namespace)
           → (b || is_among nat_eq new.number (numbers rest)) ≡ true
           → mount_count (cond b new mount ∷ with_mount nat_eq rest new) namespace
-          + mount_count (unwrap_or (cond b (Some mount) (numbered rest new.number)) (no_mount new.number) ∷ []) namespace
+          + mount_count (unwrap_or (cond b (Some mount) (numbered rest new.number)) (no_mount new.number)
+          ∷ []) namespace
           ≡ mount_count (mount ∷ rest) namespace + mount_count (new ∷ []) namespace
       by true e others later h =
-          let same = put_nowhere rest new (ap (λ n. list_any (λ (other : Mount ℕ). nat_eq n other.number) rest) (eqb-true new.number mount.number e) ∙ others) in
-          let first : mount_count (new ∷ with_mount nat_eq rest new) namespace ≡ mount_count (new ∷ rest) namespace = ap (λ list. mount_count (new ∷ list) namespace) same in
-          let one : mount_count (new ∷ rest) namespace ≡ mount_count (new ∷ []) namespace + mount_count rest namespace = count-append (new ∷ []) rest namespace in
-          let two : mount_count (mount ∷ rest) namespace ≡ mount_count (mount ∷ []) namespace + mount_count rest namespace = count-append (mount ∷ []) rest namespace in
+          let same = put_nowhere rest new
+          (ap (λ n. list_any (λ (other : Mount ℕ). nat_eq n other.number) rest) (eqb-true new.number mount.number e)
+          ∙ others) in
+          let first : mount_count (new ∷ with_mount nat_eq rest new) namespace
+          ≡ mount_count (new ∷ rest) namespace = ap (λ list. mount_count (new ∷ list) namespace) same in
+          let one : mount_count (new ∷ rest) namespace
+          ≡ mount_count (new ∷ []) namespace + mount_count rest namespace = count-append
+          (new ∷ []) rest namespace in
+          let two : mount_count (mount ∷ rest) namespace
+          ≡ mount_count (mount ∷ []) namespace + mount_count rest namespace = count-append
+          (mount ∷ []) rest namespace in
           omega (arith, first, one, two)
       by false e others later h =
           let rest_is = later h in
-          let one : mount_count (mount ∷ with_mount nat_eq rest new) namespace ≡ mount_count (mount ∷ []) namespace + mount_count (with_mount nat_eq rest new) namespace = count-append (mount ∷ []) (with_mount nat_eq rest new) namespace in
-          let two : mount_count (mount ∷ rest) namespace ≡ mount_count (mount ∷ []) namespace + mount_count rest namespace = count-append (mount ∷ []) rest namespace in
+          let one : mount_count (mount ∷ with_mount nat_eq rest new) namespace
+          ≡ mount_count (mount ∷ []) namespace + mount_count (with_mount nat_eq rest new) namespace = count-append
+          (mount ∷ []) (with_mount nat_eq rest new) namespace in
+          let two : mount_count (mount ∷ rest) namespace
+          ≡ mount_count (mount ∷ []) namespace + mount_count rest namespace = count-append
+          (mount ∷ []) rest namespace in
           omega (arith, rest_is, one, two)
 
 -- several, each in the place of another
 replaced_counted : (copies mounts : List (Mount ℕ)) (namespace : ℕ) → Own copies → Own mounts
     → ((copy : Mount ℕ) → Among copy copies → is_among nat_eq copy.number (numbers mounts) ≡ true)
-    → mount_count (folded (with_mount nat_eq) mounts copies) namespace + mount_count (map (λ (copy : Mount ℕ). mount_in nat_eq mounts copy.number) copies) namespace
+    → mount_count (folded (with_mount nat_eq) mounts copies) namespace + mount_count
+    (map (λ (copy : Mount ℕ). mount_in nat_eq mounts copy.number) copies) namespace
     ≡ mount_count mounts namespace + mount_count copies namespace
 replaced_counted [] mounts namespace apart own there = refl
 replaced_counted (copy ∷ copies) mounts namespace apart own there =
@@ -176,26 +208,35 @@ replaced_counted (copy ∷ copies) mounts namespace apart own there =
     let same_numbers = numbers-with_mount copy mounts in
     let later = replaced_counted copies put namespace parts.1 (one_number_by_numbers mounts put same_numbers own)
     (λ other m. ap (is_among nat_eq other.number) same_numbers ∙ there other (inr m)) in
-    let kept : mount_count (map (λ (other : Mount ℕ). mount_in nat_eq put other.number) copies) namespace ≡ mount_count (map (λ (other : Mount ℕ). mount_in nat_eq mounts other.number) copies) namespace =
+    let kept : mount_count (map (λ (other : Mount ℕ). mount_in nat_eq put other.number) copies) namespace
+    ≡ mount_count (map (λ (other : Mount ℕ). mount_in nat_eq mounts other.number) copies) namespace =
     ap (λ list. mount_count list namespace)
-    (map_among (λ (other : Mount ℕ). mount_in nat_eq put other.number) (λ (other : Mount ℕ). mount_in nat_eq mounts other.number) copies
+    (map_among (λ (other : Mount ℕ). mount_in nat_eq put other.number)
+    (λ (other : Mount ℕ). mount_in nat_eq mounts other.number) copies
     (λ other m. found-with_mount_other copy mounts other.number
     (none_among (λ (one : Mount ℕ). nat_eq copy.number one.number) copies parts.0 other m))) in
     let first = one_counted copy namespace mounts own (there copy (inl refl)) in
-    let one : mount_count (copy ∷ copies) namespace ≡ mount_count (copy ∷ []) namespace + mount_count copies namespace = count-append (copy ∷ []) copies namespace in
+    let one : mount_count (copy ∷ copies) namespace
+    ≡ mount_count (copy ∷ []) namespace + mount_count copies namespace = count-append
+    (copy ∷ []) copies namespace in
     let was = map (λ (other : Mount ℕ). mount_in nat_eq mounts other.number) copies in
-    let two : mount_count (mount_in nat_eq mounts copy.number ∷ was) namespace ≡ mount_count (mount_in nat_eq mounts copy.number ∷ []) namespace + mount_count was namespace =
+    let two : mount_count (mount_in nat_eq mounts copy.number ∷ was) namespace
+    ≡ mount_count (mount_in nat_eq mounts copy.number ∷ []) namespace + mount_count was namespace =
     count-append (mount_in nat_eq mounts copy.number ∷ []) was namespace in
     omega (arith, later, kept, first, one, two)
 
 -- mounts that move: each change of them keeps their numbers
-module _ (mounts tree : List (Mount ℕ)) (own : Own mounts) (apart : Own tree) (there : (mount : Mount ℕ) → Among mount tree → Among mount mounts)
+module _ (mounts tree : List (Mount ℕ)) (own : Own mounts) (apart : Own tree)
+    (there : (mount : Mount ℕ) → Among mount tree → Among mount mounts)
     (change : Mount ℕ → Mount ℕ) (keeps : (mount : Mount ℕ) → (change mount).number ≡ mount.number) where
-  pub moved_counted : (namespace : ℕ) → mount_count (folded (with_mount nat_eq) mounts (map change tree)) namespace + mount_count tree namespace
+  pub moved_counted : (namespace : ℕ)
+      → mount_count (folded (with_mount nat_eq) mounts (map change tree)) namespace + mount_count tree namespace
       ≡ mount_count mounts namespace + mount_count (map change tree) namespace
   moved_counted namespace =
-      let all = replaced_counted (map change tree) mounts namespace (one_number_by_numbers tree (map change tree) (changed_numbers tree) apart) own listed in
-      let were : mount_count (map (λ (copy : Mount ℕ). mount_in nat_eq mounts copy.number) (map change tree)) namespace ≡ mount_count tree namespace =
+      let all = replaced_counted (map change tree) mounts namespace
+      (one_number_by_numbers tree (map change tree) (changed_numbers tree) apart) own listed in
+      let were : mount_count (map (λ (copy : Mount ℕ). mount_in nat_eq mounts copy.number) (map change tree)) namespace
+      ≡ mount_count tree namespace =
       ap (λ list. mount_count list namespace) (originals tree there) in
       omega (arith, all, were)
     where
@@ -208,7 +249,8 @@ module _ (mounts tree : List (Mount ℕ)) (own : Own mounts) (apart : Own tree) 
           let from = among-from_map change tree copy m in
           ap (λ (one : Mount ℕ). is_among nat_eq one.number (numbers mounts)) from.2
           ∙ ap (λ n. is_among nat_eq n (numbers mounts)) (keeps from.0)
-          ∙ is_among_numbers (numbers mounts) from.0.number (among-map (λ (one : Mount ℕ). one.number) mounts from.0 (there from.0 from.1))
+          ∙ is_among_numbers (numbers mounts) from.0.number
+          (among-map (λ (one : Mount ℕ). one.number) mounts from.0 (there from.0 from.1))
 
       originals : (list : List (Mount ℕ)) → ((mount : Mount ℕ) → Among mount list → Among mount mounts)
           → map (λ (copy : Mount ℕ). mount_in nat_eq mounts copy.number) (map change list) ≡ list
@@ -218,10 +260,12 @@ module _ (mounts tree : List (Mount ℕ)) (own : Own mounts) (apart : Own tree) 
           ∷ originals list (λ other m. within other (inr m)) i
 
 -- so they are no more than all
-pub moved_fewer : (mounts tree : List (Mount ℕ)) → Own mounts → Own tree → ((mount : Mount ℕ) → Among mount tree → Among mount mounts)
+pub moved_fewer : (mounts tree : List (Mount ℕ)) → Own mounts → Own tree
+    → ((mount : Mount ℕ) → Among mount tree → Among mount mounts)
     → (namespace : ℕ) → mount_count tree namespace ≤ mount_count mounts namespace
 moved_fewer mounts tree own apart there namespace =
-    let all = moved_counted mounts tree own apart there (λ mount. record mount { namespace = None }) (λ mount. refl) namespace in
+    let all = moved_counted mounts tree own apart there (λ mount. record mount { namespace = None })
+    (λ mount. refl) namespace in
     let none : mount_count (map (λ (mount : Mount ℕ). record mount { namespace = None }) tree) namespace ≡ 0 =
     count-alike (λ (mount : Mount ℕ). record mount { namespace = None }) None (λ mount. refl) tree namespace in
     omega (arith, all, none)
@@ -234,78 +278,102 @@ map_same_mounts (mount ∷ list) = ap (λ rest. mount ∷ rest) (map_same_mounts
 
 -- a mount in a namespace is in one that is listed
 module _ (world : World ℕ) (invariants : NamespaceInvariants nat_eq world) where
-  listed : (mount : Mount ℕ) (namespace : ℕ) → Among mount world.mounts → mount.namespace ≡ Some namespace → is_listed nat_eq world namespace ≡ true
+  listed : (mount : Mount ℕ) (namespace : ℕ) → Among mount world.mounts → mount.namespace ≡ Some namespace
+      → is_listed nat_eq world namespace ≡ true
   listed mount namespace m is =
       (and_parts (is_listed nat_eq world namespace) true
       (ap (λ o. list_all (is_listed nat_eq world) (option_to_list o)) (sym is)
-      ∙ among_from_list_all (λ (one : Mount ℕ). list_all (is_listed nat_eq world) (option_to_list one.namespace)) world.mounts invariants.mounts_listed mount m)).0
+      ∙ among_from_list_all (λ (one : Mount ℕ). list_all (is_listed nat_eq world)
+      (option_to_list one.namespace)) world.mounts invariants.mounts_listed mount m)).0
 
 -- These parts tell whether a namespace has too many mounts, if a namespace without a part gets no more.
 module _ (world : World ℕ) (parts : List (Mount ℕ)) (invariants : NamespaceInvariants nat_eq world)
-    (part_listed : (part : Mount ℕ) (namespace : ℕ) → Among part parts → part.namespace ≡ Some namespace → is_listed nat_eq world namespace ≡ true)
+    (part_listed : (part : Mount ℕ) (namespace : ℕ) → Among part parts → part.namespace ≡ Some namespace
+    → is_listed nat_eq world namespace ≡ true)
     (after : World ℕ) (same : after.namespaces ≡ world.namespaces)
-    (small : (namespace : ℕ) → mount_count parts namespace ≡ 0 → mount_count after.mounts namespace ≤ mount_count world.mounts namespace) where
+    (small : (namespace : ℕ) → mount_count parts namespace ≡ 0
+    → mount_count after.mounts namespace ≤ mount_count world.mounts namespace) where
   abbrev full : ℕ → Bool
   full namespace = nat_lt most_mounts (mount_count after.mounts namespace)
 
-  parts_tell : list_any (λ part. holds_of full part.namespace) parts ≡ list_any (λ namespace. full namespace.number) world.namespaces
+  parts_tell : list_any (λ part. holds_of full part.namespace) parts
+      ≡ list_any (λ namespace. full namespace.number) world.namespaces
   parts_tell = same_from _ _ there back
     where
-      there : list_any (λ part. holds_of full part.namespace) parts ≡ true → list_any (λ namespace. full namespace.number) world.namespaces ≡ true
+      there : list_any (λ part. holds_of full part.namespace) parts ≡ true
+          → list_any (λ namespace. full namespace.number) world.namespaces ≡ true
       there h = by found.0.namespace refl
         where
           found : (part : Mount ℕ) × Among part parts × (holds_of full part.namespace ≡ true)
           found = any_among (λ (part : Mount ℕ). holds_of full part.namespace) parts h
 
-          by : (o : Option ℕ) → found.0.namespace ≡ o → list_any (λ namespace. full namespace.number) world.namespaces ≡ true
+          by : (o : Option ℕ) → found.0.namespace ≡ o
+              → list_any (λ namespace. full namespace.number) world.namespaces ≡ true
           by None e = absurd (true≢false (sym found.2 ∙ ap (holds_of full) e))
           by (Some namespace) e =
               let m = among-from_map (λ (one : Namespace ℕ). one.number) world.namespaces namespace
-              (among_numbers (map (λ (one : Namespace ℕ). one.number) world.namespaces) namespace (part_listed found.0 namespace found.1 e)) in
+              (among_numbers (map (λ (one : Namespace ℕ). one.number) world.namespaces) namespace
+              (part_listed found.0 namespace found.1 e)) in
               any_from_among (λ (one : Namespace ℕ). full one.number) world.namespaces m.0 m.1
               (ap full (sym m.2) ∙ sym (ap (holds_of full) e) ∙ found.2)
 
-      back : list_any (λ namespace. full namespace.number) world.namespaces ≡ true → list_any (λ part. holds_of full part.namespace) parts ≡ true
+      back : list_any (λ namespace. full namespace.number) world.namespaces ≡ true
+          → list_any (λ part. holds_of full part.namespace) parts ≡ true
       back h = by (filter (is_in found.0.number) parts) refl
         where
           found : (one : Namespace ℕ) × Among one world.namespaces × (full one.number ≡ true)
           found = any_among (λ (one : Namespace ℕ). full one.number) world.namespaces h
 
           few : nat_lt most_mounts (mount_count world.mounts found.0.number) ≡ false
-          few = none_among (λ (one : Namespace ℕ). nat_lt most_mounts (mount_count world.mounts one.number)) world.namespaces invariants.few_mounts found.0 found.1
+          few = none_among (λ (one : Namespace ℕ). nat_lt most_mounts
+              (mount_count world.mounts one.number)) world.namespaces invariants.few_mounts found.0 found.1
 
           of_it : (o : Option ℕ) → holds_of (nat_eq found.0.number) o ≡ true → holds_of full o ≡ true
           of_it None e = absurd (true≢false (sym e))
           of_it (Some namespace) e = ap full (sym (eqb-true found.0.number namespace e)) ∙ found.2
 
-          by : (list : List (Mount ℕ)) → filter (is_in found.0.number) parts ≡ list → list_any (λ part. holds_of full part.namespace) parts ≡ true
+          by : (list : List (Mount ℕ)) → filter (is_in found.0.number) parts ≡ list
+              → list_any (λ part. holds_of full part.namespace) parts ≡ true
           by [] e =
               let low : mount_count after.mounts found.0.number ≤ mount_count world.mounts found.0.number = small found.0.number (ap length e) in
-              absurd (omega (arith, low, ltb-true most_mounts (mount_count after.mounts found.0.number) found.2, ltb-false most_mounts (mount_count world.mounts found.0.number) few))
+              absurd (omega (
+                arith,
+                low,
+                ltb-true most_mounts
+                    (mount_count after.mounts found.0.number) found.2,
+                ltb-false most_mounts
+                    (mount_count world.mounts found.0.number) few,
+              ))
           by (part ∷ list) e =
               let inside : Among part parts × (is_in found.0.number part ≡ true) =
               among-from_filter (is_in found.0.number) parts part (subst (Among part) (sym e) (inl refl)) in
-              any_from_among (λ (one : Mount ℕ). holds_of full one.namespace) parts part inside.0 (of_it part.namespace inside.1)
+              any_from_among (λ (one : Mount ℕ). holds_of full one.namespace) parts part inside.0
+              (of_it part.namespace inside.1)
 
   -- the parts as they are kept tell it
   kept_tell : (mounts : List (Mount ℕ)) → mounts ≡ world.mounts → (kept : List Kept) → map mount_of kept ≡ parts
-      → (load : Load) (counts : NamespaceId → ℕ) → ((namespace : NamespaceId) → counts namespace ≡ parts_in kept namespace)
+      → (load : Load) (counts : NamespaceId → ℕ)
+      → ((namespace : NamespaceId) → counts namespace ≡ parts_in kept namespace)
       → ((namespace : NamespaceId) → mount_count after.mounts (counted namespace.count)
-      ≡ mount_count world.mounts (counted namespace.count) - leaving load namespace + mount_count parts (counted namespace.count) * load.count)
+      ≡ mount_count world.mounts (counted namespace.count) - leaving load namespace + mount_count parts
+      (counted namespace.count) * load.count)
       → list_any (λ part. is_overfilled mounts load counts part.namespace) kept ≡ has_too_many nat_eq after
   kept_tell mounts same_mounts kept are load counts right exact =
       over kept ∙ ap (list_any (λ part. holds_of full part.namespace)) are ∙ parts_tell
       ∙ ap (list_any (λ (namespace : Namespace ℕ). full namespace.number)) (sym same)
     where
-      one : (o : Option NamespaceId) → is_overfilled mounts load counts o ≡ holds_of full (option_map (λ n. counted n.count) o)
+      one : (o : Option NamespaceId)
+          → is_overfilled mounts load counts o ≡ holds_of full (option_map (λ n. counted n.count) o)
       one None = refl
       one (Some namespace) =
           ap (nat_lt most_mounts) (
           (λ i. mount_count (same_mounts i) (counted namespace.count) - leaving load namespace
-          + (right namespace ∙ sym (parts_counted kept namespace) ∙ ap (λ list. mount_count list (counted namespace.count)) are) i * load.count)
+          + (right namespace ∙ sym (parts_counted kept namespace)
+          ∙ ap (λ list. mount_count list (counted namespace.count)) are) i * load.count)
           ∙ sym (exact namespace))
 
-      over : (list : List Kept) → list_any (λ part. is_overfilled mounts load counts part.namespace) list ≡ list_any (λ part. holds_of full part.namespace) (map mount_of list)
+      over : (list : List Kept) → list_any (λ part. is_overfilled mounts load counts part.namespace) list
+          ≡ list_any (λ part. holds_of full part.namespace) (map mount_of list)
       over [] = refl
       over (part ∷ list) = λ i. one part.namespace i || over list i
 
@@ -314,22 +382,31 @@ module _ (world : World ℕ) (place : Location ℕ) where
   parts = parts_of nat_eq world place
 
   -- a part in a namespace is a mount of the world
-  part_listed : NamespaceInvariants nat_eq world → (part : Mount ℕ) (namespace : ℕ) → Among part (parts_of nat_eq world place) → part.namespace ≡ Some namespace → is_listed nat_eq world namespace ≡ true
+  part_listed : NamespaceInvariants nat_eq world → (part : Mount ℕ) (namespace : ℕ)
+      → Among part (parts_of nat_eq world place) → part.namespace ≡ Some namespace
+      → is_listed nat_eq world namespace ≡ true
   part_listed invariants part namespace m is =
-      ⊎_elim (λ e. first (numbered world.mounts place.mount) refl e) (λ l. listed world invariants part namespace (rest l) is) m
+      ⊎_elim (λ e. first (numbered world.mounts place.mount) refl e)
+      (λ l. listed world invariants part namespace (rest l) is) m
     where
-      rest : Among part (filter (takes_part nat_eq world place) (receivers_of nat_eq world (mount_at nat_eq world place))) → Among part world.mounts
+      rest : Among part (filter (takes_part nat_eq world place)
+          (receivers_of nat_eq world (mount_at nat_eq world place))) → Among part world.mounts
       rest l =
           receivers_there world (mount_at nat_eq world place) part
-          (among-from_filter (takes_part nat_eq world place) (receivers_of nat_eq world (mount_at nat_eq world place)) part l).0
+          (among-from_filter (takes_part nat_eq world place)
+          (receivers_of nat_eq world (mount_at nat_eq world place)) part l).0
 
-      first : (o : Option (Mount ℕ)) → numbered world.mounts place.mount ≡ o → part ≡ mount_at nat_eq world place → is_listed nat_eq world namespace ≡ true
+      first : (o : Option (Mount ℕ)) → numbered world.mounts place.mount ≡ o → part ≡ mount_at nat_eq world place
+          → is_listed nat_eq world namespace ≡ true
       first None e same =
           absurd (true≢false (ap (λ (found : Option ℕ). holds_of (λ n. true) found)
-          (sym is ∙ ap (λ (mount : Mount ℕ). mount.namespace) (same ∙ ap (λ found. unwrap_or found (no_mount place.mount)) e))))
+          (sym is ∙ ap (λ (mount : Mount ℕ). mount.namespace)
+          (same ∙ ap (λ found. unwrap_or found (no_mount place.mount)) e))))
       first (Some mount) e same =
-          listed world invariants mount namespace (found_one (λ (one : Mount ℕ). nat_eq place.mount one.number) world.mounts mount e).0
-          (ap (λ (one : Mount ℕ). one.namespace) (sym (same ∙ ap (λ found. unwrap_or found (no_mount place.mount)) e)) ∙ is)
+          listed world invariants mount namespace
+          (found_one (λ (one : Mount ℕ). nat_eq place.mount one.number) world.mounts mount e).0
+          (ap (λ (one : Mount ℕ). one.namespace) (sym (same ∙ ap (λ found. unwrap_or found (no_mount place.mount)) e))
+          ∙ is)
 
   module _ (new : Copies ℕ) (moves : Bool) (tree : List (Mount ℕ)) where
     abbrev graft : Graft ℕ
@@ -342,18 +419,25 @@ module _ (world : World ℕ) (place : Location ℕ) where
         by None = refl
         by (Some part) = refl
 
-    pushed_counted : (list : List (Mount ℕ)) (namespace : ℕ) → mount_count (map (pushed_up nat_eq world new graft parts) list) namespace ≡ mount_count list namespace
+    pushed_counted : (list : List (Mount ℕ)) (namespace : ℕ)
+        → mount_count (map (pushed_up nat_eq world new graft parts) list) namespace ≡ mount_count list namespace
     pushed_counted list namespace =
         count-map (pushed_up nat_eq world new graft parts) (λ (mount : Mount ℕ). mount) pushed_stays list namespace
         ∙ ap (λ all. mount_count all namespace) (map_same_mounts list)
 
-    copies_counted : (namespace : ℕ) (part : Mount ℕ) → mount_count (copies_at nat_eq world new graft parts part) namespace ≡ cond (is_in namespace part) (length tree) 0
+    copies_counted : (namespace : ℕ) (part : Mount ℕ)
+        → mount_count (copies_at nat_eq world new graft parts part) namespace
+        ≡ cond (is_in namespace part) (length tree) 0
     copies_counted namespace part =
         count-alike (copy_at nat_eq world new graft parts part) part.namespace (λ twig. refl) graft.twigs namespace
-        ∙ ap (λ n. cond (is_in namespace part) n 0) (length-map tree (twig_of new (group_of (mount_at nat_eq world place).propagation)))
+        ∙ ap (λ n. cond (is_in namespace part) n 0)
+        (length-map tree (twig_of new (group_of (mount_at nat_eq world place).propagation)))
 
-    rest_counted : (namespace : ℕ) (rest : List (Mount ℕ)) → mount_count (flat_map (copies_at nat_eq world new graft parts) rest) namespace ≡ mount_count rest namespace * length tree
-    rest_counted namespace rest = count-flat (copies_at nat_eq world new graft parts) (length tree) namespace (copies_counted namespace) rest
+    rest_counted : (namespace : ℕ) (rest : List (Mount ℕ))
+        → mount_count (flat_map (copies_at nat_eq world new graft parts) rest) namespace
+        ≡ mount_count rest namespace * length tree
+    rest_counted namespace rest = count-flat (copies_at nat_eq world new graft parts) (length tree) namespace
+        (copies_counted namespace) rest
 
   -- Copies
 
@@ -361,33 +445,44 @@ module _ (world : World ℕ) (place : Location ℕ) where
     abbrev added : World ℕ
     added = attached_by nat_eq world new place false tree
 
-    pub added_counted : (namespace : ℕ) → mount_count added.mounts namespace ≡ mount_count world.mounts namespace + mount_count parts namespace * length tree
+    pub added_counted : (namespace : ℕ)
+        → mount_count added.mounts namespace
+        ≡ mount_count world.mounts namespace + mount_count parts namespace * length tree
     added_counted namespace =
-        ap (λ list. mount_count list namespace) (append_assoc (map (pushed_up nat_eq world new (graft new false tree) parts) world.mounts)
+        ap (λ list. mount_count list namespace)
+        (append_assoc (map (pushed_up nat_eq world new (graft new false tree) parts) world.mounts)
         (copies_at nat_eq world new (graft new false tree) parts (mount_at nat_eq world place))
-        (flat_map (copies_at nat_eq world new (graft new false tree) parts) (filter (takes_part nat_eq world place) (receivers_of nat_eq world (mount_at nat_eq world place)))))
-        ∙ count-append (map (pushed_up nat_eq world new (graft new false tree) parts) world.mounts) (flat_map (copies_at nat_eq world new (graft new false tree) parts) parts) namespace
+        (flat_map (copies_at nat_eq world new (graft new false tree) parts)
+        (filter (takes_part nat_eq world place) (receivers_of nat_eq world (mount_at nat_eq world place)))))
+        ∙ count-append (map (pushed_up nat_eq world new (graft new false tree) parts) world.mounts)
+        (flat_map (copies_at nat_eq world new (graft new false tree) parts) parts) namespace
         ∙ (λ i. pushed_counted new false tree world.mounts namespace i + rest_counted new false tree namespace parts i)
 
-    pub added_tell : NamespaceInvariants nat_eq world → (mounts : List (Mount ℕ)) → mounts ≡ world.mounts → (kept : List Kept) → map mount_of kept ≡ parts
+    pub added_tell : NamespaceInvariants nat_eq world → (mounts : List (Mount ℕ)) → mounts ≡ world.mounts
+        → (kept : List Kept) → map mount_of kept ≡ parts
         → (load : Load) → length tree ≡ load.count → load.leaves ≡ None
         → (counts : NamespaceId → ℕ) → ((namespace : NamespaceId) → counts namespace ≡ parts_in kept namespace)
         → list_any (λ part. is_overfilled mounts load counts part.namespace) kept ≡ has_too_many nat_eq added
     added_tell invariants mounts same kept are load size stay counts right =
-        kept_tell world parts invariants (part_listed invariants) added refl small mounts same kept are load counts right exact
+        kept_tell world parts invariants
+        (part_listed invariants) added refl small mounts same kept are load counts right exact
       where
-        small : (namespace : ℕ) → mount_count parts namespace ≡ 0 → mount_count added.mounts namespace ≤ mount_count world.mounts namespace
+        small : (namespace : ℕ) → mount_count parts namespace ≡ 0
+            → mount_count added.mounts namespace ≤ mount_count world.mounts namespace
         small namespace e =
             let all = added_counted namespace in
             let none : mount_count parts namespace * length tree ≡ 0 = ap (λ n. n * length tree) e ∙ omega arith in
             omega (arith, all, none)
 
         exact : (namespace : NamespaceId) → mount_count added.mounts (counted namespace.count)
-            ≡ mount_count world.mounts (counted namespace.count) - leaving load namespace + mount_count parts (counted namespace.count) * load.count
+            ≡ mount_count world.mounts (counted namespace.count) - leaving load namespace + mount_count parts
+            (counted namespace.count) * load.count
         exact namespace =
             let all = added_counted (counted namespace.count) in
-            let none : leaving load namespace ≡ 0 = ap (λ o. cond (holds_of (same_namespace namespace) o) load.count 0) stay in
-            let sized : mount_count parts (counted namespace.count) * length tree ≡ mount_count parts (counted namespace.count) * load.count =
+            let none : leaving load namespace
+            ≡ 0 = ap (λ o. cond (holds_of (same_namespace namespace) o) load.count 0) stay in
+            let sized : mount_count parts (counted namespace.count) * length tree
+            ≡ mount_count parts (counted namespace.count) * load.count =
             ap (λ n. mount_count parts (counted namespace.count) * n) size in
             omega (arith, all, none, sized)
 
@@ -402,7 +497,8 @@ module _ (world : World ℕ) (place : Location ℕ) where
 
     -- a mount as it is at the destination
     abbrev there_now : Mount ℕ → Mount ℕ
-    there_now mount = copy_at nat_eq world new (graft new true tree) parts (mount_at nat_eq world place) (twig_of new (group_of (mount_at nat_eq world place).propagation) mount)
+    there_now mount = copy_at nat_eq world new (graft new true tree) parts (mount_at nat_eq world place)
+        (twig_of new (group_of (mount_at nat_eq world place).propagation) mount)
 
     keeps_number : (mount : Mount ℕ) → (there_now mount).number ≡ mount.number
     keeps_number mount =
@@ -412,24 +508,36 @@ module _ (world : World ℕ) (place : Location ℕ) where
     come : copies_at nat_eq world new (graft new true tree) parts (mount_at nat_eq world place) ≡ map there_now tree
     come = twice tree
       where
-        twice : (list : List (Mount ℕ)) → map (copy_at nat_eq world new (graft new true tree) parts (mount_at nat_eq world place))
+        twice : (list : List (Mount ℕ))
+            → map (copy_at nat_eq world new (graft new true tree) parts (mount_at nat_eq world place))
             (map (twig_of new (group_of (mount_at nat_eq world place).propagation)) list) ≡ map there_now list
         twice [] = refl
         twice (mount ∷ list) = ap (λ rest. there_now mount ∷ rest) (twice list)
 
     -- a mount that is not there comes to the receivers alone
-    pub absent_counted : (mount : Mount ℕ) → tree ≡ mount ∷ [] → is_among nat_eq mount.number (numbers world.mounts) ≡ false
-        → (namespace : ℕ) → mount_count moved.mounts namespace ≡ mount_count world.mounts namespace + mount_count others namespace * length tree
+    pub absent_counted : (mount : Mount ℕ) → tree ≡ mount ∷ []
+        → is_among nat_eq mount.number (numbers world.mounts) ≡ false
+        → (namespace : ℕ) → mount_count moved.mounts namespace
+        ≡ mount_count world.mounts namespace + mount_count others namespace * length tree
     absent_counted mount is missing namespace =
-        let put : folded (with_mount nat_eq) world.mounts (copies_at nat_eq world new (graft new true tree) parts (mount_at nat_eq world place)) ≡ world.mounts =
+        let put : folded (with_mount nat_eq) world.mounts
+        (copies_at nat_eq world new (graft new true tree) parts (mount_at nat_eq world place)) ≡ world.mounts =
         ap (folded (with_mount nat_eq) world.mounts) (come ∙ ap (map there_now) is)
         ∙ put_nowhere world.mounts (there_now mount)
-        (ap (λ n. list_any (λ (other : Mount ℕ). nat_eq n other.number) world.mounts) (keeps_number mount) ∙ none_has world.mounts missing) in
-        let all = count-append (map (pushed_up nat_eq world new (graft new true tree) parts) (folded (with_mount nat_eq) world.mounts (copies_at nat_eq world new (graft new true tree) parts (mount_at nat_eq world place))) ++ [])
+        (ap (λ n. list_any (λ (other : Mount ℕ). nat_eq n other.number) world.mounts) (keeps_number mount)
+        ∙ none_has world.mounts missing) in
+        let all = count-append (map (pushed_up nat_eq world new (graft new true tree) parts)
+        (folded (with_mount nat_eq) world.mounts
+        (copies_at nat_eq world new (graft new true tree) parts (mount_at nat_eq world place))) ++ [])
         (flat_map (copies_at nat_eq world new (graft new true tree) parts) others) namespace in
-        let front = count-append (map (pushed_up nat_eq world new (graft new true tree) parts) (folded (with_mount nat_eq) world.mounts (copies_at nat_eq world new (graft new true tree) parts (mount_at nat_eq world place)))) [] namespace in
-        let pushed = pushed_counted new true tree (folded (with_mount nat_eq) world.mounts (copies_at nat_eq world new (graft new true tree) parts (mount_at nat_eq world place))) namespace in
-        let same : mount_count (folded (with_mount nat_eq) world.mounts (copies_at nat_eq world new (graft new true tree) parts (mount_at nat_eq world place))) namespace
+        let front = count-append (map (pushed_up nat_eq world new (graft new true tree) parts)
+        (folded (with_mount nat_eq) world.mounts
+        (copies_at nat_eq world new (graft new true tree) parts (mount_at nat_eq world place)))) [] namespace in
+        let pushed = pushed_counted new true tree
+        (folded (with_mount nat_eq) world.mounts
+        (copies_at nat_eq world new (graft new true tree) parts (mount_at nat_eq world place))) namespace in
+        let same : mount_count (folded (with_mount nat_eq) world.mounts
+        (copies_at nat_eq world new (graft new true tree) parts (mount_at nat_eq world place))) namespace
         ≡ mount_count world.mounts namespace = ap (λ list. mount_count list namespace) put in
         let rest = rest_counted new true tree namespace others in
         omega (arith, all, front, pushed, same, rest)
@@ -441,37 +549,56 @@ module _ (world : World ℕ) (place : Location ℕ) where
             let parts = or_parts (nat_eq mount.number other.number) _ none in
             λ i. parts.0 i || none_has list parts.1 i
 
-    module _ (own : Own world.mounts) (apart : Own tree) (within : (mount : Mount ℕ) → Among mount tree → Among mount world.mounts) where
-      pub moved_all : (namespace : ℕ) → mount_count moved.mounts namespace + mount_count tree namespace ≡ mount_count world.mounts namespace + mount_count parts namespace * length tree
+    module _ (own : Own world.mounts) (apart : Own tree)
+        (within : (mount : Mount ℕ) → Among mount tree → Among mount world.mounts) where
+      pub moved_all : (namespace : ℕ)
+          → mount_count moved.mounts namespace + mount_count tree namespace
+          ≡ mount_count world.mounts namespace + mount_count parts namespace * length tree
       moved_all namespace =
-          let all = count-append (map (pushed_up nat_eq world new (graft new true tree) parts) (folded (with_mount nat_eq) world.mounts (copies_at nat_eq world new (graft new true tree) parts (mount_at nat_eq world place))) ++ [])
+          let all = count-append (map (pushed_up nat_eq world new (graft new true tree) parts)
+          (folded (with_mount nat_eq) world.mounts
+          (copies_at nat_eq world new (graft new true tree) parts (mount_at nat_eq world place))) ++ [])
           (flat_map (copies_at nat_eq world new (graft new true tree) parts) others) namespace in
-          let front = count-append (map (pushed_up nat_eq world new (graft new true tree) parts) (folded (with_mount nat_eq) world.mounts (copies_at nat_eq world new (graft new true tree) parts (mount_at nat_eq world place)))) [] namespace in
-          let pushed = pushed_counted new true tree (folded (with_mount nat_eq) world.mounts (copies_at nat_eq world new (graft new true tree) parts (mount_at nat_eq world place))) namespace in
-          let put : mount_count (folded (with_mount nat_eq) world.mounts (copies_at nat_eq world new (graft new true tree) parts (mount_at nat_eq world place))) namespace
+          let front = count-append (map (pushed_up nat_eq world new (graft new true tree) parts)
+          (folded (with_mount nat_eq) world.mounts
+          (copies_at nat_eq world new (graft new true tree) parts (mount_at nat_eq world place)))) [] namespace in
+          let pushed = pushed_counted new true tree
+          (folded (with_mount nat_eq) world.mounts
+          (copies_at nat_eq world new (graft new true tree) parts (mount_at nat_eq world place))) namespace in
+          let put : mount_count (folded (with_mount nat_eq) world.mounts
+          (copies_at nat_eq world new (graft new true tree) parts (mount_at nat_eq world place))) namespace
           ≡ mount_count (folded (with_mount nat_eq) world.mounts (map there_now tree)) namespace =
           ap (λ list. mount_count (folded (with_mount nat_eq) world.mounts list) namespace) come in
           let change = moved_counted world.mounts tree own apart within there_now keeps_number namespace in
-          let here : mount_count (map there_now tree) namespace ≡ cond (is_in namespace (mount_at nat_eq world place)) (length tree) 0 =
+          let here : mount_count (map there_now tree) namespace
+          ≡ cond (is_in namespace (mount_at nat_eq world place)) (length tree) 0 =
           count-alike there_now (mount_at nat_eq world place).namespace (λ mount. refl) tree namespace in
           let rest = rest_counted new true tree namespace others in
-          let whole : mount_count parts namespace * length tree ≡ cond (is_in namespace (mount_at nat_eq world place)) (length tree) 0 + mount_count others namespace * length tree =
-          ap (λ n. n * length tree) (count-cons (mount_at nat_eq world place) others namespace) ∙ by (is_in namespace (mount_at nat_eq world place)) namespace in
+          let whole : mount_count parts namespace * length tree
+          ≡ cond (is_in namespace (mount_at nat_eq world place))
+          (length tree) 0 + mount_count others namespace * length tree =
+          ap (λ n. n * length tree) (count-cons (mount_at nat_eq world place) others namespace)
+          ∙ by (is_in namespace (mount_at nat_eq world place)) namespace in
           omega (arith, all, front, pushed, put, change, here, rest, whole)
         where
-          by : (b : Bool) (namespace : ℕ) → (cond b 1 0 + mount_count others namespace) * length tree ≡ cond b (length tree) 0 + mount_count others namespace * length tree
+          by : (b : Bool) (namespace : ℕ)
+              → (cond b 1 0 + mount_count others namespace) * length tree
+              ≡ cond b (length tree) 0 + mount_count others namespace * length tree
           by true namespace = omega arith
           by false namespace = omega arith
 
-      moved_tell : NamespaceInvariants nat_eq world → (mounts : List (Mount ℕ)) → mounts ≡ world.mounts → (kept : List Kept) → map mount_of kept ≡ parts
+      moved_tell : NamespaceInvariants nat_eq world → (mounts : List (Mount ℕ)) → mounts ≡ world.mounts
+          → (kept : List Kept) → map mount_of kept ≡ parts
           → (load : Load) → length tree ≡ load.count
           → ((mount : Mount ℕ) → Among mount tree → mount.namespace ≡ option_map (λ n. counted n.count) load.leaves)
           → (counts : NamespaceId → ℕ) → ((namespace : NamespaceId) → counts namespace ≡ parts_in kept namespace)
           → list_any (λ part. is_overfilled mounts load counts part.namespace) kept ≡ has_too_many nat_eq moved
       moved_tell invariants mounts same kept are load size inside counts right =
-          kept_tell world parts invariants (part_listed invariants) moved refl small mounts same kept are load counts right exact
+          kept_tell world parts invariants
+          (part_listed invariants) moved refl small mounts same kept are load counts right exact
         where
-          small : (namespace : ℕ) → mount_count parts namespace ≡ 0 → mount_count moved.mounts namespace ≤ mount_count world.mounts namespace
+          small : (namespace : ℕ) → mount_count parts namespace ≡ 0
+              → mount_count moved.mounts namespace ≤ mount_count world.mounts namespace
           small namespace e =
               let all = moved_all namespace in
               let none : mount_count parts namespace * length tree ≡ 0 = ap (λ n. n * length tree) e ∙ omega arith in
@@ -482,53 +609,67 @@ module _ (world : World ℕ) (place : Location ℕ) where
               count-inside tree (option_map (λ n. counted n.count) load.leaves) inside (counted namespace.count)
               ∙ by load.leaves
             where
-              by : (o : Option NamespaceId) → cond (holds_of (nat_eq (counted namespace.count)) (option_map (λ n. counted n.count) o)) (length tree) 0
+              by : (o : Option NamespaceId) → cond
+                  (holds_of (nat_eq (counted namespace.count)) (option_map (λ n. counted n.count) o)) (length tree) 0
                   ≡ cond (holds_of (same_namespace namespace) o) load.count 0
               by None = refl
               by (Some other) = λ i. cond (same_count namespace.count other.count i) (size i) 0
 
           exact : (namespace : NamespaceId) → mount_count moved.mounts (counted namespace.count)
-              ≡ mount_count world.mounts (counted namespace.count) - leaving load namespace + mount_count parts (counted namespace.count) * load.count
+              ≡ mount_count world.mounts (counted namespace.count) - leaving load namespace + mount_count parts
+              (counted namespace.count) * load.count
           exact namespace =
               let all = moved_all (counted namespace.count) in
               let gone = leave namespace in
               let fewer = moved_fewer world.mounts tree own apart within (counted namespace.count) in
-              let sized : mount_count parts (counted namespace.count) * length tree ≡ mount_count parts (counted namespace.count) * load.count =
+              let sized : mount_count parts (counted namespace.count) * length tree
+              ≡ mount_count parts (counted namespace.count) * load.count =
               ap (λ n. mount_count parts (counted namespace.count) * n) size in
               omega (arith, all, gone, fewer, sized)
 
-pub moves_tell : (world : World ℕ) (place : Location ℕ) (new : Copies ℕ) (tree : List (Mount ℕ)) → NamespaceInvariants nat_eq world
-    → (mounts : List (Mount ℕ)) → mounts ≡ world.mounts → (kept : List Kept) → map mount_of kept ≡ parts_of nat_eq world place
+pub moves_tell : (world : World ℕ) (place : Location ℕ) (new : Copies ℕ) (tree : List (Mount ℕ))
+    → NamespaceInvariants nat_eq world
+    → (mounts : List (Mount ℕ)) → mounts ≡ world.mounts → (kept : List Kept)
+    → map mount_of kept ≡ parts_of nat_eq world place
     → (load : Load) → length tree ≡ load.count → MovesFrom world load.leaves tree
     → (counts : NamespaceId → ℕ) → ((namespace : NamespaceId) → counts namespace ≡ parts_in kept namespace)
-    → list_any (λ part. is_overfilled mounts load counts part.namespace) kept ≡ has_too_many nat_eq (attached_by nat_eq world new place true tree)
+    → list_any (λ part. is_overfilled mounts load counts part.namespace) kept
+    ≡ has_too_many nat_eq (attached_by nat_eq world new place true tree)
 moves_tell world place new tree invariants mounts same kept are load size moves counts right =
     moved_tell world place new tree moves.one_number moves.each_once
-    (λ mount m. among_from_contains world.mounts mount (among_from_all (Contains world.mounts) tree moves.there mount m))
+    (λ mount m. among_from_contains world.mounts mount
+    (among_from_all (Contains world.mounts) tree moves.there mount m))
     invariants mounts same kept are load size
-    (λ mount m. among_from_all (λ (one : Mount ℕ). one.namespace ≡ option_map (λ (n : NamespaceId). counted n.count) load.leaves) tree moves.inside mount m)
+    (λ mount m. among_from_all (λ (one : Mount ℕ). one.namespace
+    ≡ option_map (λ (n : NamespaceId). counted n.count) load.leaves) tree moves.inside mount m)
     counts right
 
 -- a world that has so many more mounts in the namespace of each part
-pub more_tell : (world after : World ℕ) → NamespaceInvariants nat_eq world → (mounts : List (Mount ℕ)) → mounts ≡ world.mounts
+pub more_tell : (world after : World ℕ) → NamespaceInvariants nat_eq world → (mounts : List (Mount ℕ))
+    → mounts ≡ world.mounts
     → (kept : List Kept) (load : Load) → load.leaves ≡ None → GrowsBy world after (map mount_of kept) load.count
     → (counts : NamespaceId → ℕ) → ((namespace : NamespaceId) → counts namespace ≡ parts_in kept namespace)
     → list_any (λ part. is_overfilled mounts load counts part.namespace) kept ≡ has_too_many nat_eq after
 more_tell world after invariants mounts same kept load stay grows counts right =
     kept_tell world (map mount_of kept) invariants
     (λ part namespace m is. listed world invariants part namespace
-    (among_from_contains world.mounts part (among_from_all (Contains world.mounts) (map mount_of kept) grows.there part m)) is)
+    (among_from_contains world.mounts part
+    (among_from_all (Contains world.mounts) (map mount_of kept) grows.there part m)) is)
     after grows.namespaces small mounts same kept refl load counts right exact
   where
-    small : (namespace : ℕ) → mount_count (map mount_of kept) namespace ≡ 0 → mount_count after.mounts namespace ≤ mount_count world.mounts namespace
+    small : (namespace : ℕ) → mount_count (map mount_of kept) namespace ≡ 0
+        → mount_count after.mounts namespace ≤ mount_count world.mounts namespace
     small namespace e =
         let all = grows.counts namespace in
-        let none : mount_count (map mount_of kept) namespace * load.count ≡ 0 = ap (λ n. n * load.count) e ∙ omega arith in
+        let none : mount_count (map mount_of kept) namespace * load.count ≡ 0 = ap (λ n. n * load.count) e
+        ∙ omega arith in
         omega (arith, all, none)
 
     exact : (namespace : NamespaceId) → mount_count after.mounts (counted namespace.count)
-        ≡ mount_count world.mounts (counted namespace.count) - leaving load namespace + mount_count (map mount_of kept) (counted namespace.count) * load.count
+        ≡ mount_count world.mounts (counted namespace.count) - leaving load namespace + mount_count (map mount_of kept)
+        (counted namespace.count) * load.count
     exact namespace =
         let all = grows.counts (counted namespace.count) in
-        let none : leaving load namespace ≡ 0 = ap (λ o. cond (holds_of (same_namespace namespace) o) load.count 0) stay in
+        let none : leaving load namespace
+        ≡ 0 = ap (λ o. cond (holds_of (same_namespace namespace) o) load.count 0) stay in
         omega (arith, all, none)

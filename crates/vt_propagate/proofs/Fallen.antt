@@ -216,22 +216,27 @@ module _ (world : World ℕ) (up : are_ascending world.mounts ≡ true) (gone : 
   pub each_falls : All (FallsTo world gone) points
   each_falls = all_from_among (FallsTo world gone) points (λ entry among.
       let on = among_flat (points_left_on world.mounts gone) gone entry among in
-      let from = among_kept (point_left_of world.mounts gone) (numbers (children nat_eq world.mounts on.0)) entry on.2 in
+      let from = among_kept (point_left_of world.mounts gone)
+      (numbers (children nat_eq world.mounts on.0)) entry on.2 in
       by entry from.0 (numbered world.mounts from.0) refl from.2)
     where
-      told : (entry : ℕ × Location ℕ) (other : Mount ℕ) → Among other world.mounts → (b : Bool) → is_going nat_eq gone other.number ≡ b
-          → (if b then None else option_map {U = ℕ × Location ℕ} (λ at. (other.number, left at)) other.mount_point) ≡ Some entry
+      told : (entry : ℕ × Location ℕ) (other : Mount ℕ) → Among other world.mounts → (b : Bool)
+          → is_going nat_eq gone other.number ≡ b
+          → (if b then None else option_map {U = ℕ × Location ℕ} (λ at. (other.number, left at)) other.mount_point)
+          ≡ Some entry
           → FallsTo world gone entry
       told entry other l true stays e = absurd (true≢false (sym (ap is_some e)))
       told entry other l false stays e = point other.mount_point refl e
         where
           point : (o : Option (Location ℕ)) → other.mount_point ≡ o
-              → option_map {U = ℕ × Location ℕ} (λ at. (other.number, left at)) o ≡ Some entry → FallsTo world gone entry
+              → option_map {U = ℕ × Location ℕ} (λ at. (other.number, left at)) o ≡ Some entry
+              → FallsTo world gone entry
           point None f h = absurd (true≢false (sym (ap is_some h)))
           point (Some at) f h =
               subst (FallsTo world gone) (same_Some (other.number, left at) entry h) (
                 stays,
-                ap (λ o. option_map left (unwrap_or o (no_mount other.number)).mount_point) (numbered_among world.mounts up other l)
+                ap (λ o. option_map left (unwrap_or o (no_mount other.number)).mount_point)
+                    (numbered_among world.mounts up other l)
                     ∙ ap (option_map left) f,
               )
 

@@ -24,10 +24,12 @@ module _ (test : Mount ℕ → Bool) (all : List (Mount ℕ)) where
   abbrev pub passing : List MountId → List (Mount ℕ)
   passing ids = filter test (mounts_numbered all (counts ids))
 
-  pub passing-missing : (id : MountId) (ids : List MountId) → None ≡ numbered all (counted id.count) → passing (id ∷ ids) ≡ passing ids
+  pub passing-missing : (id : MountId) (ids : List MountId) → None ≡ numbered all (counted id.count)
+      → passing (id ∷ ids) ≡ passing ids
   passing-missing id ids e = ap (λ o. filter test (cons_option o (mounts_numbered all (counts ids)))) (sym e)
 
-  pub passing-here : (id : MountId) (ids : List MountId) (mount : Mount ℕ) → Some mount ≡ numbered all (counted id.count)
+  pub passing-here : (id : MountId) (ids : List MountId) (mount : Mount ℕ)
+      → Some mount ≡ numbered all (counted id.count)
       → test mount ≡ true → passing (id ∷ ids) ≡ mount ∷ passing ids
   passing-here id ids mount e passes =
       ap (λ o. filter test (cons_option o (mounts_numbered all (counts ids)))) (sym e)
@@ -40,7 +42,8 @@ module _ (test : Mount ℕ → Bool) (all : List (Mount ℕ)) where
       ∙ ap (λ b. cond b (mount ∷ passing ids) (passing ids)) fails
 
 -- each mount of an ascending list is found by its number
-pub numbered_among : (all : List (Mount ℕ)) → are_ascending all ≡ true → (mount : Mount ℕ) → Among mount all → numbered all mount.number ≡ Some mount
+pub numbered_among : (all : List (Mount ℕ)) → are_ascending all ≡ true → (mount : Mount ℕ) → Among mount all
+    → numbered all mount.number ≡ Some mount
 numbered_among [] up mount m = absurd m
 numbered_among (first ∷ rest) up mount m = ⊎_elim here (later (numbered_among rest parts.1 mount)) m
   where
@@ -49,10 +52,12 @@ numbered_among (first ∷ rest) up mount m = ⊎_elim here (later (numbered_amon
 
     here : mount ≡ first → numbered (first ∷ rest) mount.number ≡ Some mount
     here e =
-        ap (λ b. cond b (Some first) (numbered rest mount.number)) (eq-eqb mount.number first.number (ap (λ x. x.number) e))
+        ap (λ b. cond b (Some first) (numbered rest mount.number))
+        (eq-eqb mount.number first.number (ap (λ x. x.number) e))
         ∙ ap Some (sym e)
 
-    later : (Among mount rest → numbered rest mount.number ≡ Some mount) → Among mount rest → numbered (first ∷ rest) mount.number ≡ Some mount
+    later : (Among mount rest → numbered rest mount.number ≡ Some mount) → Among mount rest
+        → numbered (first ∷ rest) mount.number ≡ Some mount
     later again l =
         ap (λ b. cond b (Some first) (numbered rest mount.number))
         (ne_eqb mount.number first.number (λ same. omega (
@@ -64,7 +69,8 @@ numbered_among (first ∷ rest) up mount m = ⊎_elim here (later (numbered_amon
         ∙ again l
 
 -- the mounts of an ascending list that are numbered like some of them are these
-pub numbered_again : (all some : List (Mount ℕ)) → are_ascending all ≡ true → ((mount : Mount ℕ) → Among mount some → Among mount all)
+pub numbered_again : (all some : List (Mount ℕ)) → are_ascending all ≡ true
+    → ((mount : Mount ℕ) → Among mount some → Among mount all)
     → mounts_numbered all (numbers some) ≡ some
 numbered_again all [] up within = refl
 numbered_again all (mount ∷ some) up within =

@@ -24,25 +24,30 @@ use Rattle.vt_propagate.proofs.Found.{counts, numbered, numbered_among, numbers}
 
 module _ {A : Type 0} where
   -- the first that passes is the first of those that pass a weaker test
-  pub find-filter : (q p : A → Bool) → ((x : A) → q x ≡ true → p x ≡ true) → (xs : List A) → seek q xs ≡ seek q (filter p xs)
+  pub find-filter : (q p : A → Bool) → ((x : A) → q x ≡ true → p x ≡ true) → (xs : List A)
+      → seek q xs ≡ seek q (filter p xs)
   find-filter q p weaker [] = refl
   find-filter q p weaker (y ∷ ys) = by (p y) refl (q y) refl (find-filter q p weaker ys)
     where
-      by : (a : Bool) → p y ≡ a → (b : Bool) → q y ≡ b → seek q ys ≡ seek q (filter p ys) → seek q (y ∷ ys) ≡ seek q (filter p (y ∷ ys))
+      by : (a : Bool) → p y ≡ a → (b : Bool) → q y ≡ b → seek q ys ≡ seek q (filter p ys)
+          → seek q (y ∷ ys) ≡ seek q (filter p (y ∷ ys))
       by true e b is rest = ap (cond (q y) (Some y)) rest ∙ sym (ap (seek q) (filter_here p y ys e))
       by false e true is rest = absurd (true≢false (sym (weaker y is) ∙ e))
-      by false e false is rest = ap (λ t. cond t (Some y) (seek q ys)) is ∙ rest ∙ sym (ap (seek q) (filter_skip p y ys e))
+      by false e false is rest = ap (λ t. cond t (Some y) (seek q ys)) is ∙ rest
+          ∙ sym (ap (seek q) (filter_skip p y ys e))
 
   pub found_one : (p : A → Bool) (xs : List A) (x : A) → seek p xs ≡ Some x → Among x xs × (p x ≡ true)
   found_one p [] x e = absurd (true≢false (sym (ap is_some e)))
   found_one p (y ∷ ys) x e = by (p y) refl e (found_one p ys x)
     where
-      by : (b : Bool) → p y ≡ b → cond b (Some y) (seek p ys) ≡ Some x → (seek p ys ≡ Some x → Among x ys × (p x ≡ true))
+      by : (b : Bool) → p y ≡ b → cond b (Some y) (seek p ys) ≡ Some x
+          → (seek p ys ≡ Some x → Among x ys × (p x ≡ true))
           → Among x (y ∷ ys) × (p x ≡ true)
       by true is same rest = let at : y ≡ x = same_Some y x same in (inl (sym at), ap p (sym at) ∙ is)
       by false is same rest = let later : Among x ys × (p x ≡ true) = rest same in (inr later.0, later.1)
 
-pub is_some-same : {A B : Type 0} (f : A → ℕ) (g : B → ℕ) (a : Option A) (b : Option B) → option_map f a ≡ option_map g b → is_some a ≡ is_some b
+pub is_some-same : {A B : Type 0} (f : A → ℕ) (g : B → ℕ) (a : Option A) (b : Option B)
+    → option_map f a ≡ option_map g b → is_some a ≡ is_some b
 is_some-same f g None None e = refl
 is_some-same f g None (Some b) e = ap is_some e
 is_some-same f g (Some a) None e = ap is_some e
@@ -55,14 +60,17 @@ same_from false false to back = refl
 
 -- Mounts that may go
 
-at_on : (place : Location ℕ) (mount : Mount ℕ) → stands_at nat_eq place mount ≡ true → stands_on nat_eq place.mount mount ≡ true
+at_on : (place : Location ℕ) (mount : Mount ℕ) → stands_at nat_eq place mount ≡ true
+    → stands_on nat_eq place.mount mount ≡ true
 at_on place mount h = by mount.mount_point h
   where
-    by : (point : Option (Location ℕ)) → holds_of (same_location nat_eq place) point ≡ true → holds_of (λ at. nat_eq place.mount at.mount) point ≡ true
+    by : (point : Option (Location ℕ)) → holds_of (same_location nat_eq place) point ≡ true
+        → holds_of (λ at. nat_eq place.mount at.mount) point ≡ true
     by None h = absurd (true≢false (sym h))
     by (Some at) h = (and_parts _ _ h).0
 
-pub numbered-number : (mounts : List (Mount ℕ)) (number : ℕ) (mount : Mount ℕ) → Some mount ≡ numbered mounts number → number ≡ mount.number
+pub numbered-number : (mounts : List (Mount ℕ)) (number : ℕ) (mount : Mount ℕ) → Some mount ≡ numbered mounts number
+    → number ≡ mount.number
 numbered-number mounts number mount found =
     eqb-true number mount.number (found_one (λ (m : Mount ℕ). nat_eq number m.number) mounts mount (sym found)).1
 
@@ -70,35 +78,43 @@ module _ (mounts : List (Mount ℕ)) (number : ℕ) (mount : Mount ℕ) (found :
     (ids : List MountId) (told : counts ids ≡ numbers (children nat_eq mounts number)) where
   length-kids : length ids ≡ length (children nat_eq mounts mount.number)
   length-kids =
-      sym (length-map ids (λ (id : MountId). 4 * id.count + 1)) ∙ ap length told ∙ length-map (children nat_eq mounts number) (λ (m : Mount ℕ). m.number)
+      sym (length-map ids (λ (id : MountId). 4 * id.count + 1)) ∙ ap length told
+      ∙ length-map (children nat_eq mounts number) (λ (m : Mount ℕ). m.number)
       ∙ ap (λ n. length (children nat_eq mounts n)) (numbered-number mounts number mount found)
 
   pub free-none : length ids ≡ 0 → true ≡ holds_of (is_free mounts) (numbered mounts number)
-  free-none none = by (children nat_eq mounts mount.number) (sym length-kids ∙ none) ∙ ap (holds_of (is_free mounts)) found
+  free-none none = by (children nat_eq mounts mount.number) (sym length-kids ∙ none)
+      ∙ ap (holds_of (is_free mounts)) found
     where
       by : (kids : List (Mount ℕ)) → length kids ≡ 0 → true ≡ only_cover nat_eq mount kids
       by [] e = refl
       by (kid ∷ kids) e = absurd (omega (arith, e))
 
-  pub free-one : length ids ≡ 1 → is_some (child_at nat_eq mounts (root_of mount)) ≡ holds_of (is_free mounts) (numbered mounts number)
+  pub free-one : length ids ≡ 1 → is_some (child_at nat_eq mounts (root_of mount))
+      ≡ holds_of (is_free mounts) (numbered mounts number)
   free-one one =
-      ap is_some (find-filter (stands_at nat_eq (root_of mount)) (stands_on nat_eq mount.number) (at_on (root_of mount)) mounts)
+      ap is_some (find-filter (stands_at nat_eq (root_of mount)) (stands_on nat_eq mount.number)
+      (at_on (root_of mount)) mounts)
       ∙ by (children nat_eq mounts mount.number) (sym length-kids ∙ one) ∙ ap (holds_of (is_free mounts)) found
     where
       covers : (b : Bool) (kid : Mount ℕ) → is_some (cond b (Some kid) None) ≡ b
       covers true kid = refl
       covers false kid = refl
 
-      by : (kids : List (Mount ℕ)) → length kids ≡ 1 → is_some (seek (stands_at nat_eq (root_of mount)) kids) ≡ only_cover nat_eq mount kids
+      by : (kids : List (Mount ℕ)) → length kids ≡ 1
+          → is_some (seek (stands_at nat_eq (root_of mount)) kids) ≡ only_cover nat_eq mount kids
       by [] e = absurd (omega (arith, e))
       by (kid ∷ []) e = covers (covers_root nat_eq mount kid) kid
       by (kid ∷ other ∷ kids) e = absurd (omega (arith, e))
 
-  pub free-many : (length ids ≡ 0 → ⊥) → (length ids ≡ 1 → ⊥) → false ≡ holds_of (is_free mounts) (numbered mounts number)
+  pub free-many : (length ids ≡ 0 → ⊥) → (length ids ≡ 1 → ⊥)
+      → false ≡ holds_of (is_free mounts) (numbered mounts number)
   free-many some more =
-      by (children nat_eq mounts mount.number) (λ e. some (length-kids ∙ e)) (λ e. more (length-kids ∙ e)) ∙ ap (holds_of (is_free mounts)) found
+      by (children nat_eq mounts mount.number) (λ e. some (length-kids ∙ e)) (λ e. more (length-kids ∙ e))
+      ∙ ap (holds_of (is_free mounts)) found
     where
-      by : (kids : List (Mount ℕ)) → (length kids ≡ 0 → ⊥) → (length kids ≡ 1 → ⊥) → false ≡ only_cover nat_eq mount kids
+      by : (kids : List (Mount ℕ)) → (length kids ≡ 0 → ⊥) → (length kids ≡ 1 → ⊥)
+          → false ≡ only_cover nat_eq mount kids
       by [] none one = absurd (none refl)
       by (kid ∷ []) none one = absurd (one refl)
       by (kid ∷ other ∷ kids) none one = refl
@@ -109,22 +125,27 @@ pub free_at-told : (mounts : List (Mount ℕ)) → are_ascending mounts ≡ true
     → cond free (Some number) None ≡ option_map (λ mount. mount.number) (free_at mounts place)
 free_at-told mounts up place number told free is = by (child_at nat_eq mounts place) refl told
   where
-    goes : (b : Bool) (child : Mount ℕ) → number ≡ child.number → cond b (Some number) None ≡ option_map (λ (m : Mount ℕ). m.number) (when b child)
+    goes : (b : Bool) (child : Mount ℕ) → number ≡ child.number
+        → cond b (Some number) None ≡ option_map (λ (m : Mount ℕ). m.number) (when b child)
     goes true child same = ap Some same
     goes false child same = refl
 
     by : (o : Option (Mount ℕ)) → child_at nat_eq mounts place ≡ o → Some number ≡ option_map (λ child. child.number) o
-        → cond free (Some number) None ≡ option_map (λ mount. mount.number) (then_some o (λ child. when (is_free mounts child) child))
+        → cond free (Some number) None
+        ≡ option_map (λ mount. mount.number) (then_some o (λ child. when (is_free mounts child) child))
     by None e t = absurd (true≢false (ap is_some t))
     by (Some child) e t =
         let same : number ≡ child.number = same_Some number child.number t in
         let found : numbered mounts number ≡ Some child =
-        ap (numbered mounts) same ∙ numbered_among mounts up child (found_one (stands_at nat_eq place) mounts child e).0 in
-        ap (λ b. cond b (Some number) None) (is ∙ ap (holds_of (is_free mounts)) found) ∙ goes (is_free mounts child) child same
+        ap (numbered mounts) same ∙ numbered_among mounts up child
+        (found_one (stands_at nat_eq place) mounts child e).0 in
+        ap (λ b. cond b (Some number) None) (is ∙ ap (holds_of (is_free mounts)) found)
+        ∙ goes (is_free mounts child) child same
 
 -- Mounts that an unmount detaches
 
-filter_map-numbers : (f : ℕ → Option (Mount ℕ)) (mounts : List (Mount ℕ)) → filter_map f (numbers mounts) ≡ filter_map (λ (m : Mount ℕ). f m.number) mounts
+filter_map-numbers : (f : ℕ → Option (Mount ℕ)) (mounts : List (Mount ℕ))
+    → filter_map f (numbers mounts) ≡ filter_map (λ (m : Mount ℕ). f m.number) mounts
 filter_map-numbers f [] = refl
 filter_map-numbers f (mount ∷ mounts) = ap (cons_option (f mount.number)) (filter_map-numbers f mounts)
 
@@ -136,26 +157,33 @@ module _ (world : World ℕ) (kept : List MountEntry) (grouping : Grouping) (see
   numbered-world number = ap (λ mounts. numbered mounts number) (sym seen.mounts)
 
   -- what goes with a mount at a place, by the mount that is found there
-  going_with : (mount : Mount ℕ) (place : Location ℕ) (o : Option (Mount ℕ)) → numbered (mounts_in kept) place.mount ≡ o → going_at nat_eq world mount (Some place)
+  going_with : (mount : Mount ℕ) (place : Location ℕ) (o : Option (Mount ℕ)) → numbered (mounts_in kept) place.mount ≡ o
+      → going_at nat_eq world mount (Some place)
       ≡ (if is_shared (unwrap_or o (no_mount place.mount)).propagation
-      then numbers (filter_map (goes_at nat_eq world place.node) (receivers_of nat_eq world (unwrap_or o (no_mount place.mount))))
+      then numbers (filter_map (goes_at nat_eq world place.node)
+      (receivers_of nat_eq world (unwrap_or o (no_mount place.mount))))
       else (mount.number ∷ []))
   going_with mount place o e =
       by (is_shared (mount_at nat_eq world place).propagation)
-      ∙ (λ i. if is_shared (at i).propagation then numbers (filter_map (goes_at nat_eq world place.node) (receivers_of nat_eq world (at i))) else (mount.number ∷ []))
+      ∙ (λ i. if is_shared (at i).propagation
+      then numbers (filter_map (goes_at nat_eq world place.node) (receivers_of nat_eq world (at i)))
+      else (mount.number ∷ []))
     where
       at : mount_at nat_eq world place ≡ unwrap_or o (no_mount place.mount)
       at = ap (λ found. unwrap_or found (no_mount place.mount)) (numbered-world place.mount ∙ e)
 
       by : (shared : Bool) → going_from nat_eq world mount place shared
-          ≡ (if shared then numbers (filter_map (goes_at nat_eq world place.node) (receivers_of nat_eq world (mount_at nat_eq world place))) else (mount.number ∷ []))
+          ≡ (if shared then numbers (filter_map (goes_at nat_eq world place.node)
+          (receivers_of nat_eq world (mount_at nat_eq world place))) else (mount.number ∷ []))
       by true = refl
       by false = refl
 
-  going-place : (mount : Mount ℕ) (place : Location ℕ) → group_at (mounts_in kept) place ≡ None → going_at nat_eq world mount (Some place) ≡ mount.number ∷ []
+  going-place : (mount : Mount ℕ) (place : Location ℕ) → group_at (mounts_in kept) place ≡ None
+      → going_at nat_eq world mount (Some place) ≡ mount.number ∷ []
   going-place mount place none = by (numbered (mounts_in kept) place.mount) refl none
     where
-      shared_by : (mount parent : Mount ℕ) (group : Option ℕ) → group_of parent.propagation ≡ group → option_map (at_group place) group ≡ None
+      shared_by : (mount parent : Mount ℕ) (group : Option ℕ) → group_of parent.propagation ≡ group
+          → option_map (at_group place) group ≡ None
           → is_shared parent.propagation ≡ false
       shared_by mount parent None e none = ap is_some e
       shared_by mount parent (Some group) e none = absurd (true≢false (ap is_some none))
@@ -166,84 +194,113 @@ module _ (world : World ℕ) (kept : List MountEntry) (grouping : Grouping) (see
       by None e none = going_with mount place None e
       by (Some parent) e none =
           going_with mount place (Some parent) e
-          ∙ ap (λ b. if b then numbers (filter_map (goes_at nat_eq world place.node) (receivers_of nat_eq world parent)) else (mount.number ∷ []))
+          ∙ ap (λ b. if b then numbers (filter_map (goes_at nat_eq world place.node) (receivers_of nat_eq world parent))
+          else (mount.number ∷ []))
           (shared_by mount parent (group_of parent.propagation) refl none)
 
-  going-shared : (mount : Mount ℕ) (place : Location ℕ) (found : Location ℕ × ℕ) → group_at (mounts_in kept) place ≡ Some found
-      → going_at nat_eq world mount (Some place) ≡ numbers (filter_map (goes_at nat_eq world found.0.node) (receivers nat_eq world found.1))
+  going-shared : (mount : Mount ℕ) (place : Location ℕ) (found : Location ℕ × ℕ)
+      → group_at (mounts_in kept) place ≡ Some found
+      → going_at nat_eq world mount (Some place)
+      ≡ numbers (filter_map (goes_at nat_eq world found.0.node) (receivers nat_eq world found.1))
   going-shared mount place found some = by (numbered (mounts_in kept) place.mount) refl some
     where
-      with_group : (parent : Mount ℕ) (group : Option ℕ) → group_of parent.propagation ≡ group → option_map (at_group place) group ≡ Some found
-          → (if is_shared parent.propagation then numbers (filter_map (goes_at nat_eq world place.node) (receivers_of nat_eq world parent)) else (mount.number ∷ []))
+      with_group : (parent : Mount ℕ) (group : Option ℕ) → group_of parent.propagation ≡ group
+          → option_map (at_group place) group ≡ Some found
+          → (if is_shared parent.propagation
+          then numbers (filter_map (goes_at nat_eq world place.node) (receivers_of nat_eq world parent))
+          else (mount.number ∷ []))
           ≡ numbers (filter_map (goes_at nat_eq world found.0.node) (receivers nat_eq world found.1))
       with_group parent None e is = absurd (true≢false (sym (ap is_some is)))
       with_group parent (Some group) e is =
-          ap (λ (o : Option ℕ). if is_some o then numbers (filter_map (goes_at nat_eq world place.node) (unwrap_or (option_map (receivers nat_eq world) o) [])) else (mount.number ∷ [])) e
-          ∙ ap (λ (f : Location ℕ × ℕ). numbers (filter_map (goes_at nat_eq world f.0.node) (receivers nat_eq world f.1))) (same_Some (place, group) found is)
+          ap (λ (o : Option ℕ). if is_some o
+          then numbers (filter_map (goes_at nat_eq world place.node)
+          (unwrap_or (option_map (receivers nat_eq world) o) [])) else (mount.number ∷ [])) e
+          ∙ ap (λ (f : Location ℕ × ℕ). numbers
+          (filter_map (goes_at nat_eq world f.0.node) (receivers nat_eq world f.1))) (same_Some (place, group) found is)
 
       by : (o : Option (Mount ℕ)) → numbered (mounts_in kept) place.mount ≡ o
           → option_map (at_group place) (then_some o (λ parent. group_of parent.propagation)) ≡ Some found
-          → going_at nat_eq world mount (Some place) ≡ numbers (filter_map (goes_at nat_eq world found.0.node) (receivers nat_eq world found.1))
+          → going_at nat_eq world mount (Some place)
+          ≡ numbers (filter_map (goes_at nat_eq world found.0.node) (receivers nat_eq world found.1))
       by None e is = absurd (true≢false (sym (ap is_some is)))
-      by (Some parent) e is = going_with mount place (Some parent) e ∙ with_group parent (group_of parent.propagation) refl is
+      by (Some parent) e is = going_with mount place (Some parent) e
+          ∙ with_group parent (group_of parent.propagation) refl is
 
   -- what goes with a number, by the mount that has it
   going-number : (number : ℕ) (o : Option (Mount ℕ)) → numbered (mounts_in kept) number ≡ o
       → going nat_eq world (mount_numbered nat_eq world number) ≡ going nat_eq world (unwrap_or o (no_mount number))
-  going-number number o e = ap (λ found. going nat_eq world (unwrap_or found (no_mount number))) (numbered-world number ∙ e)
+  going-number number o e = ap (λ found. going nat_eq world (unwrap_or found (no_mount number)))
+      (numbered-world number ∙ e)
 
-  pub going-alone : (number : ℕ) → shared_point (mounts_in kept) number ≡ None → number ∷ [] ≡ going nat_eq world (mount_numbered nat_eq world number)
+  pub going-alone : (number : ℕ) → shared_point (mounts_in kept) number ≡ None
+      → number ∷ [] ≡ going nat_eq world (mount_numbered nat_eq world number)
   going-alone number none = by (numbered (mounts_in kept) number) refl none
     where
-      at : (mount : Mount ℕ) → number ≡ mount.number → (point : Option (Location ℕ)) → mount.mount_point ≡ point → then_some point (group_at (mounts_in kept)) ≡ None
+      at : (mount : Mount ℕ) → number ≡ mount.number → (point : Option (Location ℕ)) → mount.mount_point ≡ point
+          → then_some point (group_at (mounts_in kept)) ≡ None
           → number ∷ [] ≡ going nat_eq world mount
       at mount same None e none = ap (λ n. n ∷ []) same ∙ sym (ap (going_at nat_eq world mount) e)
-      at mount same (Some place) e none = ap (λ n. n ∷ []) same ∙ sym (ap (going_at nat_eq world mount) e ∙ going-place mount place none)
+      at mount same (Some place) e none = ap (λ n. n ∷ []) same
+          ∙ sym (ap (going_at nat_eq world mount) e ∙ going-place mount place none)
 
       by : (o : Option (Mount ℕ)) → numbered (mounts_in kept) number ≡ o
           → then_some (then_some o (λ (m : Mount ℕ). m.mount_point)) (group_at (mounts_in kept)) ≡ None
           → number ∷ [] ≡ going nat_eq world (mount_numbered nat_eq world number)
       by None e none = sym (going-number number None e)
       by (Some mount) e none =
-          at mount (numbered-number (mounts_in kept) number mount (sym e)) mount.mount_point refl none ∙ sym (going-number number (Some mount) e)
+          at mount (numbered-number (mounts_in kept) number mount (sym e)) mount.mount_point refl none
+          ∙ sym (going-number number (Some mount) e)
 
   pub going-everywhere : (number : ℕ) (found : Location ℕ × ℕ) → shared_point (mounts_in kept) number ≡ Some found
       → (ids : List MountId) → counts ids ≡ numbers (receivers nat_eq world found.1)
-      → numbers (free_on (mounts_in kept) found.0.node (counts ids)) ≡ going nat_eq world (mount_numbered nat_eq world number)
+      → numbers (free_on (mounts_in kept) found.0.node (counts ids))
+      ≡ going nat_eq world (mount_numbered nat_eq world number)
   going-everywhere number found is ids told =
       (λ i. numbers (free_on (seen.mounts i) found.0.node (told i)))
-      ∙ ap numbers (filter_map-numbers (λ receiver. free_at world.mounts (record { mount = receiver; node = found.0.node })) (receivers nat_eq world found.1))
+      ∙ ap numbers (filter_map-numbers
+      (λ receiver. free_at world.mounts (record { mount = receiver; node = found.0.node }))
+      (receivers nat_eq world found.1))
       ∙ by (numbered (mounts_in kept) number) refl is
     where
-      at : (mount : Mount ℕ) (point : Option (Location ℕ)) → mount.mount_point ≡ point → then_some point (group_at (mounts_in kept)) ≡ Some found
-          → numbers (filter_map (goes_at nat_eq world found.0.node) (receivers nat_eq world found.1)) ≡ going nat_eq world mount
+      at : (mount : Mount ℕ) (point : Option (Location ℕ)) → mount.mount_point ≡ point
+          → then_some point (group_at (mounts_in kept)) ≡ Some found
+          → numbers (filter_map (goes_at nat_eq world found.0.node) (receivers nat_eq world found.1))
+          ≡ going nat_eq world mount
       at mount None e is = absurd (true≢false (sym (ap is_some is)))
       at mount (Some place) e is = sym (ap (going_at nat_eq world mount) e ∙ going-shared mount place found is)
 
       by : (o : Option (Mount ℕ)) → numbered (mounts_in kept) number ≡ o
           → then_some (then_some o (λ (m : Mount ℕ). m.mount_point)) (group_at (mounts_in kept)) ≡ Some found
-          → numbers (filter_map (goes_at nat_eq world found.0.node) (receivers nat_eq world found.1)) ≡ going nat_eq world (mount_numbered nat_eq world number)
+          → numbers (filter_map (goes_at nat_eq world found.0.node) (receivers nat_eq world found.1))
+          ≡ going nat_eq world (mount_numbered nat_eq world number)
       by None e is = absurd (true≢false (sym (ap is_some is)))
       by (Some mount) e is = at mount mount.mount_point refl is ∙ sym (going-number number (Some mount) e)
 
   -- Mounts that are in use
 
-  used-told : CountsUses world kept → (gone : List ℕ) → list_any (λ number. nat_lt 0 (uses_of kept number)) gone ≡ is_used nat_eq world gone
-  used-told counted_right gone = ap (λ test. list_any test gone) (λ i number. sym (counted_right number) i) ∙ same_from _ _ there back
+  used-told : CountsUses world kept → (gone : List ℕ)
+      → list_any (λ number. nat_lt 0 (uses_of kept number)) gone ≡ is_used nat_eq world gone
+  used-told counted_right gone = ap (λ test. list_any test gone) (λ i number. sym (counted_right number) i)
+      ∙ same_from _ _ there back
     where
       there : list_any (is_located nat_eq world) gone ≡ true → is_used nat_eq world gone ≡ true
       there h =
           let number = any_among (is_located nat_eq world) gone h in
-          let place = any_among (λ (location : Location ℕ). nat_eq number.0 location.mount) (all_locations world) number.2 in
-          any_from_among (λ (location : Location ℕ). is_among nat_eq location.mount gone) (all_locations world) place.0 place.1
-          (any_from_among (nat_eq place.0.mount) gone number.0 number.1 (eq-eqb place.0.mount number.0 (sym (eqb-true number.0 place.0.mount place.2))))
+          let place = any_among (λ (location : Location ℕ). nat_eq number.0 location.mount)
+          (all_locations world) number.2 in
+          any_from_among (λ (location : Location ℕ). is_among nat_eq location.mount gone)
+          (all_locations world) place.0 place.1
+          (any_from_among (nat_eq place.0.mount) gone number.0 number.1
+          (eq-eqb place.0.mount number.0 (sym (eqb-true number.0 place.0.mount place.2))))
 
       back : is_used nat_eq world gone ≡ true → list_any (is_located nat_eq world) gone ≡ true
       back h =
-          let place = any_among (λ (location : Location ℕ). is_among nat_eq location.mount gone) (all_locations world) h in
+          let place = any_among (λ (location : Location ℕ). is_among nat_eq location.mount gone)
+          (all_locations world) h in
           let number = any_among (nat_eq place.0.mount) gone place.2 in
           any_from_among (is_located nat_eq world) gone number.0 number.1
-          (any_from_among (λ (location : Location ℕ). nat_eq number.0 location.mount) (all_locations world) place.0 place.1
+          (any_from_among (λ (location : Location ℕ). nat_eq number.0 location.mount)
+          (all_locations world) place.0 place.1
           (eq-eqb number.0 place.0.mount (sym (eqb-true place.0.mount number.0 number.2))))
 
   pub busy-told : CountsUses world kept → (number : ℕ) → list_any (stands_on nat_eq number) (mounts_in kept) ≡ false
@@ -254,7 +311,8 @@ module _ (world : World ℕ) (kept : List MountEntry) (grouping : Grouping) (see
       ∙ ap (λ b. b || is_used nat_eq world (going nat_eq world (mount_numbered nat_eq world number)))
       (sym childless ∙ ap (list_any (stands_on nat_eq number)) seen.mounts)
 
-  pub busy-child : (number : ℕ) → list_any (stands_on nat_eq number) (mounts_in kept) ≡ true → true ≡ is_busy nat_eq world number
+  pub busy-child : (number : ℕ) → list_any (stands_on nat_eq number) (mounts_in kept) ≡ true
+      → true ≡ is_busy nat_eq world number
   busy-child number child =
       ap (λ b. b || is_used nat_eq world (going nat_eq world (mount_numbered nat_eq world number)))
       (sym child ∙ ap (list_any (stands_on nat_eq number)) seen.mounts)

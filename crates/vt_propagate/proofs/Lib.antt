@@ -12,3 +12,7 @@ pub mod Retyped
 pub mod Seeing
 pub mod Moved
 pub mod Places
+pub mod TakenTwice
+pub mod LazyUnmounts
+pub mod LazyOrder
+pub mod LazyTrying

@@ -22,18 +22,22 @@ use Rattle.vt_propagate.proofs.Pushed.{number_at, receivers_apart}
 
 -- each mount is one of the new ones, or it was there and has the number of none of them
 among-folded : (new mounts : List (Mount ℕ)) (mount : Mount ℕ) → Among mount (folded (with_mount nat_eq) mounts new)
-    → Among mount new ⊎ (Among mount mounts × ((one : Mount ℕ) → Among one new → nat_eq mount.number one.number ≡ false))
+    → Among mount new ⊎ (Among mount mounts
+    × ((one : Mount ℕ) → Among one new → nat_eq mount.number one.number ≡ false))
 among-folded [] mounts mount m = inr (m, λ one none. absurd none)
 among-folded (a ∷ new) mounts mount m =
     ⊎_elim (λ later. inl (inr later)) (λ t. by t.0 t.1) (among-folded new (with_mount nat_eq mounts a) mount m)
   where
-    by : Among mount (map (replaced_if_same nat_eq a) mounts) → ((one : Mount ℕ) → Among one new → nat_eq mount.number one.number ≡ false)
-        → Among mount (a ∷ new) ⊎ (Among mount mounts × ((one : Mount ℕ) → Among one (a ∷ new) → nat_eq mount.number one.number ≡ false))
+    by : Among mount (map (replaced_if_same nat_eq a) mounts)
+        → ((one : Mount ℕ) → Among one new → nat_eq mount.number one.number ≡ false)
+        → Among mount (a ∷ new) ⊎ (Among mount mounts
+        × ((one : Mount ℕ) → Among one (a ∷ new) → nat_eq mount.number one.number ≡ false))
     by n apart =
         let from = among-from_map (replaced_if_same nat_eq a) mounts mount n in
         chosen from.0 from.1 from.2 (nat_eq a.number from.0.number) refl
       where
-        chosen : (old : Mount ℕ) → Among old mounts → mount ≡ replaced_if_same nat_eq a old → (b : Bool) → nat_eq a.number old.number ≡ b
+        chosen : (old : Mount ℕ) → Among old mounts → mount ≡ replaced_if_same nat_eq a old → (b : Bool)
+            → nat_eq a.number old.number ≡ b
             → Among mount (a ∷ new) ⊎ (Among mount mounts × ((one : Mount ℕ) → Among one (a ∷ new)
             → nat_eq mount.number one.number ≡ false))
         chosen old m is true e = inl (inl (is ∙ ap (λ b. if b then a else old) e))
@@ -52,7 +56,8 @@ none_found p [] none = refl
 none_found p (x ∷ xs) none =
     ap (λ b. cond b (Some x) (seek p xs)) (none x (inl refl)) ∙ none_found p xs (λ y m. none y (inr m))
 
-not_first : (number : ℕ) (twigs : List (Twig ℕ)) → ((twig : Twig ℕ) → Among twig twigs → nat_eq number twig.origin.number ≡ false)
+not_first : (number : ℕ) (twigs : List (Twig ℕ))
+    → ((twig : Twig ℕ) → Among twig twigs → nat_eq number twig.origin.number ≡ false)
     → holds_of (λ twig. nat_eq number twig.origin.number) (first_of_list twigs) ≡ false
 not_first number [] apart = refl
 not_first number (twig ∷ twigs) apart = apart twig (inl refl)
@@ -62,10 +67,13 @@ in_rest : (new : Copies ℕ) (group : Option ℕ) (origin : Mount ℕ) (tree : L
     → Among origin tree → Among origin (rest_of tree)
 in_rest new group origin [] e m = m
 in_rest new group origin (top ∷ tree) e m =
-    ⊎_elim (λ same. absurd (true≢false (sym (eq-eqb origin.number top.number (ap (λ x. x.number) same)) ∙ e))) (λ later. later) m
+    ⊎_elim (λ same. absurd (true≢false (sym (eq-eqb origin.number top.number (ap (λ x. x.number) same)) ∙ e)))
+    (λ later. later) m
 
-module _ (world : World ℕ) (graft : Graft) (counts : Counts) (points : List (ℕ × Location ℕ)) (pushes : PushesBy world graft counts points)
-    (keeps : KeepsLeaver graft points) (moves : graft.moves ≡ true) (is : IsMoved world (map mount_of graft.tree.now)) where
+module _ (world : World ℕ) (graft : Graft) (counts : Counts) (points : List (ℕ × Location ℕ))
+    (pushes : PushesBy world graft counts points)
+    (keeps : KeepsLeaver graft points) (moves : graft.moves ≡ true)
+    (is : IsMoved world (map mount_of graft.tree.now)) where
   abbrev place : Location ℕ
   place = location_of graft.place
 
@@ -104,21 +112,26 @@ module _ (world : World ℕ) (graft : Graft) (counts : Counts) (points : List (�
 
   top_leaves : (number : ℕ) → holds_of (nat_eq number) (leaver graft) ≡ is_top nat_eq seen number
   top_leaves number =
-      ap (λ b. holds_of (nat_eq number) (if b then option_map (λ top. counted top.number.count) (first_of_list graft.tree.now)
+      ap (λ b. holds_of (nat_eq number)
+      (if b then option_map (λ top. counted top.number.count) (first_of_list graft.tree.now)
       else None)) moves
       ∙ by graft.tree.now
     where
-      by : (tree : List Kept) → holds_of (nat_eq number) (option_map (λ top. counted top.number.count) (first_of_list tree))
+      by : (tree : List Kept) → holds_of (nat_eq number)
+          (option_map (λ top. counted top.number.count) (first_of_list tree))
           ≡ holds_of (λ twig. nat_eq number twig.origin.number) (first_of_list (map twig (map mount_of tree)))
       by [] = refl
       by (top ∷ tree) = refl
 
   -- the first mount stands at the destination, which is no receiver's place
-  first_stays : (origin : Mount ℕ) → is_top nat_eq seen origin.number ≡ true → pushed (copy origin) ≡ moved_by points (copy origin)
+  first_stays : (origin : Mount ℕ) → is_top nat_eq seen origin.number ≡ true
+      → pushed (copy origin) ≡ moved_by points (copy origin)
   first_stays origin e =
-      ap (pushed_onto nat_eq world new seen parts (copy origin)) (none_found at_part (rest_of parts) (λ part m. apart part m))
+      ap (pushed_onto nat_eq world new seen parts (copy origin))
+      (none_found at_part (rest_of parts) (λ part m. apart part m))
       ∙ (λ i. record (copy origin) {
-        mount_point = or_else (sym (keeps (copy origin).number (ap (λ n. holds_of (nat_eq n) (leaver graft)) (number_kept origin.number)
+        mount_point = or_else (sym (keeps (copy origin).number
+            (ap (λ n. holds_of (nat_eq n) (leaver graft)) (number_kept origin.number)
             ∙ top_leaves origin.number ∙ e)) i) (copy origin).mount_point;
       })
     where
@@ -134,14 +147,17 @@ module _ (world : World ℕ) (graft : Graft) (counts : Counts) (points : List (�
           ∙ ap (λ b. b && nat_eq place.node place.node) (receivers_apart world place part m)
 
   -- the others stay on their parents
-  other_stays : (origin : Mount ℕ) → Among origin (map mount_of graft.tree.now) → is_top nat_eq seen origin.number ≡ false
+  other_stays : (origin : Mount ℕ) → Among origin (map mount_of graft.tree.now)
+      → is_top nat_eq seen origin.number ≡ false
       → pushed (copy origin) ≡ moved_by points (copy origin)
   other_stays origin m e =
-      pushes origin (copy origin) (among_from_all (Contains world.mounts) (map mount_of graft.tree.now) is.there origin m)
+      pushes origin (copy origin) (among_from_all (Contains world.mounts)
+      (map mount_of graft.tree.now) is.there origin m)
       (top_leaves origin.number ∙ e) (number_kept origin.number)
       (ap (λ b. Some (if b then record { mount = destination.number; node = place.node }
       else unwrap_or (option_map (place_on_copy nat_eq new seen destination.number) origin.mount_point) place)) e
-      ∙ by origin.mount_point (among_from_all (λ mount. is_some mount.mount_point ≡ true) (rest_of (map mount_of graft.tree.now))
+      ∙ by origin.mount_point (among_from_all (λ mount. is_some mount.mount_point ≡ true)
+      (rest_of (map mount_of graft.tree.now))
       is.standing origin
       (in_rest new (group_of destination.propagation) origin (map mount_of graft.tree.now) e m)))
     where
@@ -154,15 +170,18 @@ module _ (world : World ℕ) (graft : Graft) (counts : Counts) (points : List (�
   moved_stays mount m =
       let one = among-from_map (copy_at nat_eq world new seen parts destination) seen.twigs mount m in
       let origin = among-from_map twig (map mount_of graft.tree.now) one.0 one.1 in
-      subst (λ mount. pushed mount ≡ moved_by points mount) (sym (one.2 ∙ ap (copy_at nat_eq world new seen parts destination) origin.2))
+      subst (λ mount. pushed mount ≡ moved_by points mount)
+      (sym (one.2 ∙ ap (copy_at nat_eq world new seen parts destination) origin.2))
       (by origin.0 origin.1 (is_top nat_eq seen origin.0.number) refl)
     where
-      by : (origin : Mount ℕ) → Among origin (map mount_of graft.tree.now) → (b : Bool) → is_top nat_eq seen origin.number ≡ b
+      by : (origin : Mount ℕ) → Among origin (map mount_of graft.tree.now) → (b : Bool)
+          → is_top nat_eq seen origin.number ≡ b
           → pushed (copy origin) ≡ moved_by points (copy origin)
       by origin m true e = first_stays origin e
       by origin m false e = other_stays origin m e
 
-  pub all_pushed : (mount : Mount ℕ) → Among mount (folded (with_mount nat_eq) world.mounts moved) → pushed mount ≡ moved_by points mount
+  pub all_pushed : (mount : Mount ℕ) → Among mount (folded (with_mount nat_eq) world.mounts moved)
+      → pushed mount ≡ moved_by points mount
   all_pushed mount m =
       ⊎_elim (moved_stays mount)
       (λ t. pushes mount mount (contains_from_among world.mounts mount t.0)

@@ -32,12 +32,14 @@ module _ {K : Type 0} (count : K → ℕ) (one : (a b : K) → count a ≡ count
           ∙ sym (ap (λ o. or_else o (Some index)) (ap before (one q key same) ∙ none))
       by false e =
           updates q
-          ∙ ap (λ b. cond b (Some index) (before q)) (ne_eqb (count key) (count q) (λ same. eqb-false (count q) (count key) e (sym same)))
+          ∙ ap (λ b. cond b (Some index) (before q))
+          (ne_eqb (count key) (count q) (λ same. eqb-false (count q) (count key) e (sym same)))
           ∙ sym (or_none (before q))
 
 module _ {A : Type 0} (test : A → Bool) where
   place_from-last : (k : ℕ) (list : List A) (a : A)
-      → place_from test k (list ++ a ∷ []) ≡ or_else (place_from test k list) (if test a then Some (k + length list) else None)
+      → place_from test k (list ++ a ∷ [])
+      ≡ or_else (place_from test k list) (if test a then Some (k + length list) else None)
   place_from-last k [] a = by (test a)
     where
       by : (b : Bool) → (if b then Some k else None) ≡ (if b then Some (k + 0) else None)
@@ -45,7 +47,8 @@ module _ {A : Type 0} (test : A → Bool) where
       by false = refl
   place_from-last k (first ∷ list) a = by (test first) (place_from-last (k + 1) list a)
     where
-      later : (b : Bool) → (if b then Some ((k + 1) + length list) else None) ≡ (if b then Some (k + length (first ∷ list)) else None)
+      later : (b : Bool) → (if b then Some ((k + 1) + length list) else None)
+          ≡ (if b then Some (k + length (first ∷ list)) else None)
       later true = ap Some (omega arith)
       later false = refl
 
@@ -53,14 +56,16 @@ module _ {A : Type 0} (test : A → Bool) where
           → place_from test (k + 1) (list ++ a ∷ [])
           ≡ or_else (place_from test (k + 1) list) (if test a then Some ((k + 1) + length list) else None)
           → (if b then Some k else place_from test (k + 1) (list ++ a ∷ []))
-          ≡ or_else (if b then Some k else place_from test (k + 1) list) (if test a then Some (k + length (first ∷ list)) else None)
+          ≡ or_else (if b then Some k else place_from test (k + 1) list)
+          (if test a then Some (k + length (first ∷ list)) else None)
       by true rest = refl
       by false rest = rest ∙ ap (or_else (place_from test (k + 1) list)) (later (test a))
 
 -- one more of the mounts
 pub place_more : (test : Mount ℕ → Bool) (mounts : List Kept) (i : ℕ) (default : Kept) → i < length mounts
     → place_from test 0 (map mount_of (take (i + 1) mounts))
-    ≡ or_else (place_from test 0 (map mount_of (take i mounts))) (if test (mount_of (get_or mounts i default)) then Some i else None)
+    ≡ or_else (place_from test 0 (map mount_of (take i mounts)))
+    (if test (mount_of (get_or mounts i default)) then Some i else None)
 place_more test mounts i default less =
     ap (λ l. place_from test 0 (map mount_of l)) (take_more mounts i default less)
     ∙ ap (place_from test 0) (map-append mount_of (take i mounts) (get_or mounts i default ∷ []))
@@ -75,11 +80,13 @@ place_more test mounts i default less =
 pub place_noted : (test : Mount ℕ → Bool) (mounts : List Kept) (i : ℕ) (default : Kept) → i < length mounts
     → (before after : Option ℕ) (b : Bool)
     → after ≡ or_else before (if b then Some i else None) → b ≡ test (mount_of (get_or mounts i default))
-    → before ≡ place_from test 0 (map mount_of (take i mounts)) → after ≡ place_from test 0 (map mount_of (take (i + 1) mounts))
+    → before ≡ place_from test 0 (map mount_of (take i mounts))
+    → after ≡ place_from test 0 (map mount_of (take (i + 1) mounts))
 place_noted test mounts i default less before after b is tested sofar =
     is ∙ (λ j. or_else (sofar j) (if tested j then Some i else None)) ∙ sym (place_more test mounts i default less)
 
-pub is_some-place : {A : Type 0} (test : A → Bool) (k : ℕ) (list : List A) → is_some (place_from test k list) ≡ list_any test list
+pub is_some-place : {A : Type 0} (test : A → Bool) (k : ℕ) (list : List A)
+    → is_some (place_from test k list) ≡ list_any test list
 is_some-place test k [] = refl
 is_some-place test k (a ∷ list) = by (test a) (is_some-place test (k + 1) list)
   where
@@ -99,7 +106,8 @@ below_length test k (a ∷ list) i e = by (test (mount_of a)) e (below_length te
     by false found later = let rest : i < (k + 1) + length list = later found in omega (arith, rest)
 
 -- the place of a mount, or 0, is a place of the list
-pub place_within : (test : Mount ℕ → Bool) (mounts : List Kept) (n : ℕ) → n ≡ unwrap_or (place_from test 0 (map mount_of mounts)) 0
+pub place_within : (test : Mount ℕ → Bool) (mounts : List Kept) (n : ℕ)
+    → n ≡ unwrap_or (place_from test 0 (map mount_of mounts)) 0
     → 0 < length mounts → n < length mounts
 place_within test mounts n is some = by (place_from test 0 (map mount_of mounts)) (below_length test 0 mounts) is
   where

@@ -33,12 +33,14 @@ module _ {A B C : Type 0} where
   map_twice f g [] = refl
   map_twice f g (a ∷ list) = ap (λ rest. f (g a) ∷ rest) (map_twice f g list)
 
-  filter_map_twice : (f : B → Option C) (g : A → B) (list : List A) → filter_map f (map g list) ≡ filter_map (λ a. f (g a)) list
+  filter_map_twice : (f : B → Option C) (g : A → B) (list : List A)
+      → filter_map f (map g list) ≡ filter_map (λ a. f (g a)) list
   filter_map_twice f g [] = refl
   filter_map_twice f g (a ∷ list) = ap (cons_option (f (g a))) (filter_map_twice f g list)
 
 module _ {A B : Type 0} where
-  flat_alike : (f g : A → List B) (list : List A) → ((a : A) → Among a list → f a ≡ g a) → flat_map f list ≡ flat_map g list
+  flat_alike : (f g : A → List B) (list : List A) → ((a : A) → Among a list → f a ≡ g a)
+      → flat_map f list ≡ flat_map g list
   flat_alike f g [] same = refl
   flat_alike f g (a ∷ list) same = λ i. same a (inl refl) i ++ flat_alike f g list (λ other m. same other (inr m)) i
 
@@ -46,7 +48,8 @@ module _ {A B : Type 0} where
   map_alike f g same [] = refl
   map_alike f g same (a ∷ list) = λ i. same a i ∷ map_alike f g same list i
 
-  filter_map_alike : (f g : A → Option B) → ((a : A) → f a ≡ g a) → (list : List A) → filter_map f list ≡ filter_map g list
+  filter_map_alike : (f g : A → Option B) → ((a : A) → f a ≡ g a) → (list : List A)
+      → filter_map f list ≡ filter_map g list
   filter_map_alike f g same [] = refl
   filter_map_alike f g same (a ∷ list) = λ i. cons_option (same a i) (filter_map_alike f g same list i)
 
@@ -58,7 +61,8 @@ module _ (world : World ℕ) (kept : List MountEntry) (grouping : Grouping) (see
   same_master group lives = seen.groups.masters group ∙ ap (λ b. cond b (world.master group) None) lives
 
   -- the chains of masters of a living group are alike
-  chains_alike : (n group : ℕ) → Lives members world.master group → chain n (master_in grouping) group ≡ chain n world.master group
+  chains_alike : (n group : ℕ) → Lives members world.master group
+      → chain n (master_in grouping) group ≡ chain n world.master group
   chains_alike zero group life = refl
   chains_alike (suc n) group (has_no_master it has none) =
       chain_ends (master_in grouping) n it (same_master it has ∙ none) ∙ sym (chain_ends world.master n it none)
@@ -67,8 +71,10 @@ module _ (world : World ℕ) (kept : List MountEntry) (grouping : Grouping) (see
       ∙ ap (λ l. it ∷ l) (chains_alike n above later)
       ∙ sym (chain_goes_on world.master n it above some)
 
-  up_alike : (group : ℕ) → Lives members world.master group → groups_up (as_kept kept grouping) group ≡ groups_up world group
-  up_alike group life = chains_alike (length (mounts_in kept)) group life ∙ ap (λ (mounts : List (Mount ℕ)). chain (length mounts) world.master group) seen.mounts
+  up_alike : (group : ℕ) → Lives members world.master group
+      → groups_up (as_kept kept grouping) group ≡ groups_up world group
+  up_alike group life = chains_alike (length (mounts_in kept)) group life
+      ∙ ap (λ (mounts : List (Mount ℕ)). chain (length mounts) world.master group) seen.mounts
 
   -- the group of a part lives
   abbrev HasLife : Mount ℕ → Type 0
@@ -82,21 +88,26 @@ module _ (world : World ℕ) (kept : List MountEntry) (grouping : Grouping) (see
     where
       by : (o : Option (Mount ℕ)) → numbered world.mounts place.mount ≡ o → HasLife (unwrap_or o (no_mount place.mount))
       by None e = λ group none. absurd (true≢false (sym (ap is_some none)))
-      by (Some mount) e = life_of mount (found_one (λ (one : Mount ℕ). nat_eq place.mount one.number) world.mounts mount e).0
+      by (Some mount) e = life_of mount
+          (found_one (λ (one : Mount ℕ). nat_eq place.mount one.number) world.mounts mount e).0
 
   life_of_parts : (place : Location ℕ) (part : Mount ℕ) → Among part (parts_of nat_eq world place) → HasLife part
   life_of_parts place part m = ⊎_elim
       (λ e. subst HasLife (sym e) (life_at place))
       (λ l. life_of part (receivers_there world (mount_at nat_eq world place) part
-      (among-from_filter (takes_part nat_eq world place) (receivers_of nat_eq world (mount_at nat_eq world place)) part l).0)) m
+      (among-from_filter (takes_part nat_eq world place)
+      (receivers_of nat_eq world (mount_at nat_eq world place)) part l).0)) m
 
   module _ (new : Copies ℕ) (parts : List (Mount ℕ)) (destination : Mount ℕ) (one : Twig ℕ) where
     nearest_alike : (group : ℕ) → Lives members world.master group
-        → nearest_image nat_eq (as_kept kept grouping) new parts destination one (Some group) ≡ nearest_image nat_eq world new parts destination one (Some group)
-    nearest_alike group life = ap (λ groups. option_map (image nat_eq new destination one) (seek (has_members nat_eq parts) groups)) (up_alike group life)
+        → nearest_image nat_eq (as_kept kept grouping) new parts destination one (Some group)
+        ≡ nearest_image nat_eq world new parts destination one (Some group)
+    nearest_alike group life = ap (λ groups.
+        option_map (image nat_eq new destination one) (seek (has_members nat_eq parts) groups)) (up_alike group life)
 
     type_alike : (kind : Propagation ℕ) → ((group : ℕ) → source_of kind ≡ Some group → Lives members world.master group)
-        → copy_type nat_eq (as_kept kept grouping) new parts destination one kind ≡ copy_type nat_eq world new parts destination one kind
+        → copy_type nat_eq (as_kept kept grouping) new parts destination one kind
+        ≡ copy_type nat_eq world new parts destination one kind
     type_alike (Shared group) life = refl
     type_alike (Slave master) life = ap slave_of_heir (nearest_alike master (life master refl))
     type_alike Private life = refl
@@ -116,7 +127,8 @@ module _ (world : World ℕ) (kept : List MountEntry) (grouping : Grouping) (see
 
   -- Copies and groups, where the first part is the mount at the destination
 
-  module _ (copying : Copying) (at : mount_of copying.destination ≡ mount_at nat_eq world (location_of copying.graft.place)) where
+  module _ (copying : Copying) (at : mount_of copying.destination
+      ≡ mount_at nat_eq world (location_of copying.graft.place)) where
     abbrev place : Location ℕ
     place = location_of copying.graft.place
 
@@ -131,7 +143,12 @@ module _ (world : World ℕ) (kept : List MountEntry) (grouping : Grouping) (see
     grown_at destination origin = twig_of (supply copying) (group_of destination.propagation) origin
 
     abbrev graft_at : Mount ℕ → meant.Graft ℕ
-    graft_at destination = record { destination = place; twigs = map (grown_at destination) (tree_seen copying); moves = copying.graft.moves }
+    graft_at destination = record {
+      destination = place;
+      twigs = map (grown_at destination)
+          (tree_seen copying);
+      moves = copying.graft.moves;
+    }
 
     abbrev copy_with : Mount ℕ → Mount ℕ → Mount ℕ → Mount ℕ
     copy_with destination part origin = record origin {
@@ -140,11 +157,13 @@ module _ (world : World ℕ) (kept : List MountEntry) (grouping : Grouping) (see
       mount_point = Some (copy_place nat_eq (supply copying) (graft_at destination) part.number origin);
       propagation =
           if is_destination nat_eq (graft_at destination) part.number then (grown_at destination origin).propagation
-          else copy_type nat_eq world (supply copying) (parts_seen copying) destination (grown_at destination origin) part.propagation;
+          else copy_type nat_eq world (supply copying) (parts_seen copying) destination
+          (grown_at destination origin) part.propagation;
     }
 
     copied_in_world : (part : Mount ℕ) → HasLife part → (origin : Mount ℕ)
-        → copied (as_kept kept grouping) copying part origin ≡ copy_at nat_eq world (supply copying) graft (parts_seen copying) part (grown origin)
+        → copied (as_kept kept grouping) copying part origin
+        ≡ copy_at nat_eq world (supply copying) graft (parts_seen copying) part (grown origin)
     copied_in_world part life origin =
         (λ i. record origin {
           number = copy_number nat_eq (supply copying) (graft_seen copying) part.number origin.number;
@@ -152,7 +171,8 @@ module _ (world : World ℕ) (kept : List MountEntry) (grouping : Grouping) (see
           mount_point = Some (copy_place nat_eq (supply copying) (graft_seen copying) part.number origin);
           propagation =
               if is_destination nat_eq (graft_seen copying) part.number then (twig copying origin).propagation
-              else type_alike (supply copying) (parts_seen copying) (mount_of copying.destination) (twig copying origin) part.propagation life i;
+              else type_alike (supply copying) (parts_seen copying) (mount_of copying.destination)
+              (twig copying origin) part.propagation life i;
         })
         ∙ (λ i. copy_with (at i) part origin)
 
@@ -162,7 +182,8 @@ module _ (world : World ℕ) (kept : List MountEntry) (grouping : Grouping) (see
         else then_some (group_of part.propagation) (λ group.
         when (not (is_member_of nat_eq group destination)) (
           image nat_eq (supply copying) destination (grown_at destination origin) group,
-          nearest_image nat_eq world (supply copying) (parts_seen copying) destination (grown_at destination origin) (world.master group),
+          nearest_image nat_eq world (supply copying) (parts_seen copying) destination (grown_at destination origin)
+              (world.master group),
         ))
 
     abbrev new_with : Mount ℕ → Option ℕ → ℕ → Option (ℕ × Option ℕ)
@@ -171,16 +192,24 @@ module _ (world : World ℕ) (kept : List MountEntry) (grouping : Grouping) (see
         (image nat_eq (supply copying) (mount_of copying.destination) (twig copying origin) group, master)
 
     made_in_world : (part : Mount ℕ) → HasLife part → (origin : Mount ℕ)
-        → made (as_kept kept grouping) copying part origin ≡ group_made nat_eq world (supply copying) graft (parts_seen copying) part (grown origin)
+        → made (as_kept kept grouping) copying part origin
+        ≡ group_made nat_eq world (supply copying) graft (parts_seen copying) part (grown origin)
     made_in_world part life origin =
-        ap (λ o. if is_destination nat_eq (graft_seen copying) part.number then twig_master (twig copying origin) else o) (by part.propagation life)
+        ap (λ o. if is_destination nat_eq (graft_seen copying) part.number then twig_master (twig copying origin)
+        else o) (by part.propagation life)
         ∙ (λ i. made_with (at i) part origin)
       where
         by : (kind : Propagation ℕ) → ((group : ℕ) → source_of kind ≡ Some group → Lives members world.master group)
-            → then_some (group_of kind) (λ group. new_with origin (nearest_image nat_eq (as_kept kept grouping) (supply copying) (parts_seen copying) (mount_of copying.destination) (twig copying origin) (master_in grouping group)) group)
-            ≡ then_some (group_of kind) (λ group. new_with origin (nearest_image nat_eq world (supply copying) (parts_seen copying) (mount_of copying.destination) (twig copying origin) (world.master group)) group)
+            → then_some (group_of kind) (λ group.
+            new_with origin (nearest_image nat_eq (as_kept kept grouping) (supply copying) (parts_seen copying)
+            (mount_of copying.destination) (twig copying origin) (master_in grouping group)) group)
+            ≡ then_some (group_of kind) (λ group.
+            new_with origin (nearest_image nat_eq world (supply copying) (parts_seen copying)
+            (mount_of copying.destination) (twig copying origin) (world.master group)) group)
         by (Shared group) living =
-            ap (λ master. new_with origin master group) (above_alike (supply copying) (parts_seen copying) (mount_of copying.destination) (twig copying origin) group (living group refl))
+            ap (λ master. new_with origin master group)
+            (above_alike (supply copying) (parts_seen copying) (mount_of copying.destination)
+            (twig copying origin) group (living group refl))
         by (Slave master) living = refl
         by Private living = refl
         by Unbindable living = refl
@@ -189,34 +218,48 @@ module _ (world : World ℕ) (kept : List MountEntry) (grouping : Grouping) (see
       life_of_part : (part : Mount ℕ) → Among part (parts_seen copying) → HasLife part
       life_of_part part m = life_of_parts place part (subst (Among part) are m)
 
-      pub copies_planned : flat_map (λ part. map (copied (as_kept kept grouping) copying part) (tree_seen copying)) (parts_seen copying)
+      pub copies_planned : flat_map (λ part. map (copied (as_kept kept grouping) copying part) (tree_seen copying))
+          (parts_seen copying)
           ≡ planned_copies world copying.graft copying.counts
       copies_planned =
-          flat_alike (λ part. map (copied (as_kept kept grouping) copying part) (tree_seen copying)) (copies_at nat_eq world (supply copying) graft (parts_seen copying)) (parts_seen copying) (λ part m.
-          map_alike (copied (as_kept kept grouping) copying part) (λ origin. copy_at nat_eq world (supply copying) graft (parts_seen copying) part (grown origin))
+          flat_alike (λ part. map (copied (as_kept kept grouping) copying part) (tree_seen copying))
+          (copies_at nat_eq world (supply copying) graft (parts_seen copying)) (parts_seen copying) (λ part m.
+          map_alike (copied (as_kept kept grouping) copying part)
+          (λ origin. copy_at nat_eq world (supply copying) graft (parts_seen copying) part (grown origin))
           (copied_in_world part (life_of_part part m)) (tree_seen copying)
-          ∙ sym (map_twice (copy_at nat_eq world (supply copying) graft (parts_seen copying) part) grown (tree_seen copying)))
-          ∙ ap (λ (parts : List (Mount ℕ)). flat_map (copies_at nat_eq world (copies_from nat_eq (counts_from copying.counts) parts (tree_seen copying))
-          (graft_of nat_eq world (copies_from nat_eq (counts_from copying.counts) parts (tree_seen copying)) place copying.graft.moves (tree_seen copying)) parts) parts) are
+          ∙ sym (map_twice (copy_at nat_eq world (supply copying) graft (parts_seen copying) part) grown
+          (tree_seen copying)))
+          ∙ ap (λ (parts : List (Mount ℕ)). flat_map
+          (copies_at nat_eq world (copies_from nat_eq (counts_from copying.counts) parts (tree_seen copying))
+          (graft_of nat_eq world (copies_from nat_eq (counts_from copying.counts) parts
+          (tree_seen copying)) place copying.graft.moves (tree_seen copying)) parts) parts) are
 
-      pub groups_planned : flat_map (λ part. filter_map (made (as_kept kept grouping) copying part) (tree_seen copying)) (parts_seen copying)
+      pub groups_planned : flat_map (λ part. filter_map (made (as_kept kept grouping) copying part) (tree_seen copying))
+          (parts_seen copying)
           ≡ planned_groups world copying.graft copying.counts
       groups_planned =
           flat_alike (λ part. filter_map (made (as_kept kept grouping) copying part) (tree_seen copying))
-          (λ part. filter_map (group_made nat_eq world (supply copying) graft (parts_seen copying) part) graft.twigs) (parts_seen copying) (λ part m.
-          filter_map_alike (made (as_kept kept grouping) copying part) (λ origin. group_made nat_eq world (supply copying) graft (parts_seen copying) part (grown origin))
+          (λ part. filter_map (group_made nat_eq world (supply copying) graft (parts_seen copying) part) graft.twigs)
+          (parts_seen copying) (λ part m.
+          filter_map_alike (made (as_kept kept grouping) copying part)
+          (λ origin. group_made nat_eq world (supply copying) graft (parts_seen copying) part (grown origin))
           (made_in_world part (life_of_part part m)) (tree_seen copying)
-          ∙ sym (filter_map_twice (group_made nat_eq world (supply copying) graft (parts_seen copying) part) grown (tree_seen copying)))
-          ∙ ap (λ (parts : List (Mount ℕ)). all_groups_made nat_eq world (copies_from nat_eq (counts_from copying.counts) parts (tree_seen copying))
-          (graft_of nat_eq world (copies_from nat_eq (counts_from copying.counts) parts (tree_seen copying)) place copying.graft.moves (tree_seen copying)) parts) are
+          ∙ sym (filter_map_twice (group_made nat_eq world (supply copying) graft (parts_seen copying) part) grown
+          (tree_seen copying)))
+          ∙ ap (λ (parts : List (Mount ℕ)). all_groups_made nat_eq world
+          (copies_from nat_eq (counts_from copying.counts) parts (tree_seen copying))
+          (graft_of nat_eq world (copies_from nat_eq (counts_from copying.counts) parts
+          (tree_seen copying)) place copying.graft.moves (tree_seen copying)) parts) are
 
 -- the first of the parts is the mount at the destination
 first_in : List (Mount ℕ) → Option (Mount ℕ)
 first_in [] = None
 first_in (mount ∷ rest) = Some mount
 
-pub first_part : (parts : List Kept) (first : Kept) → Some first ≡ slice_get parts 0 → (at : Mount ℕ) (rest : List (Mount ℕ)) → map mount_of parts ≡ at ∷ rest
+pub first_part : (parts : List Kept) (first : Kept) → Some first ≡ slice_get parts 0
+    → (at : Mount ℕ) (rest : List (Mount ℕ)) → map mount_of parts ≡ at ∷ rest
     → mount_of first ≡ at
 unfolding first_in
 first_part [] first is at rest e = absurd (true≢false (ap is_some is))
-first_part (part ∷ parts) first is at rest e = ap mount_of (same_Some first part is) ∙ same_Some (mount_of part) at (ap first_in e)
+first_part (part ∷ parts) first is at rest e = ap mount_of (same_Some first part is)
+    ∙ same_Some (mount_of part) at (ap first_in e)

@@ -253,7 +253,8 @@ pub receivers_apart : (world : World ℕ) (place : Location ℕ) (part : Mount �
     → Among part (filter (takes_part nat_eq world place) (receivers_of nat_eq world (mount_at nat_eq world place)))
     → nat_eq part.number place.mount ≡ false
 receivers_apart world place part m =
-    let takes = (among-from_filter (takes_part nat_eq world place) (receivers_of nat_eq world (mount_at nat_eq world place)) part m).1 in
+    let takes = (among-from_filter (takes_part nat_eq world place)
+    (receivers_of nat_eq world (mount_at nat_eq world place)) part m).1 in
     turned (nat_eq place.mount part.number) refl (and_parts (not (nat_eq place.mount part.number)) _
     (and_parts _ _ (and_parts _ _ takes).0).0).0
   where
@@ -335,21 +336,24 @@ all_pushed world one_child up graft counts before mount there stays number point
 module _ (mounts : List (Mount ℕ)) (left : Option ℕ) (place : Location ℕ) (size number : ℕ)
     (leaves : holds_of (nat_eq number) left ≡ true) where
   other_stands : (child : Option (Mount ℕ)) (top : Location ℕ) (rest : List (ℕ × Location ℕ))
-      → lookup (nat_eq number) (cons_option (option_map (λ n. (n, top)) (then_some (option_map (λ (child : Mount ℕ). child.number) child)
+      → lookup (nat_eq number) (cons_option
+      (option_map (λ n. (n, top)) (then_some (option_map (λ (child : Mount ℕ). child.number) child)
       (λ n. if holds_of (nat_eq n) left then None else Some n))) rest)
       ≡ lookup (nat_eq number) rest
   other_stands None top rest = refl
   other_stands (Some child) top rest = by (holds_of (nat_eq child.number) left) refl (nat_eq number child.number) refl
     where
       by : (b : Bool) → holds_of (nat_eq child.number) left ≡ b → (c : Bool) → nat_eq number child.number ≡ c
-          → lookup (nat_eq number) (cons_option (option_map (λ n. (n, top)) (if b then None else Some child.number)) rest)
+          → lookup (nat_eq number) (cons_option
+          (option_map (λ n. (n, top)) (if b then None else Some child.number)) rest)
           ≡ lookup (nat_eq number) rest
       by true e c is = refl
       by false e true is =
           absurd (true≢false (sym leaves ∙ ap (λ n. holds_of (nat_eq n) left) (eqb-true number child.number is) ∙ e))
       by false e false is = ap (λ c. cond c (Some top) (lookup (nat_eq number) rest)) is
 
-  pub leaver_stays : (parts copies : List (Mount ℕ)) → lookup (nat_eq number) (pushes_from mounts left place size parts copies) ≡ None
+  pub leaver_stays : (parts copies : List (Mount ℕ))
+      → lookup (nat_eq number) (pushes_from mounts left place size parts copies) ≡ None
   leaver_stays [] copies = refl
   leaver_stays (part ∷ parts) copies =
       by (nat_eq part.number place.mount)

@@ -25,18 +25,21 @@ module _ (groups : Grouping) (numbers : List ℕ) (number : ℕ) where
   -- one more is shared
   shared_more : (entry : MountEntry)
       → (if nat_eq number (shared_by groups numbers entry).mount.number
-      then with_kind (propagation_in groups number) (shared_by groups numbers entry) else shared_by groups numbers entry)
+      then with_kind (propagation_in groups number) (shared_by groups numbers entry)
+      else shared_by groups numbers entry)
       ≡ shared_by groups (numbers ++ number ∷ []) entry
   shared_more entry =
       by (is_among nat_eq entry.mount.number numbers) (nat_eq number entry.mount.number) refl
       ∙ sym (ap (λ b. if b then told entry else entry) (is_among-snoc entry.mount.number number numbers))
     where
-      same : nat_eq number entry.mount.number ≡ true → propagation_in groups number ≡ propagation_in groups entry.mount.number
+      same : nat_eq number entry.mount.number ≡ true
+          → propagation_in groups number ≡ propagation_in groups entry.mount.number
       same is = ap (propagation_in groups) (eqb-true number entry.mount.number is)
 
       by : (a b : Bool) → nat_eq number entry.mount.number ≡ b
           → (if nat_eq number (if a then told entry else entry).mount.number
-          then with_kind (propagation_in groups number) (if a then told entry else entry) else (if a then told entry else entry))
+          then with_kind (propagation_in groups number) (if a then told entry else entry)
+          else (if a then told entry else entry))
           ≡ (if a || nat_eq entry.mount.number number then told entry else entry)
       by true true is =
           ap (λ b. if b then with_kind (propagation_in groups number) (told entry) else told entry) is
@@ -56,17 +59,21 @@ module _ (groups : Grouping) (numbers : List ℕ) (number : ℕ) where
   changed-shared [] = refl
   changed-shared (entry ∷ entries) = λ i. shared_more entry i ∷ changed-shared entries i
 
-module _ (groups : Grouping) (old now new : List MountEntry) (named : List (MountId × GroupId)) (i : ℕ) (default : MountId × GroupId)
-    (less : i < length named) (kind : Propagation ℕ) (told : kind ≡ propagation_in groups (counted (get_or named i default).0.count)) where
+module _ (groups : Grouping) (old now new : List MountEntry) (named : List (MountId × GroupId)) (i : ℕ)
+    (default : MountId × GroupId)
+    (less : i < length named) (kind : Propagation ℕ)
+    (told : kind ≡ propagation_in groups (counted (get_or named i default).0.count)) where
   pub shared_next : new ≡ changed (counted (get_or named i default).0.count) (with_kind kind) now
       → now ≡ map (shared_by groups (map (λ pair. counted pair.0.count) (take i named))) old
       → new ≡ map (shared_by groups (map (λ pair. counted pair.0.count) (take (i + 1) named))) old
   shared_next next sofar =
       next
       ∙ (λ j. changed (counted (get_or named i default).0.count) (with_kind (told j)) (sofar j))
-      ∙ changed-shared groups (map (λ pair. counted pair.0.count) (take i named)) (counted (get_or named i default).0.count) old
+      ∙ changed-shared groups (map (λ pair. counted pair.0.count) (take i named))
+      (counted (get_or named i default).0.count) old
       ∙ ap (λ numbers. map (shared_by groups numbers) old)
-      (sym (map-append (λ (pair : MountId × GroupId). counted pair.0.count) (take i named) (get_or named i default ∷ []))
+      (sym (map-append (λ (pair : MountId × GroupId). counted pair.0.count) (take i named)
+      (get_or named i default ∷ []))
       ∙ ap (map (λ pair. counted pair.0.count)) (sym (take_more named i default less)))
 
 -- one more has the type that it is given
@@ -82,7 +89,8 @@ none_shared groups [] = refl
 none_shared groups (entry ∷ entries) = ap (λ rest. entry ∷ rest) (none_shared groups entries)
 
 -- where no group ended, the mounts that left have the types that the groups tell, as all others
-pub left_typed : (before now : Grouping) (numbers : List ℕ) → LeaveAlone before now numbers → (entries : List MountEntry)
+pub left_typed : (before now : Grouping) (numbers : List ℕ) → LeaveAlone before now numbers
+    → (entries : List MountEntry)
     → HaveNoSource numbers entries → AreTyped before numbers entries → entries ≡ map (typed_entry now) entries
 left_typed before now numbers alone entries none typed =
     sym (map_same (typed_entry now) entries (λ entry m. by entry m (is_among nat_eq entry.mount.number numbers) refl))
@@ -102,14 +110,19 @@ left_typed before now numbers alone entries none typed =
         → typed_entry now entry ≡ entry
     by entry m true e =
         λ i. with_kind (left_alone entry.mount.number entry.mount.propagation
-        (among_from_all (λ (one : MountEntry). is_among nat_eq one.mount.number numbers ≡ true → source_of one.mount.propagation ≡ None) entries none entry m e)
+        (among_from_all (λ (one : MountEntry). is_among nat_eq one.mount.number numbers ≡ true
+        → source_of one.mount.propagation ≡ None) entries none entry m e)
         (told_now entry.mount.number true e) i) entry
     by entry m false e =
-        (λ i. with_kind (if is_unbindable entry.mount.propagation then Unbindable else told_now entry.mount.number false e i) entry)
-        ∙ among_from_all (λ (one : MountEntry). is_among nat_eq one.mount.number numbers ≡ false → typed_entry before one ≡ one) entries typed entry m e
+        (λ i. with_kind (if is_unbindable entry.mount.propagation then Unbindable
+        else told_now entry.mount.number false e i) entry)
+        ∙ among_from_all (λ (one : MountEntry). is_among nat_eq one.mount.number numbers ≡ false
+        → typed_entry before one ≡ one) entries typed entry m e
 
 -- where each mount has the type that the groups tell, it has it
-pub typed_already : (groups : Grouping) (entries : List MountEntry) → AreTyped groups [] entries → entries ≡ map (typed_entry groups) entries
+pub typed_already : (groups : Grouping) (entries : List MountEntry) → AreTyped groups [] entries
+    → entries ≡ map (typed_entry groups) entries
 typed_already groups entries typed =
     sym (map_same (typed_entry groups) entries (λ entry m.
-    among_from_all (λ (one : MountEntry). is_among nat_eq one.mount.number [] ≡ false → typed_entry groups one ≡ one) entries typed entry m refl))
+    among_from_all (λ (one : MountEntry). is_among nat_eq one.mount.number [] ≡ false
+    → typed_entry groups one ≡ one) entries typed entry m refl))

@@ -47,19 +47,24 @@ module _ (world : World ℕ) (kept : List MountEntry) (before : Grouping) (seen 
       }
 
   -- changed mounts are typed but for those of these numbers
-  pub are_typed : (numbers : List ℕ) (left : List MountEntry) (change : Mount ℕ → Mount ℕ) → mounts_in left ≡ map change world.mounts
+  pub are_typed : (numbers : List ℕ) (left : List MountEntry) (change : Mount ℕ → Mount ℕ)
+      → mounts_in left ≡ map change world.mounts
       → ((mount : Mount ℕ) → is_among nat_eq (change mount).number numbers ≡ false
       → ((change mount).number ≡ mount.number) × ((change mount).propagation ≡ mount.propagation))
       → AreTyped before numbers left
   are_typed numbers left change is keeps =
-      all_from_among (λ entry. is_among nat_eq entry.mount.number numbers ≡ false → typed_entry before entry ≡ entry) left (λ entry m apart.
-      let from = among-from_map change world.mounts entry.mount (subst (Among entry.mount) is (among-map (λ e. e.mount) left entry m)) in
+      all_from_among (λ entry. is_among nat_eq entry.mount.number numbers ≡ false
+      → typed_entry before entry ≡ entry) left (λ entry m apart.
+      let from = among-from_map change world.mounts entry.mount
+      (subst (Among entry.mount) is (among-map (λ e. e.mount) left entry m)) in
       let same = keeps from.0 (sym (ap (λ (x : Mount ℕ). is_among nat_eq x.number numbers) from.2) ∙ apart) in
       (λ i. record entry {
-        mount = typed_alike from.0 from.1 entry.mount (ap (λ x. x.number) from.2 ∙ same.0) (ap (λ x. x.propagation) from.2 ∙ same.1) i;
+        mount = typed_alike from.0 from.1 entry.mount (ap (λ x. x.number) from.2 ∙ same.0)
+            (ap (λ x. x.propagation) from.2 ∙ same.1) i;
       }))
 
-mounts-typed : (now : Grouping) (left : List MountEntry) → mounts_in (map (typed_entry now) left) ≡ map (typed_by now) (mounts_in left)
+mounts-typed : (now : Grouping) (left : List MountEntry)
+    → mounts_in (map (typed_entry now) left) ≡ map (typed_by now) (mounts_in left)
 mounts-typed now [] = refl
 mounts-typed now (entry ∷ left) = ap (λ rest. typed_by now entry.mount ∷ rest) (mounts-typed now left)
 
@@ -89,9 +94,11 @@ detaching_is_seen world kept left after before now gone points seen leaves is ta
   where
     keeps : (mount : Mount ℕ) (b : Bool) → is_going nat_eq gone mount.number ≡ b
         → is_among nat_eq (left_by gone points mount).number gone ≡ false
-        → ((left_by gone points mount).number ≡ mount.number) × ((left_by gone points mount).propagation ≡ mount.propagation)
+        → ((left_by gone points mount).number ≡ mount.number)
+        × ((left_by gone points mount).propagation ≡ mount.propagation)
     keeps mount true e apart =
-        absurd (true≢false (sym e ∙ sym (ap (λ b. is_among nat_eq (if b then detached mount else moved_by points mount).number gone) e)
+        absurd (true≢false (sym e ∙ sym
+        (ap (λ b. is_among nat_eq (if b then detached mount else moved_by points mount).number gone) e)
         ∙ apart))
     keeps mount false e apart = (
       ap (λ b. (if b then detached mount else moved_by points mount).number) e,
@@ -118,15 +125,18 @@ module _ (world : World ℕ) (live : GroupsLive world) (group : ℕ → ℕ) (wo
   chosen mount = list_any (λ other. nat_eq mount.number other.number) named
 
   abbrev retyped_if : Mount ℕ → Bool → Mount ℕ
-  retyped_if mount b = if b then record mount { propagation = type_after (group mount.number) word mount.propagation } else mount
+  retyped_if mount b = if b then record mount { propagation = type_after (group mount.number) word mount.propagation }
+      else mount
 
-  others_keep : (mount : Mount ℕ) → is_among nat_eq (retyped_mount nat_eq group word named mount).number (numbers_of named) ≡ false
+  others_keep : (mount : Mount ℕ)
+      → is_among nat_eq (retyped_mount nat_eq group word named mount).number (numbers_of named) ≡ false
       → ((retyped_mount nat_eq group word named mount).number ≡ mount.number)
       × ((retyped_mount nat_eq group word named mount).propagation ≡ mount.propagation)
   others_keep mount apart = by (chosen mount) refl
     where
       by : (b : Bool) → chosen mount ≡ b
-          → ((retyped_if mount (chosen mount)).number ≡ mount.number) × ((retyped_if mount (chosen mount)).propagation ≡ mount.propagation)
+          → ((retyped_if mount (chosen mount)).number ≡ mount.number)
+          × ((retyped_if mount (chosen mount)).propagation ≡ mount.propagation)
       by true e =
           absurd (true≢false (sym e ∙ named_numbers world live mount.number named
           ∙ sym (ap (λ b. is_among nat_eq (retyped_if mount b).number (numbers_of named)) e) ∙ apart))
@@ -162,22 +172,26 @@ slaves_are_seen world group named kept after before now seen there lacks retypes
     same new Private = refl
     same new Unbindable = refl
 
-    typed : (mount : Mount ℕ) (b : Bool) → typed_by now mount ≡ typed_by now (retyped_if world seen.living group ToSlave named mount b)
+    typed : (mount : Mount ℕ) (b : Bool)
+        → typed_by now mount ≡ typed_by now (retyped_if world seen.living group ToSlave named mount b)
     typed mount true =
         λ i. record mount {
-          propagation = if same (group mount.number) mount.propagation i then Unbindable else propagation_in now mount.number;
+          propagation = if same (group mount.number) mount.propagation i then Unbindable
+              else propagation_in now mount.number;
         }
     typed mount false = refl
 
 -- a mount that may be one of those that are shared now
 abbrev shared_mount : Grouping → List ℕ → Mount ℕ → Mount ℕ
 shared_mount now numbers mount =
-    if is_among nat_eq mount.number numbers then record mount { propagation = propagation_in now mount.number } else mount
+    if is_among nat_eq mount.number numbers then record mount { propagation = propagation_in now mount.number }
+    else mount
 
 mounts-shared : (now : Grouping) (numbers : List ℕ) (kept : List MountEntry)
     → mounts_in (map (shared_by now numbers) kept) ≡ map (shared_mount now numbers) (mounts_in kept)
 mounts-shared now numbers [] = refl
-mounts-shared now numbers (entry ∷ kept) = λ i. by (is_among nat_eq entry.mount.number numbers) i ∷ mounts-shared now numbers kept i
+mounts-shared now numbers (entry ∷ kept) = λ i. by (is_among nat_eq entry.mount.number numbers) i
+    ∷ mounts-shared now numbers kept i
   where
     by : (b : Bool) → (if b then with_kind (propagation_in now entry.mount.number) entry else entry).mount
         ≡ (if b then record entry.mount { propagation = propagation_in now entry.mount.number } else entry.mount)
@@ -216,7 +230,8 @@ sharing_is_seen world group named kept before now seen there lacks shares = reco
         told : propagation_in now (retyped_mount nat_eq group ToShared named mount).number
             ≡ shown (retyped_mount nat_eq group ToShared named mount).propagation
         told =
-            among_from_all (λ x. propagation_in now x.number ≡ shown x.propagation) (base world seen.living group ToShared named).mounts
+            among_from_all (λ x. propagation_in now x.number ≡ shown x.propagation)
+            (base world seen.living group ToShared named).mounts
             (shows_types (base world seen.living group ToShared named) now (subst (λ w. Has w now) regroups has))
             (retyped_mount nat_eq group ToShared named mount)
             (among-map (retyped_mount nat_eq group ToShared named) world.mounts mount m)
@@ -224,11 +239,13 @@ sharing_is_seen world group named kept before now seen there lacks shares = reco
         by : (b : Bool) → chosen world seen.living group ToShared named mount ≡ b
             → (if chosen world seen.living group ToShared named mount
             then record mount { propagation = propagation_in now mount.number } else mount)
-            ≡ retyped_if world seen.living group ToShared named mount (chosen world seen.living group ToShared named mount)
+            ≡ retyped_if world seen.living group ToShared named mount
+            (chosen world seen.living group ToShared named mount)
         by true e =
             ap (λ b. if b then record mount { propagation = propagation_in now mount.number } else mount) e
             ∙ (λ i. record mount {
-              propagation = (sym (ap (λ b. propagation_in now (retyped_if world seen.living group ToShared named mount b).number) e)
+              propagation = (sym (ap (λ b. propagation_in now
+                  (retyped_if world seen.living group ToShared named mount b).number) e)
                   ∙ told
                   ∙ ap (λ b. shown (retyped_if world seen.living group ToShared named mount b).propagation) e
                   ∙ same (group mount.number) mount.propagation) i;

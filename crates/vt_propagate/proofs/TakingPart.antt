@@ -13,26 +13,31 @@ use Rattle.vt_propagate.specs.Seen.{IsSeen, ReachesAs, joins, mounts_numbered}
 use Rattle.vt_propagate.proofs.Found.{counts, numbered, numbered_again, passing}
 
 -- receivers are mounts
-pub receivers_there : (world : World ℕ) (mount : Mount ℕ) (one : Mount ℕ) → Among one (receivers_of nat_eq world mount) → Among one world.mounts
+pub receivers_there : (world : World ℕ) (mount : Mount ℕ) (one : Mount ℕ) → Among one (receivers_of nat_eq world mount)
+    → Among one world.mounts
 receivers_there world mount one = by (group_of mount.propagation)
   where
-    by : (group : Option ℕ) → Among one (unwrap_or (option_map (receivers nat_eq world) group) []) → Among one world.mounts
+    by : (group : Option ℕ) → Among one (unwrap_or (option_map (receivers nat_eq world) group) [])
+        → Among one world.mounts
     by None m = absurd m
     by (Some group) m = (among-from_filter (receives nat_eq world group) world.mounts one m).0
 
 module _ (world : World ℕ) (kept : List MountEntry) (grouping : Grouping) (seen : IsSeen world kept grouping) where
   -- the mount at a place
-  pub mount_at-found : (place : Location ℕ) (mount : Mount ℕ) → Some mount ≡ numbered (mounts_in kept) place.mount → mount_at nat_eq world place ≡ mount
+  pub mount_at-found : (place : Location ℕ) (mount : Mount ℕ) → Some mount ≡ numbered (mounts_in kept) place.mount
+      → mount_at nat_eq world place ≡ mount
   mount_at-found place mount found =
       ap (λ mounts. unwrap_or (numbered mounts place.mount) (no_mount place.mount)) (sym seen.mounts)
       ∙ ap (λ o. unwrap_or o (no_mount place.mount)) (sym found)
 
   -- the receivers of a mount, by their numbers
-  pub receivers-numbered : are_ascending (mounts_in kept) ≡ true → (mount : Mount ℕ) (ids : List MountId) → counts ids ≡ numbers_of (receivers_of nat_eq world mount)
+  pub receivers-numbered : are_ascending (mounts_in kept) ≡ true → (mount : Mount ℕ) (ids : List MountId)
+      → counts ids ≡ numbers_of (receivers_of nat_eq world mount)
       → mounts_numbered (mounts_in kept) (counts ids) ≡ receivers_of nat_eq world mount
   receivers-numbered up mount ids told =
       (λ i. mounts_numbered (seen.mounts i) (told i))
-      ∙ numbered_again world.mounts (receivers_of nat_eq world mount) (ap are_ascending (sym seen.mounts) ∙ up) (receivers_there world mount)
+      ∙ numbered_again world.mounts (receivers_of nat_eq world mount) (ap are_ascending (sym seen.mounts) ∙ up)
+      (receivers_there world mount)
 
   pub parts-found : (under : ℕ → ℕ → ℕ → Bool) → ReachesAs world under → are_ascending (mounts_in kept) ≡ true
       → (place : Location ℕ) (parent : Mount ℕ) → Some parent ≡ numbered (mounts_in kept) place.mount
@@ -47,5 +52,6 @@ module _ (world : World ℕ) (kept : List MountEntry) (grouping : Grouping) (see
 
       same : (mount : Mount ℕ) → joins under place parent mount ≡ takes_part nat_eq world place mount
       same mount =
-          λ i. not (nat_eq place.mount mount.number) && is_some mount.namespace && nat_eq (at i).filesystem mount.filesystem
+          λ i. not (nat_eq place.mount mount.number) && is_some mount.namespace
+          && nat_eq (at i).filesystem mount.filesystem
           && reaches mount.filesystem mount.root place.node i

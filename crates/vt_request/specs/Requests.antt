@@ -8,6 +8,8 @@ use Rattle.vt_request.specs.declared.request.CapsWord.TheVariants.{Held, Named}
 use Rattle.vt_request.specs.declared.request.Access.{Access}
 use Rattle.vt_request.specs.declared.request.Access.TheVariants.{Read, Write, ReadWrite}
 use Rattle.vt_request.specs.declared.request.Creation.{Creation}
+use Rattle.vt_request.specs.declared.request.Directive.{Directive}
+use Rattle.vt_request.specs.declared.request.Directive.TheVariants.{Peers}
 use Rattle.vt_request.specs.declared.request.Creation.TheVariants.{Never, OrCreate, Exclusive}
 use Rattle.vt_request.specs.declared.request.ForkWords.{ForkWords}
 use Rattle.vt_request.specs.declared.request.TypeWord.{TypeWord}
@@ -85,3 +87,7 @@ call_of (call.Lazy path) = spec.Call.Lazy path.items
 call_of (call.Remount path flags) = spec.Call.Remount path.items (flags_of flags)
 call_of (call.SetType path word recursive) = spec.Call.SetType path.items (type_word_of word) recursive
 call_of call.ListMounts = spec.Call.ListMounts
+
+-- a directive, in the policy's words
+abbrev pub directive_of : Directive → spec.Directive
+directive_of Peers = spec.Directive.AskPeers

@@ -49,7 +49,28 @@ pub struct MountLine {
     pub kind: TypeLine,
 }
 
-/// What a call that was granted tells.
+/// A mount by its namespace and its place: the namespace by its creation, among those that did not end, the place as in
+/// the list of the namespace's mounts. Both from 1 on.
+#[derive(Clone, Copy, Debug, PartialEq, Eq)]
+pub struct MountPlace {
+    pub namespace: usize,
+    pub place: usize,
+}
+
+/// A line of the list of peer groups, in the product's form.
+#[derive(Debug, Drop, PartialEq, Eq)]
+pub struct PeerLine {
+    /// The group, by where it first stands among the types of all mounts, from 1 on.
+    pub group: usize,
+    /// The group from which it receives.
+    pub master: Option<usize>,
+    /// The mounts in the group.
+    pub members: Vec<MountPlace>,
+    /// The mounts that receive from the group and are in none.
+    pub slaves: Vec<MountPlace>,
+}
+
+/// What a call that was granted tells, or a directive.
 #[derive(Debug, Drop, PartialEq, Eq)]
 pub enum Answer {
     /// That it was done.
@@ -66,4 +87,6 @@ pub enum Answer {
     Child(TaskName),
     /// The mounts of the caller's namespace, in the order of their attachment.
     MountList(Vec<MountLine>),
+    /// The peer groups of all namespaces.
+    PeerList(Vec<PeerLine>),
 }

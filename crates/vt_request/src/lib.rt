@@ -5,6 +5,6 @@ pub mod answer;
 pub mod request;
 pub mod task;
 
-pub use answer::{Answer, MountLine, Spot, StatLine, TypeLine};
-pub use request::{Access, Call, CapsWord, Creation, ForkWords, TypeWord};
+pub use answer::{Answer, MountLine, MountPlace, PeerLine, Spot, StatLine, TypeLine};
+pub use request::{Access, Call, CapsWord, Creation, Directive, ForkWords, TypeWord};
 pub use task::TaskName;

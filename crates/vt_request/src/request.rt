@@ -232,3 +232,10 @@ pub enum Call {
     /// The mounts of the caller's namespace: mountinfo of proc(5).
     ListMounts,
 }
+
+/// What a line asks of all namespaces together. It is no task's, and needs no right.
+#[derive(Clone, Copy, Debug, PartialEq, Eq)]
+pub enum Directive {
+    /// The peer groups of all namespaces.
+    Peers,
+}

@@ -2,7 +2,7 @@
 use Rattle.std.proofs.Common.{◌≡◌, ◌≢◌, ◌<◌, ◌-◌, ℕ, suc, ◌+◌, ◌==◌, arith, drop, get_or, length, length-append, length-take, take, Bool, true, false, List, [], ◌∷◌, ◌++◌, Some, None, refl, sym, ap, ◌∙◌, subst, append_assoc, nat_eq}
 use Rattle.std.proofs.lemmas.Bool.Decides.{nat_tests}
 use Rattle.std.proofs.lemmas.List.{append-nil, drop_more, get_or-take, take-append-drop, take_rest}
-use Rattle.vt_spec.specs.Language.Script.{lines_of, namespaces, with_line_byte}
+use Rattle.vt_spec.specs.Language.Script.{lines_of, propagation, with_line_byte}
 use Rattle.vt_spec.specs.Machine.Run.{handed, later, line_step, numbers_for, step_text, step_world, text_from}
 use Rattle.vt_spec.specs.Machine.SameWorlds.{SameWorlds}
 use Rattle.vt_spec.specs.Machine.World.{World}
@@ -20,7 +20,8 @@ lines_of-newline (byte ∷ line) more whole =
     ∙ ap (with_line_byte false byte) (lines_of-newline line more whole.1)
 
 -- a last line without a newline is one too
-pub lines_of-last : (byte : ℕ) (line : List ℕ) → HasNoNewline (byte ∷ line) → lines_of (byte ∷ line) ≡ (byte ∷ line) ∷ []
+pub lines_of-last : (byte : ℕ) (line : List ℕ) → HasNoNewline (byte ∷ line)
+    → lines_of (byte ∷ line) ≡ (byte ∷ line) ∷ []
 lines_of-last byte [] whole = ap (λ b. with_line_byte b byte []) whole.0
 lines_of-last byte (next ∷ line) whole =
     ap (λ b. with_line_byte b byte (lines_of (next ∷ line))) whole.0
@@ -36,15 +37,19 @@ HasNoNewline-each (byte ∷ bytes) other =
     (not_newline byte (other 0 (omega arith)), HasNoNewline-each bytes (λ k within. other (suc k) (omega arith)))
 
 -- a text cut at its first newline
-pub cut_at_newline : (bytes front back rest : List ℕ) (n : ℕ) → n < length bytes → get_or bytes n 0 ≡ 10 → ((k : ℕ) → k < n → get_or bytes k 0 ≢ 10) →
-    front ≡ take n bytes → back ≡ drop n bytes → rest ≡ take (length back - 1) (drop 1 back) → (bytes ≡ front ++ 10 ∷ rest) × HasNoNewline front
+pub cut_at_newline : (bytes front back rest : List ℕ) (n : ℕ) → n < length bytes → get_or bytes n 0 ≡ 10
+    → ((k : ℕ) → k < n → get_or bytes k 0 ≢ 10) →
+    front ≡ take n bytes → back ≡ drop n bytes → rest ≡ take (length back - 1) (drop 1 back)
+    → (bytes ≡ front ++ 10 ∷ rest) × HasNoNewline front
 cut_at_newline bytes front back rest n within newline before is_front is_back is_rest =
-    let at : drop n bytes ≡ 10 ∷ drop (n + 1) bytes = drop_more bytes n 0 within ∙ ap (λ byte. byte ∷ drop (n + 1) bytes) newline in
+    let at : drop n bytes ≡ 10 ∷ drop (n + 1) bytes = drop_more bytes n 0 within
+    ∙ ap (λ byte. byte ∷ drop (n + 1) bytes) newline in
     let whole : rest ≡ drop (n + 1) bytes = is_rest ∙ take_rest back 1 ∙ ap (drop 1) (is_back ∙ at) in
     let other : (k : ℕ) → k < length (take n bytes) → get_or (take n bytes) k 0 ≢ 10 = λ k below.
     let low : k < n = omega (arith, below, length-take n bytes) in
     λ e. before k low (sym (get_or-take n bytes k 0 low) ∙ e) in (
-      sym (take-append-drop n bytes) ∙ ap (λ back. take n bytes ++ back) at ∙ ap (λ rest. take n bytes ++ 10 ∷ rest) (sym whole)
+      sym (take-append-drop n bytes) ∙ ap (λ back. take n bytes ++ back) at
+          ∙ ap (λ rest. take n bytes ++ 10 ∷ rest) (sym whole)
           ∙ ap (λ front. front ++ 10 ∷ rest) (sym is_front),
       subst HasNoNewline (sym is_front) (HasNoNewline-each (take n bytes) other),
     )
@@ -69,7 +74,8 @@ whole_with-more true byte next rest = refl
 whole_with-more false byte next rest = refl
 
 -- a text before whole lines is whole with them
-whole_lines-before : (front : List ℕ) (next : ℕ) (rest : List ℕ) → whole_lines (next ∷ rest) ≡ next ∷ rest → whole_lines (front ++ next ∷ rest) ≡ front ++ next ∷ rest
+whole_lines-before : (front : List ℕ) (next : ℕ) (rest : List ℕ) → whole_lines (next ∷ rest) ≡ next ∷ rest
+    → whole_lines (front ++ next ∷ rest) ≡ front ++ next ∷ rest
 whole_lines-before [] next rest whole = whole
 whole_lines-before (byte ∷ []) next rest whole =
     ap (whole_with (byte == 10) byte) whole ∙ whole_with-more (byte == 10) byte next rest
@@ -99,13 +105,15 @@ lines_of-some byte bytes e = some (byte == 10) (lines_of bytes) e
     some false (line ∷ lines) e = cc
 
 -- a byte that does not end a line goes onto a line that is there
-with_line_byte-append : (b : Bool) (byte : ℕ) (lines more : List (List ℕ)) → (b ≡ false → lines ≢ []) → with_line_byte b byte (lines ++ more) ≡ with_line_byte b byte lines ++ more
+with_line_byte-append : (b : Bool) (byte : ℕ) (lines more : List (List ℕ)) → (b ≡ false → lines ≢ [])
+    → with_line_byte b byte (lines ++ more) ≡ with_line_byte b byte lines ++ more
 with_line_byte-append true byte lines more there = refl
 with_line_byte-append false byte [] more there = absurd (there refl refl)
 with_line_byte-append false byte (line ∷ lines) more there = refl
 
 -- whole lines that go on without ending a line are not all
-goes_on_whole : (b : Bool) (byte : ℕ) (ended : List ℕ) → whole_with b byte ended ≡ byte ∷ ended → b ≡ false → lines_of ended ≢ []
+goes_on_whole : (b : Bool) (byte : ℕ) (ended : List ℕ) → whole_with b byte ended ≡ byte ∷ ended → b ≡ false
+    → lines_of ended ≢ []
 goes_on_whole b byte [] e f = absurd (empty b f e)
   where
     empty : (b : Bool) → b ≡ false → whole_with b byte [] ≢ byte ∷ []
@@ -114,7 +122,8 @@ goes_on_whole b byte [] e f = absurd (empty b f e)
 goes_on_whole b byte (next ∷ ended) e f = lines_of-some next ended
 
 -- the lines of whole lines with more behind them
-pub lines_of-whole : (ended more : List ℕ) → whole_lines ended ≡ ended → lines_of (ended ++ more) ≡ lines_of ended ++ lines_of more
+pub lines_of-whole : (ended more : List ℕ) → whole_lines ended ≡ ended
+    → lines_of (ended ++ more) ≡ lines_of ended ++ lines_of more
 lines_of-whole [] more whole = refl
 lines_of-whole (byte ∷ ended) more whole =
     let rest : whole_lines ended ≡ ended = whole_tail (byte == 10) byte (whole_lines ended) ended whole in
@@ -127,11 +136,13 @@ pub stays : (moment : Moment) → Runs moment [] [] moment
 stays moment = record { ended = []; split = append-nil moment.line; whole = refl; refused = []; counted = refl; goes_on = λ more later rest told. told }
 
 -- what is read one after another is written one after another
-pub runs_then : (a b c : Moment) (read more_read text more_text : List ℕ) → Runs a read text b → Runs b more_read more_text c → Runs a (read ++ more_read) (text ++ more_text) c
+pub runs_then : (a b c : Moment) (read more_read text more_text : List ℕ) → Runs a read text b
+    → Runs b more_read more_text c → Runs a (read ++ more_read) (text ++ more_text) c
 runs_then a b c read more_read text more_text first second = record {
   ended = first.ended ++ second.ended;
   split = sym (append_assoc a.line read more_read) ∙ ap (λ xs. xs ++ more_read) first.split
-      ∙ append_assoc first.ended b.line more_read ∙ ap (λ xs. first.ended ++ xs) second.split ∙ sym (append_assoc first.ended second.ended c.line);
+      ∙ append_assoc first.ended b.line more_read ∙ ap (λ xs. first.ended ++ xs) second.split
+      ∙ sym (append_assoc first.ended second.ended c.line);
   whole = whole_lines-append first.ended second.ended first.whole second.whole;
   refused = first.refused ++ second.refused;
   counted =
@@ -145,11 +156,13 @@ runs_then a b c read more_read text more_text first second = record {
       );
   goes_on = λ more later rest told.
       rw (append_assoc first.ended second.ended more, append_assoc first.refused second.refused later, append_assoc text more_text rest)
-      (first.goes_on (second.ended ++ more) (second.refused ++ later) (more_text ++ rest) (second.goes_on more later rest told));
+      (first.goes_on (second.ended ++ more) (second.refused ++ later) (more_text ++ rest)
+      (second.goes_on more later rest told));
 }
 
 -- bytes that are read belong to the line
-pub runs_bytes : (moment : Moment) (bytes : List ℕ) → Runs moment bytes [] (record moment { line = moment.line ++ bytes })
+pub runs_bytes : (moment : Moment) (bytes : List ℕ)
+    → Runs moment bytes [] (record moment { line = moment.line ++ bytes })
 runs_bytes moment bytes = record { ended = []; split = refl; whole = refl; refused = []; counted = refl; goes_on = λ more later rest told. told }
 
 line_then : (line more : List ℕ) → HasNoNewline line → lines_of ((line ++ 10 ∷ []) ++ more) ≡ line ∷ lines_of more
@@ -167,13 +180,15 @@ runs_refused moment world none same = record {
   refused = true ∷ [];
   counted = sym (ap length (lines_of-newline moment.line [] none));
   goes_on = λ more later rest told.
-      subst (λ lines. TellsAlike namespaces may_be_given moment.world (moment.answered + 1) lines (true ∷ later) (step_text (moment.answered + 1) (step_of moment.world moment.line None) ++ rest))
+      subst (λ lines. TellsAlike propagation may_be_given moment.world (moment.answered + 1) lines (true ∷ later)
+      (step_text (moment.answered + 1) (step_of moment.world moment.line None) ++ rest))
       (sym (line_then moment.line more none))
       (world, same, rest, refl, told);
 }
 
 -- a newline answers the line, to which numbers were handed that serve the world
-pub runs_spoken : (moment : Moment) (allotment : Allotment) (world : World ℕ) → ServesInHand may_be_given moment.world allotment → HasNoNewline moment.line →
+pub runs_spoken : (moment : Moment) (allotment : Allotment) (world : World ℕ)
+    → ServesInHand may_be_given moment.world allotment → HasNoNewline moment.line →
     let step = step_of moment.world moment.line (Some allotment) in
     SameWorlds (step_world moment.world step) world →
     Runs moment (10 ∷ []) (step_text (moment.answered + 1) step) (after_line moment world)
@@ -184,34 +199,41 @@ runs_spoken moment allotment world serves none same = record {
   refused = false ∷ [];
   counted = sym (ap length (lines_of-newline moment.line [] none));
   goes_on = λ more later rest told.
-      subst (λ lines. TellsAlike namespaces may_be_given moment.world (moment.answered + 1) lines (false ∷ later) (step_text (moment.answered + 1) (step_of moment.world moment.line (Some allotment)) ++ rest))
+      subst (λ lines. TellsAlike propagation may_be_given moment.world (moment.answered + 1) lines (false ∷ later)
+      (step_text (moment.answered + 1) (step_of moment.world moment.line (Some allotment)) ++ rest))
       (sym (line_then moment.line more none))
       (allotment, serves, world, same, rest, refl, told);
 }
 
 -- the text of the lines that ended
-pub told_whole : (old : Moment) (bytes text : List ℕ) (new : Moment) (runs : Runs old bytes text new) → TellsAlike namespaces may_be_given old.world (old.answered + 1) (lines_of runs.ended) runs.refused text
+pub told_whole : (old : Moment) (bytes text : List ℕ) (new : Moment) (runs : Runs old bytes text new)
+    → TellsAlike propagation may_be_given old.world (old.answered + 1) (lines_of runs.ended) runs.refused text
 told_whole old bytes text new runs =
-    let told : TellsAlike namespaces may_be_given old.world (old.answered + 1) (lines_of (runs.ended ++ [])) (runs.refused ++ []) (text ++ []) = runs.goes_on [] [] [] refl in
+    let told : TellsAlike propagation may_be_given old.world (old.answered + 1) (lines_of (runs.ended ++ []))
+    (runs.refused ++ []) (text ++ []) = runs.goes_on [] [] [] refl in
     rw (append-nil runs.ended, append-nil runs.refused, append-nil text) at told
 
 -- the text of lines that are not all is a beginning of the text of all
 pub text_from-front : (world : World ℕ) (number : ℕ) (front back : List (List ℕ)) (refused : List Bool) →
-    (more : List ℕ) × (text_from namespaces world number (front ++ back) refused ≡ text_from namespaces world number front refused ++ more)
-text_from-front world number [] back refused = (text_from namespaces world number back refused, refl)
+    (more : List ℕ) × (text_from propagation world number (front ++ back) refused
+    ≡ text_from propagation world number front refused ++ more)
+text_from-front world number [] back refused = (text_from propagation world number back refused, refl)
 text_from-front world number (line ∷ front) back refused =
-    let step = line_step nat_eq namespaces world line (handed number refused) in
+    let step = line_step nat_eq propagation world line (handed number refused) in
     let rest = text_from-front (step_world world step) (number + 1) front back (later refused) in
     (rest.0, ap (λ xs. step_text number step ++ xs) rest.1 ∙ sym (append_assoc (step_text number step) _ rest.0))
 
 -- what is said of lines that are not there changes no text
-pub text_from-padded : (world : World ℕ) (number : ℕ) (lines : List (List ℕ)) (refused pad : List Bool) → length refused ≡ length lines →
-    text_from namespaces world number lines (refused ++ pad) ≡ text_from namespaces world number lines refused
+pub text_from-padded : (world : World ℕ) (number : ℕ) (lines : List (List ℕ)) (refused pad : List Bool)
+    → length refused ≡ length lines →
+    text_from propagation world number lines (refused ++ pad) ≡ text_from propagation world number lines refused
 text_from-padded world number [] refused pad e = refl
 text_from-padded world number (line ∷ lines) [] pad e = absurd (omega (arith, e))
 text_from-padded world number (line ∷ lines) (true ∷ refused) pad e =
-    let step = line_step nat_eq namespaces world line None in
-    ap (λ rest. step_text number step ++ rest) (text_from-padded (step_world world step) (number + 1) lines refused pad (omega (arith, e)))
+    let step = line_step nat_eq propagation world line None in
+    ap (λ rest. step_text number step ++ rest)
+    (text_from-padded (step_world world step) (number + 1) lines refused pad (omega (arith, e)))
 text_from-padded world number (line ∷ lines) (false ∷ refused) pad e =
-    let step = line_step nat_eq namespaces world line (Some (numbers_for number)) in
-    ap (λ rest. step_text number step ++ rest) (text_from-padded (step_world world step) (number + 1) lines refused pad (omega (arith, e)))
+    let step = line_step nat_eq propagation world line (Some (numbers_for number)) in
+    ap (λ rest. step_text number step ++ rest)
+    (text_from-padded (step_world world step) (number + 1) lines refused pad (omega (arith, e)))

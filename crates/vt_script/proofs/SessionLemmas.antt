@@ -4,7 +4,7 @@ use Rattle.std.proofs.lemmas.List.{append-nil}
 use Rattle.vt_io.specs.declared.output.Sink.{Ghosts}
 use Rattle.vt_io.specs.LineBuffer.{Holds}
 use Rattle.vt_io.proofs.Printing.{Wrote-nothing, Wrote-append, WroteFront-append}
-use Rattle.vt_spec.specs.Language.Script.{lines_of, namespaces}
+use Rattle.vt_spec.specs.Language.Script.{lines_of, propagation}
 use Rattle.vt_spec.specs.Machine.Run.{step_text, step_world}
 use Rattle.vt_spec.specs.Machine.SameWorlds.{SameWorlds}
 use Rattle.vt_spec.specs.Machine.World.{World}
@@ -20,28 +20,42 @@ same_moment : {a b : Moment} → a.world ≡ b.world → a.answered ≡ b.answer
 same_moment {a} {b} w n l = λ i. record { world = w i; answered = n i; line = l i }
 
 -- a last line is the only one
-last_line : (line : List ℕ) (byte : ℕ) (bytes : List ℕ) → line ≡ byte ∷ bytes → HasNoNewline line → lines_of line ≡ line ∷ []
+last_line : (line : List ℕ) (byte : ℕ) (bytes : List ℕ) → line ≡ byte ∷ bytes → HasNoNewline line
+    → lines_of line ≡ line ∷ []
 last_line line byte bytes some whole =
     ap lines_of some ∙ lines_of-last byte bytes (subst HasNoNewline some whole) ∙ ap (λ l. l ∷ []) (sym some)
 
 module _ {W : Type 0} (sink : Ghosts W) where
   -- nothing was read yet
-  pub fed_nothing : (state : State) (line : List ℕ) (x : W) → IsReading state line → Fed sink (moment state line) [] state x x
+  pub fed_nothing : (state : State) (line : List ℕ) (x : W) → IsReading state line
+      → Fed sink (moment state line) [] state x x
   fed_nothing state line x reading =
-      record { line = line; text = []; reading = reading; runs = stays (moment state line); wrote = Wrote-nothing sink x }
+      record {
+        line = line;
+        text = [];
+        reading = reading;
+        runs = stays
+            (moment state line);
+        wrote = Wrote-nothing sink x;
+      }
 
   -- what was read one after another
-  pub fed_then : (old : Moment) (read more : List ℕ) (middle new : State) (x y z : W) (first : Fed sink old read middle x y) → Fed sink (moment middle first.line) more new y z → Fed sink old (read ++ more) new x z
+  pub fed_then : (old : Moment) (read more : List ℕ) (middle new : State) (x y z : W)
+      (first : Fed sink old read middle x y) → Fed sink (moment middle first.line) more new y z
+      → Fed sink old (read ++ more) new x z
   fed_then old read more middle new x y z first second = record {
     line = second.line;
     text = first.text ++ second.text;
     reading = second.reading;
-    runs = runs_then old (moment middle first.line) (moment new second.line) read more first.text second.text first.runs second.runs;
+    runs = runs_then old (moment middle first.line)
+        (moment new second.line) read more first.text second.text first.runs second.runs;
     wrote = Wrote-append sink first.wrote second.wrote;
   }
 
   -- a write failed later on
-  pub broke_then : (old : Moment) (read more : List ℕ) (middle : State) (x y z : W) (first : Fed sink old read middle x y) → Broke sink (moment middle first.line) more y z → Broke sink old (read ++ more) x z
+  pub broke_then : (old : Moment) (read more : List ℕ) (middle : State) (x y z : W)
+      (first : Fed sink old read middle x y) → Broke sink (moment middle first.line) more y z
+      → Broke sink old (read ++ more) x z
   broke_then old read more middle x y z first second = record {
     read = read ++ second.read;
     unread = second.unread;
@@ -53,7 +67,8 @@ module _ {W : Type 0} (sink : Ghosts W) where
   }
 
   -- a write failed before more was read
-  pub broke_before : (old : Moment) (read more : List ℕ) (x y : W) → Broke sink old read x y → Broke sink old (read ++ more) x y
+  pub broke_before : (old : Moment) (read more : List ℕ) (x y : W) → Broke sink old read x y
+      → Broke sink old (read ++ more) x y
   broke_before old read more x y broke = record {
     read = broke.read;
     unread = broke.unread ++ more;
@@ -65,7 +80,8 @@ module _ {W : Type 0} (sink : Ghosts W) where
   }
 
   -- bytes that go onto the line
-  pub fed_bytes : (old new : State) (line bytes : List ℕ) (x : W) → IsReading old line → HasNoNewline bytes → new.world ≡ old.world → new.answered ≡ old.answered → Holds (line ++ bytes) new.kept →
+  pub fed_bytes : (old new : State) (line bytes : List ℕ) (x : W) → IsReading old line → HasNoNewline bytes
+      → new.world ≡ old.world → new.answered ≡ old.answered → Holds (line ++ bytes) new.kept →
       Fed sink (moment old line) bytes new x x
   fed_bytes old new line bytes x reading others world answered held =
       let same : moment new (line ++ bytes) ≡ record (moment old line) { line = line ++ bytes } = cc in
@@ -78,15 +94,19 @@ module _ {W : Type 0} (sink : Ghosts W) where
       }
 
   -- the run goes through the newline of a line that is answered
-  runs_line : (state : State) (line : List ℕ) (handed : Option Allotment) (world : World ℕ) → HasNoNewline line → IsHanded state.world handed →
+  runs_line : (state : State) (line : List ℕ) (handed : Option Allotment) (world : World ℕ) → HasNoNewline line
+      → IsHanded state.world handed →
       let step = step_of state.world line handed in
       SameWorlds (step_world state.world step) world →
       Runs (moment state line) (10 ∷ []) (step_text (state.answered + 1) step) (after_line (moment state line) world)
   runs_line state line None world whole handed same = runs_refused (moment state line) world whole same
-  runs_line state line (Some allotment) world whole handed same = runs_spoken (moment state line) allotment world handed whole same
+  runs_line state line (Some allotment) world whole handed same = runs_spoken
+      (moment state line) allotment world handed whole same
 
   -- a line that was answered at its newline
-  pub fed_line : (old new : State) (line : List ℕ) (x y : W) → IsReading old line → Replied sink old.world line (old.answered + 1) new.world x y → new.answered ≡ old.answered + 1 → Holds [] new.kept →
+  pub fed_line : (old new : State) (line : List ℕ) (x y : W) → IsReading old line
+      → Replied sink old.world line (old.answered + 1) new.world x y → new.answered ≡ old.answered + 1
+      → Holds [] new.kept →
       Fed sink (moment old line) (10 ∷ []) new x y
   fed_line old new line x y reading replied answered held =
       let step = step_of old.world line replied.handed in
@@ -101,7 +121,8 @@ module _ {W : Type 0} (sink : Ghosts W) where
       }
 
   -- a write failed in the answer to a line
-  pub broke_line : (old : State) (line : List ℕ) (x y : W) → IsReading old line → BrokeReply sink old.world line (old.answered + 1) x y → Broke sink (moment old line) (10 ∷ []) x y
+  pub broke_line : (old : State) (line : List ℕ) (x y : W) → IsReading old line
+      → BrokeReply sink old.world line (old.answered + 1) x y → Broke sink (moment old line) (10 ∷ []) x y
   broke_line old line x y reading broke =
       let step = step_of old.world line broke.handed in
       let left = step_world old.world step in
@@ -116,23 +137,28 @@ module _ {W : Type 0} (sink : Ghosts W) where
       }
 
 -- what may be told of a last line of which some byte was read
-told_last : (moment : Moment) (handed : Option Allotment) (byte : ℕ) (bytes : List ℕ) → moment.line ≡ byte ∷ bytes → HasNoNewline moment.line → IsHanded moment.world handed →
+told_last : (moment : Moment) (handed : Option Allotment) (byte : ℕ) (bytes : List ℕ) → moment.line ≡ byte ∷ bytes
+    → HasNoNewline moment.line → IsHanded moment.world handed →
     IsLast moment (step_text (moment.answered + 1) (step_of moment.world moment.line handed))
 told_last moment None byte bytes some whole handed =
     let left = step_world moment.world (step_of moment.world moment.line None) in
     record {
       refused = true ∷ [];
       counted = sym (ap length (last_line moment.line byte bytes some whole));
-      tells = subst (λ lines. TellsAlike namespaces may_be_given moment.world (moment.answered + 1) lines (true ∷ []) (step_text (moment.answered + 1) (step_of moment.world moment.line None)))
-          (sym (last_line moment.line byte bytes some whole)) (left, sameness_is_an_equivalence.itself left, [], sym (append-nil _), refl);
+      tells = subst (λ lines. TellsAlike propagation may_be_given moment.world (moment.answered + 1) lines (true ∷ [])
+          (step_text (moment.answered + 1) (step_of moment.world moment.line None)))
+          (sym (last_line moment.line byte bytes some whole))
+          (left, sameness_is_an_equivalence.itself left, [], sym (append-nil _), refl);
     }
 told_last moment (Some allotment) byte bytes some whole handed =
     let left = step_world moment.world (step_of moment.world moment.line (Some allotment)) in
     record {
       refused = false ∷ [];
       counted = sym (ap length (last_line moment.line byte bytes some whole));
-      tells = subst (λ lines. TellsAlike namespaces may_be_given moment.world (moment.answered + 1) lines (false ∷ []) (step_text (moment.answered + 1) (step_of moment.world moment.line (Some allotment))))
-          (sym (last_line moment.line byte bytes some whole)) (allotment, handed, left, sameness_is_an_equivalence.itself left, [], sym (append-nil _), refl);
+      tells = subst (λ lines. TellsAlike propagation may_be_given moment.world (moment.answered + 1) lines (false ∷ [])
+          (step_text (moment.answered + 1) (step_of moment.world moment.line (Some allotment))))
+          (sym (last_line moment.line byte bytes some whole))
+          (allotment, handed, left, sameness_is_an_equivalence.itself left, [], sym (append-nil _), refl);
     }
 
 module _ {W : Type 0} (sink : Ghosts W) where
@@ -140,12 +166,19 @@ module _ {W : Type 0} (sink : Ghosts W) where
   pub closed_none : (state : State) (line : List ℕ) (x : W) → line ≡ [] → Closed sink (moment state line) x x
   closed_none state line x none = record {
     text = [];
-    told = record { refused = []; counted = sym (ap (λ line. length (lines_of line)) none); tells = subst (λ l. TellsAlike namespaces may_be_given state.world (state.answered + 1) (lines_of l) [] []) (sym none) refl };
+    told = record {
+      refused = [];
+      counted = sym (ap (λ line. length (lines_of line)) none);
+      tells = subst
+          (λ l. TellsAlike propagation may_be_given state.world (state.answered + 1) (lines_of l) [] [])
+          (sym none) refl;
+    };
     wrote = Wrote-nothing sink x;
   }
 
   -- the last line was answered
-  pub closed_reply : (state : State) (line : List ℕ) (new : World ℕ) (x y : W) → line ≢ [] → IsReading state line → Replied sink state.world line (state.answered + 1) new x y → Closed sink (moment state line) x y
+  pub closed_reply : (state : State) (line : List ℕ) (new : World ℕ) (x y : W) → line ≢ [] → IsReading state line
+      → Replied sink state.world line (state.answered + 1) new x y → Closed sink (moment state line) x y
   closed_reply state [] new x y some reading replied = absurd (some refl)
   closed_reply state (byte ∷ bytes) new x y some reading replied = record {
     text = step_text (state.answered + 1) (step_of state.world (byte ∷ bytes) replied.handed);
@@ -154,7 +187,8 @@ module _ {W : Type 0} (sink : Ghosts W) where
   }
 
   -- a write failed in the answer to the last line
-  pub broke_last : (state : State) (line : List ℕ) (x y : W) → line ≢ [] → IsReading state line → BrokeReply sink state.world line (state.answered + 1) x y → BrokeLast sink (moment state line) x y
+  pub broke_last : (state : State) (line : List ℕ) (x y : W) → line ≢ [] → IsReading state line
+      → BrokeReply sink state.world line (state.answered + 1) x y → BrokeLast sink (moment state line) x y
   broke_last state [] x y some reading broke = absurd (some refl)
   broke_last state (byte ∷ bytes) x y some reading broke = record {
     text = step_text (state.answered + 1) (step_of state.world (byte ∷ bytes) broke.handed);
@@ -163,15 +197,20 @@ module _ {W : Type 0} (sink : Ghosts W) where
   }
 
   -- the last line was answered, or a write failed
-  pub closes_reply : {T E : Type 0} (state : State) (line : List ℕ) (new : World ℕ) (x y : W) (r : Result T E) → line ≢ [] → IsReading state line → Replies sink state.world line (state.answered + 1) r new x y → Closes sink (moment state line) r x y
+  pub closes_reply : {T E : Type 0} (state : State) (line : List ℕ) (new : World ℕ) (x y : W) (r : Result T E)
+      → line ≢ [] → IsReading state line → Replies sink state.world line (state.answered + 1) r new x y
+      → Closes sink (moment state line) r x y
   closes_reply state line new x y (Ok t) some reading replied = closed_reply state line new x y some reading replied
   closes_reply state line new x y (Err fault) some reading broke = broke_last state line x y some reading broke
 
   -- what was fed first, and then what a call did with more bytes
-  pub feeds_then : {T E : Type 0} (old : Moment) (read more : List ℕ) (middle new : State) (x y z : W) (r : Result T E) (first : Fed sink old read middle x y) →
+  pub feeds_then : {T E : Type 0} (old : Moment) (read more : List ℕ) (middle new : State) (x y z : W) (r : Result T E)
+      (first : Fed sink old read middle x y) →
       Feeds sink (moment middle first.line) more r new y z → Feeds sink old (read ++ more) r new x z
-  feeds_then old read more middle new x y z (Ok t) first second = fed_then sink old read more middle new x y z first second
-  feeds_then old read more middle new x y z (Err fault) first broke = broke_then sink old read more middle x y z first broke
+  feeds_then old read more middle new x y z
+      (Ok t) first second = fed_then sink old read more middle new x y z first second
+  feeds_then old read more middle new x y z
+      (Err fault) first broke = broke_then sink old read more middle x y z first broke
 
 -- a line is begun at its first byte
 begun-grows : (old new : List ℕ) (size : ℕ) → length new ≤ length old + size → begun new ≤ begun old + size
@@ -184,7 +223,8 @@ pub begun_of_some : (line : List ℕ) → line ≢ [] → begun line ≡ 1
 begun_of_some [] some = absurd (some refl)
 begun_of_some (byte ∷ line) some = refl
 
-pub lines_begun-grows : (old new : State) (bytes : List ℕ) → new.answered ≡ old.answered → new.kept.bytes ≡ take 8192 (old.kept.bytes ++ bytes)
+pub lines_begun-grows : (old new : State) (bytes : List ℕ) → new.answered ≡ old.answered
+    → new.kept.bytes ≡ take 8192 (old.kept.bytes ++ bytes)
     → lines_begun new ≤ lines_begun old + length bytes
 lines_begun-grows old new bytes answered kept =
     let longer : length new.kept.bytes ≤ length old.kept.bytes + length bytes =

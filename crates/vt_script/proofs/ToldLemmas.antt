@@ -3,7 +3,7 @@ use Rattle.std.proofs.Common.{◌≡◌, ℕ, ◌+◌, ◌-◌, ◌≤◌, Bool,
 use Rattle.std.proofs.Math.Seq.{take-append-add}
 use Rattle.std.proofs.lemmas.List.{length-map, take-append-drop}
 use Rattle.std.specs.Io.{StartsWith}
-use Rattle.vt_spec.specs.Language.Script.{lines_of, namespaces}
+use Rattle.vt_spec.specs.Language.Script.{lines_of, propagation}
 use Rattle.vt_spec.specs.Machine.Run.{first_world, script_text, text_from}
 use Rattle.vt_run_laws.specs.Handed.{may_be_given}
 use Rattle.vt_run_laws.specs.Runs.{TellsAlike}
@@ -19,7 +19,8 @@ use Rattle.vt_script.specs.Progress.{Moment, Runs, HasNoNewline, IsOpening, whol
 use Rattle.vt_script.proofs.RunLemmas.{whole_lines-rest, told_whole, text_from-front, text_from-padded, lines_of-whole}
 
 -- what a sink took of a text, where it holds a beginning of all
-pub front_of : (held text new : List ℕ) → length held ≤ length new → StartsWith (held ++ text) new → (front : List ℕ) × (more : List ℕ) × (new ≡ held ++ front) × (text ≡ front ++ more)
+pub front_of : (held text new : List ℕ) → length held ≤ length new → StartsWith (held ++ text) new
+    → (front : List ℕ) × (more : List ℕ) × (new ≡ held ++ front) × (text ≡ front ++ more)
 front_of held text new longer starts =
     let taken : length held + (length new - length held) ≡ length new = omega arith in (
       take (length new - length held) text,
@@ -32,38 +33,58 @@ front_of held text new longer starts =
 module _ {first : Moment} (opens : IsOpening first) where
   -- what a run tells from the opening on is the text of its script
   one_text : (script : List ℕ) (refused : List Bool) (text : List ℕ) →
-      TellsAlike namespaces may_be_given first.world (first.answered + 1) (lines_of script) refused text → text ≡ script_text refused script
+      TellsAlike propagation may_be_given first.world (first.answered + 1) (lines_of script) refused text
+      → text ≡ script_text refused script
   unfolding script_text
   one_text script refused text told =
-      programs_have_one_text namespaces refused script text opens.0 opens.1 (grammars_keep_overlays_out namespaces no_overlays (lines_of script))
-      (subst (λ (moment : Moment). TellsAlike namespaces may_be_given moment.world (moment.answered + 1) (lines_of script) refused text) opens.2 told)
+      programs_have_one_text propagation refused script text opens.0 opens.1
+      (grammars_keep_overlays_out propagation no_overlays (lines_of script))
+      (subst (λ (moment : Moment). TellsAlike propagation may_be_given moment.world (moment.answered + 1)
+      (lines_of script) refused text) opens.2 told)
 
   -- what was read is what ended, and what follows it
   parts : (read text : List ℕ) (new : Moment) (runs : Runs first read text new) → read ≡ runs.ended ++ new.line
   parts read text new runs = ap (λ (moment : Moment). moment.line ++ read) (sym opens.2) ∙ runs.split
 
   -- what was read is the lines that ended and what follows them
-  whole_read : (read text : List ℕ) (new : Moment) (runs : Runs first read text new) → HasNoNewline new.line → whole_lines read ≡ runs.ended
-  whole_read read text new runs none = ap whole_lines (parts read text new runs) ∙ whole_lines-rest runs.ended new.line none ∙ runs.whole
+  whole_read : (read text : List ℕ) (new : Moment) (runs : Runs first read text new) → HasNoNewline new.line
+      → whole_lines read ≡ runs.ended
+  whole_read read text new runs none = ap whole_lines (parts read text new runs)
+      ∙ whole_lines-rest runs.ended new.line none ∙ runs.whole
 
   -- the text of the lines that ended is the policy's text of the whole lines
-  pub whole_told : (read text : List ℕ) (new : Moment) (runs : Runs first read text new) → HasNoNewline new.line → (refused : List Bool) × (length refused ≡ length (lines_of (whole_lines read))) × (text ≡ script_text refused (whole_lines read))
+  pub whole_told : (read text : List ℕ) (new : Moment) (runs : Runs first read text new) → HasNoNewline new.line
+      → (refused : List Bool) × (length refused ≡ length (lines_of (whole_lines read)))
+      × (text ≡ script_text refused (whole_lines read))
   whole_told read text new runs none = (
     runs.refused,
     runs.counted ∙ ap (λ ended. length (lines_of ended)) (sym (whole_read read text new runs none)),
-    one_text runs.ended runs.refused text (told_whole first read text new runs) ∙ ap (script_text runs.refused) (sym (whole_read read text new runs none)),
+    one_text runs.ended runs.refused text (told_whole first read text new runs)
+        ∙ ap (script_text runs.refused) (sym (whole_read read text new runs none)),
   )
 
   -- the text of all lines is the policy's text
-  pub all_told : (script text : List ℕ) (new : Moment) (runs : Runs first script text new) (refused : List Bool) (last : List ℕ) →
-      TellsAlike namespaces may_be_given new.world (new.answered + 1) (lines_of new.line) refused last → length refused ≡ length (lines_of new.line) →
+  pub all_told : (script text : List ℕ) (new : Moment) (runs : Runs first script text new) (refused : List Bool)
+      (last : List ℕ) →
+      TellsAlike propagation may_be_given new.world (new.answered + 1) (lines_of new.line) refused last
+      → length refused ≡ length (lines_of new.line) →
       (all : List Bool) × (length all ≡ length (lines_of script)) × (text ++ last ≡ script_text all script)
   all_told script text new runs refused last told counted =
       let lines = ap lines_of (parts script text new runs) ∙ lines_of-whole runs.ended new.line runs.whole in
-      let all : TellsAlike namespaces may_be_given first.world (first.answered + 1) (lines_of (runs.ended ++ new.line)) (runs.refused ++ refused) (text ++ last) = runs.goes_on new.line refused last told in (
+      let all : TellsAlike propagation may_be_given first.world (first.answered + 1) (lines_of (runs.ended ++ new.line))
+      (runs.refused ++ refused) (text ++ last) = runs.goes_on new.line refused last told in (
         runs.refused ++ refused,
-        omega (arith, runs.counted, counted, length-append runs.refused refused, ap length lines, length-append (lines_of runs.ended) (lines_of new.line)),
-        one_text (runs.ended ++ new.line) (runs.refused ++ refused) (text ++ last) all ∙ ap (script_text (runs.refused ++ refused)) (sym (parts script text new runs)),
+        omega (
+          arith,
+          runs.counted,
+          counted,
+          length-append runs.refused refused,
+          ap length lines,
+          length-append
+              (lines_of runs.ended) (lines_of new.line),
+        ),
+        one_text (runs.ended ++ new.line) (runs.refused ++ refused) (text ++ last) all
+            ∙ ap (script_text (runs.refused ++ refused)) (sym (parts script text new runs)),
       )
 
   -- the text of the lines that ended is a beginning of the policy's text, whatever follows what was read
@@ -73,28 +94,41 @@ module _ {first : Moment} (opens : IsOpening first) where
   unfolding script_text
   front_told read unread text new runs =
       let lines : lines_of (read ++ unread) ≡ lines_of runs.ended ++ lines_of (new.line ++ unread) =
-      ap (λ xs. lines_of (xs ++ unread)) (parts read text new runs) ∙ ap lines_of (append_assoc runs.ended new.line unread)
+      ap (λ xs. lines_of (xs ++ unread)) (parts read text new runs)
+      ∙ ap lines_of (append_assoc runs.ended new.line unread)
       ∙ lines_of-whole runs.ended (new.line ++ unread) runs.whole in
       let others = lines_of (new.line ++ unread) in
       let pad : List Bool = map (λ line. false) others in
       let front = text_from-front first_world 1 (lines_of runs.ended) others (runs.refused ++ pad) in (
         runs.refused ++ pad,
-        omega (arith, runs.counted, length-append runs.refused pad, length-map others (λ line. false), ap length lines, length-append (lines_of runs.ended) others),
+        omega (
+          arith,
+          runs.counted,
+          length-append runs.refused pad,
+          length-map others
+              (λ line. false),
+          ap length lines,
+          length-append (lines_of runs.ended) others,
+        ),
         front.0,
-        ap (λ xs. text_from namespaces first_world 1 xs (runs.refused ++ pad)) lines ∙ front.1
-            ∙ ap (λ xs. xs ++ front.0) (text_from-padded first_world 1 (lines_of runs.ended) runs.refused pad runs.counted)
-            ∙ ap (λ xs. xs ++ front.0) (sym (one_text runs.ended runs.refused text (told_whole first read text new runs))),
+        ap (λ xs. text_from propagation first_world 1 xs (runs.refused ++ pad)) lines ∙ front.1
+            ∙ ap (λ xs. xs ++ front.0) (text_from-padded first_world 1
+            (lines_of runs.ended) runs.refused pad runs.counted)
+            ∙ ap (λ xs. xs ++ front.0) (sym
+            (one_text runs.ended runs.refused text (told_whole first read text new runs))),
       )
 
   module _ {W : Type 0} (sink : Ghosts W) where
     -- between two lines or in one, the sink holds the text of the whole lines
-    pub whole_held : (read : List ℕ) (state : State) (x y : W) → Fed sink first read state x y → sink.tells x → AnswersScript sink (whole_lines read) x y
+    pub whole_held : (read : List ℕ) (state : State) (x y : W) → Fed sink first read state x y → sink.tells x
+        → AnswersScript sink (whole_lines read) x y
     whole_held read state x y fed tells =
         let told = whole_told read fed.text (moment state fed.line) fed.runs fed.reading.whole in
         (told.0, told.1, fed.wrote.appended tells ∙ ap (λ text. sink.written x ++ text) told.2)
 
     -- a beginning of the text of some of the script is one of the policy's text
-    front_held : (script read unread text : List ℕ) (new : Moment) (x y : W) → script ≡ read ++ unread → Runs first read text new → WroteFront sink x y text → sink.tells x → BeginsToAnswer sink script x y
+    front_held : (script read unread text : List ℕ) (new : Moment) (x y : W) → script ≡ read ++ unread
+        → Runs first read text new → WroteFront sink x y text → sink.tells x → BeginsToAnswer sink script x y
     front_held script read unread text new x y split runs wrote tells =
         let taken = front_of (sink.written x) text (sink.written y) (wrote.no_shorter tells) (wrote.front tells) in
         let told = front_told read unread text new runs in (
@@ -103,37 +137,51 @@ module _ {first : Moment} (opens : IsOpening first) where
           taken.0,
           taken.1 ++ told.2,
           taken.2,
-          ap (script_text told.0) split ∙ told.3 ∙ ap (λ xs. xs ++ told.2) taken.3 ∙ append_assoc taken.0 taken.1 told.2,
+          ap (script_text told.0) split ∙ told.3 ∙ ap (λ xs. xs ++ told.2) taken.3
+              ∙ append_assoc taken.0 taken.1 told.2,
         )
 
     -- a write failed while more was to come
-    pub broke_held : (script read unread : List ℕ) (x y : W) → script ≡ read ++ unread → Broke sink first read x y → sink.tells x → BeginsToAnswer sink script x y
+    pub broke_held : (script read unread : List ℕ) (x y : W) → script ≡ read ++ unread → Broke sink first read x y
+        → sink.tells x → BeginsToAnswer sink script x y
     broke_held script read unread x y split broke tells =
         front_held script broke.read (broke.unread ++ unread) broke.text broke.new x y
-        (split ∙ ap (λ xs. xs ++ unread) broke.split ∙ append_assoc broke.read broke.unread unread) broke.runs broke.wrote tells
+        (split ∙ ap (λ xs. xs ++ unread) broke.split
+        ∙ append_assoc broke.read broke.unread unread) broke.runs broke.wrote tells
 
     -- a write failed in the answer to the last line
-    broke_last_held : (read : List ℕ) (state : State) (x y z : W) (fed : Fed sink first read state x y) → BrokeLast sink (moment state fed.line) y z → sink.tells x → BeginsToAnswer sink read x z
+    broke_last_held : (read : List ℕ) (state : State) (x y z : W) (fed : Fed sink first read state x y)
+        → BrokeLast sink (moment state fed.line) y z → sink.tells x → BeginsToAnswer sink read x z
     broke_last_held read state x y z fed broke tells =
         let wrote = WroteFront-append sink fed.wrote broke.wrote in
-        let taken = front_of (sink.written x) (fed.text ++ broke.text) (sink.written z) (wrote.no_shorter tells) (wrote.front tells) in
-        let told = all_told read fed.text (moment state fed.line) fed.runs broke.told.refused broke.text broke.told.tells broke.told.counted in
+        let taken = front_of (sink.written x) (fed.text ++ broke.text) (sink.written z) (wrote.no_shorter tells)
+        (wrote.front tells) in
+        let told = all_told read fed.text
+        (moment state fed.line) fed.runs broke.told.refused broke.text broke.told.tells broke.told.counted in
         (told.0, told.1, taken.0, taken.1, taken.2, sym told.2 ∙ taken.3)
 
     -- all was answered
-    closed_held : (read : List ℕ) (state : State) (x y z : W) (fed : Fed sink first read state x y) → Closed sink (moment state fed.line) y z → sink.tells x → AnswersScript sink read x z
+    closed_held : (read : List ℕ) (state : State) (x y z : W) (fed : Fed sink first read state x y)
+        → Closed sink (moment state fed.line) y z → sink.tells x → AnswersScript sink read x z
     closed_held read state x y z fed closed tells =
-        let told = all_told read fed.text (moment state fed.line) fed.runs closed.told.refused closed.text closed.told.tells closed.told.counted in
-        (told.0, told.1, (Wrote-append sink fed.wrote closed.wrote).appended tells ∙ ap (λ text. sink.written x ++ text) told.2)
+        let told = all_told read fed.text
+        (moment state fed.line) fed.runs closed.told.refused closed.text closed.told.tells closed.told.counted in (
+          told.0,
+          told.1,
+          (Wrote-append sink fed.wrote closed.wrote).appended tells
+              ∙ ap (λ text. sink.written x ++ text) told.2,
+        )
 
     -- how a run ends that read all of its script
-    pub ends_well : {T E A : Type 0} (r : Result T E) (script read : List ℕ) (state : State) (x y z : W) (fed : Fed sink first read state x y) → Closes sink (moment state fed.line) r y z → (A → script ≡ read) →
+    pub ends_well : {T E A : Type 0} (r : Result T E) (script read : List ℕ) (state : State) (x y z : W)
+        (fed : Fed sink first read state x y) → Closes sink (moment state fed.line) r y z → (A → script ≡ read) →
         OnOk r (A → sink.tells x → AnswersScript sink script x z)
     ends_well (Ok t) script read state x y z fed closes all =
         λ a tells. subst (λ xs. AnswersScript sink xs x z) (sym (all a)) (closed_held read state x y z fed closes tells)
     ends_well (Err fault) script read state x y z fed closes all = tt
 
-    pub ends_badly : {T E A : Type 0} (r : Result T E) (fault : E) (script read : List ℕ) (state : State) (x y z : W) (fed : Fed sink first read state x y) → Closes sink (moment state fed.line) r y z → (A → script ≡ read) →
+    pub ends_badly : {T E A : Type 0} (r : Result T E) (fault : E) (script read : List ℕ) (state : State) (x y z : W)
+        (fed : Fed sink first read state x y) → Closes sink (moment state fed.line) r y z → (A → script ≡ read) →
         IsErrOf r fault → A → sink.tells x → BeginsToAnswer sink script x z
     ends_badly (Ok t) fault script read state x y z fed closes all is a tells = absurd cc
     ends_badly (Err other) fault script read state x y z fed closes all is a tells =

@@ -13,6 +13,6 @@ pub use vt_line::fault::RunFault;
 pub use vt_line::line::Line;
 pub use vt_line::print::write_reply;
 pub use vt_request::{
-    Access, Answer, Call, CapsWord, Creation, ForkWords, MountLine, Spot, StatLine, TaskName,
-    TypeLine, TypeWord,
+    Access, Answer, Call, CapsWord, Creation, Directive, ForkWords, MountLine, MountPlace,
+    PeerLine, Spot, StatLine, TaskName, TypeLine, TypeWord,
 };

@@ -62,6 +62,10 @@ fn answer<C: Calls, W: Sink>(
             let answer = world.call(&task, call);
             write_reply(sink, number, &answer)
         }
+        Ok(Line::Ask(directive)) => {
+            let answer = world.direct(directive);
+            write_reply(sink, number, &answer)
+        }
         Err(deny) => write_reply(sink, number, &Err(deny)),
     }
 }

@@ -23,13 +23,15 @@ use Rattle.vt_tasks.specs.TasksValue.{AreNamedApart, Tasks, called, forked_once,
 
 -- Where no task has a name
 
-put-nobody : (name : TaskName) (new : Task ℕ) (tasks : Tasks) → list_any (λ task. same_name name task.name) tasks ≡ false → put name new tasks ≡ tasks
+put-nobody : (name : TaskName) (new : Task ℕ) (tasks : Tasks)
+    → list_any (λ task. same_name name task.name) tasks ≡ false → put name new tasks ≡ tasks
 put-nobody name new [] none = refl
 put-nobody name new (task ∷ tasks) none =
     let parts = or_parts (same_name name task.name) _ none in
     λ i. cond (parts.0 i) new task ∷ put-nobody name new tasks parts.1 i
 
-without-nobody : (name : TaskName) (tasks : Tasks) → list_any (λ task. same_name name task.name) tasks ≡ false → without_called name tasks ≡ tasks
+without-nobody : (name : TaskName) (tasks : Tasks) → list_any (λ task. same_name name task.name) tasks ≡ false
+    → without_called name tasks ≡ tasks
 without-nobody name [] none = refl
 without-nobody name (task ∷ tasks) none =
     let parts = or_parts (same_name name task.name) _ none in
@@ -37,14 +39,16 @@ without-nobody name (task ∷ tasks) none =
     ∙ ap (λ rest. task ∷ rest) (without-nobody name tasks parts.1)
 
 -- behind a task with a name, no task has that name
-nobody-behind : (name : TaskName) (first : Task ℕ) (tasks : Tasks) → AreNamedApart (first ∷ tasks) → same_name name first.name ≡ true
+nobody-behind : (name : TaskName) (first : Task ℕ) (tasks : Tasks) → AreNamedApart (first ∷ tasks)
+    → same_name name first.name ≡ true
     → list_any (λ task. same_name name task.name) tasks ≡ false
 nobody-behind name first tasks apart is =
     ap (λ own. list_any (λ (task : Task ℕ). same_name own task.name) tasks) (same_names name first.name is)
     ∙ (or_parts (list_any (λ (task : Task ℕ). same_name first.name task.name) tasks) _ apart).0
 
 apart-behind-first : (first : Task ℕ) (tasks : Tasks) → AreNamedApart (first ∷ tasks) → AreNamedApart tasks
-apart-behind-first first tasks apart = (or_parts (list_any (λ (task : Task ℕ). same_name first.name task.name) tasks) _ apart).1
+apart-behind-first first tasks apart =
+    (or_parts (list_any (λ (task : Task ℕ). same_name first.name task.name) tasks) _ apart).1
 
 -- A sum over tasks, where one changes or goes
 
@@ -53,7 +57,8 @@ module _ (weigh : Task ℕ → ℕ) where
   total [] = 0
   total (task ∷ tasks) = weigh task + total tasks
 
-  total-put : (name : TaskName) (tasks : Tasks) (task new : Task ℕ) → AreNamedApart tasks → called name tasks ≡ Some task
+  total-put : (name : TaskName) (tasks : Tasks) (task new : Task ℕ) → AreNamedApart tasks
+      → called name tasks ≡ Some task
       → total (put name new tasks) + weigh task ≡ total tasks + weigh new
   total-put name [] task new apart found = absurd cc
   total-put name (first ∷ tasks) task new apart found =
@@ -72,14 +77,18 @@ module _ (weigh : Task ℕ → ℕ) where
           let same : first ≡ task = cc in
           here_so _ 0 (weigh task) (weigh new) (weigh first) (total tasks) (ap weigh same)
           (ap total (put-nobody name new tasks (nobody-behind name first tasks apart is)))
-      by false is here rest = later_so (total (put name new tasks)) (weigh first) (weigh task) (weigh new) (total tasks) (rest here)
+      by false is here rest = later_so (total (put name new tasks)) (weigh first) (weigh task) (weigh new) (total tasks)
+          (rest here)
 
-  pub total-replaced : (name : TaskName) (tasks : Tasks) (task new : Task ℕ) → AreNamedApart tasks → called name tasks ≡ Some task → new.name ≡ task.name
+  pub total-replaced : (name : TaskName) (tasks : Tasks) (task new : Task ℕ) → AreNamedApart tasks
+      → called name tasks ≡ Some task → new.name ≡ task.name
       → total (replaced new tasks) + weigh task ≡ total tasks + weigh new
   total-replaced name tasks task new apart found same =
-      ap (λ own. total (put own new tasks) + weigh task) (same ∙ name-of-called name tasks task found) ∙ total-put name tasks task new apart found
+      ap (λ own. total (put own new tasks) + weigh task) (same ∙ name-of-called name tasks task found)
+      ∙ total-put name tasks task new apart found
 
-  pub total-without : (name : TaskName) (tasks : Tasks) (task : Task ℕ) → AreNamedApart tasks → called name tasks ≡ Some task
+  pub total-without : (name : TaskName) (tasks : Tasks) (task : Task ℕ) → AreNamedApart tasks
+      → called name tasks ≡ Some task
       → total (without_called name tasks) + weigh task ≡ total tasks
   total-without name [] task apart found = absurd cc
   total-without name (first ∷ tasks) task apart found =
@@ -93,12 +102,14 @@ module _ (weigh : Task ℕ → ℕ) where
 
       by : (b : Bool) → same_name name first.name ≡ b → cond b (Some first) (called name tasks) ≡ Some task
           → (called name tasks ≡ Some task → total (without_called name tasks) + weigh task ≡ total tasks)
-          → total (cond (not b) (first ∷ without_called name tasks) (without_called name tasks)) + weigh task ≡ total (first ∷ tasks)
+          → total (cond (not b) (first ∷ without_called name tasks) (without_called name tasks)) + weigh task
+          ≡ total (first ∷ tasks)
       by true is here rest =
           let same : first ≡ task = cc in
           here_so _ (weigh task) (weigh first) (total tasks) (ap weigh same)
           (ap total (without-nobody name tasks (nobody-behind name first tasks apart is)))
-      by false is here rest = later_so (total (without_called name tasks)) (weigh first) (weigh task) (total tasks) (rest here)
+      by false is here rest = later_so (total (without_called name tasks)) (weigh first) (weigh task) (total tasks)
+          (rest here)
 
   pub total-behind : (tasks : Tasks) (last : Task ℕ) → total (tasks ++ last ∷ []) ≡ total tasks + weigh last
   total-behind [] last = omega arith
@@ -108,10 +119,13 @@ module _ (weigh : Task ℕ → ℕ) where
       more u a t w e = omega (arith, e)
 
   -- a task that is replaced by one of the same weight, and a child behind
-  pub total-forked : (name : TaskName) (tasks : Tasks) (task new child : Task ℕ) → AreNamedApart tasks → called name tasks ≡ Some task
-      → new.name ≡ task.name → weigh new ≡ weigh task → total (replaced new tasks ++ child ∷ []) ≡ total tasks + weigh child
+  pub total-forked : (name : TaskName) (tasks : Tasks) (task new child : Task ℕ) → AreNamedApart tasks
+      → called name tasks ≡ Some task
+      → new.name ≡ task.name → weigh new ≡ weigh task
+      → total (replaced new tasks ++ child ∷ []) ≡ total tasks + weigh child
   total-forked name tasks task new child apart found same weight =
-      so _ _ _ _ _ _ (total-behind (replaced new tasks) child) (total-replaced name tasks task new apart found same) weight
+      so _ _ _ _ _ _ (total-behind (replaced new tasks) child)
+      (total-replaced name tasks task new apart found same) weight
     where
       so : (a r w v c t : ℕ) → a ≡ r + c → r + w ≡ t + v → v ≡ w → a ≡ t + c
       so a r w v c t is rest weight = omega (arith, is, rest, weight)
@@ -136,7 +150,8 @@ module _ {A : Type 0} (test : A → Bool) where
       as_many : (n : ℕ) → nat_lt 0 n ≡ nat_lt 0 (0 + n)
       as_many n = ap (nat_lt 0) (omega arith)
 
-      by : (b : Bool) → list_any test rest ≡ nat_lt 0 (times test rest) → (b || list_any test rest) ≡ nat_lt 0 (one_if b + times test rest)
+      by : (b : Bool) → list_any test rest ≡ nat_lt 0 (times test rest)
+          → (b || list_any test rest) ≡ nat_lt 0 (one_if b + times test rest)
       by true e = one_more (times test rest)
       by false e = e ∙ as_many (times test rest)
 
@@ -151,9 +166,11 @@ module _ (test : Location ℕ → Bool) where
       ∙ times-append test (locations_of task) (locations_in tasks)
       ∙ ap (λ n. weight task + n) (uses-total tasks)
 
-pub tasks_in-total : (namespace : ℕ) (tasks : Tasks) → tasks_in namespace tasks ≡ total (λ task. one_if (nat_eq namespace task.namespace)) tasks
+pub tasks_in-total : (namespace : ℕ) (tasks : Tasks)
+    → tasks_in namespace tasks ≡ total (λ task. one_if (nat_eq namespace task.namespace)) tasks
 tasks_in-total namespace [] = refl
-tasks_in-total namespace (task ∷ tasks) = ap (λ n. one_if (nat_eq namespace task.namespace) + n) (tasks_in-total namespace tasks)
+tasks_in-total namespace (task ∷ tasks) = ap (λ n. one_if (nat_eq namespace task.namespace) + n)
+    (tasks_in-total namespace tasks)
 
 same_counts : (n k : ℕ) → nat_eq (counted n) (counted k) ≡ nat_eq k n
 same_counts n k = by (nat_eq k n) (eqb-true k n) (eqb-false k n)
@@ -166,7 +183,8 @@ same_counts n k = by (nat_eq k n) (eqb-true k n) (eqb-false k n)
 pub tasks_in-values : (count : ℕ) (tasks : List Held)
     → tasks_in (counted count) (map task_of tasks) ≡ count_by (λ task. nat_eq task.namespace.count count) tasks
 tasks_in-values count tasks =
-    is_count_by (λ others. tasks_in (counted count) (map task_of others)) (λ task. nat_eq task.namespace.count count) refl more tasks
+    is_count_by (λ others. tasks_in (counted count) (map task_of others))
+    (λ task. nat_eq task.namespace.count count) refl more tasks
   where
     by : (b : Bool) (n : ℕ) → one_if b + n ≡ cond b (1 + n) n
     by true n = refl
@@ -174,7 +192,8 @@ tasks_in-values count tasks =
 
     more : (task : Held) (others : List Held)
         → tasks_in (counted count) (map task_of (task ∷ others))
-        ≡ cond (nat_eq task.namespace.count count) (1 + tasks_in (counted count) (map task_of others)) (tasks_in (counted count) (map task_of others))
+        ≡ cond (nat_eq task.namespace.count count) (1 + tasks_in (counted count) (map task_of others))
+        (tasks_in (counted count) (map task_of others))
     more task others =
         ap (λ b. one_if b + tasks_in (counted count) (map task_of others)) (same_counts count task.namespace.count)
         ∙ by (nat_eq task.namespace.count count) (tasks_in (counted count) (map task_of others))
@@ -188,7 +207,8 @@ module _ (test : Location ℕ → Bool) where
   abbrev pub files : List (Descriptor ℕ) → ℕ
   files descriptors = times test (map place_of descriptors)
 
-  files-inserted : (new : Descriptor ℕ) (descriptors : List (Descriptor ℕ)) → files (inserted new descriptors) ≡ files descriptors + one_if (test new.location)
+  files-inserted : (new : Descriptor ℕ) (descriptors : List (Descriptor ℕ))
+      → files (inserted new descriptors) ≡ files descriptors + one_if (test new.location)
   files-inserted new [] = omega arith
   files-inserted new (d ∷ ds) = by (nat_lt new.number d.number) (files-inserted new ds)
     where
@@ -209,16 +229,19 @@ module _ (test : Location ℕ → Bool) where
   others-above number least [] less rising = refl
   others-above number least (d ∷ ds) less rising =
       let at = leb-true least d.number (both-first _ _ rising) in
-      ap (λ b. cond (not b) (d ∷ filter (λ d. not (nat_eq number d.number)) ds) (filter (λ d. not (nat_eq number d.number)) ds))
+      ap (λ b. cond (not b) (d ∷ filter (λ d. not (nat_eq number d.number)) ds)
+      (filter (λ d. not (nat_eq number d.number)) ds))
       (ne_eqb number d.number (λ same. omega (arith, less, same, at)))
       ∙ ap (λ rest. d ∷ rest) (others-above number (d.number + 1) ds (omega (arith, less, at)) (both-second _ _ rising))
 
-  files-closed : (number least : ℕ) (ds : List (Descriptor ℕ)) (descriptor : Descriptor ℕ) → are_ascending_from least ds ≡ true
+  files-closed : (number least : ℕ) (ds : List (Descriptor ℕ)) (descriptor : Descriptor ℕ)
+      → are_ascending_from least ds ≡ true
       → find (λ d. nat_eq number d.number) ds ≡ Some descriptor
       → files (filter (λ d. not (nat_eq number d.number)) ds) + one_if (test descriptor.location) ≡ files ds
   files-closed number least [] descriptor rising found = absurd cc
   files-closed number least (d ∷ ds) descriptor rising found =
-      by (nat_eq number d.number) (eqb-true number d.number) found (files-closed number (d.number + 1) ds descriptor (both-second _ _ rising))
+      by (nat_eq number d.number) (eqb-true number d.number) found
+      (files-closed number (d.number + 1) ds descriptor (both-second _ _ rising))
     where
       here_so : (a w u t : ℕ) → u ≡ w → a ≡ t → a + w ≡ u + t
       here_so a w u t first_is rest_is = omega (arith, first_is, rest_is)
@@ -226,31 +249,38 @@ module _ (test : Location ℕ → Bool) where
       later_so : (a u w t : ℕ) → a + w ≡ t → (u + a) + w ≡ u + t
       later_so a u w t e = omega (arith, e)
 
-      by : (b : Bool) → (b ≡ true → number ≡ d.number) → cond b (Some d) (find (λ d. nat_eq number d.number) ds) ≡ Some descriptor
+      by : (b : Bool) → (b ≡ true → number ≡ d.number)
+          → cond b (Some d) (find (λ d. nat_eq number d.number) ds) ≡ Some descriptor
           → (find (λ d. nat_eq number d.number) ds ≡ Some descriptor
           → files (filter (λ d. not (nat_eq number d.number)) ds) + one_if (test descriptor.location) ≡ files ds)
-          → files (cond (not b) (d ∷ filter (λ d. not (nat_eq number d.number)) ds) (filter (λ d. not (nat_eq number d.number)) ds))
+          → files (cond (not b) (d ∷ filter (λ d. not (nat_eq number d.number)) ds)
+          (filter (λ d. not (nat_eq number d.number)) ds))
           + one_if (test descriptor.location)
           ≡ files (d ∷ ds)
       by true same here rest =
           let is : d ≡ descriptor = cc in
-          here_so _ (one_if (test descriptor.location)) (one_if (test d.location)) (files ds) (ap (λ (e : Descriptor ℕ). one_if (test e.location)) is)
+          here_so _ (one_if (test descriptor.location)) (one_if (test d.location)) (files ds)
+          (ap (λ (e : Descriptor ℕ). one_if (test e.location)) is)
           (ap files (others-above number (d.number + 1) ds (omega (arith, same refl)) (both-second _ _ rising)))
-      by false same here rest = later_so _ (one_if (test d.location)) (one_if (test descriptor.location)) (files ds) (rest here)
+      by false same here rest = later_so _ (one_if (test d.location)) (one_if (test descriptor.location)) (files ds)
+          (rest here)
 
 -- The laws
 
 pub replaced_uses : ReplacedUses
 replaced_uses test name tasks task new apart found same =
-    so _ _ _ _ _ _ (uses-total test (replaced new tasks)) (uses-total test tasks) (total-replaced (weight test) name tasks task new apart found same)
+    so _ _ _ _ _ _ (uses-total test (replaced new tasks)) (uses-total test tasks)
+    (total-replaced (weight test) name tasks task new apart found same)
   where
     so : (a r b t w v : ℕ) → a ≡ r → b ≡ t → r + w ≡ t + v → a + w ≡ b + v
     so a r b t w v is was e = omega (arith, is, was, e)
 
 pub moved_uses : MovedUses
 moved_uses test name tasks task namespace root directory apart found =
-    so _ _ (one_if (test task.root)) (one_if (test task.directory)) (one_if (test root)) (one_if (test directory)) (files test task.descriptors)
-    (replaced_uses test name tasks task (record task { namespace = namespace; root = root; directory = directory }) apart found refl)
+    so _ _ (one_if (test task.root)) (one_if (test task.directory)) (one_if (test root)) (one_if (test directory))
+    (files test task.descriptors)
+    (replaced_uses test name tasks task
+    (record task { namespace = namespace; root = root; directory = directory }) apart found refl)
   where
     so : (a b r d s e p : ℕ) → a + (r + (d + p)) ≡ b + (s + (e + p)) → a + (r + d) ≡ b + (s + e)
     so a b r d s e p is = omega (arith, is)
@@ -260,7 +290,8 @@ entered_uses test name tasks task namespace root apart found = moved_uses test n
 
 pub directory_uses : DirectoryUses
 directory_uses test name tasks task directory apart found =
-    so _ _ (one_if (test task.root)) (one_if (test task.directory)) (one_if (test directory)) (files test task.descriptors)
+    so _ _ (one_if (test task.root)) (one_if (test task.directory)) (one_if (test directory))
+    (files test task.descriptors)
     (replaced_uses test name tasks task (record task { directory = directory }) apart found refl)
   where
     so : (a b r d e p : ℕ) → a + (r + (d + p)) ≡ b + (r + (e + p)) → a + d ≡ b + e
@@ -285,7 +316,8 @@ opened_uses test name tasks task file access apart found =
 
 pub closed_uses : ClosedUses
 closed_uses test name tasks task number descriptor apart found rising there =
-    so _ _ (one_if (test task.root)) (one_if (test task.directory)) (files test task.descriptors) _ (one_if (test descriptor.location))
+    so _ _ (one_if (test task.root)) (one_if (test task.directory)) (files test task.descriptors) _
+    (one_if (test descriptor.location))
     (replaced_uses test name tasks task (without_descriptor task number) apart found refl)
     (files-closed test number 0 task.descriptors descriptor rising there)
   where
@@ -303,7 +335,8 @@ forked_uses test name tasks task credentials apart found =
 
 pub exited_uses : ExitedUses
 exited_uses test name tasks task apart found =
-    so _ _ _ _ _ (uses-total test (without_called name tasks)) (uses-total test tasks) (total-without (weight test) name tasks task apart found)
+    so _ _ _ _ _ (uses-total test (without_called name tasks)) (uses-total test tasks)
+    (total-without (weight test) name tasks task apart found)
   where
     so : (a x b t w : ℕ) → a ≡ x → b ≡ t → x + w ≡ t → a + w ≡ b
     so a x b t w is was e = omega (arith, is, was, e)
@@ -323,15 +356,18 @@ replaced_tasks namespace name tasks task new apart found same =
 pub forked_tasks : ForkedTasks
 forked_tasks namespace name tasks task credentials apart found =
     so _ _ _ _ (one_if (nat_eq namespace task.namespace))
-    (tasks_in-total namespace (replaced (forked_once task) tasks ++ child_of task credentials ∷ [])) (tasks_in-total namespace tasks)
-    (total-forked (λ task. one_if (nat_eq namespace task.namespace)) name tasks task (forked_once task) (child_of task credentials) apart found refl refl)
+    (tasks_in-total namespace (replaced (forked_once task) tasks ++ child_of task credentials ∷ []))
+    (tasks_in-total namespace tasks)
+    (total-forked (λ task. one_if (nat_eq namespace task.namespace)) name tasks task (forked_once task)
+    (child_of task credentials) apart found refl refl)
   where
     so : (a x b t w : ℕ) → a ≡ x → b ≡ t → x ≡ t + w → a ≡ b + w
     so a x b t w is was e = omega (arith, is, was, e)
 
 pub exited_tasks : ExitedTasks
 exited_tasks namespace name tasks task apart found =
-    so _ _ _ _ (one_if (nat_eq namespace task.namespace)) (tasks_in-total namespace (without_called name tasks)) (tasks_in-total namespace tasks)
+    so _ _ _ _ (one_if (nat_eq namespace task.namespace)) (tasks_in-total namespace (without_called name tasks))
+    (tasks_in-total namespace tasks)
     (total-without (λ task. one_if (nat_eq namespace task.namespace)) name tasks task apart found)
   where
     so : (a x b t w : ℕ) → a ≡ x → b ≡ t → x + w ≡ t → a + w ≡ b

@@ -23,8 +23,10 @@ pub find-opened : (number : ℕ) (es : List (ℕ × OpenFile))
 find-opened number [] = refl
 find-opened number (e ∷ es) = by (nat_eq number e.0) (eqb-true number e.0) (find-opened number es)
   where
-    by : (b : Bool) → (b ≡ true → number ≡ e.0) → option_map (numbered number) (lookup (nat_eq number) es) ≡ find (λ d. nat_eq number d.number) (opened es)
-        → option_map (numbered number) (cond b (Some e.1) (lookup (nat_eq number) es)) ≡ cond b (Some (descriptor_of e)) (find (λ d. nat_eq number d.number) (opened es))
+    by : (b : Bool) → (b ≡ true → number ≡ e.0)
+        → option_map (numbered number) (lookup (nat_eq number) es) ≡ find (λ d. nat_eq number d.number) (opened es)
+        → option_map (numbered number) (cond b (Some e.1) (lookup (nat_eq number) es))
+        ≡ cond b (Some (descriptor_of e)) (find (λ d. nat_eq number d.number) (opened es))
     by true same rest = ap (λ n. Some (numbered n e.1)) (same refl)
     by false same rest = rest
 
@@ -40,21 +42,26 @@ pub both : (a b : Bool) → a ≡ true → b ≡ true → (a && b) ≡ true
 both a b p q = ap (λ x. x && b) p ∙ q
 
 -- the first number of a list that rises
-first_number : (least : ℕ) (x : ℕ × OpenFile) (es : List (ℕ × OpenFile)) → are_ascending least (x ∷ es) ≡ true → least ≤ x.0
+first_number : (least : ℕ) (x : ℕ × OpenFile) (es : List (ℕ × OpenFile)) → are_ascending least (x ∷ es) ≡ true
+    → least ≤ x.0
 first_number least x es e = leb-true least x.0 (both-first _ _ e)
 
 -- what rises from a number on rises from a lower one on
-pub ascending_from : (low least : ℕ) (es : List (ℕ × OpenFile)) → low ≤ least → are_ascending least es ≡ true → are_ascending low es ≡ true
+pub ascending_from : (low least : ℕ) (es : List (ℕ × OpenFile)) → low ≤ least → are_ascending least es ≡ true
+    → are_ascending low es ≡ true
 ascending_from low least [] lower e = refl
 ascending_from low least (x ∷ es) lower e =
     both (nat_le low x.0) _ (le-leb low x.0 (omega (arith, lower, first_number least x es e))) (both-second _ _ e)
 
 -- one that is taken out leaves the others rising
-pub ascending-removed : (number least : ℕ) (es : List (ℕ × OpenFile)) → are_ascending least es ≡ true → are_ascending least (remove_entry (nat_eq number) es) ≡ true
+pub ascending-removed : (number least : ℕ) (es : List (ℕ × OpenFile)) → are_ascending least es ≡ true
+    → are_ascending least (remove_entry (nat_eq number) es) ≡ true
 ascending-removed number least [] e = refl
-ascending-removed number least (x ∷ es) e = by (nat_eq number x.0) (ascending-removed number (x.0 + 1) es (both-second _ _ e))
+ascending-removed number least (x ∷ es) e = by (nat_eq number x.0)
+    (ascending-removed number (x.0 + 1) es (both-second _ _ e))
   where
-    by : (b : Bool) → are_ascending (x.0 + 1) (remove_entry (nat_eq number) es) ≡ true → are_ascending least (cond b es (x ∷ remove_entry (nat_eq number) es)) ≡ true
+    by : (b : Bool) → are_ascending (x.0 + 1) (remove_entry (nat_eq number) es) ≡ true
+        → are_ascending least (cond b es (x ∷ remove_entry (nat_eq number) es)) ≡ true
     by true rest = ascending_from least (x.0 + 1) es (omega (arith, first_number least x es e)) (both-second _ _ e)
     by false rest = both (nat_le least x.0) _ (both-first _ _ e) rest
 
@@ -67,7 +74,8 @@ filter-above number least (x ∷ es) less e =
     (filter-above number (x.0 + 1) es (omega (arith, less, first_number least x es e)) (both-second _ _ e))
   where
     by : (b : Bool) → b ≡ false → filter (λ d. not (nat_eq number d.number)) (opened es) ≡ opened es
-        → cond (not b) (descriptor_of x ∷ filter (λ d. not (nat_eq number d.number)) (opened es)) (filter (λ d. not (nat_eq number d.number)) (opened es)) ≡ opened (x ∷ es)
+        → cond (not b) (descriptor_of x ∷ filter (λ d. not (nat_eq number d.number)) (opened es))
+        (filter (λ d. not (nat_eq number d.number)) (opened es)) ≡ opened (x ∷ es)
     by true e rest = absurd (true≢false e)
     by false e rest = ap (λ ds. descriptor_of x ∷ ds) rest
 
@@ -77,8 +85,11 @@ opened-removed number least [] e = refl
 opened-removed number least (x ∷ es) e =
     by (nat_eq number x.0) (eqb-true number x.0) (opened-removed number (x.0 + 1) es (both-second _ _ e))
   where
-    by : (b : Bool) → (b ≡ true → number ≡ x.0) → opened (remove_entry (nat_eq number) es) ≡ filter (λ d. not (nat_eq number d.number)) (opened es)
-        → opened (cond b es (x ∷ remove_entry (nat_eq number) es)) ≡ cond (not b) (descriptor_of x ∷ filter (λ d. not (nat_eq number d.number)) (opened es)) (filter (λ d. not (nat_eq number d.number)) (opened es))
+    by : (b : Bool) → (b ≡ true → number ≡ x.0)
+        → opened (remove_entry (nat_eq number) es) ≡ filter (λ d. not (nat_eq number d.number)) (opened es)
+        → opened (cond b es (x ∷ remove_entry (nat_eq number) es))
+        ≡ cond (not b) (descriptor_of x ∷ filter (λ d. not (nat_eq number d.number)) (opened es))
+        (filter (λ d. not (nat_eq number d.number)) (opened es))
     by true same rest = sym (filter-above number (x.0 + 1) es (omega (arith, same refl)) (both-second _ _ e))
     by false same rest = ap (λ ds. descriptor_of x ∷ ds) rest
 
@@ -100,18 +111,23 @@ free-least : (least : ℕ) (es : List (ℕ × OpenFile)) → least ≤ free_from
 free-least least [] = omega arith
 free-least least (x ∷ es) = by (nat_eq x.0 least) (free-least (least + 1) es)
   where
-    by : (b : Bool) → least + 1 ≤ free_from (least + 1) (opened es) → least ≤ cond b (free_from (least + 1) (opened es)) least
+    by : (b : Bool) → least + 1 ≤ free_from (least + 1) (opened es)
+        → least ≤ cond b (free_from (least + 1) (opened es)) least
     by true rest = omega (arith, rest)
     by false rest = omega arith
 
 module _ (held : OpenFile) (free : ℕ) where
   put_before : (x : ℕ × OpenFile) (es : List (ℕ × OpenFile)) (b : Bool) → b ≡ true
-      → opened ((free, held) ∷ x ∷ es) ≡ cond b (numbered free held ∷ descriptor_of x ∷ opened es) (descriptor_of x ∷ inserted (numbered free held) (opened es))
+      → opened ((free, held) ∷ x ∷ es)
+      ≡ cond b (numbered free held ∷ descriptor_of x ∷ opened es)
+      (descriptor_of x ∷ inserted (numbered free held) (opened es))
   put_before x es true e = refl
   put_before x es false e = absurd (true≢false (sym e))
 
-  put_behind : (x : ℕ × OpenFile) (es new : List (ℕ × OpenFile)) (b : Bool) → b ≡ false → opened new ≡ inserted (numbered free held) (opened es)
-      → opened (x ∷ new) ≡ cond b (numbered free held ∷ descriptor_of x ∷ opened es) (descriptor_of x ∷ inserted (numbered free held) (opened es))
+  put_behind : (x : ℕ × OpenFile) (es new : List (ℕ × OpenFile)) (b : Bool) → b ≡ false
+      → opened new ≡ inserted (numbered free held) (opened es)
+      → opened (x ∷ new) ≡ cond b (numbered free held ∷ descriptor_of x ∷ opened es)
+      (descriptor_of x ∷ inserted (numbered free held) (opened es))
   put_behind x es new true e rest = absurd (true≢false e)
   put_behind x es new false e rest = ap (λ ds. descriptor_of x ∷ ds) rest
 
@@ -124,42 +140,54 @@ opened-inserted held free least (suc gap) [] e here at = refl
 opened-inserted held free least zero (x ∷ es) e here at =
     by (nat_eq x.0 least) (eqb-true x.0 least) (eqb-false x.0 least) here (free-least (least + 1) es)
   where
-    by : (b : Bool) → (b ≡ true → x.0 ≡ least) → (b ≡ false → x.0 ≢ least) → cond b (free_from (least + 1) (opened es)) least ≡ free → least + 1 ≤ free_from (least + 1) (opened es)
+    by : (b : Bool) → (b ≡ true → x.0 ≡ least) → (b ≡ false → x.0 ≢ least)
+        → cond b (free_from (least + 1) (opened es)) least ≡ free → least + 1 ≤ free_from (least + 1) (opened es)
         → opened ((free, held) ∷ x ∷ es) ≡ inserted (numbered free held) (opened (x ∷ es))
     by true same other found above = absurd (omega (arith, found, above, at))
     by false same other found above =
-        put_before held free x es (nat_lt free x.0) (lt-ltb free x.0 (omega (arith, other refl, at, first_number least x es e)))
+        put_before held free x es (nat_lt free x.0)
+        (lt-ltb free x.0 (omega (arith, other refl, at, first_number least x es e)))
 opened-inserted held free least (suc gap) (x ∷ es) e here at =
     by (nat_eq x.0 least) (eqb-true x.0 least) here
-    (λ same found. opened-inserted held free (x.0 + 1) gap es (both-second _ _ e) (ap (λ n. free_from (n + 1) (opened es)) same ∙ found) (omega (arith, at, same)))
+    (λ same found. opened-inserted held free (x.0 + 1) gap es (both-second _ _ e)
+    (ap (λ n. free_from (n + 1) (opened es)) same ∙ found) (omega (arith, at, same)))
   where
     by : (b : Bool) → (b ≡ true → x.0 ≡ least) → cond b (free_from (least + 1) (opened es)) least ≡ free
-        → (x.0 ≡ least → free_from (least + 1) (opened es) ≡ free → opened (insert es gap (free, held)) ≡ inserted (numbered free held) (opened es))
+        → (x.0 ≡ least → free_from (least + 1) (opened es) ≡ free
+        → opened (insert es gap (free, held)) ≡ inserted (numbered free held) (opened es))
         → opened (x ∷ insert es gap (free, held)) ≡ inserted (numbered free held) (opened (x ∷ es))
     by true same found rest =
-        put_behind held free x es (insert es gap (free, held)) (nat_lt free x.0) (le-ltb free x.0 (omega (arith, same refl, at))) (rest (same refl) found)
+        put_behind held free x es (insert es gap (free, held)) (nat_lt free x.0)
+        (le-ltb free x.0 (omega (arith, same refl, at))) (rest (same refl) found)
     by false same found rest = absurd (omega (arith, found, at))
 
 -- and the numbers rise
-pub ascending-inserted : (held : OpenFile) (free least gap : ℕ) (es : List (ℕ × OpenFile)) → are_ascending least es ≡ true
+pub ascending-inserted : (held : OpenFile) (free least gap : ℕ) (es : List (ℕ × OpenFile))
+    → are_ascending least es ≡ true
     → free_from least (opened es) ≡ free → free ≡ least + gap → are_ascending least (insert es gap (free, held)) ≡ true
-ascending-inserted held free least zero [] e here at = both (nat_le least free) true (le-leb least free (omega (arith, at))) refl
-ascending-inserted held free least (suc gap) [] e here at = both (nat_le least free) true (le-leb least free (omega (arith, at))) refl
+ascending-inserted held free least zero [] e here at = both (nat_le least free) true
+    (le-leb least free (omega (arith, at))) refl
+ascending-inserted held free least (suc gap) [] e here at = both (nat_le least free) true
+    (le-leb least free (omega (arith, at))) refl
 ascending-inserted held free least zero (x ∷ es) e here at =
     by (nat_eq x.0 least) (eqb-false x.0 least) here (free-least (least + 1) es)
   where
-    by : (b : Bool) → (b ≡ false → x.0 ≢ least) → cond b (free_from (least + 1) (opened es)) least ≡ free → least + 1 ≤ free_from (least + 1) (opened es)
+    by : (b : Bool) → (b ≡ false → x.0 ≢ least) → cond b (free_from (least + 1) (opened es)) least ≡ free
+        → least + 1 ≤ free_from (least + 1) (opened es)
         → are_ascending least ((free, held) ∷ x ∷ es) ≡ true
     by true other found above = absurd (omega (arith, found, above, at))
     by false other found above =
         both (nat_le least free) _ (le-leb least free (omega (arith, at)))
-        (both (nat_le (free + 1) x.0) _ (le-leb (free + 1) x.0 (omega (arith, other refl, at, first_number least x es e))) (both-second _ _ e))
+        (both (nat_le (free + 1) x.0) _
+        (le-leb (free + 1) x.0 (omega (arith, other refl, at, first_number least x es e))) (both-second _ _ e))
 ascending-inserted held free least (suc gap) (x ∷ es) e here at =
     by (nat_eq x.0 least) (eqb-true x.0 least) here
-    (λ same found. ascending-inserted held free (x.0 + 1) gap es (both-second _ _ e) (ap (λ n. free_from (n + 1) (opened es)) same ∙ found) (omega (arith, at, same)))
+    (λ same found. ascending-inserted held free (x.0 + 1) gap es (both-second _ _ e)
+    (ap (λ n. free_from (n + 1) (opened es)) same ∙ found) (omega (arith, at, same)))
   where
     by : (b : Bool) → (b ≡ true → x.0 ≡ least) → cond b (free_from (least + 1) (opened es)) least ≡ free
-        → (x.0 ≡ least → free_from (least + 1) (opened es) ≡ free → are_ascending (x.0 + 1) (insert es gap (free, held)) ≡ true)
+        → (x.0 ≡ least → free_from (least + 1) (opened es) ≡ free
+        → are_ascending (x.0 + 1) (insert es gap (free, held)) ≡ true)
         → are_ascending least (x ∷ insert es gap (free, held)) ≡ true
     by true same found rest = both (nat_le least x.0) _ (both-first _ _ e) (rest (same refl) found)
     by false same found rest = absurd (omega (arith, found, at))
@@ -169,29 +197,37 @@ pub free-most : (least : ℕ) (es : List (ℕ × OpenFile)) → free_from least 
 free-most least [] = omega arith
 free-most least (x ∷ es) = by (nat_eq x.0 least) (free-most (least + 1) es)
   where
-    by : (b : Bool) → free_from (least + 1) (opened es) ≤ least + 1 + length es → cond b (free_from (least + 1) (opened es)) least ≤ least + length (x ∷ es)
+    by : (b : Bool) → free_from (least + 1) (opened es) ≤ least + 1 + length es
+        → cond b (free_from (least + 1) (opened es)) least ≤ least + length (x ∷ es)
     by true rest = omega (arith, rest)
     by false rest = omega arith
 
-lookup-above : (number least : ℕ) (es : List (ℕ × OpenFile)) → number < least → are_ascending least es ≡ true → lookup (nat_eq number) es ≡ None
+lookup-above : (number least : ℕ) (es : List (ℕ × OpenFile)) → number < least → are_ascending least es ≡ true
+    → lookup (nat_eq number) es ≡ None
 lookup-above number least [] less e = refl
 lookup-above number least (x ∷ es) less e =
-    ap (λ b. cond b (Some x.1) (lookup (nat_eq number) es)) (ne_eqb number x.0 (λ same. omega (arith, less, same, first_number least x es e)))
+    ap (λ b. cond b (Some x.1) (lookup (nat_eq number) es))
+    (ne_eqb number x.0 (λ same. omega (arith, less, same, first_number least x es e)))
     ∙ lookup-above number (x.0 + 1) es (omega (arith, less, first_number least x es e)) (both-second _ _ e)
 
-pub lookup-free : (free least : ℕ) (es : List (ℕ × OpenFile)) → are_ascending least es ≡ true → free_from least (opened es) ≡ free → lookup (nat_eq free) es ≡ None
+pub lookup-free : (free least : ℕ) (es : List (ℕ × OpenFile)) → are_ascending least es ≡ true
+    → free_from least (opened es) ≡ free → lookup (nat_eq free) es ≡ None
 lookup-free free least [] e here = refl
 lookup-free free least (x ∷ es) e here =
     by (nat_eq x.0 least) (eqb-true x.0 least) (eqb-false x.0 least) here (free-least (least + 1) es)
-    (λ same found. lookup-free free (x.0 + 1) es (both-second _ _ e) (ap (λ n. free_from (n + 1) (opened es)) same ∙ found))
+    (λ same found. lookup-free free (x.0 + 1) es (both-second _ _ e)
+    (ap (λ n. free_from (n + 1) (opened es)) same ∙ found))
   where
-    by : (b : Bool) → (b ≡ true → x.0 ≡ least) → (b ≡ false → x.0 ≢ least) → cond b (free_from (least + 1) (opened es)) least ≡ free → least + 1 ≤ free_from (least + 1) (opened es)
+    by : (b : Bool) → (b ≡ true → x.0 ≡ least) → (b ≡ false → x.0 ≢ least)
+        → cond b (free_from (least + 1) (opened es)) least ≡ free → least + 1 ≤ free_from (least + 1) (opened es)
         → (x.0 ≡ least → free_from (least + 1) (opened es) ≡ free → lookup (nat_eq free) es ≡ None)
         → lookup (nat_eq free) (x ∷ es) ≡ None
     by true same other found above rest =
-        ap (λ b. cond b (Some x.1) (lookup (nat_eq free) es)) (ne_eqb free x.0 (λ is. omega (arith, is, same refl, found, above))) ∙ rest (same refl) found
+        ap (λ b. cond b (Some x.1) (lookup (nat_eq free) es))
+        (ne_eqb free x.0 (λ is. omega (arith, is, same refl, found, above))) ∙ rest (same refl) found
     by false same other found above rest =
-        ap (λ b. cond b (Some x.1) (lookup (nat_eq free) es)) (ne_eqb free x.0 (λ is. omega (arith, is, other refl, found)))
+        ap (λ b. cond b (Some x.1) (lookup (nat_eq free) es))
+        (ne_eqb free x.0 (λ is. omega (arith, is, other refl, found)))
         ∙ lookup-above free (x.0 + 1) es (omega (arith, found, first_number least x es e)) (both-second _ _ e)
 
 -- A file that is opened under the least free number and closed again leaves the others as they were
@@ -199,34 +235,43 @@ lookup-free free least (x ∷ es) e here =
 abbrev pub others : ℕ → List (Descriptor ℕ) → List (Descriptor ℕ)
 others number ds = filter (λ d. not (nat_eq number d.number)) ds
 
-others-inserted : (held : OpenFile) (number : ℕ) (ds : List (Descriptor ℕ)) → others number (inserted (numbered number held) ds) ≡ others number ds
+others-inserted : (held : OpenFile) (number : ℕ) (ds : List (Descriptor ℕ))
+    → others number (inserted (numbered number held) ds) ≡ others number ds
 others-inserted held number [] = ap (λ b. cond (not b) (numbered number held ∷ []) []) (eq-eqb number number refl)
 others-inserted held number (d ∷ ds) = by (nat_lt number d.number) (others-inserted held number ds)
   where
     by : (b : Bool) → others number (inserted (numbered number held) ds) ≡ others number ds
-        → others number (cond b (numbered number held ∷ d ∷ ds) (d ∷ inserted (numbered number held) ds)) ≡ others number (d ∷ ds)
-    by true rest = ap (λ b. cond (not b) (numbered number held ∷ others number (d ∷ ds)) (others number (d ∷ ds))) (eq-eqb number number refl)
+        → others number (cond b (numbered number held ∷ d ∷ ds) (d ∷ inserted (numbered number held) ds))
+        ≡ others number (d ∷ ds)
+    by true rest = ap (λ b. cond (not b) (numbered number held ∷ others number (d ∷ ds)) (others number (d ∷ ds)))
+        (eq-eqb number number refl)
     by false rest = ap (λ es. cond (not (nat_eq number d.number)) (d ∷ es) es) rest
 
-others-free : (free least : ℕ) (es : List (ℕ × OpenFile)) → are_ascending least es ≡ true → free_from least (opened es) ≡ free → others free (opened es) ≡ opened es
+others-free : (free least : ℕ) (es : List (ℕ × OpenFile)) → are_ascending least es ≡ true
+    → free_from least (opened es) ≡ free → others free (opened es) ≡ opened es
 others-free free least [] e here = refl
 others-free free least (x ∷ es) e here =
     by (nat_eq x.0 least) (eqb-true x.0 least) (eqb-false x.0 least) here (free-least (least + 1) es)
-    (λ same found. others-free free (x.0 + 1) es (both-second _ _ e) (ap (λ n. free_from (n + 1) (opened es)) same ∙ found))
+    (λ same found. others-free free (x.0 + 1) es (both-second _ _ e)
+    (ap (λ n. free_from (n + 1) (opened es)) same ∙ found))
   where
     kept : free ≢ x.0 → others free (opened es) ≡ opened es → others free (opened (x ∷ es)) ≡ opened (x ∷ es)
     kept apart rest =
-        ap (λ b. cond (not b) (descriptor_of x ∷ others free (opened es)) (others free (opened es))) (ne_eqb free x.0 apart) ∙ ap (λ ds. descriptor_of x ∷ ds) rest
+        ap (λ b. cond (not b) (descriptor_of x ∷ others free (opened es)) (others free (opened es)))
+        (ne_eqb free x.0 apart) ∙ ap (λ ds. descriptor_of x ∷ ds) rest
 
-    by : (b : Bool) → (b ≡ true → x.0 ≡ least) → (b ≡ false → x.0 ≢ least) → cond b (free_from (least + 1) (opened es)) least ≡ free → least + 1 ≤ free_from (least + 1) (opened es)
+    by : (b : Bool) → (b ≡ true → x.0 ≡ least) → (b ≡ false → x.0 ≢ least)
+        → cond b (free_from (least + 1) (opened es)) least ≡ free → least + 1 ≤ free_from (least + 1) (opened es)
         → (x.0 ≡ least → free_from (least + 1) (opened es) ≡ free → others free (opened es) ≡ opened es)
         → others free (opened (x ∷ es)) ≡ opened (x ∷ es)
-    by true same other found above rest = kept (λ is. omega (arith, is, same refl, found, above)) (rest (same refl) found)
+    by true same other found above rest = kept (λ is. omega (arith, is, same refl, found, above))
+        (rest (same refl) found)
     by false same other found above rest =
         kept (λ is. omega (arith, is, other refl, found))
         (filter-above free (x.0 + 1) es (omega (arith, found, first_number least x es e)) (both-second _ _ e))
 
-pub closed-again : (held : OpenFile) (free : ℕ) (es : List (ℕ × OpenFile)) (old new : List (Descriptor ℕ)) → are_ascending 0 es ≡ true → opened es ≡ old
+pub closed-again : (held : OpenFile) (free : ℕ) (es : List (ℕ × OpenFile)) (old new : List (Descriptor ℕ))
+    → are_ascending 0 es ≡ true → opened es ≡ old
     → free_from 0 (opened es) ≡ free → new ≡ inserted (numbered free held) old → others free new ≡ old
 closed-again held free es old new e is here so =
     ap (others free) so
@@ -248,20 +293,26 @@ pub length-opened : (es : List (ℕ × OpenFile)) → length (opened es) ≡ len
 length-opened [] = refl
 length-opened (x ∷ es) = ap suc (length-opened es)
 
-pub files-opened : (es : List (ℕ × OpenFile)) → map (λ held. location_of held.location) (values_of es) ≡ map (λ d. d.location) (opened es)
+pub files-opened : (es : List (ℕ × OpenFile))
+    → map (λ held. location_of held.location) (values_of es) ≡ map (λ d. d.location) (opened es)
 files-opened [] = refl
 files-opened (x ∷ es) = ap (λ fs. location_of x.1.location ∷ fs) (files-opened es)
 
-pub writes-opened : (es : List (ℕ × OpenFile)) → map (λ held. (access_of held.access).writes) (values_of es) ≡ map (λ d. d.writes) (opened es)
+pub writes-opened : (es : List (ℕ × OpenFile))
+    → map (λ held. (access_of held.access).writes) (values_of es) ≡ map (λ d. d.writes) (opened es)
 writes-opened [] = refl
 writes-opened (x ∷ es) = ap (λ fs. (access_of x.1.access).writes ∷ fs) (writes-opened es)
 
 -- A new number that is put before a place stands there
-pub entries-inserted : {S : Type 0} (m : IndexMap ℕ OpenFile S) (free place : ℕ) (held : OpenFile) (new : List (ℕ × OpenFile))
+pub entries-inserted : {S : Type 0} (m : IndexMap ℕ OpenFile S) (free place : ℕ) (held : OpenFile)
+    (new : List (ℕ × OpenFile))
     → get nat_eq m free ≡ None → free ≤ length m.entries → place ≡ index_before (insert_index nat_eq m free) free
     → new ≡ move_index (insert_entry nat_eq m.entries free held) (insert_index nat_eq m free) place
     → new ≡ insert m.entries free (free, held)
 entries-inserted m free place held new none within at is =
-    let last : insert_index nat_eq m free ≡ length m.entries = or_len-absent (nat_eq free) m.entries (absent_from_lookup (nat_eq free) m.entries none) in
-    let here : place ≡ free = at ∙ ap (λ n. index_before n free) last ∙ ap (λ b. if b then free - 1 else free) (le-ltb (length m.entries) free within) in
-    is ∙ (λ j. move_index (insert_entry-new nat_eq m free held none j) (last j) (here j)) ∙ moved-last m.entries (free, held) free
+    let last : insert_index nat_eq m free
+    ≡ length m.entries = or_len-absent (nat_eq free) m.entries (absent_from_lookup (nat_eq free) m.entries none) in
+    let here : place ≡ free = at ∙ ap (λ n. index_before n free) last
+    ∙ ap (λ b. if b then free - 1 else free) (le-ltb (length m.entries) free within) in
+    is ∙ (λ j. move_index (insert_entry-new nat_eq m free held none j) (last j) (here j))
+    ∙ moved-last m.entries (free, held) free

@@ -31,8 +31,10 @@ module _ (change : Task ℕ → Task ℕ) where
   changed-all (task ∷ tasks) = ap (λ rest. change task ∷ rest) (changed-all tasks)
 
   -- the next one changes
-  step : {A : Type 0} (i : ℕ) (es : List (Vec ℕ A × Held)) (tasks : Tasks) (x w : Held) → tasks_of es ≡ changed_first i tasks
-      → slice_get (values_of es) i ≡ Some x → task_of w ≡ change (task_of x) → tasks_of (set_value_at es i w) ≡ changed_first (suc i) tasks
+  step : {A : Type 0} (i : ℕ) (es : List (Vec ℕ A × Held)) (tasks : Tasks) (x w : Held)
+      → tasks_of es ≡ changed_first i tasks
+      → slice_get (values_of es) i ≡ Some x → task_of w ≡ change (task_of x)
+      → tasks_of (set_value_at es i w) ≡ changed_first (suc i) tasks
   step i [] tasks x w so found is = absurd cc
   step zero (e ∷ es) [] x w so found is = absurd cc
   step zero (e ∷ es) (task ∷ tasks) x w so found is =
@@ -46,18 +48,23 @@ module _ (change : Task ℕ → Task ℕ) where
       let rest : tasks_of es ≡ changed_first i tasks = cc in
       λ j. first j ∷ step i es tasks x w rest found is j
 
-  pub changed-next : {A : Type 0} (i : ℕ) (es : List (Vec ℕ A × Held)) (tasks : Tasks) (x w : Held) → tasks_of es ≡ changed_first i tasks
-      → slice_get (values_of es) i ≡ Some x → task_of w ≡ change (task_of x) → tasks_of (set_value_at es i w) ≡ changed_first (i + 1) tasks
-  changed-next i es tasks x w so found is = step i es tasks x w so found is ∙ ap (λ n. changed_first n tasks) (sym (add-one i))
+  pub changed-next : {A : Type 0} (i : ℕ) (es : List (Vec ℕ A × Held)) (tasks : Tasks) (x w : Held)
+      → tasks_of es ≡ changed_first i tasks
+      → slice_get (values_of es) i ≡ Some x → task_of w ≡ change (task_of x)
+      → tasks_of (set_value_at es i w) ≡ changed_first (i + 1) tasks
+  changed-next i es tasks x w so found is = step i es tasks x w so found is
+      ∙ ap (λ n. changed_first n tasks) (sym (add-one i))
 
   -- tasks that keep their names, forks and files are fit as before
-  module _ (name : (task : Task ℕ) → (change task).name ≡ task.name) (forks : (task : Task ℕ) → (change task).forks ≡ task.forks)
+  module _ (name : (task : Task ℕ) → (change task).name ≡ task.name)
+      (forks : (task : Task ℕ) → (change task).forks ≡ task.forks)
       (files : (task : Task ℕ) → (change task).descriptors ≡ task.descriptors) where
     names-changed : (tasks : Tasks) → names_of (map change tasks) ≡ names_of tasks
     names-changed [] = refl
     names-changed (task ∷ tasks) = λ i. name task i ∷ names-changed tasks i
 
-    all-changed : (p q : Task ℕ → Bool) → ((task : Task ℕ) → q (change task) ≡ p task) → (tasks : Tasks) → list_all q (map change tasks) ≡ list_all p tasks
+    all-changed : (p q : Task ℕ → Bool) → ((task : Task ℕ) → q (change task) ≡ p task) → (tasks : Tasks)
+        → list_all q (map change tasks) ≡ list_all p tasks
     all-changed p q same [] = refl
     all-changed p q same (task ∷ tasks) = λ i. same task i && all-changed p q same tasks i
 
@@ -68,14 +75,16 @@ module _ (change : Task ℕ → Task ℕ) where
         (λ task i. list_all (is_of_forks (forks task i) (name task i)) (names_of tasks)) tasks
 
     files-changed : (tasks : Tasks) → list_all has_files_in_order (map change tasks) ≡ list_all has_files_in_order tasks
-    files-changed tasks = all-changed has_files_in_order has_files_in_order (λ task i. has_files_in_order (record task { descriptors = files task i })) tasks
+    files-changed tasks = all-changed has_files_in_order has_files_in_order
+        (λ task i. has_files_in_order (record task { descriptors = files task i })) tasks
 
     apart-changed : (tasks : Tasks) → AreNamedApart tasks → AreNamedApart (map change tasks)
     apart-changed tasks apart =
         pair-map (λ a b. same_name a.name b.name) (λ a b. same_name a.name b.name) change tasks
         (λ a b m n differs. (λ i. same_name (name a i) (name b i)) ∙ differs) apart
 
-    keyed-changed : {A : Type 0} (es new : List (Vec ℕ A × Held)) → AreKeyed es → keys_of new ≡ keys_of es → names_of (tasks_of new) ≡ names_of (tasks_of es) → AreKeyed new
+    keyed-changed : {A : Type 0} (es new : List (Vec ℕ A × Held)) → AreKeyed es → keys_of new ≡ keys_of es
+        → names_of (tasks_of new) ≡ names_of (tasks_of es) → AreKeyed new
     keyed-changed es [] keyed keys names = tt
     keyed-changed [] (n ∷ new) keyed keys names = absurd cc
     keyed-changed (e ∷ es) (n ∷ new) keyed keys names =
@@ -85,7 +94,8 @@ module _ (change : Task ℕ → Task ℕ) where
         let names_rest : names_of (tasks_of new) ≡ names_of (tasks_of es) = cc in
         (ap (λ k. k.items) key ∙ keyed.0 ∙ sym own, keyed-changed es new keyed.1 keys_rest names_rest)
 
-    pub fit-changed : {A : Type 0} (es new : List (Vec ℕ A × Held)) → AreFit es → keys_of new ≡ keys_of es → tasks_of new ≡ map change (tasks_of es) → AreFit new
+    pub fit-changed : {A : Type 0} (es new : List (Vec ℕ A × Held)) → AreFit es → keys_of new ≡ keys_of es
+        → tasks_of new ≡ map change (tasks_of es) → AreFit new
     fit-changed es new fit keys so = (
       keyed-changed es new fit.0 keys (ap names_of so ∙ names-changed (tasks_of es)),
       ap are_given_once so ∙ given-changed (tasks_of es) ∙ fit.1,
@@ -105,10 +115,12 @@ module _ {A : Type 0} where
   pub as-many : (es new : List (Vec ℕ A × Held)) → keys_of new ≡ keys_of es → length new ≡ length es
   as-many es new keys = sym (length-keys new) ∙ ap length keys ∙ length-keys es
 
-  pub all-of : (change : Task ℕ → Task ℕ) (i : ℕ) (es new : List (Vec ℕ A × Held)) → i ≡ length es → tasks_of new ≡ changed_first change i (tasks_of es)
+  pub all-of : (change : Task ℕ → Task ℕ) (i : ℕ) (es new : List (Vec ℕ A × Held)) → i ≡ length es
+      → tasks_of new ≡ changed_first change i (tasks_of es)
       → tasks_of new ≡ map change (tasks_of es)
   all-of change i es new last so =
-      so ∙ ap (λ n. changed_first change n (tasks_of es)) (last ∙ sym (length-tasks es)) ∙ changed-all change (tasks_of es)
+      so ∙ ap (λ n. changed_first change n (tasks_of es)) (last ∙ sym (length-tasks es))
+      ∙ changed-all change (tasks_of es)
 
 -- a task that a pivot moves keeps its name, its forks and its files
 module _ (namespace : ℕ) (root new : Mount ℕ) where
@@ -139,5 +151,6 @@ module _ (namespace : ℕ) (root new : Mount ℕ) where
       by true = refl
       by false = refl
 
-  pub fit-pivoted : {A : Type 0} (es after : List (Vec ℕ A × Held)) → AreFit es → keys_of after ≡ keys_of es → tasks_of after ≡ map pivoting (tasks_of es) → AreFit after
+  pub fit-pivoted : {A : Type 0} (es after : List (Vec ℕ A × Held)) → AreFit es → keys_of after ≡ keys_of es
+      → tasks_of after ≡ map pivoting (tasks_of es) → AreFit after
   fit-pivoted es after fit keys so = fit-changed pivoting same-name same-forks same-files es after fit keys so

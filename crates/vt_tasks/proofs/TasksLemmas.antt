@@ -45,14 +45,16 @@ module _ {A : Type 0} where
   tasks-values (e ∷ es) = ap (λ l. task_of e.1 ∷ l) (tasks-values es)
 
   -- a name finds the task that it is under
-  pub called-tasks : (name : TaskName) (es : List (Vec ℕ A × Held)) → AreKeyed es → called name (tasks_of es) ≡ option_map task_of (lookup (is_key name) es)
+  pub called-tasks : (name : TaskName) (es : List (Vec ℕ A × Held)) → AreKeyed es
+      → called name (tasks_of es) ≡ option_map task_of (lookup (is_key name) es)
   called-tasks name [] keyed = refl
   called-tasks name (e ∷ es) keyed =
       ap (λ own. cond (same_name name own) (Some (task_of e.1)) (called name (tasks_of es))) (sym keyed.0)
       ∙ by (is_key name e.0) (called-tasks name es keyed.1)
     where
       by : (b : Bool) → called name (tasks_of es) ≡ option_map task_of (lookup (is_key name) es)
-          → cond b (Some (task_of e.1)) (called name (tasks_of es)) ≡ option_map task_of (cond b (Some e.1) (lookup (is_key name) es))
+          → cond b (Some (task_of e.1)) (called name (tasks_of es))
+          ≡ option_map task_of (cond b (Some e.1) (lookup (is_key name) es))
       by true rest = refl
       by false rest = rest
 
@@ -61,7 +63,8 @@ module _ {A : Type 0} where
   other_name name k x here apart = nat_list_eq_equiv.congr name k.items x.items here ∙ apart
 
   -- where no task has the name, a change of it changes none
-  put-none : (name : TaskName) (new : Task ℕ) (k : Vec ℕ A) (es : List (Vec ℕ A × Held)) → AreKeyed es → is_key name k ≡ true
+  put-none : (name : TaskName) (new : Task ℕ) (k : Vec ℕ A) (es : List (Vec ℕ A × Held)) → AreKeyed es
+      → is_key name k ≡ true
       → AllByRecursion (λ y. key_eq k y ≡ false) (keys_of es) → put name new (tasks_of es) ≡ tasks_of es
   put-none name new k [] keyed here apart = refl
   put-none name new k (e ∷ es) keyed here apart =
@@ -74,11 +77,13 @@ module _ {A : Type 0} where
       by false wrong rest = ap (λ l. task_of e.1 ∷ l) rest
 
   -- the task that a name finds is the one with that name
-  put-set_value : (name : TaskName) (w : Held) (es : List (Vec ℕ A × Held)) → AreKeyed es → IsDistinct key_eq (keys_of es)
+  put-set_value : (name : TaskName) (w : Held) (es : List (Vec ℕ A × Held)) → AreKeyed es
+      → IsDistinct key_eq (keys_of es)
       → tasks_of (set_value (is_key name) es w) ≡ put name (task_of w) (tasks_of es)
   put-set_value name w [] keyed distinct = refl
   put-set_value name w (e ∷ es) keyed distinct =
-      by (is_key name e.0) (λ here. put-none name (task_of w) e.0 es keyed.1 here (IsDistinct-head key_eq e.0 (keys_of es) distinct))
+      by (is_key name e.0) (λ here. put-none name (task_of w) e.0 es keyed.1 here
+      (IsDistinct-head key_eq e.0 (keys_of es) distinct))
       (put-set_value name w es keyed.1 (IsDistinct-tail key_eq e.0 (keys_of es) distinct))
       ∙ ap (λ own. cond (same_name name own) (task_of w) (task_of e.1) ∷ put name (task_of w) (tasks_of es)) keyed.0
     where
@@ -89,14 +94,17 @@ module _ {A : Type 0} where
       by true none rest = ap (λ l. task_of w ∷ l) (sym (none refl))
       by false none rest = ap (λ l. task_of e.1 ∷ l) rest
 
-  tasks-set_value : (name : TaskName) (w : Held) (es : List (Vec ℕ A × Held)) → AreKeyed es → IsDistinct key_eq (keys_of es) → w.name ≡ name
+  tasks-set_value : (name : TaskName) (w : Held) (es : List (Vec ℕ A × Held)) → AreKeyed es
+      → IsDistinct key_eq (keys_of es) → w.name ≡ name
       → tasks_of (set_value (is_key name) es w) ≡ replaced (task_of w) (tasks_of es)
   tasks-set_value name w es keyed distinct same =
       put-set_value name w es keyed distinct ∙ ap (λ own. put own (task_of w) (tasks_of es)) (sym same)
 
-  keyed-set_value : (name : TaskName) (w : Held) (es : List (Vec ℕ A × Held)) → AreKeyed es → w.name ≡ name → AreKeyed (set_value (is_key name) es w)
+  keyed-set_value : (name : TaskName) (w : Held) (es : List (Vec ℕ A × Held)) → AreKeyed es → w.name ≡ name
+      → AreKeyed (set_value (is_key name) es w)
   keyed-set_value name w [] keyed same = keyed
-  keyed-set_value name w (e ∷ es) keyed same = by (is_key name e.0) (same_names name e.0.items) (keyed-set_value name w es keyed.1 same)
+  keyed-set_value name w (e ∷ es) keyed same = by (is_key name e.0) (same_names name e.0.items)
+      (keyed-set_value name w es keyed.1 same)
     where
       by : (b : Bool) → (b ≡ true → name ≡ e.0.items) → AreKeyed (set_value (is_key name) es w)
           → AreKeyed (cond b ((e.0, w) ∷ es) (e ∷ set_value (is_key name) es w))
@@ -104,27 +112,35 @@ module _ {A : Type 0} where
       by false here rest = (keyed.0, rest)
 
   -- a name that finds no task is no task's
-  without-absent : (name : TaskName) (es : List (Vec ℕ A × Held)) → AreKeyed es → lookup (is_key name) es ≡ None → without_called name (tasks_of es) ≡ tasks_of es
+  without-absent : (name : TaskName) (es : List (Vec ℕ A × Held)) → AreKeyed es → lookup (is_key name) es ≡ None
+      → without_called name (tasks_of es) ≡ tasks_of es
   without-absent name [] keyed absent = refl
   without-absent name (e ∷ es) keyed absent =
-      ap (λ own. cond (not (same_name name own)) (task_of e.1 ∷ without_called name (tasks_of es)) (without_called name (tasks_of es))) (sym keyed.0)
+      ap (λ own. cond (not (same_name name own)) (task_of e.1 ∷ without_called name (tasks_of es))
+      (without_called name (tasks_of es))) (sym keyed.0)
       ∙ by (is_key name e.0) absent (without-absent name es keyed.1)
     where
-      by : (b : Bool) → cond b (Some e.1) (lookup (is_key name) es) ≡ None → (lookup (is_key name) es ≡ None → without_called name (tasks_of es) ≡ tasks_of es)
-          → cond (not b) (task_of e.1 ∷ without_called name (tasks_of es)) (without_called name (tasks_of es)) ≡ tasks_of (e ∷ es)
+      by : (b : Bool) → cond b (Some e.1) (lookup (is_key name) es) ≡ None
+          → (lookup (is_key name) es ≡ None → without_called name (tasks_of es) ≡ tasks_of es)
+          → cond (not b) (task_of e.1 ∷ without_called name (tasks_of es)) (without_called name (tasks_of es))
+          ≡ tasks_of (e ∷ es)
       by true found rest = absurd cc
       by false absent rest = ap (λ l. task_of e.1 ∷ l) (rest absent)
 
-  removed : (name : TaskName) (es : List (Vec ℕ A × Held)) → AreKeyed es → lookup (is_key name) (remove_entry (is_key name) es) ≡ None
+  removed : (name : TaskName) (es : List (Vec ℕ A × Held)) → AreKeyed es
+      → lookup (is_key name) (remove_entry (is_key name) es) ≡ None
       → tasks_of (remove_entry (is_key name) es) ≡ without_called name (tasks_of es)
   removed name [] keyed absent = refl
   removed name (e ∷ es) keyed absent =
       by (is_key name e.0) refl absent (without-absent name es keyed.1) (removed name es keyed.1)
-      ∙ ap (λ own. cond (not (same_name name own)) (task_of e.1 ∷ without_called name (tasks_of es)) (without_called name (tasks_of es))) keyed.0
+      ∙ ap (λ own. cond (not (same_name name own)) (task_of e.1 ∷ without_called name (tasks_of es))
+      (without_called name (tasks_of es))) keyed.0
     where
-      by : (b : Bool) → is_key name e.0 ≡ b → lookup (is_key name) (cond b es (e ∷ remove_entry (is_key name) es)) ≡ None
+      by : (b : Bool) → is_key name e.0 ≡ b
+          → lookup (is_key name) (cond b es (e ∷ remove_entry (is_key name) es)) ≡ None
           → (lookup (is_key name) es ≡ None → without_called name (tasks_of es) ≡ tasks_of es)
-          → (lookup (is_key name) (remove_entry (is_key name) es) ≡ None → tasks_of (remove_entry (is_key name) es) ≡ without_called name (tasks_of es))
+          → (lookup (is_key name) (remove_entry (is_key name) es) ≡ None
+          → tasks_of (remove_entry (is_key name) es) ≡ without_called name (tasks_of es))
           → tasks_of (cond b es (e ∷ remove_entry (is_key name) es))
           ≡ cond (not b) (task_of e.1 ∷ without_called name (tasks_of es)) (without_called name (tasks_of es))
       by true is absent none rest = sym (none absent)
@@ -140,11 +156,14 @@ module _ {A : Type 0} where
       by true rest = keyed.1
       by false rest = (keyed.0, rest)
 
-  pub tasks-removed : (name : TaskName) (es new : List (Vec ℕ A × Held)) → AreFit es → new ≡ remove_entry (is_key name) es → lookup (is_key name) new ≡ None
+  pub tasks-removed : (name : TaskName) (es new : List (Vec ℕ A × Held)) → AreFit es
+      → new ≡ remove_entry (is_key name) es → lookup (is_key name) new ≡ None
       → tasks_of new ≡ without_called name (tasks_of es)
-  tasks-removed name es new fit is absent = ap tasks_of is ∙ removed name es fit.0 (ap (lookup (is_key name)) (sym is) ∙ absent)
+  tasks-removed name es new fit is absent = ap tasks_of is
+      ∙ removed name es fit.0 (ap (lookup (is_key name)) (sym is) ∙ absent)
 
-  pub fit-removed : (name : TaskName) (es new : List (Vec ℕ A × Held)) → AreFit es → new ≡ remove_entry (is_key name) es → lookup (is_key name) new ≡ None → AreFit new
+  pub fit-removed : (name : TaskName) (es new : List (Vec ℕ A × Held)) → AreFit es → new ≡ remove_entry (is_key name) es
+      → lookup (is_key name) new ≡ None → AreFit new
   fit-removed name es new fit is absent =
       let so = tasks-removed name es new fit is absent in (
         subst AreKeyed (sym is) (keyed-removed (is_key name) es fit.0),
@@ -155,11 +174,13 @@ module _ {A : Type 0} where
       )
 
   -- a task that is written back as it was changes nothing
-  set_value-same : (test : Vec ℕ A → Bool) (w : Held) (es : List (Vec ℕ A × Held)) → lookup test es ≡ Some w → set_value test es w ≡ es
+  set_value-same : (test : Vec ℕ A → Bool) (w : Held) (es : List (Vec ℕ A × Held)) → lookup test es ≡ Some w
+      → set_value test es w ≡ es
   set_value-same test w [] found = refl
   set_value-same test w (e ∷ es) found = by (test e.0) found (set_value-same test w es)
     where
-      by : (b : Bool) → cond b (Some e.1) (lookup test es) ≡ Some w → (lookup test es ≡ Some w → set_value test es w ≡ es)
+      by : (b : Bool) → cond b (Some e.1) (lookup test es) ≡ Some w
+          → (lookup test es ≡ Some w → set_value test es w ≡ es)
           → cond b ((e.0, w) ∷ es) (e ∷ set_value test es w) ≡ e ∷ es
       by true here rest = ap (λ held. (e.0, held) ∷ es) (cc)
       by false here rest = ap (λ l. e ∷ l) (rest here)
@@ -171,18 +192,22 @@ module _ {A S : Type 0} (name : TaskName) (m n : IndexMap (Vec ℕ A) Held S) (f
   pub called-absent : get_by (is_key name) m ≡ None → called name (tasks_of m.entries) ≡ None
   called-absent absent = called-tasks name m.entries fit.0 ∙ ap (option_map task_of) absent
 
-  pub called-got : (r : Option Held) → r ≡ get_by (is_key name) m → option_map task_of r ≡ called name (tasks_of m.entries)
+  pub called-got : (r : Option Held) → r ≡ get_by (is_key name) m
+      → option_map task_of r ≡ called name (tasks_of m.entries)
   called-got r is = ap (option_map task_of) is ∙ sym (called-tasks name m.entries fit.0)
 
   pub name-found : (x : Held) → get_by (is_key name) m ≡ Some x → x.name ≡ name
   name-found x found = name-of-called name (tasks_of m.entries) (task_of x) (called-found x found)
 
   -- what was written to the task of a name
-  pub written : (w : Held) → w.name ≡ name → IsUnique key_eq m → WritesThrough key_eq (is_key name) m w n → tasks_of n.entries ≡ replaced (task_of w) (tasks_of m.entries)
+  pub written : (w : Held) → w.name ≡ name → IsUnique key_eq m → WritesThrough key_eq (is_key name) m w n
+      → tasks_of n.entries ≡ replaced (task_of w) (tasks_of m.entries)
   written w same unique writes = ap tasks_of writes.0 ∙ tasks-set_value name w m.entries fit.0 unique same
 
-  pub written-change : (change : Task ℕ → Task ℕ) (x w : Held) → get_by (is_key name) m ≡ Some x → w.name ≡ x.name → IsUnique key_eq m
-      → WritesThrough key_eq (is_key name) m w n → task_of w ≡ change (task_of x) → tasks_of n.entries ≡ changed_called name change (tasks_of m.entries)
+  pub written-change : (change : Task ℕ → Task ℕ) (x w : Held) → get_by (is_key name) m ≡ Some x → w.name ≡ x.name
+      → IsUnique key_eq m
+      → WritesThrough key_eq (is_key name) m w n → task_of w ≡ change (task_of x)
+      → tasks_of n.entries ≡ changed_called name change (tasks_of m.entries)
   written-change change x w found same unique writes is =
       written w (same ∙ name-found x found) unique writes
       ∙ ap (λ task. replaced task (tasks_of m.entries)) is
@@ -193,30 +218,40 @@ module _ {A S : Type 0} (name : TaskName) (m n : IndexMap (Vec ℕ A) Held S) (f
 
   files-replaced : (old new : Task ℕ) → called name (tasks_of m.entries) ≡ Some old → has_files_in_order new ≡ true
       → list_all has_files_in_order (replaced new (tasks_of m.entries)) ≡ true
-  files-replaced old new found files = all-replaced has_files_in_order has_files_in_order new (tasks_of m.entries) fit.3 files (λ other apart e. e)
+  files-replaced old new found files = all-replaced has_files_in_order has_files_in_order new
+      (tasks_of m.entries) fit.3 files (λ other apart e. e)
 
-  pub written-fit : (x w : Held) → get_by (is_key name) m ≡ Some x → w.name ≡ x.name → IsUnique key_eq m → WritesThrough key_eq (is_key name) m w n
-      → x.forks ≤ w.forks → (has_files_in_order (task_of x) ≡ true → has_files_in_order (task_of w) ≡ true) → AreFit n.entries
+  pub written-fit : (x w : Held) → get_by (is_key name) m ≡ Some x → w.name ≡ x.name → IsUnique key_eq m
+      → WritesThrough key_eq (is_key name) m w n
+      → x.forks ≤ w.forks → (has_files_in_order (task_of x) ≡ true → has_files_in_order (task_of w) ≡ true)
+      → AreFit n.entries
   written-fit x w found same unique writes le files =
       let own = same ∙ name-found x found in
       let so = written w own unique writes in (
         subst AreKeyed (sym writes.0) (keyed-set_value name w m.entries fit.0 own),
-        ap are_given_once so ∙ given-changed name (task_of x) (task_of w) (tasks_of m.entries) fit.1 (called-found x found) same le,
+        ap are_given_once so ∙ given-changed name (task_of x) (task_of w) (tasks_of m.entries) fit.1
+            (called-found x found) same le,
         subst AreNamedApart (sym so) (apart-replaced (task_of w) (tasks_of m.entries) fit.2),
-        ap (list_all has_files_in_order) so ∙ files-replaced (task_of x) (task_of w) (called-found x found) (files (in_order x found)),
+        ap (list_all has_files_in_order) so
+            ∙ files-replaced (task_of x) (task_of w) (called-found x found) (files (in_order x found)),
       )
 
-  pub written-same : (x w : Held) → w ≡ x → get_by (is_key name) m ≡ Some x → WritesThrough key_eq (is_key name) m w n → n.entries ≡ m.entries
-  written-same x w same found writes = writes.0 ∙ ap (set_value (is_key name) m.entries) same ∙ set_value-same (is_key name) x m.entries found
+  pub written-same : (x w : Held) → w ≡ x → get_by (is_key name) m ≡ Some x → WritesThrough key_eq (is_key name) m w n
+      → n.entries ≡ m.entries
+  written-same x w same found writes = writes.0 ∙ ap (set_value (is_key name) m.entries) same
+      ∙ set_value-same (is_key name) x m.entries found
 
-  pub changed-absent : (change : Task ℕ → Task ℕ) → get_by (is_key name) m ≡ None → changed_called name change (tasks_of m.entries) ≡ tasks_of m.entries
+  pub changed-absent : (change : Task ℕ → Task ℕ) → get_by (is_key name) m ≡ None
+      → changed_called name change (tasks_of m.entries) ≡ tasks_of m.entries
   changed-absent change absent = ap (changed_by change (tasks_of m.entries)) (called-absent absent)
 
 -- A task that is changed and changed back
 
-put-twice : (name : TaskName) (first second : Task ℕ) (tasks : Tasks) → first.name ≡ name → put name second (put name first tasks) ≡ put name second tasks
+put-twice : (name : TaskName) (first second : Task ℕ) (tasks : Tasks) → first.name ≡ name
+    → put name second (put name first tasks) ≡ put name second tasks
 put-twice name first second [] same = refl
-put-twice name first second (task ∷ tasks) same = λ i. by (same_name name task.name) refl i ∷ put-twice name first second tasks same i
+put-twice name first second (task ∷ tasks) same = λ i. by (same_name name task.name) refl i
+    ∷ put-twice name first second tasks same i
   where
     itself : same_name name task.name ≡ true → same_name name first.name ≡ true
     itself is = ap (same_name name) (same ∙ same_names name task.name is) ∙ is
@@ -225,19 +260,23 @@ put-twice name first second (task ∷ tasks) same = λ i. by (same_name name tas
     by true is = ap (λ b. cond b second first) (itself is)
     by false is = ap (λ b. cond b second task) is
 
-called-put : (name : TaskName) (old new : Task ℕ) (tasks : Tasks) → new.name ≡ name → called name tasks ≡ Some old → called name (put name new tasks) ≡ Some new
+called-put : (name : TaskName) (old new : Task ℕ) (tasks : Tasks) → new.name ≡ name → called name tasks ≡ Some old
+    → called name (put name new tasks) ≡ Some new
 called-put name old new [] same found = absurd cc
-called-put name old new (task ∷ tasks) same found = by (same_name name task.name) refl found (called-put name old new tasks same)
+called-put name old new (task ∷ tasks) same found = by (same_name name task.name) refl found
+    (called-put name old new tasks same)
   where
     by : (b : Bool) → same_name name task.name ≡ b → cond b (Some task) (called name tasks) ≡ Some old
         → (called name tasks ≡ Some old → called name (put name new tasks) ≡ Some new)
         → called name (cond b new task ∷ put name new tasks) ≡ Some new
     by true is here rest =
-        ap (λ b. cond b (Some new) (called name (put name new tasks))) (ap (same_name name) (same ∙ same_names name task.name is) ∙ is)
+        ap (λ b. cond b (Some new) (called name (put name new tasks)))
+        (ap (same_name name) (same ∙ same_names name task.name is) ∙ is)
     by false is here rest = ap (λ b. cond b (Some task) (called name (put name new tasks))) is ∙ rest here
 
 module _ {A S : Type 0} (name : TaskName) (m n : IndexMap (Vec ℕ A) Held S) (fit : AreFit m.entries) where
-  pub written-back : (asked : TaskName) (back : Task ℕ → Task ℕ) (x w : Held) → name ≡ asked → get_by (is_key name) m ≡ Some x → w.name ≡ x.name
+  pub written-back : (asked : TaskName) (back : Task ℕ → Task ℕ) (x w : Held) → name ≡ asked
+      → get_by (is_key name) m ≡ Some x → w.name ≡ x.name
       → IsUnique key_eq m → WritesThrough key_eq (is_key name) m w n → back (task_of w) ≡ task_of x
       → changed_called asked back (tasks_of n.entries) ≡ tasks_of m.entries
   written-back asked back x w asks found same unique writes is =
@@ -268,7 +307,8 @@ module _ {T E P Q : Type 0} where
   on-err (Ok t) so _ = tt
   on-err (Err e) so p = so p
 
-pub ok-equal : {T E : Type 0} (r : Result T E) (x : T) (o : Option T) → Some x ≡ o → IfOk r (λ t. t ≡ x) → IfOk r (λ t. Some t ≡ o)
+pub ok-equal : {T E : Type 0} (r : Result T E) (x : T) (o : Option T) → Some x ≡ o → IfOk r (λ t. t ≡ x)
+    → IfOk r (λ t. Some t ≡ o)
 ok-equal (Ok t) x o is e = ap Some e ∙ is
 ok-equal (Err e) x o is _ = tt
 
@@ -277,14 +317,17 @@ err-equal (Ok t) x y is _ = tt
 err-equal (Err e) x y is p = p ∙ is
 
 -- a file is opened under the number that is told
-pub opened-under : (r : Result ℕ Deny) (held : OpenFile) (free : ℕ) (old new : List (Descriptor ℕ)) → IfOk r (λ number. number ≡ free)
+pub opened-under : (r : Result ℕ Deny) (held : OpenFile) (free : ℕ) (old new : List (Descriptor ℕ))
+    → IfOk r (λ number. number ≡ free)
     → IfOk r (λ number. new ≡ inserted (numbered number held) old) → OnOk r (new ≡ inserted (numbered free held) old)
 opened-under (Ok number) held free old new here is = is ∙ ap (λ number. inserted (numbered number held) old) here
 opened-under (Err e) held free old new here is = tt
 
 -- and the others stay in order
-pub opened-in_order : (r : Result ℕ Deny) (held : OpenFile) (old new : List (Descriptor ℕ)) → IfOk r (λ number. number ≡ free_from 0 old)
-    → IfOk r (λ number. new ≡ inserted (numbered number held) old) → OnErr r (new ≡ old) → are_ascending_from 0 old ≡ true → are_ascending_from 0 new ≡ true
+pub opened-in_order : (r : Result ℕ Deny) (held : OpenFile) (old new : List (Descriptor ℕ))
+    → IfOk r (λ number. number ≡ free_from 0 old)
+    → IfOk r (λ number. new ≡ inserted (numbered number held) old) → OnErr r (new ≡ old)
+    → are_ascending_from 0 old ≡ true → are_ascending_from 0 new ≡ true
 opened-in_order (Ok number) held old new here is same rising =
     ap (are_ascending_from 0) is ∙ rising-inserted (numbered number held) 0 old rising (sym here)
 opened-in_order (Err e) held old new here is same rising = ap (are_ascending_from 0) same ∙ rising
@@ -295,7 +338,8 @@ pub granted-there : (P : Task ℕ → Type 0) (found : Option (Task ℕ)) → Is
 granted-there P None may absent = may
 granted-there P (Some task) may absent = absurd cc
 
-pub granted-so : (P : Task ℕ → Type 0) (found : Option (Task ℕ)) (task : Task ℕ) → IsSomeAnd found P → found ≡ Some task → P task
+pub granted-so : (P : Task ℕ → Type 0) (found : Option (Task ℕ)) (task : Task ℕ) → IsSomeAnd found P → found ≡ Some task
+    → P task
 granted-so P found task may is = subst (λ one. IsSomeAnd one P) is may
 
 pub there-shared : (held : Option (Bor Held)) → (option_copied held ≡ None → ⊥) → is_some held ≡ true
@@ -309,35 +353,43 @@ there-mut (Some held) never = refl
 -- A child behind all other tasks
 
 module _ {A : Type 0} where
-  lookup-behind : (test : Vec ℕ A → Bool) (x : Held) (e : Vec ℕ A × Held) (es : List (Vec ℕ A × Held)) → lookup test es ≡ Some x → lookup test (es ++ e ∷ []) ≡ Some x
+  lookup-behind : (test : Vec ℕ A → Bool) (x : Held) (e : Vec ℕ A × Held) (es : List (Vec ℕ A × Held))
+      → lookup test es ≡ Some x → lookup test (es ++ e ∷ []) ≡ Some x
   lookup-behind test x e [] found = absurd cc
   lookup-behind test x e (y ∷ es) found = by (test y.0) found (lookup-behind test x e es)
     where
-      by : (b : Bool) → cond b (Some y.1) (lookup test es) ≡ Some x → (lookup test es ≡ Some x → lookup test (es ++ e ∷ []) ≡ Some x)
+      by : (b : Bool) → cond b (Some y.1) (lookup test es) ≡ Some x
+          → (lookup test es ≡ Some x → lookup test (es ++ e ∷ []) ≡ Some x)
           → cond b (Some y.1) (lookup test (es ++ e ∷ [])) ≡ Some x
       by true here rest = here
       by false here rest = rest here
 
-  tasks-behind : (e : Vec ℕ A × Held) (es : List (Vec ℕ A × Held)) → tasks_of (es ++ e ∷ []) ≡ tasks_of es ++ task_of e.1 ∷ []
+  tasks-behind : (e : Vec ℕ A × Held) (es : List (Vec ℕ A × Held))
+      → tasks_of (es ++ e ∷ []) ≡ tasks_of es ++ task_of e.1 ∷ []
   tasks-behind e [] = refl
   tasks-behind e (y ∷ es) = ap (λ l. task_of y.1 ∷ l) (tasks-behind e es)
 
-  keyed-behind : (e : Vec ℕ A × Held) (es : List (Vec ℕ A × Held)) → AreKeyed es → e.0.items ≡ e.1.name → AreKeyed (es ++ e ∷ [])
+  keyed-behind : (e : Vec ℕ A × Held) (es : List (Vec ℕ A × Held)) → AreKeyed es → e.0.items ≡ e.1.name
+      → AreKeyed (es ++ e ∷ [])
   keyed-behind e [] keyed last = (last, keyed)
   keyed-behind e (y ∷ es) keyed last = (keyed.0, keyed-behind e es keyed.1 last)
 
-  absent-called : (name : TaskName) (es : List (Vec ℕ A × Held)) → AreKeyed es → called name (tasks_of es) ≡ None → lookup (is_key name) es ≡ None
+  absent-called : (name : TaskName) (es : List (Vec ℕ A × Held)) → AreKeyed es → called name (tasks_of es) ≡ None
+      → lookup (is_key name) es ≡ None
   absent-called name es keyed absent = by (lookup (is_key name) es) (sym (called-tasks name es keyed) ∙ absent)
     where
       by : (r : Option Held) → option_map task_of r ≡ None → r ≡ None
       by None e = refl
       by (Some x) e = absurd cc
 
-replaced-behind : (parent child : Task ℕ) (tasks : Tasks) → same_name parent.name child.name ≡ false → replaced parent (tasks ++ child ∷ []) ≡ replaced parent tasks ++ child ∷ []
+replaced-behind : (parent child : Task ℕ) (tasks : Tasks) → same_name parent.name child.name ≡ false
+    → replaced parent (tasks ++ child ∷ []) ≡ replaced parent tasks ++ child ∷ []
 replaced-behind parent child [] other = ap (λ b. cond b parent child ∷ []) other
-replaced-behind parent child (task ∷ tasks) other = ap (λ l. replaced_if_called parent task ∷ l) (replaced-behind parent child tasks other)
+replaced-behind parent child (task ∷ tasks) other = ap (λ l. replaced_if_called parent task ∷ l)
+    (replaced-behind parent child tasks other)
 
-module _ {A S : Type 0} (name : TaskName) (m middle n : IndexMap (Vec ℕ A) Held S) (key : Vec ℕ A) (parent child : Held) (credentials : Credentials)
+module _ {A S : Type 0} (name : TaskName) (m middle n : IndexMap (Vec ℕ A) Held S) (key : Vec ℕ A) (parent child : Held)
+    (credentials : Credentials)
     (fit : AreFit m.entries) (is : get_by (is_key name) m ≡ Some parent)
     (key_is : key.items ≡ child.name) (child_is : task_of child ≡ child_of (task_of parent) credentials)
     (inserts : middle.entries ≡ insert_entry key_eq m.entries key child) where
@@ -352,7 +404,8 @@ module _ {A S : Type 0} (name : TaskName) (m middle n : IndexMap (Vec ℕ A) Hel
       inserts
       ∙ insert_entry-new key_eq m key child
       (absent-called key.items m.entries fit.0
-      (ap (λ name. called name (tasks_of m.entries)) named_so ∙ child-new name (task_of parent) (tasks_of m.entries) fit.1 here))
+      (ap (λ name. called name (tasks_of m.entries)) named_so
+      ∙ child-new name (task_of parent) (tasks_of m.entries) fit.1 here))
 
   keyed-middle : AreKeyed middle.entries
   keyed-middle = subst AreKeyed (sym behind) (keyed-behind (key, child) m.entries fit.0 key_is)
@@ -368,8 +421,10 @@ module _ {A S : Type 0} (name : TaskName) (m middle n : IndexMap (Vec ℕ A) Hel
   own : parent.name ≡ name
   own = name-found name m m fit parent is
 
-  by-parent : (w : Held) → task_of w ≡ forked_once (task_of parent) → IsUnique key_eq middle → WritesThrough key_eq (is_key name) middle w n
-      → tasks_of n.entries ≡ with_child_behind (task_of parent) (child_of (task_of parent) credentials) (tasks_of m.entries)
+  by-parent : (w : Held) → task_of w ≡ forked_once (task_of parent) → IsUnique key_eq middle
+      → WritesThrough key_eq (is_key name) middle w n
+      → tasks_of n.entries ≡ with_child_behind (task_of parent) (child_of (task_of parent) credentials)
+      (tasks_of m.entries)
   by-parent w once unique writes =
       ap tasks_of writes.0
       ∙ tasks-set_value name w middle.entries keyed-middle unique (ap (λ (task : Task ℕ). task.name) once ∙ own)
@@ -378,7 +433,8 @@ module _ {A S : Type 0} (name : TaskName) (m middle n : IndexMap (Vec ℕ A) Hel
       ∙ replaced-behind (forked_once (task_of parent)) (child_of (task_of parent) credentials) (tasks_of m.entries)
       (other-child parent.name (parent.forks + 1))
 
-  once-forked : (found w : Held) → get_by (is_key name) middle ≡ Some found → w ≡ record found { forks = parent.forks + 1 } → task_of w ≡ forked_once (task_of parent)
+  once-forked : (found w : Held) → get_by (is_key name) middle ≡ Some found
+      → w ≡ record found { forks = parent.forks + 1 } → task_of w ≡ forked_once (task_of parent)
   once-forked found w there forks =
       let same : found ≡ parent = some_equal found parent (sym there ∙ still-found) in
       ap task_of forks ∙ (λ i. task_of (record (same i) { forks = parent.forks + 1 }))
@@ -386,20 +442,28 @@ module _ {A S : Type 0} (name : TaskName) (m middle n : IndexMap (Vec ℕ A) Hel
       some_equal : (x y : Held) → Some x ≡ Some y → x ≡ y
       some_equal x y e = cc
 
-  pub forked-so : (found w : Held) → get_by (is_key name) middle ≡ Some found → w ≡ record found { forks = parent.forks + 1 } → IsUnique key_eq middle
-      → WritesThrough key_eq (is_key name) middle w n → tasks_of n.entries ≡ forked name credentials (tasks_of m.entries)
+  pub forked-so : (found w : Held) → get_by (is_key name) middle ≡ Some found
+      → w ≡ record found { forks = parent.forks + 1 } → IsUnique key_eq middle
+      → WritesThrough key_eq (is_key name) middle w n
+      → tasks_of n.entries ≡ forked name credentials (tasks_of m.entries)
   forked-so found w there forks unique writes =
-      by-parent w (once-forked found w there forks) unique writes ∙ sym (ap (forked_by credentials (tasks_of m.entries)) here)
+      by-parent w (once-forked found w there forks) unique writes
+      ∙ sym (ap (forked_by credentials (tasks_of m.entries)) here)
 
-  pub fit-forked : (found w : Held) → get_by (is_key name) middle ≡ Some found → w ≡ record found { forks = parent.forks + 1 } → IsUnique key_eq middle
+  pub fit-forked : (found w : Held) → get_by (is_key name) middle ≡ Some found
+      → w ≡ record found { forks = parent.forks + 1 } → IsUnique key_eq middle
       → WritesThrough key_eq (is_key name) middle w n → AreFit n.entries
   fit-forked found w there forks unique writes =
       let once = once-forked found w there forks in
       let so = by-parent w once unique writes in (
-        subst AreKeyed (sym writes.0) (keyed-set_value name w middle.entries keyed-middle (ap (λ (task : Task ℕ). task.name) once ∙ own)),
+        subst AreKeyed (sym writes.0) (keyed-set_value name w middle.entries keyed-middle
+            (ap (λ (task : Task ℕ). task.name) once ∙ own)),
         ap are_given_once so ∙ given-forked name (task_of parent) (tasks_of m.entries) fit.1 here credentials,
-        subst AreNamedApart (sym so) (apart-forked name (task_of parent) (tasks_of m.entries) fit.1 here credentials fit.2),
+        subst AreNamedApart (sym so) (apart-forked name (task_of parent)
+            (tasks_of m.entries) fit.1 here credentials fit.2),
         ap (list_all has_files_in_order) so
-            ∙ all-behind has_files_in_order (replaced (forked_once (task_of parent)) (tasks_of m.entries)) (child_of (task_of parent) credentials)
-            (files-replaced name m m fit (task_of parent) (forked_once (task_of parent)) here (in_order name m m fit parent is)) refl,
+            ∙ all-behind has_files_in_order (replaced (forked_once (task_of parent)) (tasks_of m.entries))
+            (child_of (task_of parent) credentials)
+            (files-replaced name m m fit (task_of parent) (forked_once (task_of parent)) here
+            (in_order name m m fit parent is)) refl,
       )

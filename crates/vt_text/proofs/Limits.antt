@@ -12,14 +12,17 @@ use Rattle.vt_text.proofs.PathWords.{words_between_within, words_between-append,
 use Rattle.vt_text.specs.Walkable.{IsTooLong, IsWalkable}
 
 -- by the test of the rule W2
-pub IsTooLong-from_test : (text : List ℕ) → (nat_lt longest_path (length text) || list_any (λ word. nat_lt longest_name (length word)) (words text)) ≡ true → IsTooLong text
+pub IsTooLong-from_test : (text : List ℕ)
+    → (nat_lt longest_path (length text) || list_any (λ word. nat_lt longest_name (length word)) (words text)) ≡ true
+    → IsTooLong text
 IsTooLong-from_test text test =
     ⊎_elim
     (λ path. inl (ltb-true longest_path (length text) path))
     (λ word.
     let found = Any-from_list_any (λ word. nat_lt longest_name (length word)) (words text) word in
     inr (found.0, found.1, found.2, found.3, ltb-true longest_name (length found.1) found.4))
-    (or_cases (nat_lt longest_path (length text)) (list_any (λ word. nat_lt longest_name (length word)) (words text)) test)
+    (or_cases (nat_lt longest_path (length text))
+    (list_any (λ word. nat_lt longest_name (length word)) (words text)) test)
 
 -- such a text may not be walked
 pub not_walkable : (text : List ℕ) → IsTooLong text → IsWalkable text → ⊥
@@ -44,7 +47,8 @@ abbrev pub some_long : List (List ℕ) → Bool
 some_long texts = list_any (λ word. nat_lt longest_name (length word)) texts
 
 -- what stands before a slash, and is within the limit of a word, does not matter
-pub long_word_after : (text : List ℕ) (slash : ℕ) → slash < length text → slash ≤ longest_name → get_or text slash 0 ≡ 47
+pub long_word_after : (text : List ℕ) (slash : ℕ) → slash < length text → slash ≤ longest_name
+    → get_or text slash 0 ≡ 47
     → some_long (words text) ≡ some_long (words (drop (slash + 1) text))
 long_word_after text slash within short there =
     let front = take slash text in
@@ -70,7 +74,8 @@ part_with_front (byte ∷ front) rest other =
     let found = part_with_front front rest (All-tail (λ byte. byte ≢ 47) byte front other) in (
       found.0,
       found.1,
-      ap (λ test. with_byte test byte (parts 47 (front ++ rest))) (ne_eqb byte 47 (All-head (λ byte. byte ≢ 47) byte front other))
+      ap (λ test. with_byte test byte (parts 47 (front ++ rest)))
+          (ne_eqb byte 47 (All-head (λ byte. byte ≢ 47) byte front other))
           ∙ ap (with_byte false byte) found.2,
     )
 
@@ -78,7 +83,8 @@ first_is_long : (word : List ℕ) (tail : List (List ℕ)) → longest_name < le
     → some_long (filter (λ part. not (is_empty part)) (word ∷ tail)) ≡ true
 first_is_long [] tail long = absurd (omega arith)
 first_is_long (byte ∷ bytes) tail long =
-    ap (λ first. first || some_long (filter (λ part. not (is_empty part)) tail)) (lt-ltb longest_name (length (byte ∷ bytes)) long)
+    ap (λ first. first || some_long (filter (λ part. not (is_empty part)) tail))
+    (lt-ltb longest_name (length (byte ∷ bytes)) long)
 
 -- a text of which one byte more than the limit of a word has no slash has a word over it
 pub long_word_here : (text : List ℕ) → longest_name < length text → ((k : ℕ) → k ≤ longest_name → get_or text k 0 ≢ 47)

@@ -8,13 +8,16 @@ module _ {A : Type 0} (next : A → Option A) where
   last-chain zero a x y = refl
   last-chain (suc most) a x y = by (next a)
     where
-      by : (step : Option A) → last_or x (elim step [ None ↦ a ∷ [] | Some b ↦ a ∷ chain most next b ]) ≡ last_or y (elim step [ None ↦ a ∷ [] | Some b ↦ a ∷ chain most next b ])
+      by : (step : Option A) → last_or x (elim step [ None ↦ a ∷ [] | Some b ↦ a ∷ chain most next b ])
+          ≡ last_or y (elim step [ None ↦ a ∷ [] | Some b ↦ a ∷ chain most next b ])
       by None = refl
       by (Some b) = refl
 
-  one-further : (most : ℕ) (a b : A) → next a ≡ Some b → last_or b (chain most next b) ≡ last_or a (chain (suc most) next a)
+  one-further : (most : ℕ) (a b : A) → next a ≡ Some b
+      → last_or b (chain most next b) ≡ last_or a (chain (suc most) next a)
   one-further most a b e =
-      last-chain most b b a ∙ ap (λ step. last_or a (elim step [ None ↦ a ∷ [] | Some b ↦ a ∷ chain most next b ])) (sym e)
+      last-chain most b b a ∙ ap (λ step. last_or a (elim step [ None ↦ a ∷ [] | Some b ↦ a ∷ chain most next b ]))
+      (sym e)
 
   pub chain-further : (count turn : ℕ) (a b : A) → turn < count → next a ≡ Some b
       → last_or b (chain (count - (turn + 1)) next b) ≡ last_or a (chain (count - turn) next a)

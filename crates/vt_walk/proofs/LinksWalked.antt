@@ -14,16 +14,21 @@ use Rattle.vt_walk.proofs.RefusalLemmas.{and_then-and_then, unless-and_then, unl
 use Rattle.vt_walk.specs.PendingTexts.{links_within}
 
 -- a link that may be followed is one of those that are left
-some-left : (nosymfollow : Bool) (left : ℕ) (rows : Rules) (start next : Here ℕ) → Ok next ≡ unless ((nosymfollow, W9) ∷ (left == 0, W7) ∷ rows) (Ok start) → 0 < left
+some-left : (nosymfollow : Bool) (left : ℕ) (rows : Rules) (start next : Here ℕ)
+    → Ok next ≡ unless ((nosymfollow, W9) ∷ (left == 0, W7) ∷ rows) (Ok start) → 0 < left
 some-left true left rows start next e = absurd cc
 some-left false zero rows start next e = absurd cc
 some-left false (suc left) rows start next e = omega arith
 
 pub begun-left : (looks : Looks ℕ) (task : Task ℕ) (directory : Location ℕ) (link next : Here ℕ) (text : List ℕ)
-    → Ok next ≡ unless (follow_rules nat_eq looks link text) (Ok (symlink_start looks task directory link text)) → next.left + 1 ≡ link.left
+    → Ok next ≡ unless (follow_rules nat_eq looks link text) (Ok (symlink_start looks task directory link text))
+    → next.left + 1 ≡ link.left
 begun-left looks task directory link next text e =
-    let some = some-left (mount_at looks link.location).flags.nosymfollow link.left _ (symlink_start looks task directory link text) next e in
-    let less : link.left - 1 ≡ next.left = ap (λ here. here.left) (unless-answer (follow_rules nat_eq looks link text) (symlink_start looks task directory link text) next (sym e)) in
+    let some = some-left (mount_at looks link.location).flags.nosymfollow link.left _
+    (symlink_start looks task directory link text) next e in
+    let less : link.left - 1 ≡ next.left = ap (λ here. here.left)
+    (unless-answer (follow_rules nat_eq looks link text) (symlink_start looks task directory link text) next
+    (sym e)) in
     omega arith
 
 module _ (looks : Looks ℕ) (task : Task ℕ) where
@@ -51,16 +56,20 @@ module _ (looks : Looks ℕ) (task : Task ℕ) where
         Err deny ≡ unless (follow_rules nat_eq looks link text) (Ok (symlink_start looks task directory link text))
         → Err deny ≡ symlink_walked looks task depth directory link text
     follow-refused deny refused =
-        sym (unless-refused (follow_rules nat_eq looks link text) (symlink_start looks task directory link text) _ deny (sym refused))
+        sym (unless-refused (follow_rules nat_eq looks link text) (symlink_start looks task directory link text) _ deny
+        (sym refused))
         ∙ sym (symlink_walked-deep depth directory link text deep)
 
     pub follow-begun : (start : Here ℕ) →
         Ok start ≡ unless (follow_rules nat_eq looks link text) (Ok (symlink_start looks task directory link text))
-        → and_then (inside_walked (depth - 1) start (words text)) (slash_checked text) ≡ symlink_walked looks task depth directory link text
+        → and_then (inside_walked (depth - 1) start (words text)) (slash_checked text)
+        ≡ symlink_walked looks task depth directory link text
     follow-begun start begun =
         ap (λ s. and_then (inside_walked (depth - 1) s (words text)) (slash_checked text))
-        (sym (unless-answer (follow_rules nat_eq looks link text) (symlink_start looks task directory link text) start (sym begun)))
-        ∙ sym (unless-passed (follow_rules nat_eq looks link text) (symlink_start looks task directory link text) start _ (sym begun))
+        (sym (unless-answer (follow_rules nat_eq looks link text) (symlink_start looks task directory link text) start
+        (sym begun)))
+        ∙ sym (unless-passed (follow_rules nat_eq looks link text)
+        (symlink_start looks task directory link text) start _ (sym begun))
         ∙ sym (symlink_walked-deep depth directory link text deep)
 
     -- the words behind the link
@@ -73,7 +82,8 @@ module _ (looks : Looks ℕ) (task : Task ℕ) where
         → (behind : List (List ℕ)) (after : Here ℕ → Result (Here ℕ) Deny)
         → and_then (inside_walked (depth - 1) start (words text)) (λ reached.
         unless (slash_rules nat_eq looks text reached.location) (and_then (behind_walked behind reached) after))
-        ≡ and_then (symlink_walked looks task depth directory link text) (λ next. and_then (behind_walked behind next) after)
+        ≡ and_then (symlink_walked looks task depth directory link text)
+        (λ next. and_then (behind_walked behind next) after)
     begun-walked start begun behind after =
         let rest : Here ℕ → Result (Here ℕ) Deny = λ next. and_then (behind_walked behind next) after in
         (λ i. and_then (inside_walked (depth - 1) start (words text))

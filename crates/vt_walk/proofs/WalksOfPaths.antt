@@ -33,7 +33,8 @@ is-false false _ = refl
 pub parsed-walkable : (text : List ℕ) → IsWalkable text → parsed_path text ≡ Ok text
 parsed-walkable text walkable =
     let some = is_empty-false text walkable.not_empty in
-    let short = is-false (nat_lt longest_path (length text) || list_any (λ word. nat_lt longest_name (length word)) (words text))
+    let short = is-false (nat_lt longest_path (length text)
+    || list_any (λ word. nat_lt longest_name (length word)) (words text))
     (λ test. not_walkable text (IsTooLong-from_test text test) walkable) in
     rw (some, short) refl
 
@@ -42,14 +43,17 @@ module _ (looks : Looks ℕ) (task : Task ℕ) where
   abbrev pub walked_from : Here ℕ → List (List ℕ) → Result (Here ℕ) Deny
   walked_from start ws = words_walked looks task (followed looks task) start (reverse ws)
 
-  front_walked-rest : (start : Here ℕ) (ws : List (List ℕ)) → front_walked looks task start ws ≡ words_walked looks task (followed looks task) start (rest_of ws)
+  front_walked-rest : (start : Here ℕ) (ws : List (List ℕ))
+      → front_walked looks task start ws ≡ words_walked looks task (followed looks task) start (rest_of ws)
   front_walked-rest start [] = refl
   front_walked-rest start (word ∷ front) = refl
 
-  pub front_walked-split : (start : Here ℕ) (text : List ℕ) (front : List (List ℕ)) → reverse front ≡ rest_of (reverse (words text))
+  pub front_walked-split : (start : Here ℕ) (text : List ℕ) (front : List (List ℕ))
+      → reverse front ≡ rest_of (reverse (words text))
       → walked_from start front ≡ front_walked looks task start (reverse (words text))
   front_walked-split start text front split =
-      ap (words_walked looks task (followed looks task) start) split ∙ sym (front_walked-rest start (reverse (words text)))
+      ap (words_walked looks task (followed looks task) start) split
+      ∙ sym (front_walked-rest start (reverse (words text)))
 
   -- what is asked at the end of a walk
   abbrev pub slash_checked : List ℕ → Location ℕ → Result (Location ℕ) Deny
@@ -58,93 +62,134 @@ module _ (looks : Looks ℕ) (task : Task ℕ) where
   abbrev pub directory_checked : Location ℕ → Result (Location ℕ) Deny
   directory_checked here = unless ((not (is_directory_at looks here), W3) ∷ []) (Ok here)
 
-  pub slash-refused : (path : List ℕ) (here : Location ℕ) (deny : Deny) → Err deny ≡ unless {A = Unit {0}} (slash_rules nat_eq looks path here) (Ok tt)
+  pub slash-refused : (path : List ℕ) (here : Location ℕ) (deny : Deny)
+      → Err deny ≡ unless {A = Unit {0}} (slash_rules nat_eq looks path here) (Ok tt)
       → Err deny ≡ slash_checked path here
   slash-refused path here deny e = unless-stopped (slash_rules nat_eq looks path here) (Ok here) deny e
 
-  pub slash-passed : (path : List ℕ) (here : Location ℕ) → Ok tt ≡ unless {A = Unit {0}} (slash_rules nat_eq looks path here) (Ok tt)
+  pub slash-passed : (path : List ℕ) (here : Location ℕ)
+      → Ok tt ≡ unless {A = Unit {0}} (slash_rules nat_eq looks path here) (Ok tt)
       → Ok here ≡ slash_checked path here
   slash-passed path here e = sym (unless-let_through (slash_rules nat_eq looks path here) (Ok here) e)
 
-  pub directory-refused : (here : Location ℕ) → is_directory_at looks here ≡ false → Err (denial W3) ≡ directory_checked here
+  pub directory-refused : (here : Location ℕ) → is_directory_at looks here ≡ false
+      → Err (denial W3) ≡ directory_checked here
   directory-refused here e = sym (ap (λ b. unless ((not b, W3) ∷ []) (Ok here)) e)
 
   pub directory-passed : (here : Location ℕ) → is_directory_at looks here ≡ true → Ok here ≡ directory_checked here
   directory-passed here e = sym (ap (λ b. unless ((not b, W3) ∷ []) (Ok here)) e)
 
   -- the end of a walk whose words are walked
-  module _ (path : List ℕ) (walkable : IsWalkable path) (bytes : List ℕ) (same : bytes ≡ path) (start : Here ℕ) (begun : start ≡ walk_start task bytes) where
+  module _ (path : List ℕ) (walkable : IsWalkable path) (bytes : List ℕ) (same : bytes ≡ path) (start : Here ℕ)
+      (begun : start ≡ walk_start task bytes) where
     begun-path : start ≡ walk_start task path
     begun-path = begun ∙ ap (walk_start task) same
 
-    module _ (r : Result (Here ℕ) Deny) (ws : List (List ℕ)) (all : ws ≡ words path) (walked : r ≡ walked_from start ws) where
+    module _ (r : Result (Here ℕ) Deny) (ws : List (List ℕ)) (all : ws ≡ words path)
+        (walked : r ≡ walked_from start ws) where
       path_walked-by : location_end r ≡ location_end (walk_end (path_walked nat_eq looks task path))
       path_walked-by =
-          (λ i. location_end ((walked ∙ (λ j. walked_from (begun-path j) (all j)) ∙ sym (all-plain looks task (walk_start task path) (reverse (words path)))) i))
-          ∙ location-plain (Walking.words_walked nat_eq looks task (Walking.followed nat_eq looks task) (walk_start task path) (reverse (words path)))
+          (λ i. location_end ((walked ∙ (λ j. walked_from (begun-path j) (all j))
+          ∙ sym (all-plain looks task (walk_start task path) (reverse (words path)))) i))
+          ∙ location-plain (Walking.words_walked nat_eq looks task (Walking.followed nat_eq looks task)
+          (walk_start task path) (reverse (words path)))
           ∙ sym (ap (λ r. location_end (walk_end (then_walk (stopped_by [] r) (λ text.
-          Walking.words_walked nat_eq looks task (Walking.followed nat_eq looks task) (walk_start task text) (reverse (words text)))))) (parsed-walkable path walkable))
+          Walking.words_walked nat_eq looks task (Walking.followed nat_eq looks task) (walk_start task text)
+          (reverse (words text)))))) (parsed-walkable path walkable))
 
-      pub object_walk-by : and_then (location_end r) (slash_checked bytes) ≡ location_end (walk_end (object_walk nat_eq looks task path))
+      pub object_walk-by : and_then (location_end r) (slash_checked bytes)
+          ≡ location_end (walk_end (object_walk nat_eq looks task path))
       object_walk-by =
           (λ i. and_then (path_walked-by i) (slash_checked (same i)))
           ∙ location-checked (path_walked nat_eq looks task path) (slash_rules nat_eq looks path) (λ here. here)
 
-      pub directory_walk-by : and_then (location_end r) directory_checked ≡ location_end (walk_end (directory_walk nat_eq looks task path))
+      pub directory_walk-by : and_then (location_end r) directory_checked
+          ≡ location_end (walk_end (directory_walk nat_eq looks task path))
       directory_walk-by =
           (λ i. and_then (path_walked-by i) directory_checked)
-          ∙ location-checked (path_walked nat_eq looks task path) (λ here. (not (is_directory_at looks here), W3) ∷ []) (λ here. here)
+          ∙ location-checked (path_walked nat_eq looks task path) (λ here. (not (is_directory_at looks here), W3) ∷ [])
+          (λ here. here)
 
-    module _ (r : Result (Here ℕ) Deny) (front : List (List ℕ)) (last : LastWord) (split : reverse front ≡ rest_of (reverse (words bytes))) (ends : last ≡ final_word (reverse (words bytes))) (walked : r ≡ walked_from start front) where
+    module _ (r : Result (Here ℕ) Deny) (front : List (List ℕ)) (last : LastWord)
+        (split : reverse front ≡ rest_of (reverse (words bytes))) (ends : last ≡ final_word (reverse (words bytes)))
+        (walked : r ≡ walked_from start front) where
       front_walked-by : r ≡ front_walked looks task (walk_start task path) (reverse (words path))
-      front_walked-by = walked ∙ front_walked-split start bytes front split ∙ (λ i. front_walked looks task (begun-path i) (reverse (words (same i))))
+      front_walked-by = walked ∙ front_walked-split start bytes front split
+          ∙ (λ i. front_walked looks task (begun-path i) (reverse (words (same i))))
 
       last-by : last ≡ final_word (reverse (words path))
       last-by = ends ∙ ap (λ text. final_word (reverse (words text))) same
 
-      pub symlink_walk-by : ends_in_slash path ≡ false → location_end (and_then r (λ here. last_walked looks task here last)) ≡ location_end (walk_end (symlink_walk nat_eq looks task path))
+      pub symlink_walk-by : ends_in_slash path ≡ false
+          → location_end (and_then r (λ here. last_walked looks task here last))
+          ≡ location_end (walk_end (symlink_walk nat_eq looks task path))
       symlink_walk-by no_slash =
-          (λ i. location_end (and_then ((front_walked-by ∙ sym (front-plain looks task (walk_start task path) (reverse (words path)))) i) (λ here. last_walked looks task here (last-by i))))
-          ∙ ap location_end (sym (last-of-plain looks task (Walking.front_walked nat_eq looks task (Walking.followed nat_eq looks task) (walk_start task path) (reverse (words path))) (final_word (reverse (words path)))))
-          ∙ location-plain (then_walk (Walking.front_walked nat_eq looks task (Walking.followed nat_eq looks task) (walk_start task path) (reverse (words path))) (λ here.
+          (λ i. location_end (and_then ((front_walked-by
+          ∙ sym (front-plain looks task (walk_start task path) (reverse (words path)))) i)
+          (λ here. last_walked looks task here (last-by i))))
+          ∙ ap location_end (sym (last-of-plain looks task
+          (Walking.front_walked nat_eq looks task (Walking.followed nat_eq looks task) (walk_start task path)
+          (reverse (words path))) (final_word (reverse (words path)))))
+          ∙ location-plain (then_walk (Walking.front_walked nat_eq looks task (Walking.followed nat_eq looks task)
+          (walk_start task path) (reverse (words path))) (λ here.
           Walking.last_walked nat_eq looks task here (final_word (reverse (words path)))))
           ∙ sym (ap (λ r. location_end (walk_end (then_walk (stopped_by [] r) (λ text.
-          then_walk (Walking.front_walked nat_eq looks task (Walking.followed nat_eq looks task) (walk_start task text) (reverse (words text))) (λ here.
-          Walking.last_walked nat_eq looks task here (final_word (reverse (words text)))))))) (parsed-walkable path walkable))
+          then_walk (Walking.front_walked nat_eq looks task (Walking.followed nat_eq looks task) (walk_start task text)
+          (reverse (words text))) (λ here.
+          Walking.last_walked nat_eq looks task here (final_word (reverse (words text))))))))
+          (parsed-walkable path walkable))
           ∙ sym (ap (λ b. location_end (walk_end (symlink_walk_by nat_eq b looks task path))) no_slash)
 
-      pub place_walk-by : and_then r (λ here. placed looks task here.location last (ends_in_slash path)) ≡ place_end (walk_end (place_walk nat_eq looks task path))
+      pub place_walk-by : and_then r (λ here. placed looks task here.location last (ends_in_slash path))
+          ≡ place_end (walk_end (place_walk nat_eq looks task path))
       place_walk-by =
-          (λ i. and_then ((front_walked-by ∙ sym (front-plain looks task (walk_start task path) (reverse (words path)))) i) (λ here. placed looks task here.location (last-by i) (ends_in_slash path)))
-          ∙ sym (placed-of-plain looks task (Walking.front_walked nat_eq looks task (Walking.followed nat_eq looks task) (walk_start task path) (reverse (words path))) (final_word (reverse (words path))) (ends_in_slash path))
+          (λ i. and_then ((front_walked-by
+          ∙ sym (front-plain looks task (walk_start task path) (reverse (words path)))) i)
+          (λ here. placed looks task here.location (last-by i) (ends_in_slash path)))
+          ∙ sym (placed-of-plain looks task
+          (Walking.front_walked nat_eq looks task (Walking.followed nat_eq looks task) (walk_start task path)
+          (reverse (words path))) (final_word (reverse (words path))) (ends_in_slash path))
           ∙ sym (ap (λ r. place_end (walk_end (then_walk (stopped_by [] r) (λ text.
-          then_walk (Walking.front_walked nat_eq looks task (Walking.followed nat_eq looks task) (walk_start task text) (reverse (words text))) (λ here.
-          Walking.placed nat_eq looks task here (final_word (reverse (words text))) (ends_in_slash text)))))) (parsed-walkable path walkable))
+          then_walk (Walking.front_walked nat_eq looks task (Walking.followed nat_eq looks task) (walk_start task text)
+          (reverse (words text))) (λ here.
+          Walking.placed nat_eq looks task here (final_word (reverse (words text))) (ends_in_slash text))))))
+          (parsed-walkable path walkable))
 
   pub symlink_walk-slash : (path : List ℕ) → ends_in_slash path ≡ true
-      → location_end (walk_end (object_walk nat_eq looks task path)) ≡ location_end (walk_end (symlink_walk nat_eq looks task path))
-  symlink_walk-slash path slash = sym (ap (λ b. location_end (walk_end (symlink_walk_by nat_eq b looks task path))) slash)
+      → location_end (walk_end (object_walk nat_eq looks task path))
+      ≡ location_end (walk_end (symlink_walk nat_eq looks task path))
+  symlink_walk-slash path slash = sym
+      (ap (λ b. location_end (walk_end (symlink_walk_by nat_eq b looks task path))) slash)
 
   -- A place, with what was asked of its directory
   module _ (here : Location ℕ) (word : LastWord) (slash : Bool) (some : is_no_word word ≡ false) where
     abbrev pub place_named : Result (Option (Location ℕ)) Deny → Result (Place ℕ) Deny
-    place_named r = and_then r (λ object. Ok (record { parent = here; last = word; object = object; slash = slash; steps = [] }))
+    place_named r = and_then r (λ object.
+        Ok (record { parent = here; last = word; object = object; slash = slash; steps = [] }))
 
-    placed-by : place_named (unless (search_rules nat_eq looks task here) (object_named nat_eq looks task here word)) ≡ placed looks task here word slash
+    placed-by : place_named (unless (search_rules nat_eq looks task here) (object_named nat_eq looks task here word))
+        ≡ placed looks task here word slash
     placed-by = by word some
       where
         by : (word : LastWord) → is_no_word word ≡ false
-            → and_then (unless (search_rules nat_eq looks task here) (object_named nat_eq looks task here word)) (λ object. Ok (record { parent = here; last = word; object = object; slash = slash; steps = [] }))
+            → and_then (unless (search_rules nat_eq looks task here) (object_named nat_eq looks task here word))
+            (λ object. Ok (record { parent = here; last = word; object = object; slash = slash; steps = [] }))
             ≡ placed looks task here word slash
         by NoWord e = absurd cc
         by Dot e = refl
         by DotDot e = refl
         by (Named name) e = refl
 
-    pub placed-refused : (deny : Deny) → Err deny ≡ unless {A = Unit {0}} (search_rules nat_eq looks task here) (Ok tt) → Err deny ≡ placed looks task here word slash
-    placed-refused deny e = ap place_named (unless-stopped (search_rules nat_eq looks task here) (object_named nat_eq looks task here word) deny e) ∙ placed-by
+    pub placed-refused : (deny : Deny) → Err deny ≡ unless {A = Unit {0}} (search_rules nat_eq looks task here) (Ok tt)
+        → Err deny ≡ placed looks task here word slash
+    placed-refused deny e = ap place_named
+        (unless-stopped (search_rules nat_eq looks task here) (object_named nat_eq looks task here word) deny e)
+        ∙ placed-by
 
-    pub placed-searched : (r : Result (Option (Location ℕ)) Deny) → Ok tt ≡ unless {A = Unit {0}} (search_rules nat_eq looks task here) (Ok tt) → r ≡ object_named nat_eq looks task here word
+    pub placed-searched : (r : Result (Option (Location ℕ)) Deny)
+        → Ok tt ≡ unless {A = Unit {0}} (search_rules nat_eq looks task here) (Ok tt)
+        → r ≡ object_named nat_eq looks task here word
         → place_named r ≡ placed looks task here word slash
     placed-searched r searched e =
-        ap place_named (e ∙ sym (unless-let_through (search_rules nat_eq looks task here) (object_named nat_eq looks task here word) searched)) ∙ placed-by
+        ap place_named (e ∙ sym (unless-let_through (search_rules nat_eq looks task here)
+        (object_named nat_eq looks task here word) searched)) ∙ placed-by

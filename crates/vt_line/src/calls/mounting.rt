@@ -38,7 +38,7 @@ fn remount_words(mut words: Words<'_>) -> Option<(&[u8], MountFlags)>
     Some((path, flags))
 }
 
-/// The words of `type PATH TYPE` and `rtype PATH TYPE`. The product has no shared mounts.
+/// The words of `type PATH TYPE` and `rtype PATH TYPE`.
 fn type_words(mut words: Words<'_>) -> Option<(&[u8], TypeWord)>
     ensures one { option_map (λ w. SetType w.0.now (type_word_of w.1) false) result
         ≡ call_named CallName.SetType words.entry }
@@ -48,10 +48,7 @@ fn type_words(mut words: Words<'_>) -> Option<(&[u8], TypeWord)>
     let path = path_word(words.next()?)?;
     let word = type_word(words.next()?)?;
     words.end()?;
-    match word {
-        TypeWord::Slave | TypeWord::Private | TypeWord::Unbindable => Some((path, word)),
-        TypeWord::Shared => None,
-    }
+    Some((path, word))
 }
 
 /// `mount plain PATH [FLAGS]`.

@@ -452,26 +452,18 @@ mounting_call_names =
     codes "mount" ∷ codes "bind" ∷ codes "rbind" ∷ codes "move" ∷ codes "umount" ∷ codes "lazy" ∷ codes "remount"
     ∷ codes "type" ∷ codes "rtype" ∷ codes "mounts" ∷ codes "chdir" ∷ codes "chroot" ∷ codes "unshare" ∷ codes "setns" ∷ []
 
--- a type whose mounts are members of groups
-abbrev pub is_shared_type : TypeWord → Bool
-is_shared_type ToShared = true
-is_shared_type ToSlave = false
-is_shared_type ToPrivate = false
-is_shared_type ToUnbindable = false
+-- without overlays
+abbrev pub needs_no_layers : Call → Bool
+needs_no_layers (MountOverlay path options given) = false
+needs_no_layers call = true
 
--- without overlays and without shared mounts
-abbrev pub needs_no_layers_or_sharing : Call → Bool
-needs_no_layers_or_sharing (MountOverlay path options given) = false
-needs_no_layers_or_sharing (SetType path word recursive) = not (is_shared_type word)
-needs_no_layers_or_sharing call = true
-
--- the calls on files, tasks, mounts and namespaces, which the product has today
-abbrev pub namespaces : Grammar
-namespaces = record {
+-- the calls on files, tasks, mounts and namespaces, and the list of peer groups, which the product has today
+abbrev pub propagation : Grammar
+propagation = record {
   version = One;
   knows = λ name. list_any (bytes_eq name) (file_call_names ++ mounting_call_names);
-  has = needs_no_layers_or_sharing;
-  directs = λ name. false;
+  has = needs_no_layers;
+  directs = λ name. bytes_eq name (codes "peers");
 }
 
 -- the whole language

@@ -22,8 +22,10 @@ returns-then-point_has_room-clause-room c =
           le-leb _ c.args.most (subst (λ n. n ≤ c.args.most) (c.uses.ensures ∙ root) w.if-uses-most.true) in
           let point : meant.point_has_room c.args.most all c.args.mount.mount_point ≡ true =
           sym w.point_has_room.ensures.room ∙ sym w.value-is ∙ c.if-point_has_room.true in
-          ap (λ n. nat_le n c.args.most) (c.mounts.ensures ∙ mounts_are_shown c.args.mount.root.filesystem.count c.args.filesystems.now)
-          ∙ (λ i. sym used i && sym point i && nat_le (mounts_shown (counted c.args.mount.root.filesystem.count) all) c.args.most)
+          ap (λ n. nat_le n c.args.most)
+          (c.mounts.ensures ∙ mounts_are_shown c.args.mount.root.filesystem.count c.args.filesystems.now)
+          ∙ (λ i. sym used i && sym point i
+          && nat_le (mounts_shown (counted c.args.mount.root.filesystem.count) all) c.args.most)
       | else-uses-most w ↦
           let over : c.args.most < c.uses.result = omega (arith, w.if-uses-most.false) in
           absurd (true≢false (sym c.if-point_has_room.true ∙ w.value-is ∙ lt-leb c.uses.result c.args.most over))
@@ -45,5 +47,6 @@ returns-else-point_has_room-clause-room c =
           let over : c.args.most < c.uses.result = omega (arith, w.if-uses-most.false) in
           let used : nat_le (uses_shown (inode_of c.args.mount.root) all) c.args.most ≡ false =
           lt-leb _ c.args.most (subst (λ n. c.args.most < n) (c.uses.ensures ∙ root) over) in
-          c.if-point_has_room.false ∙ (λ i. sym used i && meant.point_has_room c.args.most all c.args.mount.mount_point && shows)
+          c.if-point_has_room.false ∙ (λ i. sym used i && meant.point_has_room c.args.most all c.args.mount.mount_point
+          && shows)
     ]

@@ -16,7 +16,8 @@ returns-in-Some c =
     let count = node.filesystem.count in
     let room = subst (λ o. point_has_room 18446744073709551614 (shown old) o ≡ true) c.in-Some.is c.requires in
     let few : uses_in ((inodes_at old count).inode (number_of node)) ≤ 18446744073709551614 =
-    subst (λ n. n ≤ 18446744073709551614) (sym (uses_are_shown count (number_of node) old)) (leb-true _ 18446744073709551614 room) in
+    subst (λ n. n ≤ 18446744073709551614) (sym (uses_are_shown count (number_of node) old))
+    (leb-true _ 18446744073709551614 room) in
     pins count (number_of node) old c.pin.new.self
     (not_refused c.pin.result (ChangesInodes count (λ inodes. pinned nat_eq inodes (number_of node)) old c.pin.new.self)
     (uses_in ((inodes_at old count).inode (number_of node)) ≡ most_counted)

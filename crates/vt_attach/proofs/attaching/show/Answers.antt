@@ -16,9 +16,11 @@ pin_point-requires c =
     let few = root_has_room 18446744073709551613 old c.args.mount.now c.requires in
     let first : shown c.pin.new.self ≡ pinned_in (inode_of root) (shown old) =
     pins root.filesystem.count (number_of root) old c.pin.new.self
-    (not_refused c.pin.result (ChangesInodes root.filesystem.count (λ inodes. pinned nat_eq inodes (number_of root)) old c.pin.new.self)
+    (not_refused c.pin.result (ChangesInodes root.filesystem.count
+    (λ inodes. pinned nat_eq inodes (number_of root)) old c.pin.new.self)
     (uses_in ((inodes_at old root.filesystem.count).inode (number_of root)) ≡ most_counted)
-    (λ refused. c.pin.ensures.limit.0 refused) c.pin.ensures.memory c.pin.ensures.ok (λ full. omega (arith, full, few))) in
+    (λ refused. c.pin.ensures.limit.0 refused) c.pin.ensures.memory c.pin.ensures.ok
+    (λ full. omega (arith, full, few))) in
     subst (λ all. point_has_room 18446744073709551614 all c.args.mount.now.mount_point ≡ true) (sym first)
     (point_room_left (shown old) c.args.mount.now c.requires)
 
@@ -34,13 +36,18 @@ returns c =
     pins count (number_of root) old c.pin.new.self
     (not_refused c.pin.result (ChangesInodes count (λ inodes. pinned nat_eq inodes (number_of root)) old c.pin.new.self)
     (uses_in ((inodes_at old count).inode (number_of root)) ≡ most_counted)
-    (λ refused. c.pin.ensures.limit.0 refused) c.pin.ensures.memory c.pin.ensures.ok (λ full. omega (arith, full, few))) in
-    let second : shown placed ≡ pinned_at point (pinned_in (inode_of root) (shown old)) = c.pin_point.ensures ∙ ap (pinned_at point) first in
+    (λ refused. c.pin.ensures.limit.0 refused) c.pin.ensures.memory c.pin.ensures.ok
+    (λ full. omega (arith, full, few))) in
+    let second : shown placed ≡ pinned_at point (pinned_in (inode_of root) (shown old)) = c.pin_point.ensures
+    ∙ ap (pinned_at point) first in
     let mounts : (entry_at placed count).mounts ≡ mounts_shown (counted count) (shown old) =
     mounts_are_shown count placed ∙ ap (mounts_shown (counted count)) second
-    ∙ mounts_at point (counted count) (pinned_in (inode_of root) (shown old)) ∙ pinned_mounts (inode_of root) (counted count) (shown old) in
+    ∙ mounts_at point (counted count) (pinned_in (inode_of root) (shown old))
+    ∙ pinned_mounts (inode_of root) (counted count) (shown old) in
     let fewer = filesystem_has_room 18446744073709551613 (shown old) c.args.mount.now c.requires in
-    ap shown (not_refused c.hold_mount.result (c.hold_mount.new.self ≡ with_changed count (λ entry. record entry { mounts = entry.mounts + 1 }) placed)
+    ap shown (not_refused c.hold_mount.result
+    (c.hold_mount.new.self ≡ with_changed count (λ entry. record entry { mounts = entry.mounts + 1 }) placed)
     ((entry_at placed count).mounts ≡ most_counted)
-    (λ refused. c.hold_mount.ensures.limit.0 refused) c.hold_mount.ensures.memory c.hold_mount.ensures.ok (λ full. omega (arith, full, mounts, fewer)))
+    (λ refused. c.hold_mount.ensures.limit.0 refused) c.hold_mount.ensures.memory c.hold_mount.ensures.ok
+    (λ full. omega (arith, full, mounts, fewer)))
     ∙ holds count placed ∙ ap (mounted_in (counted count)) second

@@ -14,14 +14,16 @@ loop-id-preserved c =
       | in-Some+in_ok-push w ↦
           ap (λ tree. map mount_of tree.items) w.tree-is
           ∙ ap (map mount_of) (let pushed = w.in_ok-push.ensures in search rules)
-          ∙ next_made mount_of (λ id. option_map (rooted_at c.args.source) (find (λ mount. nat_eq (counted id.count) mount.number) mounts))
+          ∙ next_made mount_of (λ id. option_map (rooted_at c.args.source)
+          (find (λ mount. nat_eq (counted id.count) mount.number) mounts))
           c.loop-id.id-index _ c.args.origins.now (let more = c.loop-id-test.true in search rules)
           c.loop-id.tree.items c.loop-id.invariant w.rooted.result
           (ap (option_map (rooted_at c.args.source)) (sym c.get.ensures ∙ ap (option_map mount_of) w.in-Some.is)
           ∙ ap Some (sym w.rooted.ensures))
       | in_default w ↦
           ap (λ tree. map mount_of tree.items) w.tree-is
-          ∙ none_made mount_of (λ id. option_map (rooted_at c.args.source) (find (λ mount. nat_eq (counted id.count) mount.number) mounts))
+          ∙ none_made mount_of (λ id. option_map (rooted_at c.args.source)
+          (find (λ mount. nat_eq (counted id.count) mount.number) mounts))
           c.loop-id.id-index _ c.args.origins.now (let more = c.loop-id-test.true in search rules)
           c.loop-id.tree.items c.loop-id.invariant
           (ap (option_map (rooted_at c.args.source)) (sym c.get.ensures ∙ ap (option_map mount_of) w.in_default.is))

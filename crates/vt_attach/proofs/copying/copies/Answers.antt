@@ -13,12 +13,15 @@ use Rattle.vt_attach.proofs.copying.copies.Goals.{in-Some+in_ok-push, in_default
 
 pub copied-requires-clause-order : goal.copied-requires-clause-order
 copied-requires-clause-order c =
-    rising_ids c.attached_in-originals.result.now (attached_in (counted c.args.namespace.count) c.args.mounts.now) c.attached_in-originals.ensures
-    (ascending_filter (λ mount. holds_of (nat_eq (counted c.args.namespace.count)) mount.namespace) (mounts_in c.args.mounts.now) c.are_ascending.ensures)
+    rising_ids c.attached_in-originals.result.now
+    (attached_in (counted c.args.namespace.count) c.args.mounts.now) c.attached_in-originals.ensures
+    (ascending_filter (λ mount. holds_of (nat_eq (counted c.args.namespace.count)) mount.namespace)
+    (mounts_in c.args.mounts.now) c.are_ascending.ensures)
 
 pub copied-requires-clause-room : goal.copied-requires-clause-room
 copied-requires-clause-room c =
-    let many = as_many c.attached_in-originals.result.now (attached_in (counted c.args.namespace.count) c.args.mounts.now) c.attached_in-originals.ensures in
+    let many = as_many c.attached_in-originals.result.now
+    (attached_in (counted c.args.namespace.count) c.args.mounts.now) c.attached_in-originals.ensures in
     let room = c.requires in
     omega (arith, many, room)
 
@@ -30,14 +33,16 @@ loop-id-preserved c =
       | in-Some+in_ok-push w ↦
           ap (λ copies. map mount_of copies.items) w.copies-is
           ∙ ap (map mount_of) (let pushed = w.in_ok-push.ensures in search rules)
-          ∙ next_made mount_of (λ id. option_map change (find (λ mount. nat_eq (counted id.count) mount.number) (mounts_in c.args.mounts.now)))
+          ∙ next_made mount_of (λ id. option_map change
+          (find (λ mount. nat_eq (counted id.count) mount.number) (mounts_in c.args.mounts.now)))
           c.loop-id.id-index _ c.attached_in-originals.result.now (let more = c.loop-id-test.true in search rules)
           c.loop-id.copies.items c.loop-id.invariant w.copied.result
           (ap (option_map change) (sym c.get.ensures ∙ ap (option_map mount_of) w.in-Some.is)
           ∙ ap Some (sym (w.copied.ensures all c.attached_in-originals.ensures)))
       | in_default w ↦
           ap (λ copies. map mount_of copies.items) w.copies-is
-          ∙ none_made mount_of (λ id. option_map change (find (λ mount. nat_eq (counted id.count) mount.number) (mounts_in c.args.mounts.now)))
+          ∙ none_made mount_of (λ id. option_map change
+          (find (λ mount. nat_eq (counted id.count) mount.number) (mounts_in c.args.mounts.now)))
           c.loop-id.id-index _ c.attached_in-originals.result.now (let more = c.loop-id-test.true in search rules)
           c.loop-id.copies.items c.loop-id.invariant
           (ap (option_map change) (sym c.get.ensures ∙ ap (option_map mount_of) w.in_default.is))
@@ -48,8 +53,10 @@ returns c =
     let all = attached_in (counted c.args.namespace.count) c.args.mounts.now in
     let change : Mount ℕ → Mount ℕ = copied_by c.args.next all in
     c.loop-id.invariant
-    ∙ ap (filter_map (λ id. option_map change (find (λ mount. nat_eq (counted id.count) mount.number) (mounts_in c.args.mounts.now))))
+    ∙ ap (filter_map (λ id. option_map change
+    (find (λ mount. nat_eq (counted id.count) mount.number) (mounts_in c.args.mounts.now))))
     (all_taken c.loop-id.id-index c.attached_in-originals.result.now (let done = c.loop-id-test.false in search rules))
     ∙ picked change (mounts_in c.args.mounts.now) all c.attached_in-originals.result.now c.attached_in-originals.ensures
     (λ mount m. ascending_found (mounts_in c.args.mounts.now) c.are_ascending.ensures mount
-    (among-from_filter (λ mount. holds_of (nat_eq (counted c.args.namespace.count)) mount.namespace) (mounts_in c.args.mounts.now) mount m).0)
+    (among-from_filter (λ mount. holds_of (nat_eq (counted c.args.namespace.count)) mount.namespace)
+    (mounts_in c.args.mounts.now) mount m).0)

@@ -10,4 +10,5 @@ returns c =
     let by_key = facts.position (λ id. id.count) (answers_always _ _ _ (λ f a r g called. search rules)) in
     let place = c.unwrap_or-place.ensures
     ∙ found_place c.args.originals.now c.requires.order c.args.id.count c.args.id c.binary_search_by_key.result facts.bound by_key in
-    λ all are. ap (λ id. counted id.count) c.new.ensures ∙ numbered_so c.args.next c.args.id c.args.originals.now c.unwrap_or-place.result place all are
+    λ all are. ap (λ id. counted id.count) c.new.ensures
+    ∙ numbered_so c.args.next c.args.id c.args.originals.now c.unwrap_or-place.result place all are

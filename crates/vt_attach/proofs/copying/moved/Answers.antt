@@ -10,20 +10,26 @@ use Rattle.vt_attach.proofs.copying.moved.Goals as goal
 
 pub on_copy-requires-clause-order : goal.on_copy-requires-clause-order
 on_copy-requires-clause-order c =
-    rising_ids c.attached_in.result.now (attached_in (counted c.args.namespace.count) c.args.mounts.now) c.attached_in.ensures
-    (ascending_filter (λ mount. holds_of (nat_eq (counted c.args.namespace.count)) mount.namespace) (mounts_in c.args.mounts.now) c.are_ascending.ensures)
+    rising_ids c.attached_in.result.now
+    (attached_in (counted c.args.namespace.count) c.args.mounts.now) c.attached_in.ensures
+    (ascending_filter (λ mount. holds_of (nat_eq (counted c.args.namespace.count)) mount.namespace)
+    (mounts_in c.args.mounts.now) c.are_ascending.ensures)
 
 pub returns-then-is_in : goal.returns-then-is_in
 returns-then-is_in c =
     let all = attached_in (counted c.args.namespace.count) c.args.mounts.now in
     c.on_copy.ensures all c.attached_in.ensures
-    ∙ sym (ap (λ b. cond b (location_on_copy (copy_numbers c.args.next all) (location_of c.args.at)) (location_of c.args.at))
-    (found_among (counted c.args.at.mount.count) (λ mount. holds_of (nat_eq (counted c.args.namespace.count)) mount.namespace)
+    ∙ sym (ap (λ b. cond b (location_on_copy (copy_numbers c.args.next all) (location_of c.args.at))
+    (location_of c.args.at))
+    (found_among (counted c.args.at.mount.count)
+    (λ mount. holds_of (nat_eq (counted c.args.namespace.count)) mount.namespace)
     (mounts_in c.args.mounts.now) c.are_ascending.ensures ∙ sym c.is_in.ensures ∙ c.if-is_in.true))
 
 pub returns-else-is_in : goal.returns-else-is_in
 returns-else-is_in c =
     let all = attached_in (counted c.args.namespace.count) c.args.mounts.now in
-    sym (ap (λ b. cond b (location_on_copy (copy_numbers c.args.next all) (location_of c.args.at)) (location_of c.args.at))
-    (found_among (counted c.args.at.mount.count) (λ mount. holds_of (nat_eq (counted c.args.namespace.count)) mount.namespace)
+    sym (ap (λ b. cond b (location_on_copy (copy_numbers c.args.next all) (location_of c.args.at))
+    (location_of c.args.at))
+    (found_among (counted c.args.at.mount.count)
+    (λ mount. holds_of (nat_eq (counted c.args.namespace.count)) mount.namespace)
     (mounts_in c.args.mounts.now) c.are_ascending.ensures ∙ sym c.is_in.ensures ∙ c.if-is_in.false))

@@ -16,10 +16,12 @@ pin_all-requires c =
     let taken = points_taken plan.points.now c.args.mounts.now in
     let less = most_counted - (2 * length plan.copies.now + length plan.points.now) in
     let few = taken_few plan.points.now c.args.mounts.now in
-    subst (λ (list : List Location). list_all (λ (point : Location). point_has_room (most_counted - length list) all (Some point)) list ≡ true)
+    subst (λ (list : List Location). list_all
+    (λ (point : Location). point_has_room (most_counted - length list) all (Some point)) list ≡ true)
     (sym (c.deref.ensures.value ∙ c.in_ok-moves.ensures.moves.taken_are))
     (room_stays (most_counted - length taken) less all (omega (arith, few)) taken
-    (taken_pass (λ (point : Location). point_has_room less all (Some point)) plan.points.now c.args.mounts.now (c.if-not-plan_has_room.ensures.points refl)))
+    (taken_pass (λ (point : Location). point_has_room less all (Some point)) plan.points.now c.args.mounts.now
+    (c.if-not-plan_has_room.ensures.points refl)))
 
 pub show_all-requires : goal.show_all-requires
 show_all-requires c =
@@ -31,7 +33,8 @@ show_all-requires c =
     let fits = c.if-not-plan_has_room.ensures.fits refl in
     let pinned_so : shown c.pin_all.new.filesystems ≡ folded pinned_by all taken =
     c.pin_all.ensures ∙ ap (folded pinned_by all) (c.deref.ensures.value ∙ c.in_ok-moves.ensures.moves.taken_are) in
-    subst (λ later. list_all (has_room (most_counted - 2 * length plan.copies.now) later) plan.copies.now ≡ true) (sym pinned_so)
+    subst (λ later. list_all (has_room (most_counted - 2 * length plan.copies.now) later) plan.copies.now ≡ true)
+    (sym pinned_so)
     (all_room_then taken all less (most_counted - 2 * length plan.copies.now) (omega (arith, few, fits)) plan.copies.now
     (c.if-not-plan_has_room.ensures.copies refl))
 
@@ -40,7 +43,8 @@ returns-clause-ok c =
     let plan = c.args.plan.now in
     let all = shown c.args.filesystems.now in
     let moves = c.in_ok-moves.ensures.moves in
-    let pinned_so : shown c.pin_all.new.filesystems ≡ folded pinned_by all (points_taken plan.points.now c.args.mounts.now) =
+    let pinned_so : shown c.pin_all.new.filesystems
+    ≡ folded pinned_by all (points_taken plan.points.now c.args.mounts.now) =
     c.pin_all.ensures ∙ ap (folded pinned_by all) (c.deref.ensures.value ∙ moves.taken_are) in
     let files = c.unpin_all.ensures
     ∙ ap (folded unpinned_by (shown c.show_all.new.filesystems)) c.deref-2.ensures.value

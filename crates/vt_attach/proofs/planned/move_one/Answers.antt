@@ -31,15 +31,19 @@ returns-clause-left c =
     let old = c.args.moves.now.left.items in
     let stood = λ (mount : Mount). option_map location_of mount.mount_point in
     let point = point_is c.args.mounts.now (counted c.args.point.mount.count) c.get.result c.get.ensures in
-    let are : map location_of c.match-get.moves.left.items ≡ map location_of old ++ left_at c.args.point c.args.mounts.now =
+    let are : map location_of c.match-get.moves.left.items ≡ map location_of old
+    ++ left_at c.args.point c.args.mounts.now =
     elim c.match-get.branch [
       | in-Some+in-Ok w ↦
           ap (λ moves. map location_of moves.left.items) w.moves-is ∙ ap (map location_of) w.in-Ok.ensures.left
           ∙ map-append location_of old (option_to_list w.in-Some.mount.mount_point)
           ∙ ap (λ more. map location_of old ++ more)
-          (mapped_points w.in-Some.mount.mount_point ∙ ap option_to_list (sym (point ∙ ap (option_and_then stood) w.in-Some.is)))
+          (mapped_points w.in-Some.mount.mount_point
+          ∙ ap option_to_list (sym (point ∙ ap (option_and_then stood) w.in-Some.is)))
       | in_default w ↦
           ap (λ moves. map location_of moves.left.items) w.moves-is ∙ sym (append-nil (map location_of old))
-          ∙ ap (λ more. map location_of old ++ more) (ap option_to_list (sym (point ∙ ap (option_and_then stood) w.in_default.is)))
+          ∙ ap (λ more. map location_of old ++ more)
+          (ap option_to_list (sym (point ∙ ap (option_and_then stood) w.in_default.is)))
     ] in
-    either_way c.move_to.result (map location_of c.match-get.moves.left.items ≡ map location_of old ++ left_at c.args.point c.args.mounts.now) are
+    either_way c.move_to.result (map location_of c.match-get.moves.left.items ≡ map location_of old
+    ++ left_at c.args.point c.args.mounts.now) are

@@ -13,11 +13,13 @@ returns-in_default-clause-err c =
 pub returns-clause-ok : goal.returns-clause-ok
 returns-clause-ok c =
     let called = rw c.in-Some.is at c.task.ensures in
-    given c.args.world.now c.args.name.now c.args.call c.is_held.ensures (task_of c.in-Some.task.now) (sym called) c.requires
+    given c.args.world.now c.args.name.now c.args.call c.is_held.ensures (task_of c.in-Some.task.now)
+    (sym called) c.requires
     c.judge.result c.judge.ensures.judged
 
 pub returns-clause-err : goal.returns-clause-err
 returns-clause-err c =
     let called = rw c.in-Some.is at c.task.ensures in
-    denied c.args.world.now c.args.name.now c.args.call c.is_held.ensures (task_of c.in-Some.task.now) (sym called) c.requires
+    denied c.args.world.now c.args.name.now c.args.call c.is_held.ensures (task_of c.in-Some.task.now)
+    (sym called) c.requires
     c.judge.result c.judge.ensures.judged c.judge.ensures.memory

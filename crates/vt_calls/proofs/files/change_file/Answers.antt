@@ -11,7 +11,8 @@ write-requires c = permitted c.args.world.now c.args.name.now c.args.permit _ _ 
 
 pub set_attr-requires : goal.set_attr-requires
 set_attr-requires c =
-    permitted c.args.world.now c.args.name.now c.args.permit _ _ c.in-ToSetAttr.is (λ task called. refl) tt c.requires.given
+    permitted c.args.world.now c.args.name.now c.args.permit _ _ c.in-ToSetAttr.is
+    (λ task called. refl) tt c.requires.given
 
 pub write_part-requires : goal.write_part-requires
 write_part-requires c =
@@ -33,7 +34,8 @@ returns-in-ToSetAttr c =
 
 pub returns-in-ToWritePart : goal.returns-in-ToWritePart
 returns-in-ToWritePart c =
-    changed c.args.world.now c.args.name.now c.args.permit _ (ToWritePart (location_of c.in-ToWritePart.file) c.in-ToWritePart.offset
+    changed c.args.world.now c.args.name.now c.args.permit _
+    (ToWritePart (location_of c.in-ToWritePart.file) c.in-ToWritePart.offset
     c.deref.result.now) c.in-ToWritePart.is
     (λ task called. ap (λ entry. ToWritePart (location_of c.in-ToWritePart.file) c.in-ToWritePart.offset entry)
     (sym c.deref.ensures.value)) _ c.write_part.result c.done.result c.done.ensures tt

@@ -11,18 +11,22 @@ make-requires c = permitted c.args.world.now c.args.name.now c.args.permit _ _ c
     c.next_inode_is_vacant.ensures c.requires.given
 
 pub link-requires : goal.link-requires
-link-requires c = permitted c.args.world.now c.args.name.now c.args.permit _ _ c.in-ToLink.is (λ task called. refl) tt c.requires.given
+link-requires c = permitted c.args.world.now c.args.name.now c.args.permit _ _ c.in-ToLink.is
+    (λ task called. refl) tt c.requires.given
 
 pub returns-in-ToMake : goal.returns-in-ToMake
 returns-in-ToMake c =
-    changed c.args.world.now c.args.name.now c.args.permit _ (ToMake (location_of c.in-ToMake.directory) c.in-ToMake.entry.items
-    (node_seen c.in-ToMake.directory.node.filesystem.count c.in-ToMake.node)) c.in-ToMake.is (λ task called. refl) _ c.make.result
+    changed c.args.world.now c.args.name.now c.args.permit _
+    (ToMake (location_of c.in-ToMake.directory) c.in-ToMake.entry.items
+    (node_seen c.in-ToMake.directory.node.filesystem.count c.in-ToMake.node)) c.in-ToMake.is
+    (λ task called. refl) _ c.make.result
     c.done.result c.done.ensures c.next_inode_is_vacant.ensures
     (λ task called. refl) refl c.make.ensures.ok c.make.ensures.memory c.make.ensures.err
 
 pub returns-in-ToLink : goal.returns-in-ToLink
 returns-in-ToLink c =
     changed c.args.world.now c.args.name.now c.args.permit _ (ToChange (location_of c.in-ToLink.directory)
-    (AddName (number_of c.in-ToLink.directory.node) c.in-ToLink.entry.items (number_of c.in-ToLink.object))) c.in-ToLink.is
+    (AddName (number_of c.in-ToLink.directory.node) c.in-ToLink.entry.items
+    (number_of c.in-ToLink.object))) c.in-ToLink.is
     (λ task called. refl) _ c.link.result c.done-in-ToLink.result c.done-in-ToLink.ensures tt
     (λ task called. refl) refl c.link.ensures.ok c.link.ensures.memory c.link.ensures.err

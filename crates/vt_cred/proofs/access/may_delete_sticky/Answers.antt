@@ -7,9 +7,11 @@ use Rattle.vt_cred.proofs.access.may_delete_sticky.Goals as goal
 pub returns-then-uid-directory-clause-meaning : goal.returns-then-uid-directory-clause-meaning
 returns-then-uid-directory-clause-meaning c =
     let a = c.args in
-    Decides-at _ (may_delete_sticky a.cred.now a.directory.now a.object.now) (search rules) (Decides-may_delete_sticky a.cred.now a.directory.now a.object.now)
+    Decides-at _ (may_delete_sticky a.cred.now a.directory.now a.object.now) (search rules)
+    (Decides-may_delete_sticky a.cred.now a.directory.now a.object.now)
 
 pub returns-else-uid-directory-clause-meaning : goal.returns-else-uid-directory-clause-meaning
 returns-else-uid-directory-clause-meaning c =
     let a = c.args in
-    Decides-at _ (may_delete_sticky a.cred.now a.directory.now a.object.now) (search rules) (Decides-may_delete_sticky a.cred.now a.directory.now a.object.now)
+    Decides-at _ (may_delete_sticky a.cred.now a.directory.now a.object.now) (search rules)
+    (Decides-may_delete_sticky a.cred.now a.directory.now a.object.now)

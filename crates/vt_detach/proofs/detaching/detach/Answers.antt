@@ -12,7 +12,8 @@ use Rattle.vt_detach.proofs.detaching.detach.Goals.{in-Some, in_default}
 pub returns-in_err-mount-clause-point : goal.returns-in_err-mount-clause-point
 returns-in_err-mount-clause-point c =
     ap (option_map location_of) c.from_residual.ensures
-    ∙ sym (point_seen c.args.mounts.now (counted c.args.id.count) None (sym c.get.ensures ∙ ap (option_map mount_of) c.in_err-mount.was))
+    ∙ sym (point_seen c.args.mounts.now (counted c.args.id.count) None
+    (sym c.get.ensures ∙ ap (option_map mount_of) c.in_err-mount.was))
 
 pub returns-in_err-mount-clause-left : goal.returns-in_err-mount-clause-left
 returns-in_err-mount-clause-left c =
@@ -22,16 +23,21 @@ returns-in_err-mount-clause-left c =
 
 pub returns-clause-point : goal.returns-clause-point
 returns-clause-point c =
-    sym (point_seen c.args.mounts.now (counted c.args.id.count) (Some (mount_of c.in_ok-mount.mount)) (sym c.get.ensures ∙ ap (option_map mount_of) c.in_ok-mount.was))
+    sym (point_seen c.args.mounts.now (counted c.args.id.count) (Some (mount_of c.in_ok-mount.mount))
+    (sym c.get.ensures ∙ ap (option_map mount_of) c.in_ok-mount.was))
 
 pub returns-clause-left : goal.returns-clause-left
 returns-clause-left c =
-    let unpinned : shown c.match-mount.filesystems ≡ unpinned_at c.in_ok-mount.mount.mount_point (shown c.args.filesystems.now) =
+    let unpinned : shown c.match-mount.filesystems
+    ≡ unpinned_at c.in_ok-mount.mount.mount_point (shown c.args.filesystems.now) =
     elim c.match-mount.branch [
       | in-Some w ↦ ap shown w.filesystems-is
-          ∙ unpins w.in-Some.point.node.filesystem.count (number_of w.in-Some.point.node) c.args.filesystems.now w.unpin.new.self w.unpin.ensures
+          ∙ unpins w.in-Some.point.node.filesystem.count
+          (number_of w.in-Some.point.node) c.args.filesystems.now w.unpin.new.self w.unpin.ensures
           ∙ ap (λ point. unpinned_at point (shown c.args.filesystems.now)) (sym w.in-Some.is)
-      | in_default w ↦ ap shown w.filesystems-is ∙ ap (λ point. unpinned_at point (shown c.args.filesystems.now)) (sym w.in_default.is)
+      | in_default w ↦ ap shown w.filesystems-is
+          ∙ ap (λ point. unpinned_at point (shown c.args.filesystems.now)) (sym w.in_default.is)
     ] in
     c.let_go_mount.ensures
-    ∙ ap (let_go_mount (counted c.args.id.count)) (λ i. record { mounts = c.detach.ensures i; filesystems = unpinned i })
+    ∙ ap (let_go_mount (counted c.args.id.count))
+    (λ i. record { mounts = c.detach.ensures i; filesystems = unpinned i })

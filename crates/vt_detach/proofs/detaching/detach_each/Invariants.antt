@@ -7,5 +7,6 @@ use Rattle.vt_detach.proofs.detaching.detach_each.Given as goal
 -- what follows in turn from here on follows from the first one on
 abbrev pub invariant-loop-id : goal.invariant-loop-id
 invariant-loop-id l =
-    (last : Kept) → LeaveInTurn (map (λ id. counted id.count) (drop l.id-index l.ids)) (kept l.mounts l.filesystems) last
+    (last : Kept) → LeaveInTurn (map (λ id. counted id.count) (drop l.id-index l.ids))
+    (kept l.mounts l.filesystems) last
     → LeaveInTurn (map (λ id. counted id.count) l.ids) (kept l.initial.mounts l.initial.filesystems) last

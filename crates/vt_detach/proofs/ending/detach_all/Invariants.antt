@@ -8,7 +8,8 @@ use Rattle.vt_detach.proofs.ending.detach_all.Given as goal
 abbrev pub invariant-loop-last : goal.invariant-loop-last
 invariant-loop-last l = record {
   gone : List Detached;
-  detached : AreDetached (counted l.fn.id.count) gone (kept l.initial.mounts l.initial.filesystems) (kept l.mounts l.filesystems);
+  detached : AreDetached (counted l.fn.id.count) gone (kept l.initial.mounts l.initial.filesystems)
+      (kept l.mounts l.filesystems);
 }
 
 -- how many are still to go

@@ -19,7 +19,9 @@ returns-else-ended c = record {
   ends = c.detach_all.ensures;
   groups = subst (TakesAway c.args.groups.now c.leave_all-ended.new.self) c.attached_in.ensures c.leave_all-ended.ensures.detached;
   types = λ ordered typed.
-      end_follows (counted c.args.id.count) c.args.groups.now c.leave_all-ended.new.self (kept c.args.mounts.now c.args.filesystems.now)
-      (subst (LeaveAlone c.args.groups.now c.leave_all-ended.new.self) c.attached_in.ensures (c.leave_all-ended.ensures.alone c.if-ended.false ordered))
+      end_follows (counted c.args.id.count) c.args.groups.now c.leave_all-ended.new.self
+      (kept c.args.mounts.now c.args.filesystems.now)
+      (subst (LeaveAlone c.args.groups.now c.leave_all-ended.new.self) c.attached_in.ensures
+      (c.leave_all-ended.ensures.alone c.if-ended.false ordered))
       (kept c.detach_all.new.mounts c.detach_all.new.filesystems) c.detach_all.ensures c.are_ascending.ensures typed;
 }

@@ -10,5 +10,6 @@ returns-clause-left c =
     c.let_go_mount.ensures
     ∙ ap (let_go_mount (counted c.args.at.mount.count)) (λ i. record {
       mounts = c.release.ensures i;
-      filesystems = unpins c.args.at.node.filesystem.count (number_of c.args.at.node) c.args.filesystems.now c.unpin.new.self c.unpin.ensures i;
+      filesystems = unpins c.args.at.node.filesystem.count
+          (number_of c.args.at.node) c.args.filesystems.now c.unpin.new.self c.unpin.ensures i;
     })

@@ -17,7 +17,9 @@ returns-then-is_some c =
     let_go_used (counted c.args.id.count) (kept c.args.mounts.now c.args.filesystems.now) (mount_of c.in-Some.mount)
     (sym c.get.ensures ∙ ap (option_map mount_of) c.in-Some.is)
     (elim c.then-is_some.branch [
-      | then-is_some-via-then-is_some w ↦ inl (is_some_mapped (λ namespace. counted namespace.count) c.in-Some.mount.namespace ∙ sym c.is_some.ensures ∙ w.if-is_some.true)
+      | then-is_some-via-then-is_some w ↦ inl
+          (is_some_mapped (λ namespace. counted namespace.count) c.in-Some.mount.namespace ∙ sym c.is_some.ensures
+          ∙ w.if-is_some.true)
       | then-is_some-via-else-is_some+then-uses-gt0 w ↦ inr (omega (arith, w.uses.ensures, w.if-uses-gt0.true))
     ])
 
@@ -31,5 +33,7 @@ returns c =
       filesystems = (c.leave_filesystem.ensures
           ∙ ap (λ all. let_go_filesystem f (released_in f all)) (unpins c.in-Some.mount.root.filesystem.count root c.args.filesystems.now c.unpin.new.self c.unpin.ensures)) i;
     })
-    ∙ sym (let_go_unused (counted c.args.id.count) k (mount_of c.in-Some.mount) (sym c.get.ensures ∙ ap (option_map mount_of) c.in-Some.is)
-    (is_some_mapped (λ namespace. counted namespace.count) c.in-Some.mount.namespace ∙ sym c.is_some.ensures ∙ c.if-is_some.false) (omega (arith, c.uses.ensures, c.if-uses-gt0.false)))
+    ∙ sym (let_go_unused (counted c.args.id.count) k (mount_of c.in-Some.mount)
+    (sym c.get.ensures ∙ ap (option_map mount_of) c.in-Some.is)
+    (is_some_mapped (λ namespace. counted namespace.count) c.in-Some.mount.namespace ∙ sym c.is_some.ensures
+    ∙ c.if-is_some.false) (omega (arith, c.uses.ensures, c.if-uses-gt0.false)))

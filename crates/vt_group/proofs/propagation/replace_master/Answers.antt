@@ -8,7 +8,8 @@ use Rattle.vt_group.proofs.CountLemmas.{same_count}
 use Rattle.vt_group.proofs.propagation.replace_master.Goals as goal
 
 -- the master is the lost group
-replaced : (lost master : GroupId) (heir found : Option GroupId) (b : Bool) → b ≡ not (nat_eq master.count lost.count) → b ≡ false → heir ≡ found
+replaced : (lost master : GroupId) (heir found : Option GroupId) (b : Bool) → b ≡ not (nat_eq master.count lost.count)
+    → b ≡ false → heir ≡ found
     → option_map group_number found ≡ handed (counted lost.count) (option_map group_number heir) (group_number master)
 replaced lost master heir found b says apart is =
     ap (option_map group_number) (sym is)
@@ -19,4 +20,5 @@ pub returns-in_default : goal.returns-in_default
 returns-in_default c = replaced c.args.lost c.args.master.now c.args.heir None c.ne.result c.ne.ensures c.if-ne.false c.in_default.is
 
 pub returns : goal.returns
-returns c = replaced c.args.lost c.args.master.now c.args.heir (Some c.in-Some.heir) c.ne.result c.ne.ensures c.if-ne.false c.in-Some.is
+returns c = replaced c.args.lost c.args.master.now c.args.heir
+    (Some c.in-Some.heir) c.ne.result c.ne.ensures c.if-ne.false c.in-Some.is

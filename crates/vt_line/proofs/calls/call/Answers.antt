@@ -4,7 +4,8 @@ use Rattle.vt_line.proofs.calls.call.Goals as goal
 
 pub returns-in_err-path-in-Path : goal.returns-in_err-path-in-Path
 returns-in_err-path-in-Path c =
-    path_refused c.args.name c.in-Path.name c.args.words c.in_err-path-in-Path.field-0.0 c.in-Path.is (search rules) c.in_err-path-in-Path.ensures
+    path_refused c.args.name c.in-Path.name c.args.words c.in_err-path-in-Path.field-0.0 c.in-Path.is
+    (search rules) c.in_err-path-in-Path.ensures
 
 pub returns-in_ok-path-in-Path : goal.returns-in_ok-path-in-Path
 returns-in_ok-path-in-Path c =
@@ -13,7 +14,8 @@ returns-in_ok-path-in-Path c =
 
 pub returns-in_err-first-in-Pair : goal.returns-in_err-first-in-Pair
 returns-in_err-first-in-Pair c =
-    pair_refused c.args.name c.in-Pair.name c.args.words c.in_err-first-in-Pair.field-0.0 c.in-Pair.is (search rules) c.in_err-first-in-Pair.ensures
+    pair_refused c.args.name c.in-Pair.name c.args.words c.in_err-first-in-Pair.field-0.0 c.in-Pair.is
+    (search rules) c.in_err-first-in-Pair.ensures
 
 pub returns-in_ok-first-in-Pair : goal.returns-in_ok-first-in-Pair
 returns-in_ok-first-in-Pair c =

@@ -15,7 +15,8 @@ returns-in_err-write_all g c =
     let first : List ℕ = 32 ∷ decimal c.args.place in
     let point = spaced (place_words line.mount_point) in
     let shown = spaced (shown_words line) in
-    let front : WroteFront g.W.Sink c.args.sink.now c.write_all.new.sink (printed_line c.args.number (mount_line_words (c.args.place, mount_line_of c.args.line.now))) =
+    let front : WroteFront g.W.Sink c.args.sink.now c.write_all.new.sink
+    (printed_line c.args.number (mount_line_words (c.args.place, mount_line_of c.args.line.now))) =
     rw text (WroteFront-longer g.W.Sink (first ++ (point ++ (shown ++ codes "\n"))) c.in_err-write_all.ensures.printed) in
     search rules
 
@@ -27,7 +28,8 @@ returns-in_err-write_number g c =
     let first : List ℕ = 32 ∷ decimal c.args.place in
     let point = spaced (place_words line.mount_point) in
     let shown = spaced (shown_words line) in
-    let front : WroteFront g.W.Sink c.args.sink.now c.write_number.new.sink (printed_line c.args.number (mount_line_words (c.args.place, mount_line_of c.args.line.now))) =
+    let front : WroteFront g.W.Sink c.args.sink.now c.write_number.new.sink
+    (printed_line c.args.number (mount_line_words (c.args.place, mount_line_of c.args.line.now))) =
     WroteFront-part g.W.Sink (point ++ (shown ++ codes "\n")) c.in_ok-write_all.ensures.printed c.in_err-write_number.ensures.printed (sym text) in
     search rules
 
@@ -40,7 +42,8 @@ returns-in_err-write_mount_point g c =
     let point = spaced (place_words line.mount_point) in
     let shown = spaced (shown_words line) in
     let before = Wrote-append g.W.Sink c.in_ok-write_all.ensures.printed c.in_ok-write_number.ensures.printed in
-    let front : WroteFront g.W.Sink c.args.sink.now c.write_mount_point.new.sink (printed_line c.args.number (mount_line_words (c.args.place, mount_line_of c.args.line.now))) =
+    let front : WroteFront g.W.Sink c.args.sink.now c.write_mount_point.new.sink
+    (printed_line c.args.number (mount_line_words (c.args.place, mount_line_of c.args.line.now))) =
     WroteFront-part g.W.Sink (shown ++ codes "\n") before c.in_err-write_mount_point.ensures.printed
     (append_assoc c.as_bytes.result.now first (point ++ (shown ++ codes "\n")) ∙ sym text) in
     search rules
@@ -53,9 +56,11 @@ returns-in_err-write_shown g c =
     let first : List ℕ = 32 ∷ decimal c.args.place in
     let point = spaced (place_words line.mount_point) in
     let shown = spaced (shown_words line) in
-    let before = Wrote-append g.W.Sink (Wrote-append g.W.Sink c.in_ok-write_all.ensures.printed c.in_ok-write_number.ensures.printed)
+    let before = Wrote-append g.W.Sink
+    (Wrote-append g.W.Sink c.in_ok-write_all.ensures.printed c.in_ok-write_number.ensures.printed)
     c.in_ok-write_mount_point.ensures.printed in
-    let front : WroteFront g.W.Sink c.args.sink.now c.write_shown.new.sink (printed_line c.args.number (mount_line_words (c.args.place, mount_line_of c.args.line.now))) =
+    let front : WroteFront g.W.Sink c.args.sink.now c.write_shown.new.sink
+    (printed_line c.args.number (mount_line_words (c.args.place, mount_line_of c.args.line.now))) =
     WroteFront-part g.W.Sink (codes "\n") before c.in_err-write_shown.ensures.printed
     (append_assoc (c.as_bytes.result.now ++ first) point (shown ++ codes "\n")
     ∙ append_assoc c.as_bytes.result.now first (point ++ (shown ++ codes "\n")) ∙ sym text) in

@@ -14,7 +14,8 @@ returns-in_ok-write_all-in-Reached g c =
     let filled = some-length c.in-Reached.path.len c.is_empty.ensures c.if-is_empty.false in
     let some : 0 < length names = let counted = c.deref.ensures.len in let same = ap length c.deref.ensures.value in omega (arith, filled, counted, same) in
     let text : 32 ∷ printed_steps c.deref.result.now ≡ 32 ∷ printed_spot (spot_of c.args.spot.now) =
-    ap (λ names. 32 ∷ printed_steps names) c.deref.ensures.value ∙ ap (λ text. 32 ∷ text) (sym (printed_path-steps names some))
+    ap (λ names. 32 ∷ printed_steps names) c.deref.ensures.value
+    ∙ ap (λ text. 32 ∷ text) (sym (printed_path-steps names some))
     ∙ ap (λ spot. 32 ∷ printed_spot (spot_of spot)) (sym c.in-Reached.is) in
     record {
       printed = subst (λ text. Prints g.W.Sink text c.write_steps.result c.args.sink.now c.write_steps.new.sink) text

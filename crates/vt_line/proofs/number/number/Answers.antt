@@ -14,5 +14,6 @@ returns-then-from-value c =
     at_drop_more (value_from base c.loop-byte.value) text at 0 (omega arith) in
     let grown = value_from-grows base value (drop (at + 1) text) c.requires.some_base in
     let digit = digit-value _ (get_or text at 0 - 48) _ c.digit_below.ensures c.in_ok-digit.was in
-    let large : c.args.limit < value_from base 0 text = omega (arith, digit, ap (λ b. b * c.loop-byte.value) c.from.ensures) in
+    let large : c.args.limit < value_from base 0 text = omega
+    (arith, digit, ap (λ b. b * c.loop-byte.value) c.from.ensures) in
     sym (number_in-large base c.args.most c.args.limit text large)

@@ -43,5 +43,10 @@ loop-byte-preserved g c =
     let split = c.split_plain.ensures in
     let first = c.in-Some.ensures.cases in
     let whole = printed-escape so_far.0 _ _ _ text c.in-Some.after.now c.in-Some.byte.now so_far.2 split.whole split.plain first.0 (split.stops (omega arith)) in
-    let before = Wrote-append g.W.Sink so_far.1 c.in_ok-write_all.ensures.printed in
-    (_, Wrote-append g.W.Sink before c.in_ok-write_escape.ensures.printed, append_assoc (so_far.0 ++ c.split_plain.result.0.now) (escape c.in-Some.byte.now) (flat_map printed_byte c.in-Some.after.now) ∙ whole)
+    let before = Wrote-append g.W.Sink so_far.1 c.in_ok-write_all.ensures.printed in (
+      _,
+      Wrote-append g.W.Sink before c.in_ok-write_escape.ensures.printed,
+      append_assoc
+          (so_far.0 ++ c.split_plain.result.0.now) (escape c.in-Some.byte.now) (flat_map printed_byte c.in-Some.after.now)
+          ∙ whole,
+    )

@@ -16,7 +16,8 @@ returns-in_err-write_all g c =
     let digits : c.as_bytes.result.now ≡ decimal c.args.number = search rules in
     let words = spaced (reply_words (result_of c.args.outcome.now)) in
     let text = line_text c.as_bytes.result.now c.args.number (reply_words (result_of c.args.outcome.now)) digits ∙ append_assoc c.as_bytes.result.now words (codes "\n") in
-    let front : WroteFront g.W.Sink c.args.sink.now c.write_all.new.sink (printed_line c.args.number (reply_words (result_of c.args.outcome.now))) =
+    let front : WroteFront g.W.Sink c.args.sink.now c.write_all.new.sink
+    (printed_line c.args.number (reply_words (result_of c.args.outcome.now))) =
     rw text (WroteFront-longer g.W.Sink (words ++ codes "\n") c.in_err-write_all.ensures.printed) in
     search rules
 
@@ -25,7 +26,8 @@ returns-in_err-write_result g c =
     let digits : c.as_bytes.result.now ≡ decimal c.args.number = search rules in
     let words = spaced (reply_words (result_of c.args.outcome.now)) in
     let text = line_text c.as_bytes.result.now c.args.number (reply_words (result_of c.args.outcome.now)) digits ∙ append_assoc c.as_bytes.result.now words (codes "\n") in
-    let front : WroteFront g.W.Sink c.args.sink.now c.write_result.new.sink (printed_line c.args.number (reply_words (result_of c.args.outcome.now))) =
+    let front : WroteFront g.W.Sink c.args.sink.now c.write_result.new.sink
+    (printed_line c.args.number (reply_words (result_of c.args.outcome.now))) =
     WroteFront-part g.W.Sink (codes "\n") c.in_ok-write_all.ensures.printed c.in_err-write_result.ensures.printed (sym text) in
     search rules
 

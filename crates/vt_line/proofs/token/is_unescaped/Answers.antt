@@ -8,13 +8,16 @@ use Rattle.vt_line.proofs.token.is_unescaped.Goals as goal
 pub loop-byte-preserved : goal.loop-byte-preserved
 loop-byte-preserved c =
     let line = c.args.line.now in
-    let more = list_all_more (λ byte. byte == 32 || is_plain byte) line c.loop-byte.byte-index 0 c.loop-byte-test.true in
+    let more = list_all_more (λ byte. byte == 32
+    || is_plain byte) line c.loop-byte.byte-index 0 c.loop-byte-test.true in
     let byte = get_or line c.loop-byte.byte-index 0 in
     ap (λ before. before && (byte == 32 || c.is_plain.result)) c.loop-byte.invariant
-    ∙ ap (λ plain. list_all (λ byte. byte == 32 || is_plain byte) (take c.loop-byte.byte-index line) && (byte == 32 || plain)) c.is_plain.ensures
+    ∙ ap (λ plain. list_all (λ byte. byte == 32 || is_plain byte) (take c.loop-byte.byte-index line)
+    && (byte == 32 || plain)) c.is_plain.ensures
     ∙ sym more
 
 pub returns : goal.returns
 returns c =
     let line = c.args.line.now in
-    c.loop-byte.invariant ∙ ap (λ taken. list_all (λ byte. byte == 32 || is_plain byte) taken) (take_all c.loop-byte.byte-index line c.loop-byte-test.false)
+    c.loop-byte.invariant ∙ ap (λ taken. list_all (λ byte. byte == 32 || is_plain byte) taken)
+    (take_all c.loop-byte.byte-index line c.loop-byte-test.false)

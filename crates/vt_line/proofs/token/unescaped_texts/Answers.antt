@@ -11,8 +11,10 @@ use Rattle.vt_line.proofs.token.unescaped_texts.Goals as goal
 pub returns-then-is_full : goal.returns-then-is_full
 returns-then-is_full c =
     let line = c.args.line.now in
-    let split = YieldsList-from_slice_split _ (λ byte. eqb byte 32) line (cc) (cc) (cc) (λ x b q k. search (rules, tests)) in
-    let road = YieldsList-tokens line (YieldsList-from_filter _ (λ part. not (eqb (length part) 0)) split (cc) (λ x b q k. search (rules, tests))) in
+    let split = YieldsList-from_slice_split _ (λ byte. eqb byte 32) line (cc) (cc) (cc)
+    (λ x b q k. search (rules, tests)) in
+    let road = YieldsList-tokens line
+    (YieldsList-from_filter _ (λ part. not (eqb (length part) 0)) split (cc) (λ x b q k. search (rules, tests))) in
     let n = length c.loop-token.yielded in
     let turn = YieldsList-turn road c.loop-token.yielded _ c.loop-token.yielded_by _ _ c.in-Some.token c.in-Some.is c.next.ensures.steps in
     let full : eqb (length c.loop-token.texts.items) 6 ≡ true = sym c.is_full.ensures.value ∙ c.if-is_full.true in
@@ -23,12 +25,15 @@ returns-then-is_full c =
 pub loop-token-preserved : goal.loop-token-preserved
 loop-token-preserved c =
     let line = c.args.line.now in
-    let split = YieldsList-from_slice_split _ (λ byte. eqb byte 32) line (cc) (cc) (cc) (λ x b q k. search (rules, tests)) in
-    let road = YieldsList-tokens line (YieldsList-from_filter _ (λ part. not (eqb (length part) 0)) split (cc) (λ x b q k. search (rules, tests))) in
+    let split = YieldsList-from_slice_split _ (λ byte. eqb byte 32) line (cc) (cc) (cc)
+    (λ x b q k. search (rules, tests)) in
+    let road = YieldsList-tokens line
+    (YieldsList-from_filter _ (λ part. not (eqb (length part) 0)) split (cc) (λ x b q k. search (rules, tests))) in
     let n = length c.loop-token.yielded in
     let turn = YieldsList-turn road c.loop-token.yielded _ c.loop-token.yielded_by _ _ c.in-Some.token c.in-Some.is c.next.ensures.steps in
     let more = length_push c.loop-token.yielded c.in-Some.token in
-    let pushed = ap texts_of c.push.ensures.items ∙ map_push (λ text. text.now) c.loop-token.texts.items c.in-Some.token in
+    let pushed = ap texts_of c.push.ensures.items
+    ∙ map_push (λ text. text.now) c.loop-token.texts.items c.in-Some.token in
     record {
       can_next = search rules;
       is_finite = search rules;
@@ -44,8 +49,10 @@ loop-token-preserved c =
 pub returns : goal.returns
 returns c =
     let line = c.args.line.now in
-    let split = YieldsList-from_slice_split _ (λ byte. eqb byte 32) line (cc) (cc) (cc) (λ x b q k. search (rules, tests)) in
-    let road = YieldsList-tokens line (YieldsList-from_filter _ (λ part. not (eqb (length part) 0)) split (cc) (λ x b q k. search (rules, tests))) in
+    let split = YieldsList-from_slice_split _ (λ byte. eqb byte 32) line (cc) (cc) (cc)
+    (λ x b q k. search (rules, tests)) in
+    let road = YieldsList-tokens line
+    (YieldsList-from_filter _ (λ part. not (eqb (length part) 0)) split (cc) (λ x b q k. search (rules, tests))) in
     let n = length c.loop-token.yielded in
     let last = YieldsList-end road c.loop-token.yielded _ c.loop-token.yielded_by _ _ c.in-None.is c.next.ensures.steps in
     let few = c.loop-token.invariant.few in

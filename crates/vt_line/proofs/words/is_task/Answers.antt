@@ -14,7 +14,8 @@ returns-then-ne c =
     let other : bytes_eq c.in-Some.first.now (codes "t") ≡ false = search rules in
     let text = c.args.text.now in
     let all = parts 46 text in
-    let road = YieldsList-parts 46 text (YieldsList-from_slice_split _ (λ byte. eqb byte 46) text (cc) (cc) (cc) (λ x b q k. search (rules, tests))) in
+    let road = YieldsList-parts 46 text
+    (YieldsList-from_slice_split _ (λ byte. eqb byte 46) text (cc) (cc) (cc) (λ x b q k. search (rules, tests))) in
     let first = YieldsList-others all road c.next.result c.next.new.self c.in-Some.first c.in-Some.is c.next.ensures.steps in
     ap is_some (sym (task_word-other text c.in-Some.first.now (drop 1 all) first.0 other))
 
@@ -23,14 +24,16 @@ returns-then-is_none c =
     let same : bytes_eq c.in-Some.first.now (codes "t") ≡ true = search rules in
     let text = c.args.text.now in
     let all = parts 46 text in
-    let road = YieldsList-parts 46 text (YieldsList-from_slice_split _ (λ byte. eqb byte 46) text (cc) (cc) (cc) (λ x b q k. search (rules, tests))) in
+    let road = YieldsList-parts 46 text
+    (YieldsList-from_slice_split _ (λ byte. eqb byte 46) text (cc) (cc) (cc) (λ x b q k. search (rules, tests))) in
     let first = YieldsList-others all road c.next.result c.next.new.self c.in-Some.first c.in-Some.is c.next.ensures.steps in
     let others = YieldsList-at c.into_iter-part-iterator.ensures.into_iter_gives first.1 in
     let n = length c.loop-part.yielded in
     let turn = YieldsList-turn others c.loop-part.yielded _ c.loop-part.yielded_by _ _ c.in-Some-part.part c.in-Some-part.is c.next-in-loop-part.ensures.steps in
     let none : child_number c.in-Some-part.part.now ≡ None =
     sym c.child_number.ensures.value ∙ is_none c.child_number.result (c.is_none.ensures ∙ ap not c.if-is_none.true) in
-    ap is_some (sym (each_of-none child_number (drop 1 all) n c.in-Some-part.part.now turn none)) ∙ c.loop-part.invariant.read
+    ap is_some (sym (each_of-none child_number (drop 1 all) n c.in-Some-part.part.now turn none))
+    ∙ c.loop-part.invariant.read
     ∙ ap is_some (sym (task_word-children text c.in-Some.first.now (drop 1 all) first.0 same))
 
 pub loop-part-preserved : goal.loop-part-preserved
@@ -38,7 +41,8 @@ loop-part-preserved c =
     let same : bytes_eq c.in-Some.first.now (codes "t") ≡ true = search rules in
     let text = c.args.text.now in
     let all = parts 46 text in
-    let road = YieldsList-parts 46 text (YieldsList-from_slice_split _ (λ byte. eqb byte 46) text (cc) (cc) (cc) (λ x b q k. search (rules, tests))) in
+    let road = YieldsList-parts 46 text
+    (YieldsList-from_slice_split _ (λ byte. eqb byte 46) text (cc) (cc) (cc) (λ x b q k. search (rules, tests))) in
     let first = YieldsList-others all road c.next.result c.next.new.self c.in-Some.first c.in-Some.is c.next.ensures.steps in
     let others = YieldsList-at c.into_iter-part-iterator.ensures.into_iter_gives first.1 in
     let n = length c.loop-part.yielded in
@@ -60,10 +64,12 @@ returns c =
     let same : bytes_eq c.in-Some.first.now (codes "t") ≡ true = search rules in
     let text = c.args.text.now in
     let all = parts 46 text in
-    let road = YieldsList-parts 46 text (YieldsList-from_slice_split _ (λ byte. eqb byte 46) text (cc) (cc) (cc) (λ x b q k. search (rules, tests))) in
+    let road = YieldsList-parts 46 text
+    (YieldsList-from_slice_split _ (λ byte. eqb byte 46) text (cc) (cc) (cc) (λ x b q k. search (rules, tests))) in
     let first = YieldsList-others all road c.next.result c.next.new.self c.in-Some.first c.in-Some.is c.next.ensures.steps in
     let others = YieldsList-at c.into_iter-part-iterator.ensures.into_iter_gives first.1 in
     let n = length c.loop-part.yielded in
     let last = YieldsList-end others c.loop-part.yielded _ c.loop-part.yielded_by _ _ c.in-None.is c.next-in-loop-part.ensures.steps in
     let none_left = each_of-end child_number (drop 1 all) n (omega (arith, last.1)) in
-    ap is_some (sym none_left) ∙ c.loop-part.invariant.read ∙ ap is_some (sym (task_word-children text c.in-Some.first.now (drop 1 all) first.0 same))
+    ap is_some (sym none_left) ∙ c.loop-part.invariant.read
+    ∙ ap is_some (sym (task_word-children text c.in-Some.first.now (drop 1 all) first.0 same))

@@ -12,5 +12,6 @@ pub returns : goal.returns
 returns c =
     on-ok c.extend.result (λ went. went.0)
     (items_from_extend c.extend.result c.extend.ensures.ran
-    (YieldsList-from_map _ (λ (id : MountId). record { mount = id; depth = c.args.depth }) (YieldsList-from_rev_slice c.args.children.now cc) c.map.ensures.closure
+    (YieldsList-from_map _ (λ (id : MountId). record { mount = id; depth = c.args.depth })
+    (YieldsList-from_rev_slice c.args.children.now cc) c.map.ensures.closure
     (λ x r q k. search rules)))

@@ -17,7 +17,8 @@ returns-then-is_none c =
     ap Some (c.topmost.ensures ∙ ap (topmost nat_eq (mounts_in entries)) c.root_location.ensures)
     ∙ sym (ap (option_map (λ mount. topmost nat_eq (mounts_in entries) (root_of mount)))
     (root_found entries namespace at from.0 c.in-Some.mount c.loop-id.invariant from.1
-    (same_Some _ _ (sym (ap (option_map mount_of) c.in-Some.is) ∙ from.2)) (c.is_none.ensures ∙ ap not c.if-is_none.true)))
+    (same_Some _ _ (sym (ap (option_map mount_of) c.in-Some.is) ∙ from.2))
+    (c.is_none.ensures ∙ ap not c.if-is_none.true)))
 
 pub loop-id-preserved : goal.loop-id-preserved
 loop-id-preserved c =
@@ -28,6 +29,7 @@ loop-id-preserved c =
     elim c.match-get.branch [
       | in-Some+else-is_none w ↦
           no_root_yet entries namespace at from.0 w.in-Some.mount c.loop-id.invariant from.1
-          (same_Some _ _ (sym (ap (option_map mount_of) w.in-Some.is) ∙ from.2)) (w.is_none.ensures ∙ ap not w.if-is_none.false)
+          (same_Some _ _ (sym (ap (option_map mount_of) w.in-Some.is) ∙ from.2))
+          (w.is_none.ensures ∙ ap not w.if-is_none.false)
       | in_default w ↦ absurd (none_is_some from.0 (sym (ap (option_map mount_of) w.in_default.is) ∙ from.2))
     ]

@@ -8,4 +8,5 @@ use Rattle.vt_ns.proofs.entering.namespace_root.Given as goal
 abbrev pub invariant-loop-id : goal.invariant-loop-id
 invariant-loop-id l =
     find (λ mount. not (is_some mount.mount_point))
-    (take l.id-index (filter (λ mount. holds_of (nat_eq (counted l.fn.namespace.count)) mount.namespace) (mounts_in l.mounts))) ≡ None
+    (take l.id-index (filter (λ mount. holds_of (nat_eq (counted l.fn.namespace.count)) mount.namespace)
+    (mounts_in l.mounts))) ≡ None

@@ -8,6 +8,7 @@ use Rattle.vt_ns.proofs.exits.leave_files.Given as goal
 -- those before the next are left
 abbrev pub invariant-loop-file : goal.invariant-loop-file
 invariant-loop-file l = record {
-  left : kept l.mounts l.filesystems ≡ fold without_file (kept l.initial.mounts l.initial.filesystems) (take l.file-index l.files);
+  left : kept l.mounts l.filesystems
+      ≡ fold without_file (kept l.initial.mounts l.initial.filesystems) (take l.file-index l.files);
   slots : list_all has_slot (take l.file-index l.files) ≡ true;
 }

@@ -9,7 +9,8 @@ pub overflow_add-namespace : goal.overflow_add-namespace
 overflow_add-namespace c =
     let few : c.in-Some.namespace.now.tasks < 18446744073709551615 =
     subst (λ o. IfSome o (λ (entry : NamespaceEntry). entry.tasks < 18446744073709551615))
-    (entry_found c.args.id.count c.args.namespaces.now.entries _ (sym c.get_mut.ensures.value ∙ ap option_copied_mut c.in-Some.is))
+    (entry_found c.args.id.count c.args.namespaces.now.entries _
+    (sym c.get_mut.ensures.value ∙ ap option_copied_mut c.in-Some.is))
     c.requires in
     omega (arith, few)
 

@@ -8,11 +8,13 @@ use Rattle.vt_ns.proofs.forking.has_room_for_task.Goals as goal
 pub returns-in-Some : goal.returns-in-Some
 returns-in-Some c = λ less.
     subst (λ o. IfSome o (λ (entry : NamespaceEntry). entry.tasks < 18446744073709551615))
-    (sym (entry_found c.args.id.count c.args.namespaces.now.entries (Some c.in-Some.namespace.now) (sym c.get.ensures.value ∙ ap option_copied c.in-Some.is)))
+    (sym (entry_found c.args.id.count c.args.namespaces.now.entries (Some c.in-Some.namespace.now)
+    (sym c.get.ensures.value ∙ ap option_copied c.in-Some.is)))
     (ltb-true c.in-Some.namespace.now.tasks 18446744073709551615 less)
 
 pub returns-in-None : goal.returns-in-None
 returns-in-None c = λ all.
     subst (λ o. IfSome o (λ (entry : NamespaceEntry). entry.tasks < 18446744073709551615))
-    (sym (entry_found c.args.id.count c.args.namespaces.now.entries None (sym c.get.ensures.value ∙ ap option_copied c.in-None.is)))
+    (sym (entry_found c.args.id.count c.args.namespaces.now.entries None
+    (sym c.get.ensures.value ∙ ap option_copied c.in-None.is)))
     tt

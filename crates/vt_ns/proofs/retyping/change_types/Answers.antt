@@ -1,33 +1,47 @@
-use Rattle.std.proofs.Common.{map, refl, subst, sym}
+use Rattle.std.proofs.Common.{length, map, refl, subst, sym}
+use Rattle.std.proofs.lemmas.List.{length-map}
+use Rattle.std.specs.Prelude.{IfOk}
 use Rattle.vt_location.specs.Numbers.{counted}
 use Rattle.vt_request.specs.Requests.{type_word_of}
 use Rattle.vt_spec.specs.Language.Calls.TypeWord.{ToPrivate, ToUnbindable}
 use Rattle.vt_spec.specs.Machine.Mounts.Propagation.{Private, Unbindable}
 use Rattle.vt_ns.specs.Retyped.{IsRetyped}
-use Rattle.vt_ns.proofs.RetypedMounts.{set_retyped, slaves_retyped}
+use Rattle.vt_ns.proofs.RetypedMounts.{set_retyped, shared_if_ok, slaves_retyped}
 use Rattle.vt_ns.proofs.retyping.change_types.Goals as goal
 
-pub returns-in-Slave : goal.returns-in-Slave
-returns-in-Slave c =
+pub returns-in-Shared-clause-ok : goal.returns-in-Shared-clause-ok
+returns-in-Shared-clause-ok c =
     let numbers = map (λ id. counted id.count) c.args.ids.now in
-    subst (λ word. IsRetyped (type_word_of word) numbers c.args.groups.now c.make_slaves.new.groups c.args.mounts.now c.make_slaves.new.mounts)
+    subst (λ word. IfOk c.share_all.result (λ later. IsRetyped (type_word_of word) c.args.next later numbers
+    c.args.groups.now c.share_all.new.groups c.args.mounts.now c.share_all.new.mounts))
+    (sym c.in-Shared.is)
+    (shared_if_ok c.share_all.result c.args.next numbers c.args.groups.now c.share_all.new.groups c.args.mounts.now
+    c.share_all.new.mounts c.share_all.ensures.groups_ok c.share_all.ensures.types_ok
+    (length c.args.ids.now) (sym (length-map c.args.ids.now (λ id. counted id.count))) c.share_all.ensures.count)
+
+pub returns-in-Slave-clause-ok : goal.returns-in-Slave-clause-ok
+returns-in-Slave-clause-ok c =
+    let numbers = map (λ id. counted id.count) c.args.ids.now in
+    subst (λ word. IsRetyped (type_word_of word) c.args.next c.args.next numbers c.args.groups.now c.make_slaves.new.groups c.args.mounts.now c.make_slaves.new.mounts)
     (sym c.in-Slave.is)
-    (slaves_retyped numbers c.args.groups.now c.make_slaves.new.groups c.args.mounts.now c.make_slaves.new.mounts
+    (slaves_retyped c.args.next numbers c.args.groups.now c.make_slaves.new.groups c.args.mounts.now c.make_slaves.new.mounts
     c.make_slaves.ensures.groups c.make_slaves.ensures.types)
 
-pub returns-in-Private : goal.returns-in-Private
-returns-in-Private c =
+pub returns-in-Private-clause-ok : goal.returns-in-Private-clause-ok
+returns-in-Private-clause-ok c =
     let numbers = map (λ id. counted id.count) c.args.ids.now in
-    subst (λ word. IsRetyped (type_word_of word) numbers c.args.groups.now c.leave_all.new.groups c.args.mounts.now c.leave_all.new.mounts)
+    subst (λ word. IsRetyped (type_word_of word) c.args.next c.args.next numbers c.args.groups.now c.leave_all.new.groups c.args.mounts.now c.leave_all.new.mounts)
     (sym c.in-Private.is)
-    (set_retyped ToPrivate Private (λ new old. refl) numbers c.args.groups.now c.leave_all.new.groups c.args.mounts.now c.set_all.new.mounts
+    (set_retyped ToPrivate Private
+    (λ new old. refl) c.args.next numbers refl c.args.groups.now c.leave_all.new.groups c.args.mounts.now c.set_all.new.mounts
     c.leave_all.new.mounts refl c.set_all.ensures c.leave_all.ensures.private c.leave_all.ensures.types)
 
-pub returns-in-Unbindable : goal.returns-in-Unbindable
-returns-in-Unbindable c =
+pub returns-in-Unbindable-clause-ok : goal.returns-in-Unbindable-clause-ok
+returns-in-Unbindable-clause-ok c =
     let numbers = map (λ id. counted id.count) c.args.ids.now in
-    subst (λ word. IsRetyped (type_word_of word) numbers c.args.groups.now c.leave_all-in-Unbindable.new.groups c.args.mounts.now c.leave_all-in-Unbindable.new.mounts)
+    subst (λ word. IsRetyped (type_word_of word) c.args.next c.args.next numbers c.args.groups.now c.leave_all-in-Unbindable.new.groups c.args.mounts.now c.leave_all-in-Unbindable.new.mounts)
     (sym c.in-Unbindable.is)
-    (set_retyped ToUnbindable Unbindable (λ new old. refl) numbers c.args.groups.now c.leave_all-in-Unbindable.new.groups c.args.mounts.now
+    (set_retyped ToUnbindable Unbindable
+    (λ new old. refl) c.args.next numbers refl c.args.groups.now c.leave_all-in-Unbindable.new.groups c.args.mounts.now
     c.set_all-in-Unbindable.new.mounts c.leave_all-in-Unbindable.new.mounts refl c.set_all-in-Unbindable.ensures
     c.leave_all-in-Unbindable.ensures.unbindable c.leave_all-in-Unbindable.ensures.types)

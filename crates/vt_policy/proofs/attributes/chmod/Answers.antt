@@ -20,7 +20,9 @@ returns g c =
     answers_alike task (chmod_permit nat_eq looks task c.args.path.now c.args.mode)
     (attr_permit nat_eq looks at c.owns.result (attr_with_mode old c.args.mode)) c.attr_permit.result
     (reached (walk_end (object_walk nat_eq looks task c.args.path.now)) at
-    (λ at. attr_permit nat_eq looks at (owns task.credentials (attr_at looks at)) (attr_with_mode (attr_at looks at) c.args.mode)) c.in_ok-object.ensures.ok
-    ∙ ap (λ attr. attr_permit nat_eq looks at (owns task.credentials attr) (attr_with_mode attr c.args.mode)) (sym c.attr_at-old.ensures)
+    (λ at. attr_permit nat_eq looks at (owns task.credentials (attr_at looks at))
+    (attr_with_mode (attr_at looks at) c.args.mode)) c.in_ok-object.ensures.ok
+    ∙ ap (λ attr. attr_permit nat_eq looks at (owns task.credentials attr) (attr_with_mode attr c.args.mode))
+    (sym c.attr_at-old.ensures)
     ∙ ap (λ allowed. attr_permit nat_eq looks at allowed (attr_with_mode old c.args.mode)) (sym c.owns.ensures.value))
     c.attr_permit.ensures

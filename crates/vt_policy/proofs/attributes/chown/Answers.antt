@@ -26,7 +26,8 @@ returns g c =
     (λ at. attr_permit nat_eq looks at
     (may_chown task.credentials (attr_at looks at) (attr_with_owner (attr_at looks at) c.args.uid c.args.gid))
     (attr_with_owner (attr_at looks at) c.args.uid c.args.gid)) c.in_ok-object.ensures.ok
-    ∙ ap (λ attr. attr_permit nat_eq looks at (may_chown task.credentials attr (attr_with_owner attr c.args.uid c.args.gid))
+    ∙ ap (λ attr. attr_permit nat_eq looks at
+    (may_chown task.credentials attr (attr_with_owner attr c.args.uid c.args.gid))
     (attr_with_owner attr c.args.uid c.args.gid)) (sym c.attr_at-old.ensures)
     ∙ ap (λ attr. attr_permit nat_eq looks at (may_chown task.credentials old attr) attr) owner
     ∙ ap (λ allowed. attr_permit nat_eq looks at allowed new) (sym c.may_chown.ensures))

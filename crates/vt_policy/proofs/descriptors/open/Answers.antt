@@ -22,5 +22,6 @@ returns-in_ok-file-in-Never g c =
     rw c.in-Never.is (answers_without task (open_permit nat_eq looks task c.args.path.now access NoCreation)
     (open_file_permit nat_eq looks task at access) c.open_file_permit.result
     (skipped (nat_le most_descriptors (length task.descriptors)) S3 [] _ (search rules)
-    ∙ reached (walk_end (object_walk nat_eq looks task c.args.path.now)) at (λ at. open_file_permit nat_eq looks task at access) c.in_ok-file-in-Never.ensures.ok)
+    ∙ reached (walk_end (object_walk nat_eq looks task c.args.path.now)) at
+    (λ at. open_file_permit nat_eq looks task at access) c.in_ok-file-in-Never.ensures.ok)
     c.open_file_permit.ensures)

@@ -20,7 +20,8 @@ returns-in_err-name_at g c =
     let at = c.in_ok-place.ensures.ok in
     let object = location_of c.in_ok-object.object in
     let parent = location_of c.in_ok-place.place.parent in
-    let together : not (nat_eq c.in_ok-object.object.mount.count c.in_ok-place.place.parent.mount.count) ≡ false = first_of (search rules, grind arith) in
+    let together : not (nat_eq c.in_ok-object.object.mount.count c.in_ok-place.place.parent.mount.count)
+    ≡ false = first_of (search rules, grind arith) in
     let asked = link_asked looks c.has_no_overlays.ensures task c.args.old.now c.args.new.now from.0 at.0 object parent from.1 from.2 at.1 at.2.parent
     (ap is_special at.2.last ∙ sym c.is_special.ensures ∙ c.if-is_special.false)
     (ap is_some at.2.object ∙ is_some_mapped c.in_ok-place.place.object ∙ sym c.is_some.ensures ∙ c.if-is_some.false)
@@ -39,7 +40,8 @@ returns g c =
     let at = c.in_ok-place.ensures.ok in
     let object = location_of c.in_ok-object.object in
     let parent = location_of c.in_ok-place.place.parent in
-    let together : not (nat_eq c.in_ok-object.object.mount.count c.in_ok-place.place.parent.mount.count) ≡ false = first_of (search rules, grind arith) in
+    let together : not (nat_eq c.in_ok-object.object.mount.count c.in_ok-place.place.parent.mount.count)
+    ≡ false = first_of (search rules, grind arith) in
     let asked = link_asked looks c.has_no_overlays.ensures task c.args.old.now c.args.new.now from.0 at.0 object parent from.1 from.2 at.1 at.2.parent
     (ap is_special at.2.last ∙ sym c.is_special.ensures ∙ c.if-is_special.false)
     (ap is_some at.2.object ∙ is_some_mapped c.in_ok-place.place.object ∙ sym c.is_some.ensures ∙ c.if-is_some.false)

@@ -24,7 +24,8 @@ returns-in_err-may_make g c =
     let rows = make_rules looks task at.0 (unnumbered at.0 (node at.0)) in
     let permit = make_permit at.0 (node at.0) in
     let special = ap is_special at.2.last ∙ sym c.is_special.ensures ∙ c.if-is_special.false in
-    let missing = ap is_some at.2.object ∙ is_some_mapped c.in_ok-place.place.object ∙ sym c.is_some.ensures ∙ c.if-is_some.false in
+    let missing = ap is_some at.2.object ∙ is_some_mapped c.in_ok-place.place.object ∙ sym c.is_some.ensures
+    ∙ c.if-is_some.false in
     let p = err_from_is_err_and c.from_residual-in_err-may_make.result c.from_residual-in_err-may_make.ensures.1 in
     rw (p.1, p.2) (refused task (mkdir_permit nat_eq looks task c.args.path.now c.args.mode) _
     (made_asked looks task (walk_end (new_walk nat_eq looks task c.args.path.now)) at.0 node at.1 special missing
@@ -40,7 +41,8 @@ returns-in_err-name_at g c =
     let rows = make_rules looks task at.0 (unnumbered at.0 (node at.0)) in
     let permit = make_permit at.0 (node at.0) in
     let special = ap is_special at.2.last ∙ sym c.is_special.ensures ∙ c.if-is_special.false in
-    let missing = ap is_some at.2.object ∙ is_some_mapped c.in_ok-place.place.object ∙ sym c.is_some.ensures ∙ c.if-is_some.false in
+    let missing = ap is_some at.2.object ∙ is_some_mapped c.in_ok-place.place.object ∙ sym c.is_some.ensures
+    ∙ c.if-is_some.false in
     let p = err_from_is_err_and c.from_residual-in_err-name_at.result c.from_residual-in_err-name_at.ensures.1 in
     rw (p.1, p.2) (without_memory task (mkdir_permit nat_eq looks task c.args.path.now c.args.mode) permit _
     (made_asked looks task (walk_end (new_walk nat_eq looks task c.args.path.now)) at.0 node at.1 special missing
@@ -57,10 +59,12 @@ returns g c =
     let rows = make_rules looks task at.0 (unnumbered at.0 (node at.0)) in
     let permit = make_permit at.0 (node at.0) in
     let special = ap is_special at.2.last ∙ sym c.is_special.ensures ∙ c.if-is_special.false in
-    let missing = ap is_some at.2.object ∙ is_some_mapped c.in_ok-place.place.object ∙ sym c.is_some.ensures ∙ c.if-is_some.false in
+    let missing = ap is_some at.2.object ∙ is_some_mapped c.in_ok-place.place.object ∙ sym c.is_some.ensures
+    ∙ c.if-is_some.false in
     let name = ap name_of at.2.last ∙ sym c.in_ok-name_at.ensures.ok in
     let attr : new_attr task (unwrap_or c.args.mode directory_mode) ≡ c.new_attr-attr.result = search rules in
-    let built = (λ i. record { attr = attr i; content = new_directory (at.2.parent i).node }) ∙ sym c.empty_directory.ensures in
+    let built = (λ i. record { attr = attr i; content = new_directory (at.2.parent i).node })
+    ∙ sym c.empty_directory.ensures in
     made_asked looks task (walk_end (new_walk nat_eq looks task c.args.path.now)) at.0 node at.1 special missing
     ∙ unless-let_through rows (Ok permit) (c.in_ok-may_make.ensures at.0 (unnumbered at.0 (node at.0)) at.2.parent)
     ∙ (λ i. Ok (ToMake (at.2.parent i) (name i) (built i)))

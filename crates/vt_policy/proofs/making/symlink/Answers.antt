@@ -24,11 +24,13 @@ returns-in_err-may_make g c =
     let looks = g.L.Look.looks c.args.world.now in
     let task = task_of c.args.who.now in
     let at = c.in_ok-place.ensures.ok in
-    let node : Place ℕ → Node ℕ = λ place. record { attr = exact_attr task symlink_mode; content = Symlink c.args.text.items } in
+    let node : Place ℕ → Node ℕ = λ place.
+    record { attr = exact_attr task symlink_mode; content = Symlink c.args.text.items } in
     let rows = make_rules looks task at.0 (unnumbered at.0 (node at.0)) in
     let permit = make_permit at.0 (node at.0) in
     let special = ap is_special at.2.last ∙ sym c.is_special.ensures ∙ c.if-is_special.false in
-    let missing = ap is_some at.2.object ∙ is_some_mapped c.in_ok-place.place.object ∙ sym c.is_some.ensures ∙ c.if-is_some.false in
+    let missing = ap is_some at.2.object ∙ is_some_mapped c.in_ok-place.place.object ∙ sym c.is_some.ensures
+    ∙ c.if-is_some.false in
     let p = err_from_is_err_and c.from_residual-in_err-may_make.result c.from_residual-in_err-may_make.ensures.1 in
     rw (p.1, p.2) (refused task (symlink_permit nat_eq looks task c.args.text.items c.args.path.now) _
     (skipped (is_empty c.args.text.items) W1 _ _ (search rules)
@@ -42,11 +44,13 @@ returns-in_err-name_at g c =
     let looks = g.L.Look.looks c.args.world.now in
     let task = task_of c.args.who.now in
     let at = c.in_ok-place.ensures.ok in
-    let node : Place ℕ → Node ℕ = λ place. record { attr = exact_attr task symlink_mode; content = Symlink c.args.text.items } in
+    let node : Place ℕ → Node ℕ = λ place.
+    record { attr = exact_attr task symlink_mode; content = Symlink c.args.text.items } in
     let rows = make_rules looks task at.0 (unnumbered at.0 (node at.0)) in
     let permit = make_permit at.0 (node at.0) in
     let special = ap is_special at.2.last ∙ sym c.is_special.ensures ∙ c.if-is_special.false in
-    let missing = ap is_some at.2.object ∙ is_some_mapped c.in_ok-place.place.object ∙ sym c.is_some.ensures ∙ c.if-is_some.false in
+    let missing = ap is_some at.2.object ∙ is_some_mapped c.in_ok-place.place.object ∙ sym c.is_some.ensures
+    ∙ c.if-is_some.false in
     let p = err_from_is_err_and c.from_residual-in_err-name_at.result c.from_residual-in_err-name_at.ensures.1 in
     rw (p.1, p.2) (without_memory task (symlink_permit nat_eq looks task c.args.text.items c.args.path.now) permit _
     (skipped (is_empty c.args.text.items) W1 _ _ (search rules)
@@ -61,11 +65,13 @@ returns g c =
     let looks = g.L.Look.looks c.args.world.now in
     let task = task_of c.args.who.now in
     let at = c.in_ok-place.ensures.ok in
-    let node : Place ℕ → Node ℕ = λ place. record { attr = exact_attr task symlink_mode; content = Symlink c.args.text.items } in
+    let node : Place ℕ → Node ℕ = λ place.
+    record { attr = exact_attr task symlink_mode; content = Symlink c.args.text.items } in
     let rows = make_rules looks task at.0 (unnumbered at.0 (node at.0)) in
     let permit = make_permit at.0 (node at.0) in
     let special = ap is_special at.2.last ∙ sym c.is_special.ensures ∙ c.if-is_special.false in
-    let missing = ap is_some at.2.object ∙ is_some_mapped c.in_ok-place.place.object ∙ sym c.is_some.ensures ∙ c.if-is_some.false in
+    let missing = ap is_some at.2.object ∙ is_some_mapped c.in_ok-place.place.object ∙ sym c.is_some.ensures
+    ∙ c.if-is_some.false in
     let name = ap name_of at.2.last ∙ sym c.in_ok-name_at.ensures.ok in
     let built : node at.0 ≡ node_in c.in_ok-place.place.parent c.new_link.result = search rules in
     skipped (is_empty c.args.text.items) W1 _ _ (search rules)

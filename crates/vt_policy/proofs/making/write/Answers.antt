@@ -18,10 +18,14 @@ returns-in-Some g c =
     let task = task_of c.args.who.now in
     let at = c.in_ok-place.ensures.ok in
     answers_without task (write_permit nat_eq looks task c.args.path.now c.args.bytes.items)
-    (written_permit nat_eq looks task at.0 c.args.bytes.items (Some (location_of c.in-Some.file))) c.rewrite_permit.result
+    (written_permit nat_eq looks task at.0 c.args.bytes.items
+    (Some (location_of c.in-Some.file))) c.rewrite_permit.result
     (went (walk_end (file_walk nat_eq looks task c.args.path.now)) at.0 _ at.1
-    ∙ skipped (is_special at.0.last || at.0.slash) E2 [] _ (neither _ _ (ap is_special at.2.last ∙ sym c.is_special.ensures ∙ c.if-is_special.false) (at.2.slash ∙ c.if-place.false))
-    ∙ ap (written_permit nat_eq looks task at.0 c.args.bytes.items) (at.2.object ∙ ap (option_map location_of) c.in-Some.is))
+    ∙ skipped (is_special at.0.last || at.0.slash) E2 [] _
+    (neither _ _ (ap is_special at.2.last ∙ sym c.is_special.ensures ∙ c.if-is_special.false)
+    (at.2.slash ∙ c.if-place.false))
+    ∙ ap (written_permit nat_eq looks task at.0 c.args.bytes.items)
+    (at.2.object ∙ ap (option_map location_of) c.in-Some.is))
     (c.rewrite_permit.ensures at.0)
 
 pub returns-in-None : goal.returns-in-None
@@ -33,6 +37,9 @@ returns-in-None g c =
     answers task (write_permit nat_eq looks task c.args.path.now c.args.bytes.items)
     (written_permit nat_eq looks task at.0 c.args.bytes.items None) c.new_file_permit.result
     (went (walk_end (file_walk nat_eq looks task c.args.path.now)) at.0 _ at.1
-    ∙ skipped (is_special at.0.last || at.0.slash) E2 [] _ (neither _ _ (ap is_special at.2.last ∙ sym c.is_special.ensures ∙ c.if-is_special.false) (at.2.slash ∙ c.if-place.false))
-    ∙ ap (written_permit nat_eq looks task at.0 c.args.bytes.items) (at.2.object ∙ ap (option_map location_of) c.in-None.is))
+    ∙ skipped (is_special at.0.last || at.0.slash) E2 [] _
+    (neither _ _ (ap is_special at.2.last ∙ sym c.is_special.ensures ∙ c.if-is_special.false)
+    (at.2.slash ∙ c.if-place.false))
+    ∙ ap (written_permit nat_eq looks task at.0 c.args.bytes.items)
+    (at.2.object ∙ ap (option_map location_of) c.in-None.is))
     (c.new_file_permit.ensures at.0 at.2)

@@ -14,4 +14,5 @@ returns-in_err-here g c =
     let looks = g.L.Look.looks c.args.world.now in
     let p = err_from_is_err_and c.from_residual.result c.from_residual.ensures.1 in
     rw (p.1, p.2) (root_refused looks (task_of c.args.who.now) c.args.path.now
-    (λ at. (not (is_some (mount_at looks at).mount_point), M10) ∷ []) (λ at. Ok (ToUnmountLazily at.mount)) _ c.in_err-here.ensures.err)
+    (λ at. (not (is_some (mount_at looks at).mount_point), M10) ∷ [])
+    (λ at. Ok (ToUnmountLazily at.mount)) _ c.in_err-here.ensures.err)

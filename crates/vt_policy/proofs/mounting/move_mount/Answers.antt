@@ -20,7 +20,8 @@ returns-in_err-may_move g c =
     let source = location_of c.in_ok-source.source in
     let place = location_of c.in_ok-place.place in
     let p = err_from_is_err_and c.from_residual-in_err-may_move.result c.from_residual-in_err-may_move.ensures.1 in
-    rw (p.1, p.2) (refused_before (MoveMount c.args.source.now c.args.path.now) task (move_permit nat_eq looks overfills task c.args.source.now c.args.path.now) _
+    rw (p.1, p.2) (refused_before (MoveMount c.args.source.now c.args.path.now) task
+    (move_permit nat_eq looks overfills task c.args.source.now c.args.path.now) _
     (move_refused looks overfills task c.args.source.now c.args.path.now source place
     (sym c.lacks.ensures ∙ c.if-lacks.false) c.in_ok-source.ensures.ok c.in_ok-place.ensures.ok _ c.in_err-may_move.ensures))
 
@@ -33,7 +34,8 @@ returns-in_err-overfills g c =
     let place = location_of c.in_ok-place.place in
     let permit = ToMove source.mount place in
     let p = err_from_is_err_and c.from_residual-in_err-overfills.result c.from_residual-in_err-overfills.ensures.1 in
-    rw (p.1, p.2) (no_receivers_of_move c.args.source.now c.args.path.now task (move_permit nat_eq looks overfills task c.args.source.now c.args.path.now)
+    rw (p.1, p.2) (no_receivers_of_move c.args.source.now c.args.path.now task
+    (move_permit nat_eq looks overfills task c.args.source.now c.args.path.now)
     (overfills permit) (not (is_some (mount_at looks source).mount_point)) permit _
     (move_left looks overfills task c.args.source.now c.args.path.now source place
     (sym c.lacks.ensures ∙ c.if-lacks.false) c.in_ok-source.ensures.ok c.in_ok-place.ensures.ok c.in_ok-may_move.ensures)
@@ -46,7 +48,8 @@ returns-then-branch g c =
     let task = task_of c.args.who.now in
     let source = location_of c.in_ok-source.source in
     let place = location_of c.in_ok-place.place in
-    refused_before (MoveMount c.args.source.now c.args.path.now) task (move_permit nat_eq looks overfills task c.args.source.now c.args.path.now) _
+    refused_before (MoveMount c.args.source.now c.args.path.now) task
+    (move_permit nat_eq looks overfills task c.args.source.now c.args.path.now) _
     (move_left looks overfills task c.args.source.now c.args.path.now source place
     (sym c.lacks.ensures ∙ c.if-lacks.false) c.in_ok-source.ensures.ok c.in_ok-place.ensures.ok c.in_ok-may_move.ensures
     ∙ stopped _ M9 _ _ (sym c.in_ok-overfills.ensures.ok ∙ c.if-branch.true)
@@ -59,7 +62,8 @@ returns-then-not-is_attached_somewhere g c =
     let task = task_of c.args.who.now in
     let source = location_of c.in_ok-source.source in
     let place = location_of c.in_ok-place.place in
-    refused_before (MoveMount c.args.source.now c.args.path.now) task (move_permit nat_eq looks overfills task c.args.source.now c.args.path.now) _
+    refused_before (MoveMount c.args.source.now c.args.path.now) task
+    (move_permit nat_eq looks overfills task c.args.source.now c.args.path.now) _
     (move_left looks overfills task c.args.source.now c.args.path.now source place
     (sym c.lacks.ensures ∙ c.if-lacks.false) c.in_ok-source.ensures.ok c.in_ok-place.ensures.ok c.in_ok-may_move.ensures
     ∙ skipped _ M9 _ _ (sym c.in_ok-overfills.ensures.ok ∙ c.if-branch.false)

@@ -15,4 +15,5 @@ returns-in_err-here g c =
     let flags = flags_of c.args.flags in
     let p = err_from_is_err_and c.from_residual.result c.from_residual.ensures.1 in
     rw (p.1, p.2) (root_refused looks (task_of c.args.who.now) c.args.path.now
-    (λ at. (flags.read_only && looks.is_written_through at.mount, M8) ∷ []) (λ at. Ok (ToSetFlags at.mount flags)) _ c.in_err-here.ensures.err)
+    (λ at. (flags.read_only && looks.is_written_through at.mount, M8) ∷ [])
+    (λ at. Ok (ToSetFlags at.mount flags)) _ c.in_err-here.ensures.err)

@@ -18,5 +18,6 @@ returns-in_err-here g c =
     let p = err_from_is_err_and c.from_residual.result c.from_residual.ensures.1 in
     rw (p.1, p.2) (refused_before (Umount c.args.path.now) task (umount_permit nat_eq looks task c.args.path.now) _
     (root_refused looks task c.args.path.now
-    (λ at. (looks.is_busy at.mount, M8) ∷ (not (is_some (mount_at looks at).mount_point), M10) ∷ []) (λ at. Ok (ToUnmount at.mount)) _
+    (λ at. (looks.is_busy at.mount, M8) ∷ (not (is_some (mount_at looks at).mount_point), M10) ∷ [])
+    (λ at. Ok (ToUnmount at.mount)) _
     c.in_err-here.ensures.err))

@@ -21,17 +21,21 @@ returns-in_err-may_stay g c =
     let to = c.in_ok-to.ensures.ok in
     let place = c.in_ok-from.from in
     let object = location_of c.unwrap_or-object.result in
-    let there = (λ i. unwrap_or (from.2.object i) (from.2.parent i)) ∙ there_mapped place.object place.parent ∙ ap location_of (sym c.unwrap_or-object.ensures) in
-    let kind = ap (holds_of (is_directory_at looks)) from.2.object ∙ there_holds (is_directory_at looks) place.object place.parent c.in_ok-from.ensures.there
+    let there = (λ i. unwrap_or (from.2.object i) (from.2.parent i)) ∙ there_mapped place.object place.parent
+    ∙ ap location_of (sym c.unwrap_or-object.ensures) in
+    let kind = ap (holds_of (is_directory_at looks)) from.2.object
+    ∙ there_holds (is_directory_at looks) place.object place.parent c.in_ok-from.ensures.there
     ∙ ap (λ at. is_directory_at looks (location_of at)) (sym c.unwrap_or-object.ensures) in
     let asked = rename_asked looks task c.args.old.now c.args.new.now from.0 to.0 object true
     from.1 (ap is_special from.2.last ∙ sym c.is_special.ensures ∙ c.if-is_special.false) there kind
-    (ap (λ directory. walk_end (rename_new_walk nat_eq looks task c.args.new.now directory)) (sym c.is_directory.ensures) ∙ to.1)
+    (ap (λ directory. walk_end (rename_new_walk nat_eq looks task c.args.new.now directory))
+    (sym c.is_directory.ensures) ∙ to.1)
     (ap is_special to.2.last ∙ sym c.is_special-2.ensures ∙ c.if-is_special-2.false)
     (ap (is_one_object nat_eq looks object) to.2.object ∙ sym c.is_name_of.ensures ∙ c.if-is_name_of.true) in
     let p = err_from_is_err_and c.from_residual-in_err-may_stay.result c.from_residual-in_err-may_stay.ensures.1 in
     rw (p.1, p.2) (refused task (rename_permit nat_eq looks task c.args.old.now c.args.new.now) _
-    (asked ∙ unless-stopped (same_object_rules nat_eq looks from.0 to.0) (Ok Allowed) _ (c.in_err-may_stay.ensures from.0 to.0 from.2 to.2)))
+    (asked ∙ unless-stopped (same_object_rules nat_eq looks from.0 to.0) (Ok Allowed) _
+    (c.in_err-may_stay.ensures from.0 to.0 from.2 to.2)))
 
 pub returns-in_err-may_rename : goal.returns-in_err-may_rename
 returns-in_err-may_rename g c =
@@ -41,12 +45,15 @@ returns-in_err-may_rename g c =
     let to = c.in_ok-to.ensures.ok in
     let place = c.in_ok-from.from in
     let object = location_of c.unwrap_or-object.result in
-    let there = (λ i. unwrap_or (from.2.object i) (from.2.parent i)) ∙ there_mapped place.object place.parent ∙ ap location_of (sym c.unwrap_or-object.ensures) in
-    let kind = ap (holds_of (is_directory_at looks)) from.2.object ∙ there_holds (is_directory_at looks) place.object place.parent c.in_ok-from.ensures.there
+    let there = (λ i. unwrap_or (from.2.object i) (from.2.parent i)) ∙ there_mapped place.object place.parent
+    ∙ ap location_of (sym c.unwrap_or-object.ensures) in
+    let kind = ap (holds_of (is_directory_at looks)) from.2.object
+    ∙ there_holds (is_directory_at looks) place.object place.parent c.in_ok-from.ensures.there
     ∙ ap (λ at. is_directory_at looks (location_of at)) (sym c.unwrap_or-object.ensures) in
     let asked = rename_asked looks task c.args.old.now c.args.new.now from.0 to.0 object false
     from.1 (ap is_special from.2.last ∙ sym c.is_special.ensures ∙ c.if-is_special.false) there kind
-    (ap (λ directory. walk_end (rename_new_walk nat_eq looks task c.args.new.now directory)) (sym c.is_directory.ensures) ∙ to.1)
+    (ap (λ directory. walk_end (rename_new_walk nat_eq looks task c.args.new.now directory))
+    (sym c.is_directory.ensures) ∙ to.1)
     (ap is_special to.2.last ∙ sym c.is_special-2.ensures ∙ c.if-is_special-2.false)
     (ap (is_one_object nat_eq looks object) to.2.object ∙ sym c.is_name_of.ensures ∙ c.if-is_name_of.false) in
     let rows = rename_rules nat_eq looks task from.0 to.0 object in
@@ -63,19 +70,23 @@ returns-in_err-name_at g c =
     let to = c.in_ok-to.ensures.ok in
     let place = c.in_ok-from.from in
     let object = location_of c.unwrap_or-object.result in
-    let there = (λ i. unwrap_or (from.2.object i) (from.2.parent i)) ∙ there_mapped place.object place.parent ∙ ap location_of (sym c.unwrap_or-object.ensures) in
-    let kind = ap (holds_of (is_directory_at looks)) from.2.object ∙ there_holds (is_directory_at looks) place.object place.parent c.in_ok-from.ensures.there
+    let there = (λ i. unwrap_or (from.2.object i) (from.2.parent i)) ∙ there_mapped place.object place.parent
+    ∙ ap location_of (sym c.unwrap_or-object.ensures) in
+    let kind = ap (holds_of (is_directory_at looks)) from.2.object
+    ∙ there_holds (is_directory_at looks) place.object place.parent c.in_ok-from.ensures.there
     ∙ ap (λ at. is_directory_at looks (location_of at)) (sym c.unwrap_or-object.ensures) in
     let asked = rename_asked looks task c.args.old.now c.args.new.now from.0 to.0 object false
     from.1 (ap is_special from.2.last ∙ sym c.is_special.ensures ∙ c.if-is_special.false) there kind
-    (ap (λ directory. walk_end (rename_new_walk nat_eq looks task c.args.new.now directory)) (sym c.is_directory.ensures) ∙ to.1)
+    (ap (λ directory. walk_end (rename_new_walk nat_eq looks task c.args.new.now directory))
+    (sym c.is_directory.ensures) ∙ to.1)
     (ap is_special to.2.last ∙ sym c.is_special-2.ensures ∙ c.if-is_special-2.false)
     (ap (is_one_object nat_eq looks object) to.2.object ∙ sym c.is_name_of.ensures ∙ c.if-is_name_of.false) in
     let rows = rename_rules nat_eq looks task from.0 to.0 object in
     let permit = ToRename from.0.parent (name_of from.0.last) to.0.parent (name_of to.0.last) object to.0.object in
     let p = err_from_is_err_and c.from_residual-in_err-name_at.result c.from_residual-in_err-name_at.ensures.1 in
     rw (p.1, p.2) (without_memory task (rename_permit nat_eq looks task c.args.old.now c.args.new.now) permit _
-    (asked ∙ unless-let_through rows (Ok permit) (c.in_ok-may_rename.ensures from.0 to.0 from.2 to.2)) c.in_err-name_at.ensures.memory)
+    (asked ∙ unless-let_through rows (Ok permit)
+    (c.in_ok-may_rename.ensures from.0 to.0 from.2 to.2)) c.in_err-name_at.ensures.memory)
 
 pub returns-in_err-name_at-2 : goal.returns-in_err-name_at-2
 returns-in_err-name_at-2 g c =
@@ -85,19 +96,23 @@ returns-in_err-name_at-2 g c =
     let to = c.in_ok-to.ensures.ok in
     let place = c.in_ok-from.from in
     let object = location_of c.unwrap_or-object.result in
-    let there = (λ i. unwrap_or (from.2.object i) (from.2.parent i)) ∙ there_mapped place.object place.parent ∙ ap location_of (sym c.unwrap_or-object.ensures) in
-    let kind = ap (holds_of (is_directory_at looks)) from.2.object ∙ there_holds (is_directory_at looks) place.object place.parent c.in_ok-from.ensures.there
+    let there = (λ i. unwrap_or (from.2.object i) (from.2.parent i)) ∙ there_mapped place.object place.parent
+    ∙ ap location_of (sym c.unwrap_or-object.ensures) in
+    let kind = ap (holds_of (is_directory_at looks)) from.2.object
+    ∙ there_holds (is_directory_at looks) place.object place.parent c.in_ok-from.ensures.there
     ∙ ap (λ at. is_directory_at looks (location_of at)) (sym c.unwrap_or-object.ensures) in
     let asked = rename_asked looks task c.args.old.now c.args.new.now from.0 to.0 object false
     from.1 (ap is_special from.2.last ∙ sym c.is_special.ensures ∙ c.if-is_special.false) there kind
-    (ap (λ directory. walk_end (rename_new_walk nat_eq looks task c.args.new.now directory)) (sym c.is_directory.ensures) ∙ to.1)
+    (ap (λ directory. walk_end (rename_new_walk nat_eq looks task c.args.new.now directory))
+    (sym c.is_directory.ensures) ∙ to.1)
     (ap is_special to.2.last ∙ sym c.is_special-2.ensures ∙ c.if-is_special-2.false)
     (ap (is_one_object nat_eq looks object) to.2.object ∙ sym c.is_name_of.ensures ∙ c.if-is_name_of.false) in
     let rows = rename_rules nat_eq looks task from.0 to.0 object in
     let permit = ToRename from.0.parent (name_of from.0.last) to.0.parent (name_of to.0.last) object to.0.object in
     let p = err_from_is_err_and c.from_residual-in_err-name_at-2.result c.from_residual-in_err-name_at-2.ensures.1 in
     rw (p.1, p.2) (without_memory task (rename_permit nat_eq looks task c.args.old.now c.args.new.now) permit _
-    (asked ∙ unless-let_through rows (Ok permit) (c.in_ok-may_rename.ensures from.0 to.0 from.2 to.2)) c.in_err-name_at-2.ensures.memory)
+    (asked ∙ unless-let_through rows (Ok permit)
+    (c.in_ok-may_rename.ensures from.0 to.0 from.2 to.2)) c.in_err-name_at-2.ensures.memory)
 
 pub returns : goal.returns
 returns g c =
@@ -107,12 +122,15 @@ returns g c =
     let to = c.in_ok-to.ensures.ok in
     let place = c.in_ok-from.from in
     let object = location_of c.unwrap_or-object.result in
-    let there = (λ i. unwrap_or (from.2.object i) (from.2.parent i)) ∙ there_mapped place.object place.parent ∙ ap location_of (sym c.unwrap_or-object.ensures) in
-    let kind = ap (holds_of (is_directory_at looks)) from.2.object ∙ there_holds (is_directory_at looks) place.object place.parent c.in_ok-from.ensures.there
+    let there = (λ i. unwrap_or (from.2.object i) (from.2.parent i)) ∙ there_mapped place.object place.parent
+    ∙ ap location_of (sym c.unwrap_or-object.ensures) in
+    let kind = ap (holds_of (is_directory_at looks)) from.2.object
+    ∙ there_holds (is_directory_at looks) place.object place.parent c.in_ok-from.ensures.there
     ∙ ap (λ at. is_directory_at looks (location_of at)) (sym c.unwrap_or-object.ensures) in
     let asked = rename_asked looks task c.args.old.now c.args.new.now from.0 to.0 object false
     from.1 (ap is_special from.2.last ∙ sym c.is_special.ensures ∙ c.if-is_special.false) there kind
-    (ap (λ directory. walk_end (rename_new_walk nat_eq looks task c.args.new.now directory)) (sym c.is_directory.ensures) ∙ to.1)
+    (ap (λ directory. walk_end (rename_new_walk nat_eq looks task c.args.new.now directory))
+    (sym c.is_directory.ensures) ∙ to.1)
     (ap is_special to.2.last ∙ sym c.is_special-2.ensures ∙ c.if-is_special-2.false)
     (ap (is_one_object nat_eq looks object) to.2.object ∙ sym c.is_name_of.ensures ∙ c.if-is_name_of.false) in
     let rows = rename_rules nat_eq looks task from.0 to.0 object in

@@ -20,7 +20,8 @@ returns-in_err-may_remove g c =
     let at = c.in_ok-place.ensures.ok in
     let parent = location_of c.in_ok-place.place.parent in
     let object = location_of c.unwrap_or-directory.result in
-    let there = (λ i. unwrap_or (at.2.object i) (at.2.parent i)) ∙ there_mapped c.in_ok-place.place.object c.in_ok-place.place.parent
+    let there = (λ i. unwrap_or (at.2.object i) (at.2.parent i))
+    ∙ there_mapped c.in_ok-place.place.object c.in_ok-place.place.parent
     ∙ ap location_of (sym c.unwrap_or-directory.ensures) in
     let permit = ToRemoveDirectory at.0.parent (name_of at.0.last) (object_there at.0) in
     let asked = rmdir_asked looks c.has_no_overlays.ensures task c.args.path.now at.0 parent object _ at.1
@@ -38,7 +39,8 @@ returns-in_err-name_at g c =
     let at = c.in_ok-place.ensures.ok in
     let parent = location_of c.in_ok-place.place.parent in
     let object = location_of c.unwrap_or-directory.result in
-    let there = (λ i. unwrap_or (at.2.object i) (at.2.parent i)) ∙ there_mapped c.in_ok-place.place.object c.in_ok-place.place.parent
+    let there = (λ i. unwrap_or (at.2.object i) (at.2.parent i))
+    ∙ there_mapped c.in_ok-place.place.object c.in_ok-place.place.parent
     ∙ ap location_of (sym c.unwrap_or-directory.ensures) in
     let permit = ToRemoveDirectory at.0.parent (name_of at.0.last) (object_there at.0) in
     let asked = rmdir_asked looks c.has_no_overlays.ensures task c.args.path.now at.0 parent object _ at.1
@@ -57,7 +59,8 @@ returns g c =
     let at = c.in_ok-place.ensures.ok in
     let parent = location_of c.in_ok-place.place.parent in
     let object = location_of c.unwrap_or-directory.result in
-    let there = (λ i. unwrap_or (at.2.object i) (at.2.parent i)) ∙ there_mapped c.in_ok-place.place.object c.in_ok-place.place.parent
+    let there = (λ i. unwrap_or (at.2.object i) (at.2.parent i))
+    ∙ there_mapped c.in_ok-place.place.object c.in_ok-place.place.parent
     ∙ ap location_of (sym c.unwrap_or-directory.ensures) in
     let permit = ToRemoveDirectory at.0.parent (name_of at.0.last) (object_there at.0) in
     let asked = rmdir_asked looks c.has_no_overlays.ensures task c.args.path.now at.0 parent object _ at.1

@@ -20,7 +20,8 @@ returns-in_err-may_remove g c =
     let at = c.in_ok-place.ensures.ok in
     let parent = location_of c.in_ok-place.place.parent in
     let object = location_of c.unwrap_or-object.result in
-    let there = (λ i. unwrap_or (at.2.object i) (at.2.parent i)) ∙ there_mapped c.in_ok-place.place.object c.in_ok-place.place.parent
+    let there = (λ i. unwrap_or (at.2.object i) (at.2.parent i))
+    ∙ there_mapped c.in_ok-place.place.object c.in_ok-place.place.parent
     ∙ ap location_of (sym c.unwrap_or-object.ensures) in
     let permit = ToChange at.0.parent (removing at.0 (object_there at.0)) in
     let asked = unlink_asked looks c.has_no_overlays.ensures task c.args.path.now at.0 parent object at.1
@@ -37,7 +38,8 @@ returns-in_err-name_at g c =
     let at = c.in_ok-place.ensures.ok in
     let parent = location_of c.in_ok-place.place.parent in
     let object = location_of c.unwrap_or-object.result in
-    let there = (λ i. unwrap_or (at.2.object i) (at.2.parent i)) ∙ there_mapped c.in_ok-place.place.object c.in_ok-place.place.parent
+    let there = (λ i. unwrap_or (at.2.object i) (at.2.parent i))
+    ∙ there_mapped c.in_ok-place.place.object c.in_ok-place.place.parent
     ∙ ap location_of (sym c.unwrap_or-object.ensures) in
     let permit = ToChange at.0.parent (removing at.0 (object_there at.0)) in
     let asked = unlink_asked looks c.has_no_overlays.ensures task c.args.path.now at.0 parent object at.1
@@ -55,7 +57,8 @@ returns g c =
     let at = c.in_ok-place.ensures.ok in
     let parent = location_of c.in_ok-place.place.parent in
     let object = location_of c.unwrap_or-object.result in
-    let there = (λ i. unwrap_or (at.2.object i) (at.2.parent i)) ∙ there_mapped c.in_ok-place.place.object c.in_ok-place.place.parent
+    let there = (λ i. unwrap_or (at.2.object i) (at.2.parent i))
+    ∙ there_mapped c.in_ok-place.place.object c.in_ok-place.place.parent
     ∙ ap location_of (sym c.unwrap_or-object.ensures) in
     let permit = ToChange at.0.parent (removing at.0 (object_there at.0)) in
     let asked = unlink_asked looks c.has_no_overlays.ensures task c.args.path.now at.0 parent object at.1

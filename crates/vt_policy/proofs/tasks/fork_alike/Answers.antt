@@ -16,4 +16,5 @@ returns-in_default c =
 pub returns : goal.returns
 returns c =
     let task = task_of c.args.who.now in
-    forked_alike task (sym c.is_barren.ensures ∙ c.if-is_barren.false) ∙ ap (λ cred. Ok (ToFork cred)) (sym c.in-Ok.ensures.cases)
+    forked_alike task (sym c.is_barren.ensures ∙ c.if-is_barren.false)
+    ∙ ap (λ cred. Ok (ToFork cred)) (sym c.in-Ok.ensures.cases)

@@ -20,3 +20,6 @@ returns-clause-ok c world seen one_child parts =
 
 pub returns-clause-once : goal.returns-clause-once
 returns-clause-once c = c.in_ok-points.ensures.once
+
+pub returns-clause-leaver : goal.returns-clause-leaver
+returns-clause-leaver c = c.in_ok-points.ensures.leaver

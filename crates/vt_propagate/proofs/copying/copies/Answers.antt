@@ -28,5 +28,6 @@ returns-clause-length c =
       indexes = record { ref_ptr = c.args.graft.ref_ptr; now = c.in-Ok.indexes };
     } in
     sym (length-map c.in-Ok-all_copies.copies.items mount_of) ∙ ap length c.in-Ok-all_copies.ensures
-    ∙ length-rows (copied (as_kept c.args.mounts.now c.args.groups.now) copying) (tree_seen copying) (parts_seen copying)
+    ∙ length-rows (copied (as_kept c.args.mounts.now c.args.groups.now) copying) (tree_seen copying)
+    (parts_seen copying)
     ∙ (λ i. length-map c.args.graft.now.parts.now mount_of i * length-map c.args.graft.now.tree.now mount_of i)

@@ -10,13 +10,15 @@ use Rattle.vt_propagate.proofs.filling.overfills.Goals as goal
 pub returns-clause-added : goal.returns-clause-added
 returns-clause-added c world new place tree same invariants are size stay =
     c.is_one_overfilled.ensures
-    ∙ added_tell world place new tree invariants (mounts_in c.args.mounts.now) same c.args.parts.now are c.args.load size stay
+    ∙ added_tell world place new tree invariants
+    (mounts_in c.args.mounts.now) same c.args.parts.now are c.args.load size stay
     (λ (namespace : NamespaceId). unwrap_or (get same_namespace c.in-Ok.counts namespace) 0) c.in-Ok.ensures
 
 pub returns-clause-moved : goal.returns-clause-moved
 returns-clause-moved c world new place tree same invariants are size moves =
     c.is_one_overfilled.ensures
-    ∙ moves_tell world place new tree invariants (mounts_in c.args.mounts.now) same c.args.parts.now are c.args.load size moves
+    ∙ moves_tell world place new tree invariants
+    (mounts_in c.args.mounts.now) same c.args.parts.now are c.args.load size moves
     (λ (namespace : NamespaceId). unwrap_or (get same_namespace c.in-Ok.counts namespace) 0) c.in-Ok.ensures
 
 pub returns-clause-more : goal.returns-clause-more

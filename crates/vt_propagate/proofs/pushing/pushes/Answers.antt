@@ -20,12 +20,14 @@ pub returns-clause-leaver : goal.returns-clause-leaver
 returns-clause-leaver c number leaves =
     let graft = c.args.graft.now in
     ap (lookup (nat_eq number)) c.in-Ok.ensures
-    ∙ leaver_stays (mounts_in c.args.mounts.now) (leaver graft) (location_of graft.place) (length graft.tree.now) number leaves
+    ∙ leaver_stays (mounts_in c.args.mounts.now) (leaver graft) (location_of graft.place)
+    (length graft.tree.now) number leaves
     (map mount_of graft.parts.now) (map mount_of c.args.copies.now)
 
 pub returns-clause-once : goal.returns-clause-once
 returns-clause-once c apart =
     let graft = c.args.graft.now in
     subst (MovesOnce (mounts_in c.args.mounts.now)) (sym c.in-Ok.ensures)
-    (pushed_once (mounts_in c.args.mounts.now) c.are_ascending.ensures (leaver graft) (location_of graft.place) (length graft.tree.now)
+    (pushed_once (mounts_in c.args.mounts.now) c.are_ascending.ensures (leaver graft) (location_of graft.place)
+    (length graft.tree.now)
     (map mount_of graft.parts.now) (map mount_of c.args.copies.now) apart)

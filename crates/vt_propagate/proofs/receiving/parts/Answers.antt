@@ -14,6 +14,8 @@ returns-clause-ok g c world seen reaches =
     let found : Some (mount_of parent) ≡ numbered (mounts_in c.args.mounts.now) (counted c.args.place.mount.count) =
     sym (ap (option_map mount_of) c.unwrap-parent.ensures) ∙ c.get.ensures in
     c.in-Ok.ensures
-    ∙ parts-found world c.args.mounts.now c.args.groups.now seen (g.R.Reach.under c.args.directories.now) reaches c.are_ascending.ensures
+    ∙ parts-found world c.args.mounts.now c.args.groups.now seen
+    (g.R.Reach.under c.args.directories.now) reaches c.are_ascending.ensures
     (location_of c.args.place) (mount_of parent) found c.deref.result.now
-    (ap counts c.deref.ensures.value ∙ c.in_ok-receivers.ensures.ok world (mount_of parent) seen.groups seen.living refl)
+    (ap counts c.deref.ensures.value
+    ∙ c.in_ok-receivers.ensures.ok world (mount_of parent) seen.groups seen.living refl)

@@ -7,7 +7,8 @@ use Rattle.vt_mount.specs.MountsValue.{mounts_in}
 use Rattle.vt_propagate.proofs.Leaving.{free_at-told}
 use Rattle.vt_propagate.proofs.unmounting.free_at.Goals as goal
 
-taken : (b : Bool) (id : MountId) → option_map (λ (id : MountId). counted id.count) (then_some b id) ≡ cond b (Some (counted id.count)) None
+taken : (b : Bool) (id : MountId)
+    → option_map (λ (id : MountId). counted id.count) (then_some b id) ≡ cond b (Some (counted id.count)) None
 taken true id = refl
 taken false id = refl
 
@@ -15,5 +16,6 @@ pub returns : goal.returns
 returns c =
     ap (option_map (λ (id : MountId). counted id.count)) c.then_some.ensures
     ∙ taken c.is_free.result c.in_ok-child.child
-    ∙ free_at-told (mounts_in c.args.mounts.now) c.are_ascending.ensures (location_of c.args.place) (counted c.in_ok-child.child.count)
+    ∙ free_at-told (mounts_in c.args.mounts.now) c.are_ascending.ensures (location_of c.args.place)
+    (counted c.in_ok-child.child.count)
     c.in_ok-child.ensures c.is_free.result c.is_free.ensures

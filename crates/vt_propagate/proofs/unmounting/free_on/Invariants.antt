@@ -7,5 +7,6 @@ use Rattle.vt_propagate.proofs.unmounting.free_on.Given as goal
 
 abbrev pub invariant-loop-receiver : goal.invariant-loop-receiver
 invariant-loop-receiver l =
-    counts l.going.items ++ numbers (free_on (mounts_in l.mounts) (number_of l.node) (counts (drop l.receiver-index l.receivers)))
+    counts l.going.items ++ numbers
+    (free_on (mounts_in l.mounts) (number_of l.node) (counts (drop l.receiver-index l.receivers)))
     ≡ numbers (free_on (mounts_in l.mounts) (number_of l.node) (counts l.receivers))

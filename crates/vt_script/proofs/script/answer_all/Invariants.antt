@@ -11,7 +11,8 @@ invariant-pieces g l = record {
   source_tells : g.R.Source.tells l.initial.source → g.R.Source.tells l.source;
   read : List ℕ;
   rest : g.R.Source.tells l.initial.source → g.R.Source.rest l.initial.source ≡ read ++ g.R.Source.rest l.source;
-  feeds : Fed g.W.Sink (moment (state_of g.C.Calls.world l.initial.session) []) read (state_of g.C.Calls.world l.session) l.initial.sink l.sink;
+  feeds : Fed g.W.Sink (moment (state_of g.C.Calls.world l.initial.session) []) read
+      (state_of g.C.Calls.world l.session) l.initial.sink l.sink;
 }
 
 abbrev pub decreases-pieces : goal.decreases-pieces

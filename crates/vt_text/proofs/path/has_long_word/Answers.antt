@@ -14,7 +14,8 @@ returns-then-start-eq0 c =
     let long : longest_name < length rest = c.loop-rest-test.true in
     let size = length-take 256 rest in
     let other : (k : ℕ) → k ≤ longest_name → get_or rest k 0 ≢ 47 = λ k within.
-    subst (λ byte. byte ≢ 47) (get_or-take 256 rest k 0 (omega arith)) (c.after_last_slash-start.ensures.after k (omega (arith, c.if-start-eq0.true)) (omega (arith, size))) in
+    subst (λ byte. byte ≢ 47) (get_or-take 256 rest k 0 (omega arith))
+    (c.after_last_slash-start.ensures.after k (omega (arith, c.if-start-eq0.true)) (omega (arith, size))) in
     sym (c.loop-rest.invariant ∙ long_word_here rest long other)
 
 pub slice_bounds-rest-count : goal.slice_bounds-rest-count

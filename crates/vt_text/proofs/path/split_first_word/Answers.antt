@@ -20,7 +20,8 @@ returns c =
     let first : get_or xs start 0 ≢ 47 = search rules in
     let same : words (drop start xs) ≡ words xs = words_between-drop 47 xs start (omega arith) (search rules) in
     let rest = take_rest xs start in
-    let first_at : get_or (drop start xs) 0 0 ≡ get_or xs start 0 = get_or-drop start xs 0 0 ∙ ap (λ n. get_or xs n 0) (add-zero start) in
+    let first_at : get_or (drop start xs) 0 0 ≡ get_or xs start 0 = get_or-drop start xs 0 0
+    ∙ ap (λ n. get_or xs n 0) (add-zero start) in
     let within : end ≤ length (drop start xs) = rw rest at found.within in
     let before : (k : ℕ) → k < end → get_or (drop start xs) k 0 ≢ 47 = rw rest at found.before in
     let slash : end < length (drop start xs) → get_or (drop start xs) end 0 ≡ 47 = rw rest at found.slash in

@@ -8,39 +8,52 @@ use Rattle.vt_walk.proofs.places.file_walked.Goals as goal
 
 pub loop-link-init : goal.loop-link-init
 loop-link-init g c =
-    file_walk-begun (g.L.Look.looks c.args.world.now) (task_of c.args.who.now) c.args.path.now c.as_bytes-text.result.now (here_of c.at_start-start.result)
+    file_walk-begun (g.L.Look.looks c.args.world.now)
+    (task_of c.args.who.now) c.args.path.now c.as_bytes-text.result.now (here_of c.at_start-start.result)
     c.as_bytes-text.ensures.value c.at_start-start.ensures
 
 pub returns-in_err-here-clause-value : goal.returns-in_err-here-clause-value
 returns-in_err-here-clause-value g c =
     let split = c.front_and_last-front in
     let p = err_from_is_err_and c.from_residual.result c.from_residual.ensures.1 in
-    rw (p.1, p.2) (file_walked-by (g.L.Look.looks c.args.world.now) (task_of c.args.who.now) c.loop-link._link c.loop-link-test.true (here_of c.loop-link.start) c.loop-link.text.now c.loop-link.slash
-    c.asks_for_directory-slash.result c.asks_for_directory-slash.ensures split.result.0 (last_of split.result.1) split.ensures.front split.ensures.last
+    rw (p.1, p.2) (file_walked-by (g.L.Look.looks c.args.world.now)
+    (task_of c.args.who.now) c.loop-link._link c.loop-link-test.true
+    (here_of c.loop-link.start) c.loop-link.text.now c.loop-link.slash
+    c.asks_for_directory-slash.result c.asks_for_directory-slash.ensures split.result.0
+    (last_of split.result.1) split.ensures.front split.ensures.last
     (Err _) c.in_err-here.ensures ∙ c.loop-link.invariant)
 
 pub returns-in_err-place-clause-value : goal.returns-in_err-place-clause-value
 returns-in_err-place-clause-value g c =
     let split = c.front_and_last-front in
     let p = err_from_is_err_and c.from_residual-in_err-place.result c.from_residual-in_err-place.ensures.1 in
-    rw (p.1, p.2) (place-refused (g.L.Look.looks c.args.world.now) (task_of c.args.who.now) c.loop-link._link c.loop-link-test.true (here_of c.loop-link.start) c.loop-link.text.now c.loop-link.slash
-    c.asks_for_directory-slash.result c.asks_for_directory-slash.ensures split.result.0 (last_of split.result.1) split.ensures.front split.ensures.last
+    rw (p.1, p.2) (place-refused (g.L.Look.looks c.args.world.now)
+    (task_of c.args.who.now) c.loop-link._link c.loop-link-test.true
+    (here_of c.loop-link.start) c.loop-link.text.now c.loop-link.slash
+    c.asks_for_directory-slash.result c.asks_for_directory-slash.ensures split.result.0
+    (last_of split.result.1) split.ensures.front split.ensures.last
     (here_of c.in_ok-here.here) c.in_ok-here.ensures _ c.in_err-place.ensures.value ∙ c.loop-link.invariant)
 
 pub returns-in_default-clause-value : goal.returns-in_default-clause-value
 returns-in_default-clause-value g c =
     let split = c.front_and_last-front in
     ap (λ place. Ok place) c.entered.ensures
-    ∙ place-ended (g.L.Look.looks c.args.world.now) (task_of c.args.who.now) c.loop-link._link c.loop-link-test.true (here_of c.loop-link.start) c.loop-link.text.now c.loop-link.slash
-    c.asks_for_directory-slash.result c.asks_for_directory-slash.ensures split.result.0 (last_of split.result.1) split.ensures.front split.ensures.last
-    (here_of c.in_ok-here.here) c.in_ok-here.ensures (place_of c.in_ok-place.place) c.in_ok-place.ensures.value c.in_default.ensures ∙ c.loop-link.invariant
+    ∙ place-ended (g.L.Look.looks c.args.world.now) (task_of c.args.who.now) c.loop-link._link c.loop-link-test.true
+    (here_of c.loop-link.start) c.loop-link.text.now c.loop-link.slash
+    c.asks_for_directory-slash.result c.asks_for_directory-slash.ensures split.result.0
+    (last_of split.result.1) split.ensures.front split.ensures.last
+    (here_of c.in_ok-here.here) c.in_ok-here.ensures
+    (place_of c.in_ok-place.place) c.in_ok-place.ensures.value c.in_default.ensures ∙ c.loop-link.invariant
 
 pub returns-in_err-start-clause-value : goal.returns-in_err-start-clause-value
 returns-in_err-start-clause-value g c =
     let split = c.front_and_last-front in
     let p = err_from_is_err_and c.from_residual-in_err-start.result c.from_residual-in_err-start.ensures.1 in
-    rw (p.1, p.2) (link-refused (g.L.Look.looks c.args.world.now) (task_of c.args.who.now) c.loop-link._link c.loop-link-test.true (here_of c.loop-link.start) c.loop-link.text.now c.loop-link.slash
-    c.asks_for_directory-slash.result c.asks_for_directory-slash.ensures split.result.0 (last_of split.result.1) split.ensures.front split.ensures.last
+    rw (p.1, p.2) (link-refused (g.L.Look.looks c.args.world.now)
+    (task_of c.args.who.now) c.loop-link._link c.loop-link-test.true
+    (here_of c.loop-link.start) c.loop-link.text.now c.loop-link.slash
+    c.asks_for_directory-slash.result c.asks_for_directory-slash.ensures split.result.0
+    (last_of split.result.1) split.ensures.front split.ensures.last
     (here_of c.in_ok-here.here) c.in_ok-here.ensures (place_of c.in_ok-place.place) c.in_ok-place.ensures.value
     c.in-Some.inner.now (here_of c.symlink_of-link.result) c.in-Some.ensures c.symlink_of-link.ensures
     _ c.in_err-start.ensures ∙ c.loop-link.invariant)
@@ -48,8 +61,10 @@ returns-in_err-start-clause-value g c =
 pub loop-link-preserved : goal.loop-link-preserved
 loop-link-preserved g c =
     let split = c.front_and_last-front in
-    next-turn (g.L.Look.looks c.args.world.now) (task_of c.args.who.now) c.loop-link._link c.loop-link-test.true (here_of c.loop-link.start) c.loop-link.text.now c.loop-link.slash
-    c.asks_for_directory-slash.result c.asks_for_directory-slash.ensures split.result.0 (last_of split.result.1) split.ensures.front split.ensures.last
+    next-turn (g.L.Look.looks c.args.world.now) (task_of c.args.who.now) c.loop-link._link c.loop-link-test.true
+    (here_of c.loop-link.start) c.loop-link.text.now c.loop-link.slash
+    c.asks_for_directory-slash.result c.asks_for_directory-slash.ensures split.result.0
+    (last_of split.result.1) split.ensures.front split.ensures.last
     (here_of c.in_ok-here.here) c.in_ok-here.ensures (place_of c.in_ok-place.place) c.in_ok-place.ensures.value
     c.in-Some.inner.now (here_of c.symlink_of-link.result) c.in-Some.ensures c.symlink_of-link.ensures
     (here_of c.in_ok-start.start) c.in_ok-start.ensures ∙ c.loop-link.invariant
@@ -57,5 +72,6 @@ loop-link-preserved g c =
 pub returns-clause-value : goal.returns-clause-value
 returns-clause-value g c =
     ap (λ deny. Err deny) c.denial.ensures
-    ∙ file_walk-over (g.L.Look.looks c.args.world.now) (task_of c.args.who.now) c.loop-link._link (here_of c.loop-link.start) c.loop-link.text.now c.loop-link.slash (omega (arith, c.loop-link-test.false))
+    ∙ file_walk-over (g.L.Look.looks c.args.world.now) (task_of c.args.who.now) c.loop-link._link
+    (here_of c.loop-link.start) c.loop-link.text.now c.loop-link.slash (omega (arith, c.loop-link-test.false))
     ∙ c.loop-link.invariant

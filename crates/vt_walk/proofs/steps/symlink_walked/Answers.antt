@@ -12,7 +12,8 @@ pub returns-in_err-here : goal.returns-in_err-here
 returns-in_err-here g c =
     let p = err_from_is_err_and c.from_residual.result c.from_residual.ensures.1 in
     rw (p.1, p.2)
-    (first-denied (g.L.Look.looks c.args.world.now) (task_of c.args.who.now) (location_of c.args.link.directory) (here_of c.args.met)
+    (first-denied (g.L.Look.looks c.args.world.now) (task_of c.args.who.now) (location_of c.args.link.directory)
+    (here_of c.args.met)
     c.args.link.text.now c.args.link.behind _ c.in_err-here.ensures)
 
 pub loop-text-init : goal.loop-text-init
@@ -20,13 +21,15 @@ loop-text-init g c =
     let looks = g.L.Look.looks c.args.world.now in
     let task = task_of c.args.who.now in
     let once = rw c.new-pending.ensures at c.push.ensures.items in
-    let taken = begun-left looks task (location_of c.args.link.directory) (here_of c.args.met) (here_of c.in_ok-here.here)
+    let taken = begun-left looks task (location_of c.args.link.directory) (here_of c.args.met)
+    (here_of c.in_ok-here.here)
     c.args.link.text.now c.in_ok-here.ensures in
     let none = ap length c.new-pending.ensures in
     let longer = c.push.ensures.len in
     let longest = c.push-2.ensures.len in
     let few = c.args.met.few in (
-      first-begun looks task (location_of c.args.link.directory) (here_of c.args.met) c.args.link.text.now c.args.link.behind
+      first-begun looks task (location_of c.args.link.directory)
+          (here_of c.args.met) c.args.link.text.now c.args.link.behind
           (here_of c.in_ok-here.here) c.in_ok-here.ensures _ c.of.result c.push.new.self.items c.push-2.new.self.items once c.push-2.ensures.items
           refl refl c.of.ensures.text c.of.ensures.words,
       omega arith,
@@ -51,9 +54,11 @@ returns-in_err-begun-in-Some-link g c =
     let few = c.loop-text.invariant.1 in
     let room : length c.pop.new.self.items < 41 = omega arith in
     rw (p.1, p.2) (link-denied looks task _ (here_of c.loop-text.here) c.loop-text.pending.items c.loop-text.invariant.0
-    c.pop.new.self.items c.in-Some.field-0 c.in-Some.ensures.items (location_of c.in-Some-link.link.directory) (here_of c.in_ok-reached.field-0.here) c.in-Some-link.link.text.now c.in-Some-link.link.behind
+    c.pop.new.self.items c.in-Some.field-0 c.in-Some.ensures.items (location_of c.in-Some-link.link.directory)
+    (here_of c.in_ok-reached.field-0.here) c.in-Some-link.link.text.now c.in-Some-link.link.behind
     room
-    (link_passed-as looks task follow (here_of c.in_ok-reached.field-0.here) _ _ _ c.in-Some-link.is (c.in_ok-reached.ensures.value follow)) _
+    (link_passed-as looks task follow (here_of c.in_ok-reached.field-0.here) _ _ _ c.in-Some-link.is
+    (c.in_ok-reached.ensures.value follow)) _
     c.in_err-begun-in-Some-link.ensures)
 
 pub returns-in_err-asked_by_slash-in-None :
@@ -63,9 +68,11 @@ returns-in_err-asked_by_slash-in-None g c =
     let task = task_of c.args.who.now in
     let follow = links_within (41 - length (reverse c.pop.new.self.items)) looks task in
     let p = err_from_is_err_and c.from_residual-in_err-asked_by_slash-in-None.result c.from_residual-in_err-asked_by_slash-in-None.ensures.1 in
-    rw (p.1, p.2) (slash-denied looks task _ (here_of c.loop-text.here) c.loop-text.pending.items c.loop-text.invariant.0
+    rw (p.1, p.2) (slash-denied looks task _
+    (here_of c.loop-text.here) c.loop-text.pending.items c.loop-text.invariant.0
     c.pop.new.self.items c.in-Some.field-0 c.in-Some.ensures.items (here_of c.in_ok-reached.field-0.here)
-    (link_passed-as looks task follow (here_of c.in_ok-reached.field-0.here) _ _ _ c.in-None.is (c.in_ok-reached.ensures.value follow)) _
+    (link_passed-as looks task follow (here_of c.in_ok-reached.field-0.here) _ _ _ c.in-None.is
+    (c.in_ok-reached.ensures.value follow)) _
     c.in_err-asked_by_slash-in-None.ensures)
 
 pub loop-text-preserved-in_ok-begun-in-Some-link :
@@ -78,14 +85,17 @@ loop-text-preserved-in_ok-begun-in-Some-link g c =
     let few = c.loop-text.invariant.1 in
     let room : length c.pop.new.self.items < 41 = omega arith in
     let left = c.in_ok-reached.ensures.left in
-    let taken = begun-left looks task (location_of c.in-Some-link.link.directory) (here_of c.in_ok-reached.field-0.here) (here_of c.in_ok-begun-in-Some-link.begun) c.in-Some-link.link.text.now
+    let taken = begun-left looks task (location_of c.in-Some-link.link.directory) (here_of c.in_ok-reached.field-0.here)
+    (here_of c.in_ok-begun-in-Some-link.begun) c.in-Some-link.link.text.now
     c.in_ok-begun-in-Some-link.ensures in
     let longer = c.push-in-Some-link.ensures.len in
     let longest = c.push-in-Some-link-2.ensures.len in (
       link-begun looks task _ (here_of c.loop-text.here) c.loop-text.pending.items c.loop-text.invariant.0
-          c.pop.new.self.items c.in-Some.field-0 c.in-Some.ensures.items (location_of c.in-Some-link.link.directory) (here_of c.in_ok-reached.field-0.here) c.in-Some-link.link.text.now c.in-Some-link.link.behind
+          c.pop.new.self.items c.in-Some.field-0 c.in-Some.ensures.items (location_of c.in-Some-link.link.directory)
+          (here_of c.in_ok-reached.field-0.here) c.in-Some-link.link.text.now c.in-Some-link.link.behind
           room
-          (link_passed-as looks task follow (here_of c.in_ok-reached.field-0.here) _ _ _ c.in-Some-link.is (c.in_ok-reached.ensures.value follow))
+          (link_passed-as looks task follow (here_of c.in_ok-reached.field-0.here) _ _ _ c.in-Some-link.is
+          (c.in_ok-reached.ensures.value follow))
           (here_of c.in_ok-begun-in-Some-link.begun) c.in_ok-begun-in-Some-link.ensures
           (record { text = c.in-Some.field-0.text; words = c.in-Some-link.link.behind }) c.of-in-Some-link.result refl refl c.of-in-Some-link.ensures.text c.of-in-Some-link.ensures.words
           c.push-in-Some-link.new.self.items c.push-in-Some-link-2.new.self.items c.push-in-Some-link.ensures.items c.push-in-Some-link-2.ensures.items,
@@ -102,7 +112,8 @@ loop-text-preserved g c =
     let left = c.in_ok-reached.ensures.left in (
       top-ended looks task _ (here_of c.loop-text.here) c.loop-text.pending.items c.loop-text.invariant.0
           c.pop.new.self.items c.in-Some.field-0 c.in-Some.ensures.items (here_of c.in_ok-reached.field-0.here)
-          (link_passed-as looks task follow (here_of c.in_ok-reached.field-0.here) _ _ _ c.in-None.is (c.in_ok-reached.ensures.value follow))
+          (link_passed-as looks task follow (here_of c.in_ok-reached.field-0.here) _ _ _ c.in-None.is
+          (c.in_ok-reached.ensures.value follow))
           c.in_ok-asked_by_slash-in-None.ensures,
       omega arith,
     )

@@ -11,5 +11,6 @@ decreases-loop-text g l = 2 * l.here.left + length l.pending.items
 abbrev pub invariant-loop-text : goal.invariant-loop-text
 invariant-loop-text g l =
     (texts_walked (g.L.Look.looks l.world) (task_of l.who) (here_of l.here) (reverse l.pending.items)
-    ≡ link_passed (g.L.Look.looks l.world) (task_of l.who) (followed (g.L.Look.looks l.world) (task_of l.who)) (here_of l.fn.met) (Some l.fn.link))
+    ≡ link_passed (g.L.Look.looks l.world) (task_of l.who) (followed (g.L.Look.looks l.world) (task_of l.who))
+    (here_of l.fn.met) (Some l.fn.link))
     × (l.here.left + length l.pending.items ≤ 41)

@@ -12,5 +12,6 @@ returns-in_err-directory g c =
     let p = err_from_is_err_and c.from_residual.result c.from_residual.ensures.1 in
     let looks = g.L.Look.looks c.args.world.now in
     let task = task_of c.args.who.now in
-    rw (p.1, p.2) (unless-stopped (search_rules nat_eq looks task (location_of c.args.here)) (stepped nat_eq looks task (location_of c.args.here) (last_of c.args.word))
+    rw (p.1, p.2) (unless-stopped (search_rules nat_eq looks task (location_of c.args.here))
+    (stepped nat_eq looks task (location_of c.args.here) (last_of c.args.word))
     _ c.in_err-directory.ensures.value)

@@ -15,7 +15,8 @@ returns-in_err-next-clause-value g c follow =
     let looks = g.L.Look.looks c.args.world.now in
     let task = task_of c.args.who.now in
     let p = err_from_is_err_and c.from_residual.result c.from_residual.ensures.1 in
-    rw (p.1, p.2) (word-refused looks task follow (here_of c.args.start) (here_of c.loop-word.here) c.args.words c.loop-word.words (c.loop-word.invariant.0 follow)
+    rw (p.1, p.2) (word-refused looks task follow (here_of c.args.start)
+    (here_of c.loop-word.here) c.args.words c.loop-word.words (c.loop-word.invariant.0 follow)
     c.in-Some.word.now c.next.new.self c.in-Some.ensures.steps _
     (led-refused looks task (here_of c.loop-word.here) (last_of c.of.result) _ c.in_err-next.ensures
     ∙ ap (word_walked looks task (here_of c.loop-word.here)) c.of.ensures))
@@ -26,16 +27,19 @@ returns-in-Some-symlink_text-clause-value g c follow =
     let task = task_of c.args.who.now in
     let here = here_of c.loop-word.here in
     let next = here_of c.moved-here.result in
-    link-met looks task follow (here_of c.args.start) here c.args.words c.loop-word.words (c.loop-word.invariant.0 follow)
+    link-met looks task follow (here_of c.args.start) here c.args.words c.loop-word.words
+    (c.loop-word.invariant.0 follow)
     c.in-Some.word.now c.next.new.self c.in-Some.ensures.steps next
-    (led-walked looks task here (last_of c.of.result) (location_of c.in_ok-next.next) next c.in_ok-next.ensures c.moved-here.ensures.value
+    (led-walked looks task here (last_of c.of.result)
+    (location_of c.in_ok-next.next) next c.in_ok-next.ensures c.moved-here.ensures.value
     ∙ ap (word_walked looks task here) c.of.ensures)
     c.in-Some-symlink_text.text.now
     (c.in-Some-symlink_text.ensures
     ∙ text-there looks c.in_ok-next.next (option_copied c.node_on-node-in-Some.result) c.node_on-node-in-Some.ensures c.moved-here.result.location c.moved-here.ensures.location)
 
 pub returns-in-Some-symlink_text-clause-left : goal.returns-in-Some-symlink_text-clause-left
-returns-in-Some-symlink_text-clause-left g c = ap (λ here. here.left) c.moved-here.ensures.value ∙ c.loop-word.invariant.1
+returns-in-Some-symlink_text-clause-left g c = ap (λ here. here.left) c.moved-here.ensures.value
+    ∙ c.loop-word.invariant.1
 
 pub loop-word-preserved : goal.loop-word-preserved
 loop-word-preserved g c =
@@ -43,21 +47,28 @@ loop-word-preserved g c =
     let task = task_of c.args.who.now in
     let here = here_of c.loop-word.here in
     let next = here_of c.moved-here.result in (
-      (λ follow. no-link looks task follow (here_of c.args.start) here c.args.words c.loop-word.words (c.loop-word.invariant.0 follow)
+      (λ follow. no-link looks task follow (here_of c.args.start) here c.args.words c.loop-word.words
+          (c.loop-word.invariant.0 follow)
           c.in-Some.word.now c.next.new.self c.in-Some.ensures.steps next
-          (led-walked looks task here (last_of c.of.result) (location_of c.in_ok-next.next) next c.in_ok-next.ensures c.moved-here.ensures.value
+          (led-walked looks task here (last_of c.of.result)
+          (location_of c.in_ok-next.next) next c.in_ok-next.ensures c.moved-here.ensures.value
           ∙ ap (word_walked looks task here) c.of.ensures)
           (c.in_default-symlink_text.ensures
           ∙ text-there looks c.in_ok-next.next (option_copied c.node_on-node-in-Some.result) c.node_on-node-in-Some.ensures c.moved-here.result.location c.moved-here.ensures.location)),
       ap (λ here. here.left) c.moved-here.ensures.value ∙ c.loop-word.invariant.1,
       rw c.moved-here.ensures.location (elim c.if-ne.branch [
         | then-ne w ↦ rw w.ground-is w.ground-ground-then-ne.ensures
-        | else-ne w ↦ rw (w.ground-is, same-mount c.in_ok-next.next.mount c.loop-word.here.location.mount (sym c.ne.ensures ∙ w.if-ne.false)) c.loop-word.invariant.2
+        | else-ne w ↦ rw (
+          w.ground-is,
+          same-mount c.in_ok-next.next.mount c.loop-word.here.location.mount
+              (sym c.ne.ensures ∙ w.if-ne.false),
+        ) c.loop-word.invariant.2
       ]),
       rw c.moved-here.ensures.location c.node_on-node-in-Some.ensures,
     )
 
 pub returns-clause-value : goal.returns-clause-value
 returns-clause-value g c follow =
-    walk-ended (g.L.Look.looks c.args.world.now) (task_of c.args.who.now) follow (here_of c.args.start) (here_of c.loop-word.here) c.args.words c.loop-word.words
+    walk-ended (g.L.Look.looks c.args.world.now) (task_of c.args.who.now) follow (here_of c.args.start)
+    (here_of c.loop-word.here) c.args.words c.loop-word.words
     (c.loop-word.invariant.0 follow) c.in_default.ensures.steps.0

@@ -8,7 +8,8 @@ use Rattle.vt_walk.proofs.steps.words_walked_to_link.Given as goal
 
 abbrev pub invariant-loop-word : goal.invariant-loop-word
 invariant-loop-word g l =
-    ((follow : Follow) → walked_on (g.L.Look.looks l.world) (task_of l.who) follow (here_of l.here) l.words ≡ walked_on (g.L.Look.looks l.world) (task_of l.who) follow (here_of l.fn.start) l.fn.words)
+    ((follow : Follow) → walked_on (g.L.Look.looks l.world) (task_of l.who) follow (here_of l.here) l.words
+    ≡ walked_on (g.L.Look.looks l.world) (task_of l.who) follow (here_of l.fn.start) l.fn.words)
     × (l.here.left ≡ l.fn.start.left)
     × IsGround (g.L.Look.looks l.world) l.here.location.mount l.ground
     × IsNodeAt (g.L.Look.looks l.world) l.here.location (option_copied l.node)

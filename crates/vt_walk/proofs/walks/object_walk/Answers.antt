@@ -17,14 +17,18 @@ returns-in_err-asked_by_slash g c =
     let looks = g.L.Look.looks c.args.world.now in
     let task = task_of c.args.who.now in
     let p = err_from_is_err_and c.from_residual-in_err-asked_by_slash.result c.from_residual-in_err-asked_by_slash.ensures.1 in
-    rw (p.1, p.2) (slash-refused looks task c.as_bytes-text.result.now (location_of c.in_ok-here.here.location) _ c.in_err-asked_by_slash.ensures
+    rw (p.1, p.2) (slash-refused looks task c.as_bytes-text.result.now
+    (location_of c.in_ok-here.here.location) _ c.in_err-asked_by_slash.ensures
     ∙ object_walk-by looks task c.args.path.now c.words.ensures.limits c.as_bytes-text.result.now c.as_bytes-text.ensures.value
-    (here_of c.at_start.result) c.at_start.ensures (Ok (here_of c.in_ok-here.here)) c.words.result c.words.ensures.value c.in_ok-here.ensures)
+    (here_of c.at_start.result) c.at_start.ensures
+    (Ok (here_of c.in_ok-here.here)) c.words.result c.words.ensures.value c.in_ok-here.ensures)
 
 pub returns : goal.returns
 returns g c =
     let looks = g.L.Look.looks c.args.world.now in
     let task = task_of c.args.who.now in
-    slash-passed looks task c.as_bytes-text.result.now (location_of c.in_ok-here.here.location) c.in_ok-asked_by_slash.ensures
+    slash-passed looks task c.as_bytes-text.result.now
+    (location_of c.in_ok-here.here.location) c.in_ok-asked_by_slash.ensures
     ∙ object_walk-by looks task c.args.path.now c.words.ensures.limits c.as_bytes-text.result.now c.as_bytes-text.ensures.value
-    (here_of c.at_start.result) c.at_start.ensures (Ok (here_of c.in_ok-here.here)) c.words.result c.words.ensures.value c.in_ok-here.ensures
+    (here_of c.at_start.result) c.at_start.ensures
+    (Ok (here_of c.in_ok-here.here)) c.words.result c.words.ensures.value c.in_ok-here.ensures

@@ -5,4 +5,9 @@ use Rattle.vt_attach.specs.Opening.{opening_numbers}
 use Rattle.vt_calls.proofs.calls.KernelCalls.opening.Goals as goal
 
 pub returns-clause-opened : goal.returns-clause-opened
-returns-clause-opened c = (opening_numbers, allotted_numbers_open 0 3 (inode_number 2 0) refl, c.in_ok-new.ensures.opening)
+returns-clause-opened c = (
+  opening_numbers,
+  allotted_numbers_open 0 3
+      (inode_number 2 0) refl,
+  c.in_ok-new.ensures.opening,
+)

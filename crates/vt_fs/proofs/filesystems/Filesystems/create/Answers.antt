@@ -47,7 +47,8 @@ returns-clause-ok c =
     c.unwrap-tree.ensures in
     changes c.args.self.now f c.create.new.self c.unwrap-tree.result.now standing
     (Make c.slot_of.result c.args.name.items c.in_ok-slot.slot c.args.node) _
-    (λ i. Make (c.slot_of.ensures.number i) c.args.name.items (sym c.in_slot.ensures.number i) (node_seen f c.args.node))
+    (λ i. Make (c.slot_of.ensures.number i) c.args.name.items (sym c.in_slot.ensures.number i)
+    (node_seen f c.args.node))
     c.in_ok-slot.ensures.ok
 
 pub returns-clause-number : goal.returns-clause-number

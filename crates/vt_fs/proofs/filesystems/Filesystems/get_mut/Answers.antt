@@ -10,7 +10,8 @@ returns-in-Some c =
       λ i. inl (c.tree_at.result.ghost_name, λ tree. place tree i),
       record {
         writes_back = tt;
-        value = sym c.tree_at.ensures.value ∙ tree_of_place es c.args.self.now c.self.view_is c.args.filesystem.count c.in-Some.place here;
+        value = sym c.tree_at.ensures.value
+            ∙ tree_of_place es c.args.self.now c.self.view_is c.args.filesystem.count c.in-Some.place here;
         apart = apart_of es c.args.self.now c.self.view_is c.get_index_of.ensures.unique;
       },
     )

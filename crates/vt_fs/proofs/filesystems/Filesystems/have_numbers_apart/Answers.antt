@@ -7,4 +7,5 @@ use Rattle.vt_fs.proofs.filesystems.Filesystems.have_numbers_apart.Goals as goal
 pub returns : goal.returns
 returns c =
     ap (λ fs. any_pair (λ a b. nat_eq a.number b.number) (filesystems_seen fs)) (sym c.self.view_is)
-    ∙ numbers_apart (held c.self.inside.by_number.entries) (counts_apart c.self.inside.by_number.entries c.len-len.ensures.unique)
+    ∙ numbers_apart (held c.self.inside.by_number.entries)
+    (counts_apart c.self.inside.by_number.entries c.len-len.ensures.unique)

@@ -15,7 +15,8 @@ returns-then-ne c =
     let f = c.args.directory.filesystem.count in
     let found = sym c.in-Some.ensures in
     let root = root_there c.args.self.now f c.in-Some.tree.now found c.slot_of-slot.result _ c.slot_of-slot.ensures.number in
-    let apart = root ∙ ap (nat_eq c.slot_of-slot.result) (sym c.root.ensures.value) ∙ negated _ true (sym c.if-ne.true ∙ c.ne.ensures) in
+    let apart = root ∙ ap (nat_eq c.slot_of-slot.result) (sym c.root.ensures.value)
+    ∙ negated _ true (sym c.if-ne.true ∙ c.ne.ensures) in
     c.eq.ensures ∙ ap (nat_eq c.slot_of-slot.result) c.parent.ensures
     ∙ sym (own_there c.args.self.now f c.in-Some.tree.now found c.slot_of-slot.result _ c.slot_of-slot.ensures.number)
     ∙ sym (removed_by_parent (inodes_at c.args.self.now f) c.requires.named (number_of c.args.directory) apart)
@@ -23,6 +24,8 @@ returns-then-ne c =
 pub returns-else-ne : goal.returns-else-ne
 returns-else-ne c =
     let f = c.args.directory.filesystem.count in
-    let root = root_there c.args.self.now f c.in-Some.tree.now (sym c.in-Some.ensures) c.slot_of-slot.result _ c.slot_of-slot.ensures.number in
-    let same = root ∙ ap (nat_eq c.slot_of-slot.result) (sym c.root.ensures.value) ∙ negated _ false (sym c.if-ne.false ∙ c.ne.ensures) in
+    let root = root_there c.args.self.now f c.in-Some.tree.now
+    (sym c.in-Some.ensures) c.slot_of-slot.result _ c.slot_of-slot.ensures.number in
+    let same = root ∙ ap (nat_eq c.slot_of-slot.result) (sym c.root.ensures.value)
+    ∙ negated _ false (sym c.if-ne.false ∙ c.ne.ensures) in
     c.if-ne.false ∙ sym (root_stays (files_at c.args.self.now f).tree (number_of c.args.directory) same)

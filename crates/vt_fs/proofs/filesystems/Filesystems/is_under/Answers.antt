@@ -10,7 +10,9 @@ pub returns-in-Some : goal.returns-in-Some
 returns-in-Some c =
     let f = c.args.top.filesystem.count in
     let entry = entry_at c.args.self.now f in
-    let directory = ap (λ id. exchanged id.count c.slot_of-in-Some.result) (sym c.requires.one_filesystem) ∙ c.slot_of-in-Some.ensures.number in
+    let directory = ap (λ id. exchanged id.count c.slot_of-in-Some.result) (sym c.requires.one_filesystem)
+    ∙ c.slot_of-in-Some.ensures.number in
     c.is_under.ensures
-    ∙ sym (under_there c.args.self.now f c.in-Some.tree.now (sym c.in-Some.ensures) c.slot_of.result _ c.slot_of-in-Some.result _ c.slot_of.ensures.number directory)
+    ∙ sym (under_there c.args.self.now f c.in-Some.tree.now
+    (sym c.in-Some.ensures) c.slot_of.result _ c.slot_of-in-Some.result _ c.slot_of.ensures.number directory)
     ∙ under_by_names (inodes_at c.args.self.now f) c.requires.named (numbers_seen entry) (numbers_counted entry) _ _

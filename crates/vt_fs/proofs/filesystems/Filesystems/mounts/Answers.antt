@@ -9,7 +9,8 @@ returns-in-Some c =
     sym (
     ap (λ fs. (entry_at fs c.args.filesystem.count).mounts) (sym c.self.view_is)
     ∙ ap (λ (o : Option FilesystemEntry). (unwrap_or o (no_entry c.args.filesystem.count)).mounts)
-    (entry_of-held c.args.filesystem.count c.self.inside.by_number.entries ∙ ap (option_map (of_count c.args.filesystem.count)) (sym c.get.ensures.value ∙ ap option_copied c.in-Some.is))
+    (entry_of-held c.args.filesystem.count c.self.inside.by_number.entries
+    ∙ ap (option_map (of_count c.args.filesystem.count)) (sym c.get.ensures.value ∙ ap option_copied c.in-Some.is))
     )
 
 pub returns-in-None : goal.returns-in-None
@@ -17,5 +18,6 @@ returns-in-None c =
     sym (
     ap (λ fs. (entry_at fs c.args.filesystem.count).mounts) (sym c.self.view_is)
     ∙ ap (λ (o : Option FilesystemEntry). (unwrap_or o (no_entry c.args.filesystem.count)).mounts)
-    (entry_of-held c.args.filesystem.count c.self.inside.by_number.entries ∙ ap (option_map (of_count c.args.filesystem.count)) (sym c.get.ensures.value ∙ ap option_copied c.in-None.is))
+    (entry_of-held c.args.filesystem.count c.self.inside.by_number.entries
+    ∙ ap (option_map (of_count c.args.filesystem.count)) (sym c.get.ensures.value ∙ ap option_copied c.in-None.is))
     )

@@ -7,7 +7,8 @@ pub returns-clause-number : goal.returns-clause-number
 returns-clause-number c =
     let f = c.args.filesystem.count in
     ap Some (c.in_slot.ensures.number ∙ ap (exchanged f) c.next_number.ensures.value)
-    ∙ sym (entry_look c.args.self.now f c.in_ok-tree.tree.now (sym c.in_ok-tree.ensures) (λ count tree. exchanged count tree.next))
+    ∙ sym (entry_look c.args.self.now f c.in_ok-tree.tree.now (sym c.in_ok-tree.ensures)
+    (λ count tree. exchanged count tree.next))
 
 pub returns-clause-vacant : goal.returns-clause-vacant
 returns-clause-vacant c =

@@ -7,4 +7,5 @@ pub returns : goal.returns
 returns c =
     let f = c.args.inode.filesystem.count in
     ap (option_map (node_seen f)) c.node.ensures
-    ∙ sym (node_there c.args.self.now f c.in_ok-get.field-0.now (sym c.in_ok-get.ensures) c.slot_of.result _ c.slot_of.ensures.number)
+    ∙ sym (node_there c.args.self.now f c.in_ok-get.field-0.now
+    (sym c.in_ok-get.ensures) c.slot_of.result _ c.slot_of.ensures.number)

@@ -28,4 +28,5 @@ returns-in-Some-clause-err c =
 
 pub returns-in-None-clause-ok : goal.returns-in-None-clause-ok
 returns-in-None-clause-ok c =
-    nothing_changes c.args.object.filesystem.count _ c.args.self.now _ refl (sym c.get_mut.ensures.value ∙ ap option_copied_mut c.in-None.is)
+    nothing_changes c.args.object.filesystem.count _ c.args.self.now _ refl
+    (sym c.get_mut.ensures.value ∙ ap option_copied_mut c.in-None.is)

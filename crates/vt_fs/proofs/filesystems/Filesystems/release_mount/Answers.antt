@@ -16,5 +16,6 @@ returns c =
       | in_default w ↦
           ap (λ inside. held inside.by_number.entries) w.self-inside-is
           ∙ writes_none c.args.filesystem.count _ c.self.inside.by_number.entries _ c.args.self.now c.self.view_is
-          (sym c.get_mut.ensures.value ∙ ap option_copied_mut w.in_default.is) (ap (λ map. map.entries) c.get_mut.follows.holds-at-none)
+          (sym c.get_mut.ensures.value ∙ ap option_copied_mut w.in_default.is)
+          (ap (λ map. map.entries) c.get_mut.follows.holds-at-none)
     ]

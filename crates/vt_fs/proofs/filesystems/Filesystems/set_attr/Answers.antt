@@ -9,8 +9,10 @@ returns-in-Some c =
     let f = c.args.object.filesystem.count in
     let standing = standing_of c.args.self.now f c.get_mut.result c.in-Some.tree c.get_mut.ensures.value c.get_mut.ensures.apart c.in-Some.is in
     changes c.args.self.now f c.set_attr.new.self c.in-Some.tree.now standing
-    (SetAttr c.slot_of.result c.args.attr) _ (ap (λ n. SetAttr n c.args.attr) c.slot_of.ensures.number) c.set_attr.ensures
+    (SetAttr c.slot_of.result c.args.attr) _
+    (ap (λ n. SetAttr n c.args.attr) c.slot_of.ensures.number) c.set_attr.ensures
 
 pub returns-in_default : goal.returns-in_default
 returns-in_default c =
-    nothing_changes c.args.object.filesystem.count _ c.args.self.now _ refl (sym c.get_mut.ensures.value ∙ ap option_copied_mut c.in_default.is)
+    nothing_changes c.args.object.filesystem.count _ c.args.self.now _ refl
+    (sym c.get_mut.ensures.value ∙ ap option_copied_mut c.in_default.is)

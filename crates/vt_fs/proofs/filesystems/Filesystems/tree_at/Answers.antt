@@ -8,6 +8,7 @@ returns c =
       (refl, λ w. set_at es c.args.self.now c.self.view_is w c.index_mut.result.now c.args.place c.index_mut.ensures.value),
       record {
         writes_back = tt;
-        value = tree_at es c.args.self.now c.self.view_is c.index_mut.result.now c.args.place c.index_mut.ensures.value ∙ ap Some (sym c.tree_mut.ensures.value);
+        value = tree_at es c.args.self.now c.self.view_is c.index_mut.result.now c.args.place c.index_mut.ensures.value
+            ∙ ap Some (sym c.tree_mut.ensures.value);
       },
     )

@@ -11,4 +11,5 @@ returns-in-Some c =
 
 pub returns-in_default : goal.returns-in_default
 returns-in_default c =
-    nothing_changes c.args.object.filesystem.count _ c.args.self.now _ refl (sym c.get_mut.ensures.value ∙ ap option_copied_mut c.in_default.is)
+    nothing_changes c.args.object.filesystem.count _ c.args.self.now _ refl
+    (sym c.get_mut.ensures.value ∙ ap option_copied_mut c.in_default.is)

@@ -15,10 +15,12 @@ pub returns-in-Some : goal.returns-in-Some
 returns-in-Some c =
     let f = c.args.file.filesystem.count in
     let standing = standing_of c.args.self.now f c.get_mut.result c.in-Some.tree c.get_mut.ensures.value c.get_mut.ensures.apart c.in-Some.is in
-    changes c.args.self.now f c.write.new.self c.in-Some.tree.now standing (SetBytes c.slot_of.result c.args.bytes.items) _
+    changes c.args.self.now f c.write.new.self c.in-Some.tree.now standing
+    (SetBytes c.slot_of.result c.args.bytes.items) _
     (λ i. SetBytes (c.slot_of.ensures.number i) c.args.bytes.items)
     c.write.ensures
 
 pub returns-in_default : goal.returns-in_default
 returns-in_default c =
-    nothing_changes c.args.file.filesystem.count _ c.args.self.now _ refl (sym c.get_mut.ensures.value ∙ ap option_copied_mut c.in_default.is)
+    nothing_changes c.args.file.filesystem.count _ c.args.self.now _ refl
+    (sym c.get_mut.ensures.value ∙ ap option_copied_mut c.in_default.is)

@@ -21,10 +21,12 @@ pub returns-in-Some-clause-ok : goal.returns-in-Some-clause-ok
 returns-in-Some-clause-ok c =
     let f = c.args.file.filesystem.count in
     let standing = standing_of c.args.self.now f c.get_mut.result c.in-Some.tree c.get_mut.ensures.value c.get_mut.ensures.apart c.in-Some.is in
-    let bytes = plain_there c.args.self.now f c.in-Some.tree.now standing.found (List ℕ) (λ A node. bytes_in node) c.slot_of.result _ c.slot_of.ensures.number in
+    let bytes = plain_there c.args.self.now f c.in-Some.tree.now standing.found (List ℕ)
+    (λ A node. bytes_in node) c.slot_of.result _ c.slot_of.ensures.number in
     on_ok_weaker c.write_at.result
     (changes c.args.self.now f c.write_at.new.self c.in-Some.tree.now standing
-    (SetBytes c.slot_of.result (overwritten c.args.offset c.args.bytes.now (bytes_in ((tree_of c.in-Some.tree.now).node c.slot_of.result)))) _
+    (SetBytes c.slot_of.result (overwritten c.args.offset c.args.bytes.now
+    (bytes_in ((tree_of c.in-Some.tree.now).node c.slot_of.result)))) _
     (λ i. SetBytes (c.slot_of.ensures.number i) (overwritten c.args.offset c.args.bytes.now (sym bytes i))))
     c.write_at.ensures.ok
 
@@ -32,21 +34,27 @@ pub returns-in-Some-clause-file : goal.returns-in-Some-clause-file
 returns-in-Some-clause-file c = λ refused.
     let f = c.args.file.filesystem.count in
     let standing = standing_of c.args.self.now f c.get_mut.result c.in-Some.tree c.get_mut.ensures.value c.get_mut.ensures.apart c.in-Some.is in
-    subst (λ (is : Bool). IsTrue is) (sym (plain_there c.args.self.now f c.in-Some.tree.now standing.found Bool (λ A node. is_kind_in File node) c.slot_of.result _ c.slot_of.ensures.number)) (c.write_at.ensures.file refused)
+    subst (λ (is : Bool). IsTrue is)
+    (sym (plain_there c.args.self.now f c.in-Some.tree.now standing.found Bool
+    (λ A node. is_kind_in File node) c.slot_of.result _ c.slot_of.ensures.number)) (c.write_at.ensures.file refused)
 
 pub returns-in-Some-clause-longer : goal.returns-in-Some-clause-longer
 returns-in-Some-clause-longer c = λ refused.
     let f = c.args.file.filesystem.count in
     let standing = standing_of c.args.self.now f c.get_mut.result c.in-Some.tree c.get_mut.ensures.value c.get_mut.ensures.apart c.in-Some.is in
-    subst (λ (bytes : List ℕ). length bytes < c.args.offset + length c.args.bytes.now) (sym (plain_there c.args.self.now f c.in-Some.tree.now standing.found (List ℕ) (λ A node. bytes_in node) c.slot_of.result _ c.slot_of.ensures.number))
+    subst (λ (bytes : List ℕ). length bytes < c.args.offset + length c.args.bytes.now)
+    (sym (plain_there c.args.self.now f c.in-Some.tree.now standing.found (List ℕ)
+    (λ A node. bytes_in node) c.slot_of.result _ c.slot_of.ensures.number))
     (c.write_at.ensures.longer refused)
 
 pub returns-in-Some-clause-err : goal.returns-in-Some-clause-err
 returns-in-Some-clause-err c =
     let f = c.args.file.filesystem.count in
     let standing = standing_of c.args.self.now f c.get_mut.result c.in-Some.tree c.get_mut.ensures.value c.get_mut.ensures.apart c.in-Some.is in
-    on_err_weaker c.write_at.result (kept c.args.self.now f c.write_at.new.self c.in-Some.tree.now standing) c.write_at.ensures.err
+    on_err_weaker c.write_at.result
+    (kept c.args.self.now f c.write_at.new.self c.in-Some.tree.now standing) c.write_at.ensures.err
 
 pub returns-in-None-clause-ok : goal.returns-in-None-clause-ok
 returns-in-None-clause-ok c =
-    nothing_changes c.args.file.filesystem.count _ c.args.self.now _ refl (sym c.get_mut.ensures.value ∙ ap option_copied_mut c.in-None.is)
+    nothing_changes c.args.file.filesystem.count _ c.args.self.now _ refl
+    (sym c.get_mut.ensures.value ∙ ap option_copied_mut c.in-None.is)

@@ -11,8 +11,11 @@ returns c =
     let lost = counted c.args.group.count in
     let heir = option_map group_number c.master_of-heir.result in
     (λ i. record {
-      peers = kept-numbered propagation_of _ (λ number kind. handed_type lost heir kind) _ (λ k v b w test t. search rules) _ _ c.retain.ensures.filtered i;
-      masters = kept-numbered group_number _ (λ group master. if nat_eq group lost then None else handed lost heir master) _ (λ k v b w test t. search rules) _ _ c.retain-2.ensures.filtered i;
+      peers = kept-numbered propagation_of _ (λ number kind. handed_type lost heir kind) _
+          (λ k v b w test t. search rules) _ _ c.retain.ensures.filtered i;
+      masters = kept-numbered group_number _
+          (λ group master. if nat_eq group lost then None else handed lost heir master) _
+          (λ k v b w test t. search rules) _ _ c.retain-2.ensures.filtered i;
     })
     ∙ (λ i. record {
       peers = filter_map (handed_peer lost (c.master_of-heir.ensures i)) (c.self.view_is i).peers;

@@ -8,7 +8,8 @@ pub returns-then-is_in : goal.returns-then-is_in
 returns-then-is_in c =
     sym (ap (has_peers (counted c.args.group.count)) (sym c.self.view_is)
     ∙ sym (members-valued (counted c.args.group.count) c.self.inside.mounts.entries)
-    ∙ ap (any_in (counted c.args.group.count)) (sym (c.into_iter-kind-iterator.ensures.into_iter_gives ∙ c.values-kind-items.ensures.rest))
+    ∙ ap (any_in (counted c.args.group.count))
+    (sym (c.into_iter-kind-iterator.ensures.into_iter_gives ∙ c.values-kind-items.ensures.rest))
     ∙ sym c.loop-kind.invariant
     ∙ ap (any_in (counted c.args.group.count)) c.in-Some.ensures.steps
     ∙ ap (λ b. b || any_in (counted c.args.group.count) c.next.new.self) (sym c.is_in.ensures ∙ c.if-is_in.true))
@@ -17,6 +18,7 @@ pub returns : goal.returns
 returns c =
     sym (ap (has_peers (counted c.args.group.count)) (sym c.self.view_is)
     ∙ sym (members-valued (counted c.args.group.count) c.self.inside.mounts.entries)
-    ∙ ap (any_in (counted c.args.group.count)) (sym (c.into_iter-kind-iterator.ensures.into_iter_gives ∙ c.values-kind-items.ensures.rest))
+    ∙ ap (any_in (counted c.args.group.count))
+    (sym (c.into_iter-kind-iterator.ensures.into_iter_gives ∙ c.values-kind-items.ensures.rest))
     ∙ sym c.loop-kind.invariant
     ∙ ap (any_in (counted c.args.group.count)) c.in-None.ensures.steps.0)

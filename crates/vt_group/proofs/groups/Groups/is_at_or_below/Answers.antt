@@ -7,7 +7,9 @@ use Rattle.vt_group.proofs.groups.Groups.is_at_or_below.Goals as goal
 
 pub loop-preserved : goal.loop-preserved
 loop-preserved c =
-    let n : c.len-end.result - c.loop.counter ≡ suc (c.len-end.result - (c.loop.counter + 1)) = omega (arith, c.loop-test.true) in
-    one_up (master_in c.args.self.now) (counted c.args.group.count) (counted c.loop.here.count) (counted c.in-Some.master.count) _ _ n
+    let n : c.len-end.result - c.loop.counter
+    ≡ suc (c.len-end.result - (c.loop.counter + 1)) = omega (arith, c.loop-test.true) in
+    one_up (master_in c.args.self.now) (counted c.args.group.count) (counted c.loop.here.count)
+    (counted c.in-Some.master.count) _ _ n
     (same_count c.loop.here.count c.args.group.count ∙ sym c.eq.ensures ∙ c.if-eq.false) (sym c.in-Some.ensures)
     ∙ c.loop.invariant

@@ -23,7 +23,8 @@ returns-clause-left c world has live is =
     ∙ (λ i. remove_entry (nat_eq (counted count)) (c.self.view_is i).peers) in
     let new = c.end_if_lost.ensures.ended
     ∙ (λ i. ended_if_lost (group_of (old i)) (record { peers = removed i; masters = (c.self.view_is i).masters })) in
-    subst (Has (regrouped nat_eq (with_propagation world (counted c.args.mount.count) Private))) (sym new) (left_regroups world c.args.self.now has live (counted c.args.mount.count))
+    subst (Has (regrouped nat_eq (with_propagation world (counted c.args.mount.count) Private))) (sym new)
+    (left_regroups world c.args.self.now has live (counted c.args.mount.count))
 
 pub returns-clause-alone : goal.returns-clause-alone
 returns-clause-alone c kept ordered =
@@ -31,5 +32,7 @@ returns-clause-alone c kept ordered =
     let es = c.self.inside.mounts.entries in
     let removed = ap (map numbered_peer) c.remove-old.ensures.entries ∙ removed-numbered propagation_of count es
     ∙ (λ i. remove_entry (nat_eq (counted count)) (c.self.view_is i).peers) in
-    let new = c.end_if_lost.ensures.kept kept ∙ (λ i. record { peers = removed i; masters = (c.self.view_is i).masters }) in
-    subst (λ groups. LeaveAlone c.args.self.now groups (counted count ∷ [])) (sym new) (left_alone c.args.self.now (counted count) ordered)
+    let new = c.end_if_lost.ensures.kept kept
+    ∙ (λ i. record { peers = removed i; masters = (c.self.view_is i).masters }) in
+    subst (λ groups. LeaveAlone c.args.self.now groups (counted count ∷ [])) (sym new)
+    (left_alone c.args.self.now (counted count) ordered)

@@ -15,10 +15,12 @@ loop-mount-init c =
 pub loop-mount-preserved : goal.loop-mount-preserved
 loop-mount-preserved c =
     let visited = map (λ mount. counted mount.count) (take c.loop-mount.mount-index c.args.mounts.now) in (
-      λ world has live. subst (λ numbers. Has (regrouped nat_eq (with_changed as_private world numbers)) c.leave-ended.new.self)
+      λ world has live. subst (λ numbers.
+          Has (regrouped nat_eq (with_changed as_private world numbers)) c.leave-ended.new.self)
           (numbers_more c.args.mounts.now c.loop-mount.mount-index _ c.loop-mount-test.true)
           (one_more_private world live visited _ c.leave-ended.new.self
-          (c.leave-ended.ensures.left (regrouped nat_eq (with_changed as_private world visited)) (c.loop-mount.invariant.0 world has live)
+          (c.leave-ended.ensures.left (regrouped nat_eq (with_changed as_private world visited))
+          (c.loop-mount.invariant.0 world has live)
           (left_live world live visited) tt)),
       λ kept ordered. subst (LeaveAlone c.args.self.now c.leave-ended.new.self)
           (numbers_more c.args.mounts.now c.loop-mount.mount-index _ c.loop-mount-test.true)

@@ -11,6 +11,8 @@ pub returns-clause-ok : goal.returns-clause-ok
 returns-clause-ok c =
     on-ok c.set.result
     (λ new world has live is.
-    subst (Has (regrouped nat_eq (with_propagation world (counted c.args.mount.count) (Slave (counted c.args.master.count))))) (sym new)
-    (slave_regroups world c.args.self.now has live (counted c.args.mount.count) (counted c.args.master.count) is.0 is.1))
+    subst (Has (regrouped nat_eq (with_propagation world (counted c.args.mount.count)
+    (Slave (counted c.args.master.count))))) (sym new)
+    (slave_regroups world c.args.self.now has live (counted c.args.mount.count)
+    (counted c.args.master.count) is.0 is.1))
     c.set.ensures.ok

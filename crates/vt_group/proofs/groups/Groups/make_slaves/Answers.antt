@@ -13,12 +13,14 @@ loop-mount-init c = (λ world has live. none_yet as_slave world c.args.self.now 
 
 pub loop-mount-preserved : goal.loop-mount-preserved
 loop-mount-preserved c = (
-  λ world has live. subst (λ numbers. Has (regrouped nat_eq (with_changed as_slave world numbers)) c.make_slave_of_own-changed.new.self)
+  λ world has live. subst (λ numbers.
+      Has (regrouped nat_eq (with_changed as_slave world numbers)) c.make_slave_of_own-changed.new.self)
       (numbers_more c.args.mounts.now c.loop-mount.mount-index _ c.loop-mount-test.true)
       (slave_or_same world live (map (λ mount. counted mount.count) (take c.loop-mount.mount-index c.args.mounts.now)) _
       c.loop-mount.self c.make_slave_of_own-changed.new.self (c.loop-mount.invariant.0 world has live)
       c.make_slave_of_own-changed.ensures.member c.make_slave_of_own-changed.ensures.other),
-  λ kept. let each = neither c.loop-mount.changed _ kept in c.make_slave_of_own-changed.ensures.same each.1 ∙ c.loop-mount.invariant.1 each.0,
+  λ kept. let each = neither c.loop-mount.changed _ kept in c.make_slave_of_own-changed.ensures.same each.1
+      ∙ c.loop-mount.invariant.1 each.0,
 )
 
 pub returns-clause-slaves : goal.returns-clause-slaves

@@ -14,11 +14,13 @@ returns-clause-ok c =
     let es = c.self.inside.mounts.entries in
     let count = c.args.mount.count in
     let old = shown-type count es _ c.args.self.now c.self.view_is c.in-Ok.old c.in-Ok.ensures.old in
-    let inserted = ap (map numbered_peer) c.in-Ok.ensures.entries ∙ inserted-numbered propagation_of count c.args.kind es
+    let inserted = ap (map numbered_peer) c.in-Ok.ensures.entries
+    ∙ inserted-numbered propagation_of count c.args.kind es
     ∙ (λ i. insert_entry nat_cmp (c.self.view_is i).peers (counted count) (propagation_of c.args.kind)) in
     c.end_if_lost.ensures.ended
     ∙ (λ i. ended_if_lost (group_of (old i)) (record { peers = inserted i; masters = (c.self.view_is i).masters }))
 
 pub returns-in_default-clause-private : goal.returns-in_default-clause-private
 returns-in_default-clause-private c =
-    sym (shown-type c.args.mount.count c.self.inside.mounts.entries _ c.args.self.now c.self.view_is None (sym c.in_default.ensures.absent))
+    sym (shown-type c.args.mount.count c.self.inside.mounts.entries _ c.args.self.now c.self.view_is None
+    (sym c.in_default.ensures.absent))

@@ -18,14 +18,16 @@ use Rattle.vt_group.proofs.CountLemmas.{inserted-numbered, removed-numbered}
 use Rattle.vt_group.proofs.groups.Groups.start_group.Goals as goal
 
 -- a group with a master has members
-has_master : (world : World ℕ) (groups : Grouping) (group : ℕ) (found : Option GroupId) → Has world groups → has_members nat_eq world.mounts group ≡ false
+has_master : (world : World ℕ) (groups : Grouping) (group : ℕ) (found : Option GroupId) → Has world groups
+    → has_members nat_eq world.mounts group ≡ false
     → option_map group_number found ≡ master_in groups group → is_some found ≡ true → ⊥
 has_master world groups group None has none is some = true≢false (sym some)
 has_master world groups group (Some master) has none is some =
     true≢false (ap is_some (is ∙ has.masters group ∙ ap (λ b. cond b (world.master group) None) none))
 
 -- none is found
-not_found : (groups : Grouping) (group : ℕ) (found : Option GroupId) → option_map group_number found ≡ master_in groups group → is_some found ≡ false
+not_found : (groups : Grouping) (group : ℕ) (found : Option GroupId)
+    → option_map group_number found ≡ master_in groups group → is_some found ≡ false
     → master_in groups group ≡ None
 not_found groups group None is none = sym is
 not_found groups group (Some master) is none = absurd (true≢false none)
@@ -36,7 +38,8 @@ returns-in_default-clause-ok c =
     (λ new world has live is.
     let group = counted c.args.group.count in
     let number = counted c.args.mount.count in
-    subst (λ (above : Option ℕ). Has (regrouped nat_eq (below (with_propagation world number (Shared group)) group above)) c.set.new.self)
+    subst (λ (above : Option ℕ). Has
+    (regrouped nat_eq (below (with_propagation world number (Shared group)) group above)) c.set.new.self)
     (sym (ap (option_map group_number) c.in_default.is))
     (subst (Has (regrouped nat_eq (below (with_propagation world number (Shared group)) group None))) (sym new)
     (start_alone world c.args.self.now has live number group is.0 is.1)))
@@ -46,7 +49,9 @@ pub returns-then-is_some-clause-ok : goal.returns-then-is_some-clause-ok
 returns-then-is_some-clause-ok c =
     on-ok c.set-then-is_some.result
     (λ new world has live is.
-    absurd (has_master world c.args.self.now (counted c.args.group.count) c.master_of.result has is.1 c.master_of.ensures (sym c.is_some.ensures ∙ c.if-is_some.true)))
+    absurd (has_master world c.args.self.now
+    (counted c.args.group.count) c.master_of.result has is.1 c.master_of.ensures
+    (sym c.is_some.ensures ∙ c.if-is_some.true)))
     c.set-then-is_some.ensures.ok
 
 pub returns-in_default-insert-2-clause-err : goal.returns-in_default-insert-2-clause-err
@@ -54,12 +59,15 @@ returns-in_default-insert-2-clause-err c =
     let count = c.args.group.count in
     let group = counted count in
     let master = group_number c.in-Some.master in
-    let inserted = ap (map numbered_master) c.in-Ok.ensures.entries ∙ inserted-numbered group_number count c.in-Some.master c.self.inside.above.entries in
-    let removed = ap (map numbered_master) c.remove.ensures.entries ∙ removed-numbered group_number count c.insert.new.self.entries
+    let inserted = ap (map numbered_master) c.in-Ok.ensures.entries
+    ∙ inserted-numbered group_number count c.in-Some.master c.self.inside.above.entries in
+    let removed = ap (map numbered_master) c.remove.ensures.entries
+    ∙ removed-numbered group_number count c.insert.new.self.entries
     ∙ ap (remove_entry (nat_eq group)) inserted
     ∙ (λ i. remove_entry (nat_eq group) (insert_entry nat_cmp (c.self.view_is i).masters group master))
     ∙ undone group master c.args.self.now.masters
-    (not_found c.args.self.now group c.master_of.result c.master_of.ensures (sym c.is_some.ensures ∙ c.if-is_some.false)) in
+    (not_found c.args.self.now group c.master_of.result c.master_of.ensures
+    (sym c.is_some.ensures ∙ c.if-is_some.false)) in
     (λ i. record { peers = map numbered_peer (c.in_default-insert-2.ensures.err i); masters = removed i })
     ∙ (λ i. record { peers = (c.self.view_is i).peers; masters = c.args.self.now.masters })
 
@@ -71,12 +79,17 @@ returns-clause-ok c world has live is =
     let old = shown-type count es _ c.args.self.now c.self.view_is c.in-Ok-insert.old c.in-Ok-insert.ensures.old in
     let peers = ap (map numbered_peer) c.in-Ok-insert.ensures.entries ∙ inserted-numbered propagation_of count _ es
     ∙ (λ i. insert_entry nat_cmp (c.self.view_is i).peers (counted count) (Shared group)) in
-    let masters = ap (map numbered_master) c.in-Ok.ensures.entries ∙ inserted-numbered group_number c.args.group.count c.in-Some.master c.self.inside.above.entries
+    let masters = ap (map numbered_master) c.in-Ok.ensures.entries
+    ∙ inserted-numbered group_number c.args.group.count c.in-Some.master c.self.inside.above.entries
     ∙ (λ i. insert_entry nat_cmp (c.self.view_is i).masters group (group_number c.in-Some.master)) in
     let new = c.end_if_lost.ensures.ended
     ∙ (λ i. ended_if_lost (group_of (old i)) (record { peers = peers i; masters = masters i })) in
     let is_some = ap (option_map group_number) c.in-Some.is in
-    let lives : HasGroup world (group_number c.in-Some.master) = subst (λ (above : Option ℕ). IfSome above (HasGroup world)) is_some is.2 in
-    subst (λ (above : Option ℕ). Has (regrouped nat_eq (below (with_propagation world (counted count) (Shared group)) group above)) c.end_if_lost.new.self) (sym is_some)
-    (subst (Has (regrouped nat_eq (below (with_propagation world (counted count) (Shared group)) group (Some (group_number c.in-Some.master))))) (sym new)
+    let lives : HasGroup world (group_number c.in-Some.master) = subst
+    (λ (above : Option ℕ). IfSome above (HasGroup world)) is_some is.2 in
+    subst (λ (above : Option ℕ). Has
+    (regrouped nat_eq (below (with_propagation world (counted count)
+    (Shared group)) group above)) c.end_if_lost.new.self) (sym is_some)
+    (subst (Has (regrouped nat_eq (below (with_propagation world (counted count) (Shared group)) group
+    (Some (group_number c.in-Some.master))))) (sym new)
     (start_below world c.args.self.now has live (counted count) group (group_number c.in-Some.master) is.0 is.1 lives))

@@ -13,8 +13,10 @@ use Rattle.vt_line.proofs.token.Unescaped.from_line.Goals as goal
 pub unescape-requires : goal.unescape-requires
 unescape-requires c =
     let line = c.args.line.now in
-    let split = YieldsList-from_slice_split _ (λ byte. eqb byte 32) line (cc) (cc) (cc) (λ x b q k. search (rules, tests)) in
-    let road = YieldsList-tokens line (YieldsList-from_filter _ (λ part. not (eqb (length part) 0)) split (cc) (λ x b q k. search (rules, tests))) in
+    let split = YieldsList-from_slice_split _ (λ byte. eqb byte 32) line (cc) (cc) (cc)
+    (λ x b q k. search (rules, tests)) in
+    let road = YieldsList-tokens line
+    (YieldsList-from_filter _ (λ part. not (eqb (length part) 0)) split (cc) (λ x b q k. search (rules, tests))) in
     let n = length c.loop-token.yielded in
     let turn = YieldsList-turn road c.loop-token.yielded _ c.loop-token.yielded_by _ _ c.in-Some.token c.in-Some.is c.next.ensures.steps in
     let room = c.loop-token.invariant.room in
@@ -25,8 +27,10 @@ unescape-requires c =
 pub returns-then-is_full : goal.returns-then-is_full
 returns-then-is_full c =
     let line = c.args.line.now in
-    let split = YieldsList-from_slice_split _ (λ byte. eqb byte 32) line (cc) (cc) (cc) (λ x b q k. search (rules, tests)) in
-    let road = YieldsList-tokens line (YieldsList-from_filter _ (λ part. not (eqb (length part) 0)) split (cc) (λ x b q k. search (rules, tests))) in
+    let split = YieldsList-from_slice_split _ (λ byte. eqb byte 32) line (cc) (cc) (cc)
+    (λ x b q k. search (rules, tests)) in
+    let road = YieldsList-tokens line
+    (YieldsList-from_filter _ (λ part. not (eqb (length part) 0)) split (cc) (λ x b q k. search (rules, tests))) in
     let n = length c.loop-token.yielded in
     let turn = YieldsList-turn road c.loop-token.yielded _ c.loop-token.yielded_by _ _ c.in-Some.token c.in-Some.is c.next.ensures.steps in
     let full : eqb (length c.loop-token.sizes.items) 6 ≡ true = sym c.is_full.ensures.value ∙ c.if-is_full.true in
@@ -37,45 +41,57 @@ returns-then-is_full c =
 pub returns-then-not-unescape : goal.returns-then-not-unescape
 returns-then-not-unescape c =
     let line = c.args.line.now in
-    let split = YieldsList-from_slice_split _ (λ byte. eqb byte 32) line (cc) (cc) (cc) (λ x b q k. search (rules, tests)) in
-    let road = YieldsList-tokens line (YieldsList-from_filter _ (λ part. not (eqb (length part) 0)) split (cc) (λ x b q k. search (rules, tests))) in
+    let split = YieldsList-from_slice_split _ (λ byte. eqb byte 32) line (cc) (cc) (cc)
+    (λ x b q k. search (rules, tests)) in
+    let road = YieldsList-tokens line
+    (YieldsList-from_filter _ (λ part. not (eqb (length part) 0)) split (cc) (λ x b q k. search (rules, tests))) in
     let n = length c.loop-token.yielded in
     let turn = YieldsList-turn road c.loop-token.yielded _ c.loop-token.yielded_by _ _ c.in-Some.token c.in-Some.is c.next.ensures.steps in
     let token = c.in-Some.token.now in
     let bytes = c.loop-token.bytes.items in
     let none : token_text token ≡ None =
     not_appended bytes (token_text token)
-    (ap (λ done. cond done (Some c.unescape.new.text.items) None) (sym c.if-not-unescape.true) ∙ c.unescape.ensures.value) in
+    (ap (λ done. cond done (Some c.unescape.new.text.items) None) (sym c.if-not-unescape.true)
+    ∙ c.unescape.ensures.value) in
     let texts = cut bytes c.loop-token.sizes.items in
     let wrong : each_of token_text (raw_tokens line) ≡ None =
-    sym c.loop-token.invariant.read ∙ ap (read_before texts) (each_of-none token_text (raw_tokens line) n token turn none) in
+    sym c.loop-token.invariant.read
+    ∙ ap (read_before texts) (each_of-none token_text (raw_tokens line) n token turn none) in
     sym (few_texts-wrong line wrong)
 
 pub loop-token-preserved : goal.loop-token-preserved
 loop-token-preserved c =
     let line = c.args.line.now in
-    let split = YieldsList-from_slice_split _ (λ byte. eqb byte 32) line (cc) (cc) (cc) (λ x b q k. search (rules, tests)) in
-    let road = YieldsList-tokens line (YieldsList-from_filter _ (λ part. not (eqb (length part) 0)) split (cc) (λ x b q k. search (rules, tests))) in
+    let split = YieldsList-from_slice_split _ (λ byte. eqb byte 32) line (cc) (cc) (cc)
+    (λ x b q k. search (rules, tests)) in
+    let road = YieldsList-tokens line
+    (YieldsList-from_filter _ (λ part. not (eqb (length part) 0)) split (cc) (λ x b q k. search (rules, tests))) in
     let n = length c.loop-token.yielded in
     let turn = YieldsList-turn road c.loop-token.yielded _ c.loop-token.yielded_by _ _ c.in-Some.token c.in-Some.is c.next.ensures.steps in
     let token = c.in-Some.token.now in
     let bytes = c.loop-token.bytes.items in
     let sizes = c.loop-token.sizes.items in
     let text = appended c.unescape.new.text.items bytes (token_text token)
-    (ap (λ done. cond done (Some c.unescape.new.text.items) None) (sym c.if-not-unescape.false) ∙ c.unescape.ensures.value) in
+    (ap (λ done. cond done (Some c.unescape.new.text.items) None) (sym c.if-not-unescape.false)
+    ∙ c.unescape.ensures.value) in
     let more = length_push c.loop-token.yielded c.in-Some.token in
-    let longer : length c.unescape.new.text.items ≡ length bytes + length text.0 = ap length text.2 ∙ length-append bytes text.0 in
-    let size : c.len.result - c.len-start.result ≡ length text.0 = omega (arith, c.len.ensures.value, c.len-start.ensures.value, longer) in
-    let pushed : c.push.new.self.items ≡ sizes ++ length text.0 ∷ [] = c.push.ensures.items ∙ ap (λ size. sizes ++ size ∷ []) size in
+    let longer : length c.unescape.new.text.items ≡ length bytes + length text.0 = ap length text.2
+    ∙ length-append bytes text.0 in
+    let size : c.len.result - c.len-start.result
+    ≡ length text.0 = omega (arith, c.len.ensures.value, c.len-start.ensures.value, longer) in
+    let pushed : c.push.new.self.items ≡ sizes ++ length text.0 ∷ [] = c.push.ensures.items
+    ∙ ap (λ size. sizes ++ size ∷ []) size in
     let whole = c.loop-token.invariant.whole in
     let room = c.loop-token.invariant.room in
     let left_room = sum_by-drop_more length (raw_tokens line) n token turn.0 in
     let same = ap length turn.1 in
     let step = each_of-more token_text (raw_tokens line) n token turn in
-    let left : each_of token_text (drop n (raw_tokens line)) ≡ with_first (Some text.0) (each_of token_text (drop (n + 1) (raw_tokens line))) =
+    let left : each_of token_text (drop n (raw_tokens line))
+    ≡ with_first (Some text.0) (each_of token_text (drop (n + 1) (raw_tokens line))) =
     step ∙ ap (λ first. with_first first (each_of token_text (drop (n + 1) (raw_tokens line)))) text.1 in
     let texts : cut c.unescape.new.text.items c.push.new.self.items ≡ cut bytes sizes ++ text.0 ∷ [] =
-    ap (λ sizes. cut c.unescape.new.text.items sizes) pushed ∙ ap (λ bytes. cut bytes (sizes ++ length text.0 ∷ [])) text.2
+    ap (λ sizes. cut c.unescape.new.text.items sizes) pushed
+    ∙ ap (λ bytes. cut bytes (sizes ++ length text.0 ∷ [])) text.2
     ∙ cut-push bytes text.0 sizes whole in
     record {
       can_next = search rules;
@@ -85,8 +101,11 @@ loop-token-preserved c =
       room = rw more (omega (arith, room, left_room, same, c.unescape.ensures.size));
       whole = ap sum pushed ∙ sum-push sizes (length text.0) ∙ ap (λ all. all + length text.0) whole ∙ sym longer;
       read =
-          ap (λ texts. read_before texts (each_of token_text (drop (length (c.loop-token.yielded ++ c.in-Some.token ∷ [])) (raw_tokens line)))) texts
-          ∙ ap (λ at. read_before (cut bytes sizes ++ text.0 ∷ []) (each_of token_text (drop at (raw_tokens line)))) more
+          ap (λ texts. read_before texts
+          (each_of token_text (drop (length (c.loop-token.yielded ++ c.in-Some.token ∷ []))
+          (raw_tokens line)))) texts
+          ∙ ap (λ at. read_before (cut bytes sizes ++ text.0 ∷ [])
+          (each_of token_text (drop at (raw_tokens line)))) more
           ∙ read_before-first (cut bytes sizes) text.0 (each_of token_text (drop (n + 1) (raw_tokens line)))
           ∙ ap (read_before (cut bytes sizes)) (sym left)
           ∙ c.loop-token.invariant.read;
@@ -95,8 +114,10 @@ loop-token-preserved c =
 pub returns : goal.returns
 returns c =
     let line = c.args.line.now in
-    let split = YieldsList-from_slice_split _ (λ byte. eqb byte 32) line (cc) (cc) (cc) (λ x b q k. search (rules, tests)) in
-    let road = YieldsList-tokens line (YieldsList-from_filter _ (λ part. not (eqb (length part) 0)) split (cc) (λ x b q k. search (rules, tests))) in
+    let split = YieldsList-from_slice_split _ (λ byte. eqb byte 32) line (cc) (cc) (cc)
+    (λ x b q k. search (rules, tests)) in
+    let road = YieldsList-tokens line
+    (YieldsList-from_filter _ (λ part. not (eqb (length part) 0)) split (cc) (λ x b q k. search (rules, tests))) in
     let n = length c.loop-token.yielded in
     let last = YieldsList-end road c.loop-token.yielded _ c.loop-token.yielded_by _ _ c.in-None.is c.next.ensures.steps in
     let few = c.loop-token.invariant.few in

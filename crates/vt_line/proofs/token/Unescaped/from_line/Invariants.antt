@@ -11,9 +11,11 @@ invariant-loop-token l = record {
   is_finite : (goal.iterator-loop-token).is_finite l.token-iterator;
   count : length l.sizes.items ≡ length l.yielded;
   few : length l.sizes.items ≤ 6;
-  room : length l.bytes.items + sum_by length (drop (length l.yielded) (raw_tokens l.fn.line)) ≤ sum_by length (raw_tokens l.fn.line);
+  room : length l.bytes.items + sum_by length (drop (length l.yielded) (raw_tokens l.fn.line)) ≤ sum_by length
+      (raw_tokens l.fn.line);
   whole : sum l.sizes.items ≡ length l.bytes.items;
   read :
-      read_before (cut l.bytes.items l.sizes.items) (each_of token_text (drop (length l.yielded) (raw_tokens l.fn.line)))
+      read_before (cut l.bytes.items l.sizes.items)
+      (each_of token_text (drop (length l.yielded) (raw_tokens l.fn.line)))
       ≡ each_of token_text (raw_tokens l.fn.line);
 }

@@ -14,11 +14,14 @@ returns-in-Some-namespace-clause-namespace_err c =
           undone _ _ (listed_in c.args.self.now q) _ _
           (ap (listed same_namespace q) (c.enter_place.ensures.same ∙ ap (λ self. self.by_namespace) w.self-is)
           ∙ w.in_ok-push.ensures.ok q
-          ∙ ap (λ namespace. pushed (same_namespace q namespace) c.args.mount.now.number (listed_in c.args.self.now q)) same)
+          ∙ ap (λ namespace. pushed (same_namespace q namespace) c.args.mount.now.number
+          (listed_in c.args.self.now q)) same)
           (c.remove.ensures q) (c.requires.namespace q)
       | in_default w ↦ absurd (w.in_default.not-Some _ c.in-Some-namespace.is)
     ]
 
 pub returns-in_default-enter_place-clause-slot : goal.returns-in_default-enter_place-clause-slot
 returns-in_default-enter_place-clause-slot c =
-    ap (λ point. unwrap_or (option_map (λ place. nat_lt place.node.slot 18446744073709551616) point) true) c.in-Some-mount_point.is ∙ c.enter_place.ensures.slot
+    ap (λ point. unwrap_or (option_map
+    (λ place. nat_lt place.node.slot 18446744073709551616) point) true) c.in-Some-mount_point.is
+    ∙ c.enter_place.ensures.slot

@@ -2,7 +2,8 @@ use Rattle.vt_mount.proofs.ListLemmas.{undone}
 use Rattle.vt_mount.proofs.indexes.Indexes.enter_place.Goals as goal
 
 pub returns-in-Err-clause-parent_err : goal.returns-in-Err-clause-parent_err
-returns-in-Err-clause-parent_err c = λ q. undone _ _ _ _ _ (c.in_ok-push.ensures.ok q) (c.remove.ensures q) (c.requires.parent q)
+returns-in-Err-clause-parent_err c = λ q.
+    undone _ _ _ _ _ (c.in_ok-push.ensures.ok q) (c.remove.ensures q) (c.requires.parent q)
 
 pub returns-in-Err-push-clause-parent_err : goal.returns-in-Err-push-clause-parent_err
 returns-in-Err-push-clause-parent_err c =

@@ -10,18 +10,25 @@ pub returns-in-Some-mount_point-clause-place : goal.returns-in-Some-mount_point-
 returns-in-Some-mount_point-clause-place c =
     let number = c.args.mount.now.number in
     let place = c.in-Some-mount_point.place in
-    let at = λ (q : Location). ap (λ point. taken (holds_of (same_place q) point) number (listed_at c.args.self.now q)) (sym c.in-Some-mount_point.is) in
+    let at = λ (q : Location). ap (λ point. taken (holds_of (same_place q) point) number (listed_at c.args.self.now q))
+    (sym c.in-Some-mount_point.is) in
     elim c.match-mount.branch [
-      | in-Some w ↦ λ q. c.remove-in-Some-mount_point-2.ensures q ∙ ap (λ self. taken (same_place q place) number (listed_at self q)) w.self-is ∙ at q
-      | in_default w ↦ λ q. c.remove-in-Some-mount_point-2.ensures q ∙ ap (λ self. taken (same_place q place) number (listed_at self q)) w.self-is ∙ at q
+      | in-Some w ↦ λ q. c.remove-in-Some-mount_point-2.ensures q
+          ∙ ap (λ self. taken (same_place q place) number (listed_at self q)) w.self-is ∙ at q
+      | in_default w ↦ λ q. c.remove-in-Some-mount_point-2.ensures q
+          ∙ ap (λ self. taken (same_place q place) number (listed_at self q)) w.self-is ∙ at q
     ]
 
 pub returns-in-Some-mount_point-clause-inode : goal.returns-in-Some-mount_point-clause-inode
 returns-in-Some-mount_point-clause-inode c =
     let number = c.args.mount.now.number in
     let place = c.in-Some-mount_point.place in
-    let at = λ (q : NodeRef). ap (λ point. taken (holds_of (λ place. same_inode q place.node) point) number (listed_over c.args.self.now q)) (sym c.in-Some-mount_point.is) in
+    let at = λ (q : NodeRef). ap (λ point.
+    taken (holds_of (λ place. same_inode q place.node) point) number (listed_over c.args.self.now q))
+    (sym c.in-Some-mount_point.is) in
     elim c.match-mount.branch [
-      | in-Some w ↦ λ q. c.remove-in-Some-mount_point-3.ensures q ∙ ap (λ self. taken (same_inode q place.node) number (listed_over self q)) w.self-is ∙ at q
-      | in_default w ↦ λ q. c.remove-in-Some-mount_point-3.ensures q ∙ ap (λ self. taken (same_inode q place.node) number (listed_over self q)) w.self-is ∙ at q
+      | in-Some w ↦ λ q. c.remove-in-Some-mount_point-3.ensures q
+          ∙ ap (λ self. taken (same_inode q place.node) number (listed_over self q)) w.self-is ∙ at q
+      | in_default w ↦ λ q. c.remove-in-Some-mount_point-3.ensures q
+          ∙ ap (λ self. taken (same_inode q place.node) number (listed_over self q)) w.self-is ∙ at q
     ]

@@ -16,33 +16,44 @@ use Rattle.vt_mount.proofs.mounts.Mounts.attach.Goals as goal
 
 pub enter-requires-clause-namespace : goal.enter-requires-clause-namespace
 enter-requires-clause-namespace c =
-    let above = ap (list_all (λ entry. nat_lt entry.mount.number (counted c.args.mount.number.count))) c.self.view_is ∙ c.requires in
+    let above = ap (list_all (λ entry. nat_lt entry.mount.number (counted c.args.mount.number.count))) c.self.view_is
+    ∙ c.requires in
     λ q. subst (lacks c.args.mount.number) (sym (c.self.invariant.namespace q))
-    (lacks-above (is_in q) c.args.mount.number _ (above-entries c.args.mount.number (in_order c.self.inside.by_number.entries) above))
+    (lacks-above (is_in q) c.args.mount.number _
+    (above-entries c.args.mount.number (in_order c.self.inside.by_number.entries) above))
 
 pub enter-requires-clause-parent : goal.enter-requires-clause-parent
 enter-requires-clause-parent c =
-    let above = ap (list_all (λ entry. nat_lt entry.mount.number (counted c.args.mount.number.count))) c.self.view_is ∙ c.requires in
+    let above = ap (list_all (λ entry. nat_lt entry.mount.number (counted c.args.mount.number.count))) c.self.view_is
+    ∙ c.requires in
     λ q. subst (lacks c.args.mount.number) (sym (c.self.invariant.parent q))
-    (lacks-above (is_on q) c.args.mount.number _ (above-entries c.args.mount.number (in_order c.self.inside.by_number.entries) above))
+    (lacks-above (is_on q) c.args.mount.number _
+    (above-entries c.args.mount.number (in_order c.self.inside.by_number.entries) above))
 
 pub enter-requires-clause-place : goal.enter-requires-clause-place
 enter-requires-clause-place c =
-    let above = ap (list_all (λ entry. nat_lt entry.mount.number (counted c.args.mount.number.count))) c.self.view_is ∙ c.requires in
+    let above = ap (list_all (λ entry. nat_lt entry.mount.number (counted c.args.mount.number.count))) c.self.view_is
+    ∙ c.requires in
     λ q. subst (lacks c.args.mount.number) (sym (c.self.invariant.place q))
-    (lacks-above (is_at q) c.args.mount.number _ (above-entries c.args.mount.number (in_order c.self.inside.by_number.entries) above))
+    (lacks-above (is_at q) c.args.mount.number _
+    (above-entries c.args.mount.number (in_order c.self.inside.by_number.entries) above))
 
 -- the new mount is kept beside the others
 inserted : (c : goal.After-insert) (q : MountId)
-    → lookup (same_id q) c.insert.new.self.entries ≡ cond (same_id c.args.mount.number q) (Some c.unused.result) (lookup (same_id q) c.self.inside.by_number.entries)
+    → lookup (same_id q) c.insert.new.self.entries
+    ≡ cond (same_id c.args.mount.number q) (Some c.unused.result) (lookup (same_id q) c.self.inside.by_number.entries)
 inserted c q =
     let room = not-err c.reserve.result c.if-is_err.ensures.value c.reserve.ensures.ok in
     let updates = of-ok c.insert.result (c.insert.ensures.succeeds room) c.insert.ensures.updates in
     updates.0 q
-    ∙ ap (λ es. cond (same_id c.args.mount.number q) (Some c.unused.result) (lookup (same_id q) es)) c.reserve.ensures.entries
+    ∙ ap (λ es. cond (same_id c.args.mount.number q) (Some c.unused.result)
+    (lookup (same_id q) es)) c.reserve.ensures.entries
 
-above : (c : goal.After-insert) → list_all (λ entry. nat_lt entry.mount.number (counted c.args.mount.number.count)) (entries_of c.self.inside.by_number.entries) ≡ true
-above c = ap (list_all (λ entry. nat_lt entry.mount.number (counted c.args.mount.number.count))) c.self.view_is ∙ c.requires
+above : (c : goal.After-insert)
+    → list_all (λ entry. nat_lt entry.mount.number (counted c.args.mount.number.count))
+    (entries_of c.self.inside.by_number.entries) ≡ true
+above c = ap (list_all (λ entry. nat_lt entry.mount.number (counted c.args.mount.number.count))) c.self.view_is
+    ∙ c.requires
 
 pub invariant_of-self-2 : goal.invariant_of-self-2
 invariant_of-self-2 c =
@@ -51,7 +62,8 @@ invariant_of-self-2 c =
     let kept = in_order es in
     let entered = c.if-is_err-2.ensures in
     let slot = ap has_slot c.unused.ensures.mount ∙ not-err c.enter.result entered.value c.enter.ensures.slot in
-    subst (IsIndexed c.enter.new.self) (sym (in_order-last number c.unused.result es _ (above-entries number kept (above c)) (inserted c)))
+    subst (IsIndexed c.enter.new.self)
+    (sym (in_order-last number c.unused.result es _ (above-entries number kept (above c)) (inserted c)))
     (indexed-entered c.args.mount c.unused.result kept c.unused.ensures.mount c.self.inside.indexes c.enter.new.self slot
     (not-err c.enter.result entered.value c.enter.ensures.namespace_ok)
     (not-err c.enter.result entered.value c.enter.ensures.parent_ok)
@@ -64,8 +76,14 @@ returns-clause-ok c =
     let number = c.args.mount.number in
     let es = c.self.inside.by_number.entries in
     kept-last number c.unused.result es _ (above c) (inserted c)
-    ∙ (λ i. c.self.view_is i ++ record { mount = mount_of (c.unused.ensures.mount i); uses = c.unused.ensures.uses i; writers = c.unused.ensures.writers i } ∷ [])
+    ∙ (λ i. c.self.view_is i ++ record {
+      mount = mount_of
+          (c.unused.ensures.mount i);
+      uses = c.unused.ensures.uses i;
+      writers = c.unused.ensures.writers i;
+    } ∷ [])
 
 pub returns-clause-undone : goal.returns-clause-undone
 returns-clause-undone c =
-    ap (without (counted c.args.mount.number.count)) (returns-clause-ok c) ∙ without-last (counted c.args.mount.number.count) _ c.args.self.now c.requires refl
+    ap (without (counted c.args.mount.number.count)) (returns-clause-ok c)
+    ∙ without-last (counted c.args.mount.number.count) _ c.args.self.now c.requires refl

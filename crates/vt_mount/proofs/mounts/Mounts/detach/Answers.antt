@@ -11,8 +11,10 @@ use Rattle.vt_mount.proofs.mounts.Mounts.detach.Goals as goal
 pub returns-in_default : goal.returns-in_default
 returns-in_default c =
     let map = c.self.inside.by_number in
-    entries-written c.args.id detached_kept (λ (entry : MountEntry). record entry { mount = detached entry.mount }) map.entries _ _ (λ n one. refl)
-    (not-written c.args.id detached_kept map _ (sym c.get_mut.ensures.value ∙ ap option_copied_mut c.in_default.is) (ap (λ map. map.entries) c.get_mut.follows.holds-at-none))
+    entries-written c.args.id detached_kept
+    (λ (entry : MountEntry). record entry { mount = detached entry.mount }) map.entries _ _ (λ n one. refl)
+    (not-written c.args.id detached_kept map _ (sym c.get_mut.ensures.value ∙ ap option_copied_mut c.in_default.is)
+    (ap (λ map. map.entries) c.get_mut.follows.holds-at-none))
     c.self.view_is
 
 pub invariant_of-self-2 : goal.invariant_of-self-2
@@ -22,13 +24,17 @@ invariant_of-self-2 c =
     let there = sym c.get_mut.ensures.value ∙ ap option_copied_mut c.in-Some.is in
     let writes = is-written c.args.id detached_kept map _ c.in-Some.kept.now _ there refl (c.get_mut.follows.holds _) in
     subst (IsIndexed c.leave.new.self) (sym (in_order-changed c.args.id detached_kept map.entries _ writes))
-    (indexed-left c.args.id c.in-Some.kept.now c.mount-mount.result kept _ (rises-in_order map.entries) (found-in_order c.args.id map.entries ∙ there)
-    c.mount-mount.ensures (loses-detached c.args.id kept) c.self.inside.indexes c.leave.new.self (slots-detached c.args.id kept c.self.invariant.slots)
+    (indexed-left c.args.id c.in-Some.kept.now c.mount-mount.result kept _ (rises-in_order map.entries)
+    (found-in_order c.args.id map.entries ∙ there)
+    c.mount-mount.ensures (loses-detached c.args.id kept) c.self.inside.indexes c.leave.new.self
+    (slots-detached c.args.id kept c.self.invariant.slots)
     c.leave.ensures.namespace c.leave.ensures.parent c.leave.ensures.place c.leave.ensures.inode c.self.invariant)
 
 pub returns : goal.returns
 returns c =
     let map = c.self.inside.by_number in
-    entries-written c.args.id detached_kept (λ (entry : MountEntry). record entry { mount = detached entry.mount }) map.entries _ _ (λ n one. refl)
-    (is-written c.args.id detached_kept map _ c.in-Some.kept.now _ (sym c.get_mut.ensures.value ∙ ap option_copied_mut c.in-Some.is) refl (c.get_mut.follows.holds _))
+    entries-written c.args.id detached_kept
+    (λ (entry : MountEntry). record entry { mount = detached entry.mount }) map.entries _ _ (λ n one. refl)
+    (is-written c.args.id detached_kept map _ c.in-Some.kept.now _
+    (sym c.get_mut.ensures.value ∙ ap option_copied_mut c.in-Some.is) refl (c.get_mut.follows.holds _))
     c.self.view_is

@@ -6,4 +6,5 @@ use Rattle.vt_mount.proofs.SourceLemmas.{sources-kept}
 use Rattle.vt_mount.proofs.mounts.Mounts.groups_are_counted.Goals as goal
 
 pub returns : goal.returns
-returns c = ap (λ now. list_all has_counted_source (mounts_in now)) (sym c.self.view_is) ∙ sources-kept c.self.inside.by_number.entries
+returns c = ap (λ now. list_all has_counted_source (mounts_in now)) (sym c.self.view_is)
+    ∙ sources-kept c.self.inside.by_number.entries

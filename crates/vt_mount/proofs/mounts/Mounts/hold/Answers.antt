@@ -17,12 +17,14 @@ invariant_of-self-2 c =
       | in-Some+else-not-has_room w ↦
           subst (λ inside. IsIndexed inside.indexes (in_order inside.by_number.entries)) (sym w.self-inside-is)
           (indexed-written c.args.id change (λ one. refl) (λ one. refl) _ map.entries _
-          (is-written c.args.id change map _ w.in-Some.kept.now _ (sym c.get_mut.ensures.value ∙ ap option_copied_mut w.in-Some.is) w.hold.ensures (c.get_mut.follows.holds _))
+          (is-written c.args.id change map _ w.in-Some.kept.now _
+          (sym c.get_mut.ensures.value ∙ ap option_copied_mut w.in-Some.is) w.hold.ensures (c.get_mut.follows.holds _))
           c.self.invariant)
       | in_default w ↦
           subst (λ inside. IsIndexed inside.indexes (in_order inside.by_number.entries)) (sym w.self-inside-is)
           (indexed-written c.args.id change (λ one. refl) (λ one. refl) _ map.entries _
-          (not-written c.args.id change map _ (sym c.get_mut.ensures.value ∙ ap option_copied_mut w.in_default.is) (ap (λ map. map.entries) c.get_mut.follows.holds-at-none))
+          (not-written c.args.id change map _ (sym c.get_mut.ensures.value ∙ ap option_copied_mut w.in_default.is)
+          (ap (λ map. map.entries) c.get_mut.follows.holds-at-none))
           c.self.invariant)
     ]
 
@@ -34,12 +36,14 @@ returns-clause-ok c =
       | in-Some+else-not-has_room w ↦
           ap (λ inside. entries_of inside.by_number.entries) w.self-inside-is
           ∙ entries-written c.args.id change (held c.args.writes) map.entries _ _ (λ n one. refl)
-          (is-written c.args.id change map _ w.in-Some.kept.now _ (sym c.get_mut.ensures.value ∙ ap option_copied_mut w.in-Some.is) w.hold.ensures (c.get_mut.follows.holds _))
+          (is-written c.args.id change map _ w.in-Some.kept.now _
+          (sym c.get_mut.ensures.value ∙ ap option_copied_mut w.in-Some.is) w.hold.ensures (c.get_mut.follows.holds _))
           c.self.view_is
       | in_default w ↦
           ap (λ inside. entries_of inside.by_number.entries) w.self-inside-is
           ∙ entries-written c.args.id change (held c.args.writes) map.entries _ _ (λ n one. refl)
-          (not-written c.args.id change map _ (sym c.get_mut.ensures.value ∙ ap option_copied_mut w.in_default.is) (ap (λ map. map.entries) c.get_mut.follows.holds-at-none))
+          (not-written c.args.id change map _ (sym c.get_mut.ensures.value ∙ ap option_copied_mut w.in_default.is)
+          (ap (λ map. map.entries) c.get_mut.follows.holds-at-none))
           c.self.view_is
     ]
 
@@ -47,14 +51,16 @@ pub invariant_of-self : goal.invariant_of-self
 invariant_of-self c =
     let map = c.self.inside.by_number in
     indexed-written c.args.id (λ one. one) (λ one. refl) (λ one. refl) _ map.entries _
-    (is-written c.args.id (λ one. one) map _ c.in-Some.kept.now _ (sym c.get_mut.ensures.value ∙ ap option_copied_mut c.in-Some.is) refl (c.get_mut.follows.holds _))
+    (is-written c.args.id (λ one. one) map _ c.in-Some.kept.now _
+    (sym c.get_mut.ensures.value ∙ ap option_copied_mut c.in-Some.is) refl (c.get_mut.follows.holds _))
     c.self.invariant
 
 pub returns-then-not-has_room-clause-err : goal.returns-then-not-has_room-clause-err
 returns-then-not-has_room-clause-err c =
     let map = c.self.inside.by_number in
     entries-unwritten c.args.id map.entries _ _
-    (is-written c.args.id (λ one. one) map _ c.in-Some.kept.now _ (sym c.get_mut.ensures.value ∙ ap option_copied_mut c.in-Some.is) refl (c.get_mut.follows.holds _))
+    (is-written c.args.id (λ one. one) map _ c.in-Some.kept.now _
+    (sym c.get_mut.ensures.value ∙ ap option_copied_mut c.in-Some.is) refl (c.get_mut.follows.holds _))
     c.self.view_is
 
 full : (a b most : ℕ) (r : Bool) → r ≡ (nat_lt a most && nat_lt b most) → r ≡ false → a < most → b < most → ⊥
@@ -67,9 +73,12 @@ returns-then-not-has_room-clause-few c =
     (sym c.get_mut.ensures.value ∙ ap option_copied_mut c.in-Some.is) in
     λ few others.
     absurd (full c.in-Some.kept.now.uses c.in-Some.kept.now.writers 18446744073709551615 c.has_room.result c.has_room.ensures c.if-not-has_room.true
-    (subst (λ n. n < 18446744073709551615) (sym (ap (λ entry. unwrap_or (option_map (λ entry. entry.uses) entry) 0) there)) few)
-    (subst (λ n. n < 18446744073709551615) (sym (ap (λ entry. unwrap_or (option_map (λ entry. entry.writers) entry) 0) there)) others))
+    (subst (λ n. n < 18446744073709551615)
+    (sym (ap (λ entry. unwrap_or (option_map (λ entry. entry.uses) entry) 0) there)) few)
+    (subst (λ n. n < 18446744073709551615)
+    (sym (ap (λ entry. unwrap_or (option_map (λ entry. entry.writers) entry) 0) there)) others))
 
 pub returns-clause-undone : goal.returns-clause-undone
 returns-clause-undone c =
-    ap (changed (counted c.args.id.count) (released c.args.writes)) (returns-clause-ok c) ∙ released-all (counted c.args.id.count) c.args.writes _
+    ap (changed (counted c.args.id.count) (released c.args.writes)) (returns-clause-ok c)
+    ∙ released-all (counted c.args.id.count) c.args.writes _

@@ -19,8 +19,10 @@ returns c =
     let less : inode.slot < slot_limit = omega arith in
     let ids = c.get.result.now in
     let p = (λ (mount : Mount ℕ). is_some mount.namespace) in
-    any_from_yields_List (λ (id : MountId). holds_of p (find (λ mount. nat_eq (counted id.count) mount.number) (mounts_in c.args.self.now))) _ _ _
+    any_from_yields_List (λ (id : MountId). holds_of p
+    (find (λ mount. nat_eq (counted id.count) mount.number) (mounts_in c.args.self.now))) _ _ _
     c.any.ensures.ran (YieldsList-from_slice ids cc) (λ x b q k. search rules)
     ∙ any-over (stands_over (number_of inode)) p c.self.inside.by_number.entries c.args.self.now ids c.self.view_is
     (ap counts (c.get.ensures ∙ c.self.invariant.inode inode)
-    ∙ numbers-seen (is_over inode) (stands_over (number_of inode)) (over-agrees inode less) (in_order c.self.inside.by_number.entries) c.self.invariant.slots)
+    ∙ numbers-seen (is_over inode) (stands_over (number_of inode)) (over-agrees inode less)
+    (in_order c.self.inside.by_number.entries) c.self.invariant.slots)

@@ -10,5 +10,6 @@ returns c =
     let inode = c.args.inode in
     let less : inode.slot < slot_limit = omega arith in
     ap counts (c.get.ensures ∙ c.self.invariant.inode inode)
-    ∙ numbers-seen (is_over inode) (stands_over (number_of inode)) (over-agrees inode less) (in_order c.self.inside.by_number.entries) c.self.invariant.slots
+    ∙ numbers-seen (is_over inode) (stands_over (number_of inode)) (over-agrees inode less)
+    (in_order c.self.inside.by_number.entries) c.self.invariant.slots
     ∙ ap (λ now. numbers (filter (stands_over (number_of inode)) (mounts_in now))) c.self.view_is

@@ -13,6 +13,14 @@ invariant_of-self g c =
 pub returns : goal.returns
 returns g c seen typed =
     let all = retained-retyped (IsSeen seen) _ _
-    (λ id old stays new f t. (search rules, record { others = search rules; kind = typed id _ _ (search rules) }, search rules)) _ _
+    (λ id old stays new f t. (
+      search rules,
+      record {
+        others = search rules;
+        kind = typed id _ _
+            (search rules);
+      },
+      search rules,
+    )) _ _
     c.retain.ensures.filtered in
     entries-retyped seen _ _ (in_order-retyped (IsSeen seen) _ _ all) ∙ ap (map (retyped seen)) c.self.view_is

@@ -17,6 +17,7 @@ returns-in_err-kept c =
 pub returns : goal.returns
 returns c =
     ap (option_map root_of)
-    (child-found (location_of c.args.place) c.self.inside.by_number.entries _ c.in_ok-child.child (Some c.in_ok-kept.kept.now) c.self.view_is
+    (child-found (location_of c.args.place) c.self.inside.by_number.entries _ c.in_ok-child.child
+    (Some c.in_ok-kept.kept.now) c.self.view_is
     (ap (option_map (λ id. counted id.count)) (sym c.in_ok-child.was) ∙ c.child_at.ensures)
     (sym c.kept_under.ensures ∙ ap option_copied c.in_ok-kept.was))

@@ -13,9 +13,16 @@ pub returns-in_default-clause-ok : goal.returns-in_default-clause-ok
 returns-in_default-clause-ok c =
     let map = c.self.inside.by_number in
     let change = rehomed_kept c.args.namespace in
-    entries-written c.args.id change (λ (entry : MountEntry). record entry { mount = record entry.mount { namespace = Some (counted c.args.namespace.count) } }) map.entries _ _
+    entries-written c.args.id change
+    (λ (entry : MountEntry). record entry {
+      mount = record entry.mount {
+        namespace = Some
+            (counted c.args.namespace.count);
+      };
+    }) map.entries _ _
     (λ n one. refl)
-    (not-written c.args.id change map _ (sym c.get_mut.ensures.value ∙ ap option_copied_mut c.in_default.is) (ap (λ map. map.entries) c.get_mut.follows.holds-at-none))
+    (not-written c.args.id change map _ (sym c.get_mut.ensures.value ∙ ap option_copied_mut c.in_default.is)
+    (ap (λ map. map.entries) c.get_mut.follows.holds-at-none))
     c.self.view_is
 
 pub invariant_of-self-then-is_err : goal.invariant_of-self-then-is_err
@@ -26,14 +33,16 @@ invariant_of-self-then-is_err c =
     (is-refused c.change_namespace.result refused c.change_namespace.ensures.namespace_err)
     c.change_namespace.ensures.parent c.change_namespace.ensures.place c.change_namespace.ensures.inode
     (indexed-written c.args.id (λ one. one) (λ one. refl) (λ one. refl) _ map.entries _
-    (is-written c.args.id (λ one. one) map _ c.in-Some.kept.now _ (sym c.get_mut.ensures.value ∙ ap option_copied_mut c.in-Some.is) refl (c.get_mut.follows.holds _))
+    (is-written c.args.id (λ one. one) map _ c.in-Some.kept.now _
+    (sym c.get_mut.ensures.value ∙ ap option_copied_mut c.in-Some.is) refl (c.get_mut.follows.holds _))
     c.self.invariant)
 
 pub returns-then-is_err-clause-err : goal.returns-then-is_err-clause-err
 returns-then-is_err-clause-err c =
     let map = c.self.inside.by_number in
     entries-unwritten c.args.id map.entries _ _
-    (is-written c.args.id (λ one. one) map _ c.in-Some.kept.now _ (sym c.get_mut.ensures.value ∙ ap option_copied_mut c.in-Some.is) refl (c.get_mut.follows.holds _))
+    (is-written c.args.id (λ one. one) map _ c.in-Some.kept.now _
+    (sym c.get_mut.ensures.value ∙ ap option_copied_mut c.in-Some.is) refl (c.get_mut.follows.holds _))
     c.self.view_is
 
 pub invariant_of-self-2 : goal.invariant_of-self-2
@@ -43,9 +52,12 @@ invariant_of-self-2 c =
     let there = sym c.get_mut.ensures.value ∙ ap option_copied_mut c.in-Some.is in
     let fine = c.if-is_err.ensures.value in
     subst (IsIndexed c.change_namespace.new.self)
-    (sym (in_order-changed c.args.id change map.entries _ (is-written c.args.id change map _ c.in-Some.kept.now _ there refl (c.get_mut.follows.holds _))))
-    (indexed-rehomed c.args.id c.args.namespace c.in-Some.kept.now (in_order map.entries) c.self.inside.indexes c.change_namespace.new.self (rises-in_order map.entries)
-    (found-in_order c.args.id map.entries ∙ there) (not-err c.change_namespace.result fine c.change_namespace.ensures.namespace_ok)
+    (sym (in_order-changed c.args.id change map.entries _
+    (is-written c.args.id change map _ c.in-Some.kept.now _ there refl (c.get_mut.follows.holds _))))
+    (indexed-rehomed c.args.id c.args.namespace c.in-Some.kept.now
+    (in_order map.entries) c.self.inside.indexes c.change_namespace.new.self (rises-in_order map.entries)
+    (found-in_order c.args.id map.entries ∙ there)
+    (not-err c.change_namespace.result fine c.change_namespace.ensures.namespace_ok)
     c.change_namespace.ensures.parent c.change_namespace.ensures.place c.change_namespace.ensures.inode
     c.self.invariant)
 
@@ -53,7 +65,14 @@ pub returns-clause-ok : goal.returns-clause-ok
 returns-clause-ok c =
     let map = c.self.inside.by_number in
     let change = rehomed_kept c.args.namespace in
-    entries-written c.args.id change (λ (entry : MountEntry). record entry { mount = record entry.mount { namespace = Some (counted c.args.namespace.count) } }) map.entries _ _
+    entries-written c.args.id change
+    (λ (entry : MountEntry). record entry {
+      mount = record entry.mount {
+        namespace = Some
+            (counted c.args.namespace.count);
+      };
+    }) map.entries _ _
     (λ n one. refl)
-    (is-written c.args.id change map _ c.in-Some.kept.now _ (sym c.get_mut.ensures.value ∙ ap option_copied_mut c.in-Some.is) refl (c.get_mut.follows.holds _))
+    (is-written c.args.id change map _ c.in-Some.kept.now _
+    (sym c.get_mut.ensures.value ∙ ap option_copied_mut c.in-Some.is) refl (c.get_mut.follows.holds _))
     c.self.view_is

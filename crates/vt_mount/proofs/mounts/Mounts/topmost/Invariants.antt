@@ -9,5 +9,6 @@ use Rattle.vt_mount.proofs.mounts.Mounts.topmost.Given as goal
 abbrev pub invariant-loop : goal.invariant-loop
 invariant-loop l =
     (l.end ≡ length (mounts_in l.self))
-    × (end_of (λ here. option_map root_of (child_at nat_eq (mounts_in l.self) here)) (l.end - l.counter) (location_of l.here)
+    × (end_of (λ here. option_map root_of (child_at nat_eq (mounts_in l.self) here)) (l.end - l.counter)
+    (location_of l.here)
     ≡ end_of (λ here. option_map root_of (child_at nat_eq (mounts_in l.self) here)) l.end (location_of l.fn.place))

@@ -9,7 +9,8 @@ use Rattle.vt_detach.specs.WorldValue.{WorldValue}
 
 pub returns : goal.returns
 returns c =
-    let children = λ (value : WorldValue). list_any (stands_on nat_eq (counted c.args.mount.count)) (mounts_in value.mounts) in
+    let children = λ (value : WorldValue). list_any (stands_on nat_eq (counted c.args.mount.count))
+    (mounts_in value.mounts) in
     record {
       filesystem = c.shown.ensures;
       bare = λ bare at on. bare_top c.args.self.now (counted c.args.mount.count)

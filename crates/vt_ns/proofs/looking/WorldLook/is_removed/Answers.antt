@@ -5,12 +5,16 @@ use Rattle.vt_ns.proofs.looking.WorldLook.is_removed.Goals as goal
 use Rattle.vt_ns.specs.contracts.world.World.{the_view}
 
 pub is_removed-requires : goal.is_removed-requires
-is_removed-requires c = record { named = parents_named_at (the_view c.self.inside) c.self.invariant c.args.at.node.filesystem.count }
+is_removed-requires c = record {
+  named = parents_named_at
+      (the_view c.self.inside) c.self.invariant c.args.at.node.filesystem.count;
+}
 
 pub returns-then-not-is_seen : goal.returns-then-not-is_seen
 returns-then-not-is_seen c =
     ap not c.if-not-is_seen.true
-    ∙ sym (removed_unseen (the_view c.self.inside) c.args.self.now c.self.view_is c.self.invariant c.args.at (omega arith)
+    ∙ sym (removed_unseen (the_view c.self.inside) c.args.self.now c.self.view_is c.self.invariant c.args.at
+    (omega arith)
     (sym c.is_seen.ensures ∙ c.if-not-is_seen.true))
 
 pub returns-else-not-is_seen : goal.returns-else-not-is_seen

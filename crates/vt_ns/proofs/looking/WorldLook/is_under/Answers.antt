@@ -6,21 +6,25 @@ use Rattle.vt_ns.proofs.looking.WorldLook.is_under.Goals.{else-is_seen-via-else-
 use Rattle.vt_ns.specs.contracts.world.World.{the_view}
 
 pub is_under-requires-clause-named : goal.is_under-requires-clause-named
-is_under-requires-clause-named c = parents_named_at (the_view c.self.inside) c.self.invariant c.args.top.node.filesystem.count
+is_under-requires-clause-named c = parents_named_at
+    (the_view c.self.inside) c.self.invariant c.args.top.node.filesystem.count
 
 pub returns-then-eq : goal.returns-then-eq
 returns-then-eq c =
     c.is_under.ensures
-    ∙ under_is (the_view c.self.inside) c.args.self.now c.self.view_is c.self.invariant c.args.top (omega arith) c.args.directory
+    ∙ under_is (the_view c.self.inside) c.args.self.now c.self.view_is c.self.invariant c.args.top
+    (omega arith) c.args.directory
     (sym c.is_seen.ensures ∙ c.if-is_seen.true)
 
 pub returns-else-is_seen : goal.returns-else-is_seen
 returns-else-is_seen c =
     c.eq-else-is_seen.ensures
-    ∙ under_apart (the_view c.self.inside) c.args.self.now c.self.view_is c.self.invariant c.args.top (omega arith) c.args.directory (omega arith)
+    ∙ under_apart (the_view c.self.inside) c.args.self.now c.self.view_is c.self.invariant c.args.top
+    (omega arith) c.args.directory (omega arith)
     (elim c.else-is_seen.branch [
       | else-is_seen-via-then-is_seen+else-eq w ↦
           (λ i. (sym c.is_seen.ensures ∙ w.if-is_seen.true) i && (sym w.eq.ensures ∙ w.if-eq.false) i)
       | else-is_seen-via-else-is_seen w ↦
-          ap (λ b. b && nat_eq c.args.directory.filesystem.count c.args.top.node.filesystem.count) (sym c.is_seen.ensures ∙ w.if-is_seen.false)
+          ap (λ b. b && nat_eq c.args.directory.filesystem.count c.args.top.node.filesystem.count)
+          (sym c.is_seen.ensures ∙ w.if-is_seen.false)
     ])

@@ -5,7 +5,8 @@ use Rattle.vt_ns.proofs.looking.WorldLook.is_under_root.Goals as goal
 use Rattle.vt_ns.specs.contracts.world.World.{the_view}
 
 pub is_under-requires-clause-named : goal.is_under-requires-clause-named
-is_under-requires-clause-named c = parents_named_at (the_view c.self.inside) c.self.invariant c.in-Some.mount.root.filesystem.count
+is_under-requires-clause-named c = parents_named_at
+    (the_view c.self.inside) c.self.invariant c.in-Some.mount.root.filesystem.count
 
 pub returns-in-Some : goal.returns-in-Some
 returns-in-Some c =

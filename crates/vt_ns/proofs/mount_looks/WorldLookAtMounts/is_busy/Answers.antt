@@ -11,6 +11,7 @@ pub returns-clause-ok : goal.returns-clause-ok
 returns-clause-ok c =
     IfOk-weaker c.is_busy.result _ _
     (λ busy tells.
-    tells (world_of (the_view c.self.inside)) (world_seen (the_view c.self.inside) c.self.invariant) (uses_seen (the_view c.self.inside) c.self.invariant)
+    tells (world_of (the_view c.self.inside)) (world_seen (the_view c.self.inside) c.self.invariant)
+    (uses_seen (the_view c.self.inside) c.self.invariant)
     ∙ ap (λ (value : WorldValue). is_busy nat_eq (world_of value) (counted c.args.mount.count)) c.self.view_is)
     c.is_busy.ensures.ok

@@ -13,7 +13,8 @@ pub returns-in-Plain-clause-ok : goal.returns-in-Plain-clause-ok
 returns-in-Plain-clause-ok c =
     IfOk-weaker c.has_too_many_with.result _ _
     (λ too_many tells.
-    plain_overfills c.args.self.now c.is_held.ensures (location_of c.in-Plain.place) too_many (flags_of c.in-Plain.flags) tells
+    plain_overfills c.args.self.now c.is_held.ensures (location_of c.in-Plain.place) too_many
+    (flags_of c.in-Plain.flags) tells
     ∙ ap (λ attachment. overfills_of c.args.self.now (permit_of attachment)) (sym c.in-Plain.is))
     c.has_too_many_with.ensures.ok
 
@@ -29,6 +30,7 @@ returns-in_ok-tree-in-Bind-clause-ok c =
     (λ too_many tells.
     bind_overfills value c.is_held.ensures place too_many source c.in-Bind.recursive
     (λ one copies added same invariants parts size.
-    tells one copies added same invariants parts (omega (arith, size, sized, c.len.ensures, c.in_ok-tree-in-Bind.tree.ok.0)))
+    tells one copies added same invariants parts
+    (omega (arith, size, sized, c.len.ensures, c.in_ok-tree-in-Bind.tree.ok.0)))
     ∙ ap (λ attachment. overfills_of value (permit_of attachment)) (sym c.in-Bind.is))
     c.has_too_many_with-in-Bind.ensures.ok

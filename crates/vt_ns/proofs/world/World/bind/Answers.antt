@@ -16,28 +16,39 @@ use Rattle.vt_ns.proofs.world.World.bind.Goals as goal
 
 pub mounts_bound-requires : goal.mounts_bound-requires
 mounts_bound-requires c =
-    let permits : Permits (the_view c.self.inside) c.args.name.now (ToBind (location_of c.args.source) (location_of c.args.place) c.args.recursive) =
-    subst (λ value. Permits value c.args.name.now (ToBind (location_of c.args.source) (location_of c.args.place) c.args.recursive)) (sym c.self.view_is) c.requires in
+    let permits : Permits (the_view c.self.inside) c.args.name.now
+    (ToBind (location_of c.args.source) (location_of c.args.place) c.args.recursive) =
+    subst (λ value. Permits value c.args.name.now
+    (ToBind (location_of c.args.source) (location_of c.args.place) c.args.recursive))
+    (sym c.self.view_is) c.requires in
     subst (λ (v : WorldValue). is_located_well nat_eq (world_of v) (location_of c.args.source) ≡ true) c.self.view_is
     (source_there (the_view c.self.inside) c.self.invariant c.args.name.now c.args.source c.args.place c.args.recursive permits)
 
 pub parts-requires : goal.parts-requires
 parts-requires c =
-    let permits : Permits (the_view c.self.inside) c.args.name.now (ToBind (location_of c.args.source) (location_of c.args.place) c.args.recursive) =
-    subst (λ value. Permits value c.args.name.now (ToBind (location_of c.args.source) (location_of c.args.place) c.args.recursive)) (sym c.self.view_is) c.requires in
+    let permits : Permits (the_view c.self.inside) c.args.name.now
+    (ToBind (location_of c.args.source) (location_of c.args.place) c.args.recursive) =
+    subst (λ value. Permits value c.args.name.now
+    (ToBind (location_of c.args.source) (location_of c.args.place) c.args.recursive))
+    (sym c.self.view_is) c.requires in
     place_mounted (the_view c.self.inside) c.args.place
     (bind_place_there (the_view c.self.inside) c.self.invariant c.args.name.now c.args.source c.args.place c.args.recursive permits)
 
 pub attach_graft-requires-clause-may : goal.attach_graft-requires-clause-may
 attach_graft-requires-clause-may c =
-    let permits : Permits (the_view c.self.inside) c.args.name.now (ToBind (location_of c.args.source) (location_of c.args.place) c.args.recursive) =
-    subst (λ value. Permits value c.args.name.now (ToBind (location_of c.args.source) (location_of c.args.place) c.args.recursive)) (sym c.self.view_is) c.requires in
+    let permits : Permits (the_view c.self.inside) c.args.name.now
+    (ToBind (location_of c.args.source) (location_of c.args.place) c.args.recursive) =
+    subst (λ value. Permits value c.args.name.now
+    (ToBind (location_of c.args.source) (location_of c.args.place) c.args.recursive))
+    (sym c.self.view_is) c.requires in
     let value = the_view c.self.inside in
     let graft : Graft = record { parts = c.deref.result; tree = c.deref-2.result; place = c.args.place; moves = false } in
     let counts : Counts = record { first = c.self.inside.next; step = 1 } in
-    let tree_is : map mount_of c.deref-2.result.now ≡ bind_tree nat_eq (world_of value) (location_of c.args.source) c.args.recursive =
+    let tree_is : map mount_of c.deref-2.result.now
+    ≡ bind_tree nat_eq (world_of value) (location_of c.args.source) c.args.recursive =
     ap (map mount_of) c.deref-2.ensures.value ∙ c.in_ok-tree.ensures.ok
-    ∙ ap (λ (v : WorldValue). bind_tree nat_eq (world_of v) (location_of c.args.source) c.args.recursive) (sym c.self.view_is) in
+    ∙ ap (λ (v : WorldValue). bind_tree nat_eq (world_of v) (location_of c.args.source) c.args.recursive)
+    (sym c.self.view_is) in
     let parts_are : map mount_of c.deref.result.now ≡ parts_of nat_eq (world_of value) (location_of c.args.place) =
     parts_found value c.args.self.now c.self.view_is c.self.invariant c.args.place c.in_ok-parts.parts.items c.deref.result.now c.deref.ensures.value c.in_ok-parts.ensures.ok in
     may_bind value c.self.invariant c.args.name.now c.args.source c.args.recursive graft counts permits tree_is refl parts_are refl refl
@@ -45,43 +56,58 @@ attach_graft-requires-clause-may c =
 
 pub invariant_of-self-2 : goal.invariant_of-self-2
 invariant_of-self-2 c =
-    let permits : Permits (the_view c.self.inside) c.args.name.now (ToBind (location_of c.args.source) (location_of c.args.place) c.args.recursive) =
-    subst (λ value. Permits value c.args.name.now (ToBind (location_of c.args.source) (location_of c.args.place) c.args.recursive)) (sym c.self.view_is) c.requires in
+    let permits : Permits (the_view c.self.inside) c.args.name.now
+    (ToBind (location_of c.args.source) (location_of c.args.place) c.args.recursive) =
+    subst (λ value. Permits value c.args.name.now
+    (ToBind (location_of c.args.source) (location_of c.args.place) c.args.recursive))
+    (sym c.self.view_is) c.requires in
     let value = the_view c.self.inside in
     let graft : Graft = record { parts = c.deref.result; tree = c.deref-2.result; place = c.args.place; moves = false } in
     let counts : Counts = record { first = c.self.inside.next; step = 1 } in
-    let tree_is : map mount_of c.deref-2.result.now ≡ bind_tree nat_eq (world_of value) (location_of c.args.source) c.args.recursive =
+    let tree_is : map mount_of c.deref-2.result.now
+    ≡ bind_tree nat_eq (world_of value) (location_of c.args.source) c.args.recursive =
     ap (map mount_of) c.deref-2.ensures.value ∙ c.in_ok-tree.ensures.ok
-    ∙ ap (λ (v : WorldValue). bind_tree nat_eq (world_of v) (location_of c.args.source) c.args.recursive) (sym c.self.view_is) in
+    ∙ ap (λ (v : WorldValue). bind_tree nat_eq (world_of v) (location_of c.args.source) c.args.recursive)
+    (sym c.self.view_is) in
     let parts_are : map mount_of c.deref.result.now ≡ parts_of nat_eq (world_of value) (location_of c.args.place) =
     parts_found value c.args.self.now c.self.view_is c.self.invariant c.args.place c.in_ok-parts.parts.items c.deref.result.now c.deref.ensures.value c.in_ok-parts.ensures.ok in
     let one : c.len.result ≡ length c.deref.result.now = let many = c.len.ensures in let alike = c.deref.ensures.len in omega (arith, many, alike) in
     let two : c.len-2.result ≡ length c.deref-2.result.now = let many = c.len-2.ensures in let alike = c.deref-2.ensures.len in omega (arith, many, alike) in
-    let grows : c.self.inside.next + c.in-Some.taken ≡ value.next + 2 * (length c.deref.result.now * length c.deref-2.result.now) =
+    let grows : c.self.inside.next + c.in-Some.taken
+    ≡ value.next + 2 * (length c.deref.result.now * length c.deref-2.result.now) =
     ap (λ n. c.self.inside.next + n) (c.in-Some.ensures.count ∙ (λ i. 2 * (one i * two i))) in
     (bind_is_done value c.self.invariant c.args.name.now c.args.source c.args.recursive graft counts permits tree_is refl parts_are refl refl
-    c.attach_graft.new.mounts c.attach_graft.new.groups c.attach_graft.new.filesystems (c.self.inside.next + c.in-Some.taken) c.in_ok-attach_graft.ensures.ok
+    c.attach_graft.new.mounts c.attach_graft.new.groups c.attach_graft.new.filesystems
+    (c.self.inside.next + c.in-Some.taken) c.in_ok-attach_graft.ensures.ok
     c.are_ascending.ensures c.are_counted.ensures grows).held
 
 pub returns-clause-ok : goal.returns-clause-ok
 returns-clause-ok c =
-    let permits : Permits (the_view c.self.inside) c.args.name.now (ToBind (location_of c.args.source) (location_of c.args.place) c.args.recursive) =
-    subst (λ value. Permits value c.args.name.now (ToBind (location_of c.args.source) (location_of c.args.place) c.args.recursive)) (sym c.self.view_is) c.requires in
+    let permits : Permits (the_view c.self.inside) c.args.name.now
+    (ToBind (location_of c.args.source) (location_of c.args.place) c.args.recursive) =
+    subst (λ value. Permits value c.args.name.now
+    (ToBind (location_of c.args.source) (location_of c.args.place) c.args.recursive))
+    (sym c.self.view_is) c.requires in
     let value = the_view c.self.inside in
     let graft : Graft = record { parts = c.deref.result; tree = c.deref-2.result; place = c.args.place; moves = false } in
     let counts : Counts = record { first = c.self.inside.next; step = 1 } in
-    let tree_is : map mount_of c.deref-2.result.now ≡ bind_tree nat_eq (world_of value) (location_of c.args.source) c.args.recursive =
+    let tree_is : map mount_of c.deref-2.result.now
+    ≡ bind_tree nat_eq (world_of value) (location_of c.args.source) c.args.recursive =
     ap (map mount_of) c.deref-2.ensures.value ∙ c.in_ok-tree.ensures.ok
-    ∙ ap (λ (v : WorldValue). bind_tree nat_eq (world_of v) (location_of c.args.source) c.args.recursive) (sym c.self.view_is) in
+    ∙ ap (λ (v : WorldValue). bind_tree nat_eq (world_of v) (location_of c.args.source) c.args.recursive)
+    (sym c.self.view_is) in
     let parts_are : map mount_of c.deref.result.now ≡ parts_of nat_eq (world_of value) (location_of c.args.place) =
     parts_found value c.args.self.now c.self.view_is c.self.invariant c.args.place c.in_ok-parts.parts.items c.deref.result.now c.deref.ensures.value c.in_ok-parts.ensures.ok in
     let one : c.len.result ≡ length c.deref.result.now = let many = c.len.ensures in let alike = c.deref.ensures.len in omega (arith, many, alike) in
     let two : c.len-2.result ≡ length c.deref-2.result.now = let many = c.len-2.ensures in let alike = c.deref-2.ensures.len in omega (arith, many, alike) in
-    let grows : c.self.inside.next + c.in-Some.taken ≡ value.next + 2 * (length c.deref.result.now * length c.deref-2.result.now) =
+    let grows : c.self.inside.next + c.in-Some.taken
+    ≡ value.next + 2 * (length c.deref.result.now * length c.deref-2.result.now) =
     ap (λ n. c.self.inside.next + n) (c.in-Some.ensures.count ∙ (λ i. 2 * (one i * two i))) in
-    subst (λ (v : WorldValue). Becomes v c.args.name.now (ToBind (location_of c.args.source) (location_of c.args.place) c.args.recursive)
+    subst (λ (v : WorldValue). Becomes v c.args.name.now
+    (ToBind (location_of c.args.source) (location_of c.args.place) c.args.recursive)
     (grafted_value (the_view c.self.inside) c.attach_graft.new.mounts c.attach_graft.new.groups c.attach_graft.new.filesystems (c.self.inside.next + c.in-Some.taken)))
     c.self.view_is
     (bind_is_done value c.self.invariant c.args.name.now c.args.source c.args.recursive graft counts permits tree_is refl parts_are refl refl
-    c.attach_graft.new.mounts c.attach_graft.new.groups c.attach_graft.new.filesystems (c.self.inside.next + c.in-Some.taken) c.in_ok-attach_graft.ensures.ok
+    c.attach_graft.new.mounts c.attach_graft.new.groups c.attach_graft.new.filesystems
+    (c.self.inside.next + c.in-Some.taken) c.in_ok-attach_graft.ensures.ok
     c.are_ascending.ensures c.are_counted.ensures grows).becomes

@@ -20,7 +20,8 @@ returns-then-not-recursive c =
     let source = location_of c.args.source in
     ap counts (c.in_ok-push.ensures.items ∙ ap (λ items. items ++ c.args.source.mount ∷ []) c.new-tree.ensures.items)
     ∙ ap (λ n. n ∷ []) (sym (number_found mounts source.mount))
-    ∙ ap (λ recursive. numbers (bind_tree nat_eq (world_of c.args.self.now) source recursive)) (sym c.if-not-recursive.true)
+    ∙ ap (λ recursive. numbers (bind_tree nat_eq (world_of c.args.self.now) source recursive))
+    (sym c.if-not-recursive.true)
 
 pub loop-next-init : goal.loop-next-init
 loop-next-init c =
@@ -29,6 +30,8 @@ loop-next-init c =
     let below = numbers (flat_map (bindable_tree nat_eq (length mounts) mounts)
     (filter (stands_under nat_eq (world_of c.args.self.now) source) (bindable_children nat_eq mounts source.mount))) in
     ap (λ come. counts c.push.new.self.items ++ come)
-    (c.in_ok-push_bound.ensures ∙ ap (λ waiting. below ++ bindable_to_come mounts waiting) c.new-waiting.ensures.items ∙ append-nil below)
-    ∙ ap (λ tree. counts tree ++ below) (c.in_ok-push.ensures.items ∙ ap (λ items. items ++ c.args.source.mount ∷ []) c.new-tree.ensures.items)
+    (c.in_ok-push_bound.ensures ∙ ap (λ waiting. below ++ bindable_to_come mounts waiting) c.new-waiting.ensures.items
+    ∙ append-nil below)
+    ∙ ap (λ tree. counts tree ++ below)
+    (c.in_ok-push.ensures.items ∙ ap (λ items. items ++ c.args.source.mount ∷ []) c.new-tree.ensures.items)
     ∙ ap (λ n. n ∷ below) (sym (number_found mounts source.mount))

@@ -20,7 +20,9 @@ invariant_of-self c =
     (passes has_files_in_order c.self.inside.tasks c.files_are_in_order.ensures)
     (sym (ap (option_map (numbered c.args.descriptor)) c.in-Some.is) ∙ c.close.ensures.value)
     c.close.ensures.rest
-    (c.leave.ensures.left ∙ ap (λ writes. without_location c.in-Some.closed.location writes (kept c.self.inside.mounts c.self.inside.filesystems)) c.writes.ensures)).held
+    (c.leave.ensures.left ∙ ap (λ writes.
+    without_location c.in-Some.closed.location writes
+    (kept c.self.inside.mounts c.self.inside.filesystems)) c.writes.ensures)).held
 
 pub returns-in-Some : goal.returns-in-Some
 returns-in-Some c =
@@ -33,7 +35,9 @@ returns-in-Some c =
     (passes has_files_in_order c.self.inside.tasks c.files_are_in_order.ensures)
     (sym (ap (option_map (numbered c.args.descriptor)) c.in-Some.is) ∙ c.close.ensures.value)
     c.close.ensures.rest
-    (c.leave.ensures.left ∙ ap (λ writes. without_location c.in-Some.closed.location writes (kept c.self.inside.mounts c.self.inside.filesystems)) c.writes.ensures)).becomes
+    (c.leave.ensures.left ∙ ap (λ writes.
+    without_location c.in-Some.closed.location writes
+    (kept c.self.inside.mounts c.self.inside.filesystems)) c.writes.ensures)).becomes
 
 pub invariant_of-self-in_default : goal.invariant_of-self-in_default
 invariant_of-self-in_default c =
@@ -45,7 +49,8 @@ invariant_of-self-in_default c =
 
 pub returns-in_default : goal.returns-in_default
 returns-in_default c =
-    subst (λ value. Becomes value c.args.name.now (ToClose c.args.descriptor) (after (the_view c.self.inside) c.close.new.self)) c.self.view_is
+    subst (λ value. Becomes value c.args.name.now (ToClose c.args.descriptor)
+    (after (the_view c.self.inside) c.close.new.self)) c.self.view_is
     (nothing_is_closed (the_view c.self.inside) c.args.name.now c.args.descriptor c.close.new.self
     c.self.invariant
     (subst (λ value. Permits value c.args.name.now (ToClose c.args.descriptor)) (sym c.self.view_is) c.requires)

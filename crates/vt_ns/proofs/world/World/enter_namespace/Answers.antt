@@ -15,7 +15,8 @@ use Rattle.vt_ns.proofs.world.World.enter_namespace.Goals as goal
 pub unwrap-root-requires : goal.unwrap-root-requires
 unwrap-root-requires c =
     namespace_has_a_root (the_view c.self.inside) c.self.invariant c.args.name.now c.args.namespace.count c.namespace_root.result
-    (subst (λ value. Permits value c.args.name.now (ToEnterNamespace (counted c.args.namespace.count))) (sym c.self.view_is) c.requires)
+    (subst (λ value. Permits value c.args.name.now (ToEnterNamespace (counted c.args.namespace.count)))
+    (sym c.self.view_is) c.requires)
     c.namespace_root.ensures
 
 pub hold_once_more-requires-2 : goal.hold_once_more-requires-2
@@ -28,10 +29,12 @@ pub invariant_of-self : goal.invariant_of-self
 invariant_of-self c =
     let left = c.in-Some.left in
     (task_enters (the_view c.self.inside) c.args.name.now c.args.namespace.count c.unwrap-root.result left
-    c.leave_namespace.new.mounts c.leave_namespace.new.groups c.leave_namespace.new.filesystems (entries_of c.leave_namespace.new.namespaces.entries) c.enter.new.self
+    c.leave_namespace.new.mounts c.leave_namespace.new.groups c.leave_namespace.new.filesystems
+    (entries_of c.leave_namespace.new.namespaces.entries) c.enter.new.self
     (kept c.leave-in-Some.new.mounts c.leave-in-Some.new.filesystems)
     c.self.invariant
-    (subst (λ value. Permits value c.args.name.now (ToEnterNamespace (counted c.args.namespace.count))) (sym c.self.view_is) c.requires)
+    (subst (λ value. Permits value c.args.name.now (ToEnterNamespace (counted c.args.namespace.count)))
+    (sym c.self.view_is) c.requires)
     (sym (ap (option_map location_of) c.unwrap-root.ensures) ∙ c.namespace_root.ensures)
     c.hold_once_more.ensures.slot c.leave.ensures.slot c.leave-in-Some.ensures.slot
     (sym (ap (option_map left_of) c.in-Some.is) ∙ c.enter.ensures.left)
@@ -56,12 +59,15 @@ returns-in-Some-clause-ok c =
       tasks = c.enter.new.self;
       next = c.self.inside.next;
     } in
-    subst (λ value. Becomes value c.args.name.now (ToEnterNamespace (counted c.args.namespace.count)) new) c.self.view_is
+    subst (λ value. Becomes value c.args.name.now
+    (ToEnterNamespace (counted c.args.namespace.count)) new) c.self.view_is
     (task_enters (the_view c.self.inside) c.args.name.now c.args.namespace.count c.unwrap-root.result left
-    c.leave_namespace.new.mounts c.leave_namespace.new.groups c.leave_namespace.new.filesystems (entries_of c.leave_namespace.new.namespaces.entries) c.enter.new.self
+    c.leave_namespace.new.mounts c.leave_namespace.new.groups c.leave_namespace.new.filesystems
+    (entries_of c.leave_namespace.new.namespaces.entries) c.enter.new.self
     (kept c.leave-in-Some.new.mounts c.leave-in-Some.new.filesystems)
     c.self.invariant
-    (subst (λ value. Permits value c.args.name.now (ToEnterNamespace (counted c.args.namespace.count))) (sym c.self.view_is) c.requires)
+    (subst (λ value. Permits value c.args.name.now (ToEnterNamespace (counted c.args.namespace.count)))
+    (sym c.self.view_is) c.requires)
     (sym (ap (option_map location_of) c.unwrap-root.ensures) ∙ c.namespace_root.ensures)
     c.hold_once_more.ensures.slot c.leave.ensures.slot c.leave-in-Some.ensures.slot
     (sym (ap (option_map left_of) c.in-Some.is) ∙ c.enter.ensures.left)

@@ -11,8 +11,10 @@ use Rattle.vt_ns.proofs.world.World.exit.Goals as goal
 
 pub invariant_of-self-2 : goal.invariant_of-self-2
 invariant_of-self-2 c =
-    (task_exits (the_view c.self.inside) c.args.name.now c.in-Some.task c.files.result.now (kept c.leave_files.new.mounts c.leave_files.new.filesystems)
-    c.leave_namespace.new.mounts c.leave_namespace.new.groups c.leave_namespace.new.filesystems (entries_of c.leave_namespace.new.namespaces.entries) c.exit.new.self
+    (task_exits (the_view c.self.inside) c.args.name.now c.in-Some.task c.files.result.now
+    (kept c.leave_files.new.mounts c.leave_files.new.filesystems)
+    c.leave_namespace.new.mounts c.leave_namespace.new.groups c.leave_namespace.new.filesystems
+    (entries_of c.leave_namespace.new.namespaces.entries) c.exit.new.self
     c.self.invariant
     (subst (λ value. Permits value c.args.name.now ToExit) (sym c.self.view_is) c.requires)
     (sym (ap (option_map task_of) c.in-Some.is) ∙ c.exit.ensures.value)
@@ -24,7 +26,8 @@ invariant_of-self-2 c =
       places = c.files.ensures.locations;
       writes = c.files.ensures.writes;
       is = c.leave_files.ensures.left
-          ∙ ap (λ k. fold without_file k c.files.result.now) (c.leave-2.ensures.left ∙ ap (without_location c.in-Some.task.directory false) c.leave.ensures.left);
+          ∙ ap (λ k. fold without_file k c.files.result.now)
+          (c.leave-2.ensures.left ∙ ap (without_location c.in-Some.task.directory false) c.leave.ensures.left);
     })
     c.leave_namespace.ensures.namespaces c.leave_namespace.ensures.mounts).held
 
@@ -39,8 +42,10 @@ returns c =
       next = c.self.inside.next;
     } in
     subst (λ value. Becomes value c.args.name.now ToExit new) c.self.view_is
-    (task_exits (the_view c.self.inside) c.args.name.now c.in-Some.task c.files.result.now (kept c.leave_files.new.mounts c.leave_files.new.filesystems)
-    c.leave_namespace.new.mounts c.leave_namespace.new.groups c.leave_namespace.new.filesystems (entries_of c.leave_namespace.new.namespaces.entries) c.exit.new.self
+    (task_exits (the_view c.self.inside) c.args.name.now c.in-Some.task c.files.result.now
+    (kept c.leave_files.new.mounts c.leave_files.new.filesystems)
+    c.leave_namespace.new.mounts c.leave_namespace.new.groups c.leave_namespace.new.filesystems
+    (entries_of c.leave_namespace.new.namespaces.entries) c.exit.new.self
     c.self.invariant
     (subst (λ value. Permits value c.args.name.now ToExit) (sym c.self.view_is) c.requires)
     (sym (ap (option_map task_of) c.in-Some.is) ∙ c.exit.ensures.value)
@@ -52,6 +57,7 @@ returns c =
       places = c.files.ensures.locations;
       writes = c.files.ensures.writes;
       is = c.leave_files.ensures.left
-          ∙ ap (λ k. fold without_file k c.files.result.now) (c.leave-2.ensures.left ∙ ap (without_location c.in-Some.task.directory false) c.leave.ensures.left);
+          ∙ ap (λ k. fold without_file k c.files.result.now)
+          (c.leave-2.ensures.left ∙ ap (without_location c.in-Some.task.directory false) c.leave.ensures.left);
     })
     c.leave_namespace.ensures.namespaces c.leave_namespace.ensures.mounts).becomes

@@ -21,13 +21,15 @@ loop-id-preserved c =
       | in-Some+in-Ok w ↦
           ap (λ seen. numbers_of seen.keys) w.seen-is
           ∙ ap numbers_of (let inserted = w.in-Ok.ensures.keys in search rules)
-          ∙ next_seen (λ id. option_map change (find (λ mount. nat_eq (counted id.count) mount.number) (mounts_in c.self.inside.mounts)))
+          ∙ next_seen (λ id. option_map change
+          (find (λ mount. nat_eq (counted id.count) mount.number) (mounts_in c.self.inside.mounts)))
           c.loop-id.id-index _ c.attached_in-id-items.result.now (let more = c.loop-id-test.true in search rules)
           c.loop-id.seen.keys c.loop-id.invariant w.in-Some.mount.root.filesystem
           (ap (option_map change) (sym c.get.ensures ∙ ap (option_map mount_of) w.in-Some.is))
       | in_default w ↦
           ap (λ seen. numbers_of seen.keys) w.seen-is
-          ∙ none_seen (λ id. option_map change (find (λ mount. nat_eq (counted id.count) mount.number) (mounts_in c.self.inside.mounts)))
+          ∙ none_seen (λ id. option_map change
+          (find (λ mount. nat_eq (counted id.count) mount.number) (mounts_in c.self.inside.mounts)))
           c.loop-id.id-index _ c.attached_in-id-items.result.now (let more = c.loop-id-test.true in search rules)
           c.loop-id.seen.keys c.loop-id.invariant
           (ap (option_map change) (sym c.get.ensures ∙ ap (option_map mount_of) w.in_default.is))
@@ -39,9 +41,11 @@ returns-clause-ok c =
     let all = attached_in (counted c.args.namespace.count) c.self.inside.mounts in
     let change : Mount ℕ → ℕ = λ mount. mount.filesystem in
     c.loop-id.invariant
-    ∙ ap (λ ids. each_once nat_eq (filter_map (λ id. option_map change (find (λ mount. nat_eq (counted id.count) mount.number) mounts)) ids))
+    ∙ ap (λ ids. each_once nat_eq (filter_map
+    (λ id. option_map change (find (λ mount. nat_eq (counted id.count) mount.number) mounts)) ids))
     (all_taken c.loop-id.id-index c.attached_in-id-items.result.now (let done = c.loop-id-test.false in search rules))
     ∙ ap (each_once nat_eq) (picked change mounts all c.attached_in-id-items.result.now c.attached_in-id-items.ensures
     (λ mount m. ascending_found mounts c.are_ascending.ensures mount
     (among-from_filter (λ mount. holds_of (nat_eq (counted c.args.namespace.count)) mount.namespace) mounts mount m).0))
-    ∙ ap (λ (value : WorldValue). filesystems_seen nat_eq (attached_in (counted c.args.namespace.count) value.mounts)) c.self.view_is
+    ∙ ap (λ (value : WorldValue). filesystems_seen nat_eq
+    (attached_in (counted c.args.namespace.count) value.mounts)) c.self.view_is

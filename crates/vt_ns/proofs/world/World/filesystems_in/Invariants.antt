@@ -9,4 +9,5 @@ abbrev pub invariant-loop-id : goal.invariant-loop-id
 invariant-loop-id l =
     map (λ id. counted id.count) l.seen.keys
     ≡ each_once nat_eq (filter_map (λ id. option_map (λ mount. mount.filesystem)
-    (find (λ mount. nat_eq (counted id.count) mount.number) (mounts_in l.self-inside.mounts))) (take l.id-index l.id-items))
+    (find (λ mount. nat_eq (counted id.count) mount.number) (mounts_in l.self-inside.mounts)))
+    (take l.id-index l.id-items))

@@ -19,7 +19,8 @@ pub hold_once_more-requires-2 : goal.hold_once_more-requires-2
 hold_once_more-requires-2 c =
     room_left c.in-Some.parent.now.root c.in-Some.parent.now.directory c.self.inside.mounts c.hold_once_more.new.mounts
     c.self.inside.filesystems c.hold_once_more.new.filesystems
-    (c.has_room_for_two-else-not-has_room_for_two.ensures (let room = c.if-not-has_room_for_two-2.false in search rules))
+    (c.has_room_for_two-else-not-has_room_for_two.ensures
+    (let room = c.if-not-has_room_for_two-2.false in search rules))
     c.hold_once_more.ensures.held
 
 pub invariant_of-self-2 : goal.invariant_of-self-2
@@ -28,9 +29,11 @@ invariant_of-self-2 c =
     (subst (λ value. Permits value c.args.name.now (ToFork c.args.cred)) (sym c.self.view_is) c.requires)
     c.in-Some.parent.now (sym (ap (λ found. option_map task_of (option_copied found)) c.in-Some.is) ∙ c.get.ensures)
     c.hold_once_more.ensures.slot c.hold_once_more-2.ensures.slot
-    c.hold_once_more-2.new.mounts c.hold_once_more-2.new.filesystems (entries_of c.count_task.new.namespaces.entries) c.fork.new.self
+    c.hold_once_more-2.new.mounts c.hold_once_more-2.new.filesystems
+    (entries_of c.count_task.new.namespaces.entries) c.fork.new.self
     c.count_task.ensures c.in_ok-child.ensures.ok
-    (c.hold_once_more-2.ensures.held ∙ ap (with_location c.in-Some.parent.now.directory false) c.hold_once_more.ensures.held)).held
+    (c.hold_once_more-2.ensures.held
+    ∙ ap (with_location c.in-Some.parent.now.directory false) c.hold_once_more.ensures.held)).held
 
 pub returns-clause-ok : goal.returns-clause-ok
 returns-clause-ok c =
@@ -41,6 +44,8 @@ returns-clause-ok c =
     (subst (λ value. Permits value c.args.name.now (ToFork c.args.cred)) (sym c.self.view_is) c.requires)
     c.in-Some.parent.now (sym (ap (λ found. option_map task_of (option_copied found)) c.in-Some.is) ∙ c.get.ensures)
     c.hold_once_more.ensures.slot c.hold_once_more-2.ensures.slot
-    c.hold_once_more-2.new.mounts c.hold_once_more-2.new.filesystems (entries_of c.count_task.new.namespaces.entries) c.fork.new.self
+    c.hold_once_more-2.new.mounts c.hold_once_more-2.new.filesystems
+    (entries_of c.count_task.new.namespaces.entries) c.fork.new.self
     c.count_task.ensures c.in_ok-child.ensures.ok
-    (c.hold_once_more-2.ensures.held ∙ ap (with_location c.in-Some.parent.now.directory false) c.hold_once_more.ensures.held)).becomes
+    (c.hold_once_more-2.ensures.held
+    ∙ ap (with_location c.in-Some.parent.now.directory false) c.hold_once_more.ensures.held)).becomes

@@ -1,4 +1,4 @@
-use Rattle.std.proofs.Common.{List, ap, find, map, nat_eq, option_map, rules, sym, ◌∙◌, ℕ}
+use Rattle.std.proofs.Common.{List, ap, find, nat_eq, option_map, rules, sym, ◌∙◌, ℕ}
 use Rattle.std.specs.Prelude.{filter_map, flat_map}
 use Rattle.std.proofs.lemmas.List.Folds.{flat_map-map}
 use Rattle.vt_letting_go.proofs.Lists.{among-from_filter}
@@ -22,13 +22,16 @@ loop-id-preserved c =
     elim c.match-get.branch [
       | in-Some+in_ok-see_type w ↦
           ap (λ seen. group_numbers seen.keys) w.seen-is
-          ∙ next_groups (λ id. option_map change (find (λ mount. nat_eq (counted id.count) mount.number) (mounts_in c.self.inside.mounts)))
+          ∙ next_groups (λ id. option_map change
+          (find (λ mount. nat_eq (counted id.count) mount.number) (mounts_in c.self.inside.mounts)))
           c.loop-id.id-index _ c.attached_in-id-items.result.now (let more = c.loop-id-test.true in search rules)
           c.loop-id.seen.keys c.loop-id.invariant _ _
-          (ap (option_map change) (sym c.get.ensures ∙ ap (option_map mount_of) w.in-Some.is)) w.in_ok-see_type.ensures.ok
+          (ap (option_map change) (sym c.get.ensures
+          ∙ ap (option_map mount_of) w.in-Some.is)) w.in_ok-see_type.ensures.ok
       | in_default w ↦
           ap (λ seen. group_numbers seen.keys) w.seen-is
-          ∙ no_groups (λ id. option_map change (find (λ mount. nat_eq (counted id.count) mount.number) (mounts_in c.self.inside.mounts)))
+          ∙ no_groups (λ id. option_map change
+          (find (λ mount. nat_eq (counted id.count) mount.number) (mounts_in c.self.inside.mounts)))
           c.loop-id.id-index _ c.attached_in-id-items.result.now (let more = c.loop-id-test.true in search rules)
           c.loop-id.seen.keys c.loop-id.invariant
           (ap (option_map change) (sym c.get.ensures ∙ ap (option_map mount_of) w.in_default.is))
@@ -43,8 +46,10 @@ returns-clause-ok c =
     ∙ ap (λ ids. each_once nat_eq (flat_map (λ more. more)
     (filter_map (λ id. option_map change (find (λ mount. nat_eq (counted id.count) mount.number) mounts)) ids)))
     (all_taken c.loop-id.id-index c.attached_in-id-items.result.now (let done = c.loop-id-test.false in search rules))
-    ∙ ap (λ some. each_once nat_eq (flat_map (λ more. more) some)) (picked change mounts all c.attached_in-id-items.result.now c.attached_in-id-items.ensures
+    ∙ ap (λ some. each_once nat_eq (flat_map (λ more. more) some))
+    (picked change mounts all c.attached_in-id-items.result.now c.attached_in-id-items.ensures
     (λ mount m. ascending_found mounts c.are_ascending.ensures mount
     (among-from_filter (λ mount. holds_of (nat_eq (counted c.args.namespace.count)) mount.namespace) mounts mount m).0))
     ∙ ap (each_once nat_eq) (flat_map-map (λ more. more) change all)
-    ∙ ap (λ (value : WorldValue). groups_seen nat_eq (world_of c.args.self.now) (attached_in (counted c.args.namespace.count) value.mounts)) c.self.view_is
+    ∙ ap (λ (value : WorldValue). groups_seen nat_eq (world_of c.args.self.now)
+    (attached_in (counted c.args.namespace.count) value.mounts)) c.self.view_is

@@ -11,4 +11,5 @@ abbrev pub invariant-loop-id : goal.invariant-loop-id
 invariant-loop-id l =
     map (λ id. counted id.count) l.seen.keys
     ≡ each_once nat_eq (flat_map (λ more. more) (filter_map (λ id. option_map (groups_shown (world_of l.self))
-    (find (λ mount. nat_eq (counted id.count) mount.number) (mounts_in l.self-inside.mounts))) (take l.id-index l.id-items)))
+    (find (λ mount. nat_eq (counted id.count) mount.number) (mounts_in l.self-inside.mounts)))
+    (take l.id-index l.id-items)))

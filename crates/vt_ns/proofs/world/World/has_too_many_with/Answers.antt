@@ -17,6 +17,7 @@ pub returns-clause-ok : goal.returns-clause-ok
 returns-clause-ok c =
     IfOk-weaker c.overfills.result _ _
     (λ too_many tells world new tree same invariants parts size.
-    tells world new (location_of c.args.place) tree (ap (λ (value : WorldValue). mounts_in value.mounts) c.self.view_is ∙ same) invariants
+    tells world new (location_of c.args.place) tree
+    (ap (λ (value : WorldValue). mounts_in value.mounts) c.self.view_is ∙ same) invariants
     (ap (map mount_of) c.deref.ensures.value ∙ c.in_ok-parts.ensures.ok ∙ sym parts) size refl)
     c.overfills.ensures.added

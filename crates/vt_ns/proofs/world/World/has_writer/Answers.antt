@@ -10,4 +10,5 @@ pub returns : goal.returns
 returns c =
     c.is_written_through.ensures
     ∙ written_through (the_view c.self.inside) c.self.invariant (counted c.args.mount.count)
-    ∙ ap (λ (value : WorldValue). is_written_through nat_eq (world_of value) (counted c.args.mount.count)) c.self.view_is
+    ∙ ap (λ (value : WorldValue). is_written_through nat_eq (world_of value)
+    (counted c.args.mount.count)) c.self.view_is

@@ -12,32 +12,57 @@ use Rattle.vt_ns.proofs.world.World.link.Goals as goal
 pub link-requires-clause-one_filesystem : goal.link-requires-clause-one_filesystem
 link-requires-clause-one_filesystem c =
     linked_in (the_view c.self.inside) c.self.invariant c.args.name.now c.args.directory c.args.entry.items c.args.object (omega arith) (omega arith)
-    (subst (λ value. Permits value c.args.name.now (ToChange (location_of c.args.directory) (AddName (number_of c.args.directory.node) c.args.entry.items (number_of c.args.object)))) (sym c.self.view_is) c.requires)
+    (subst (λ value. Permits value c.args.name.now
+    (ToChange (location_of c.args.directory)
+    (AddName (number_of c.args.directory.node) c.args.entry.items (number_of c.args.object))))
+    (sym c.self.view_is) c.requires)
 
 pub link-requires-clause-directory : goal.link-requires-clause-directory
 link-requires-clause-directory c =
-    (change_fits (the_view c.self.inside) c.self.invariant c.args.name.now c.args.directory (omega arith) (AddName (number_of c.args.directory.node) c.args.entry.items (number_of c.args.object))
-    (subst (λ value. Permits value c.args.name.now (ToChange (location_of c.args.directory) (AddName (number_of c.args.directory.node) c.args.entry.items (number_of c.args.object)))) (sym c.self.view_is) c.requires)).0
+    (change_fits (the_view c.self.inside) c.self.invariant c.args.name.now c.args.directory (omega arith)
+    (AddName (number_of c.args.directory.node) c.args.entry.items (number_of c.args.object))
+    (subst (λ value. Permits value c.args.name.now
+    (ToChange (location_of c.args.directory)
+    (AddName (number_of c.args.directory.node) c.args.entry.items (number_of c.args.object))))
+    (sym c.self.view_is) c.requires)).0
 
 pub link-requires-clause-free : goal.link-requires-clause-free
 link-requires-clause-free c =
-    (change_fits (the_view c.self.inside) c.self.invariant c.args.name.now c.args.directory (omega arith) (AddName (number_of c.args.directory.node) c.args.entry.items (number_of c.args.object))
-    (subst (λ value. Permits value c.args.name.now (ToChange (location_of c.args.directory) (AddName (number_of c.args.directory.node) c.args.entry.items (number_of c.args.object)))) (sym c.self.view_is) c.requires)).1
+    (change_fits (the_view c.self.inside) c.self.invariant c.args.name.now c.args.directory (omega arith)
+    (AddName (number_of c.args.directory.node) c.args.entry.items (number_of c.args.object))
+    (subst (λ value. Permits value c.args.name.now
+    (ToChange (location_of c.args.directory)
+    (AddName (number_of c.args.directory.node) c.args.entry.items (number_of c.args.object))))
+    (sym c.self.view_is) c.requires)).1
 
 pub link-requires-clause-object : goal.link-requires-clause-object
 link-requires-clause-object c =
-    (change_fits (the_view c.self.inside) c.self.invariant c.args.name.now c.args.directory (omega arith) (AddName (number_of c.args.directory.node) c.args.entry.items (number_of c.args.object))
-    (subst (λ value. Permits value c.args.name.now (ToChange (location_of c.args.directory) (AddName (number_of c.args.directory.node) c.args.entry.items (number_of c.args.object)))) (sym c.self.view_is) c.requires)).2
+    (change_fits (the_view c.self.inside) c.self.invariant c.args.name.now c.args.directory (omega arith)
+    (AddName (number_of c.args.directory.node) c.args.entry.items (number_of c.args.object))
+    (subst (λ value. Permits value c.args.name.now
+    (ToChange (location_of c.args.directory)
+    (AddName (number_of c.args.directory.node) c.args.entry.items (number_of c.args.object))))
+    (sym c.self.view_is) c.requires)).2
 
 pub invariant_of-self : goal.invariant_of-self
 invariant_of-self c =
     (link_is_answered (the_view c.self.inside) c.self.invariant c.args.name.now c.args.directory c.args.entry.items c.args.object (omega arith) (omega arith)
-    (subst (λ value. Permits value c.args.name.now (ToChange (location_of c.args.directory) (AddName (number_of c.args.directory.node) c.args.entry.items (number_of c.args.object)))) (sym c.self.view_is) c.requires)
+    (subst (λ value. Permits value c.args.name.now
+    (ToChange (location_of c.args.directory)
+    (AddName (number_of c.args.directory.node) c.args.entry.items (number_of c.args.object))))
+    (sym c.self.view_is) c.requires)
     c.link.new.self c.link.result c.link.ensures.ok c.link.ensures.err).held
 
 pub returns-clause-ok : goal.returns-clause-ok
 returns-clause-ok c =
-    subst (λ value. OnOk c.link.result (Becomes value c.args.name.now (ToChange (location_of c.args.directory) (AddName (number_of c.args.directory.node) c.args.entry.items (number_of c.args.object))) (with_filesystems (the_view c.self.inside) c.link.new.self))) c.self.view_is
+    subst (λ value. OnOk c.link.result
+    (Becomes value c.args.name.now
+    (ToChange (location_of c.args.directory)
+    (AddName (number_of c.args.directory.node) c.args.entry.items (number_of c.args.object)))
+    (with_filesystems (the_view c.self.inside) c.link.new.self))) c.self.view_is
     (link_is_answered (the_view c.self.inside) c.self.invariant c.args.name.now c.args.directory c.args.entry.items c.args.object (omega arith) (omega arith)
-    (subst (λ value. Permits value c.args.name.now (ToChange (location_of c.args.directory) (AddName (number_of c.args.directory.node) c.args.entry.items (number_of c.args.object)))) (sym c.self.view_is) c.requires)
+    (subst (λ value. Permits value c.args.name.now
+    (ToChange (location_of c.args.directory)
+    (AddName (number_of c.args.directory.node) c.args.entry.items (number_of c.args.object))))
+    (sym c.self.view_is) c.requires)
     c.link.new.self c.link.result c.link.ensures.ok c.link.ensures.err).ok

@@ -13,6 +13,7 @@ pub returns-clause-ok : goal.returns-clause-ok
 returns-clause-ok c =
     subst (λ node. IfOk c.list.result (λ names. map (λ name. name.items) names.items ≡ names_in node))
     (listed_node (the_view c.self.inside) c.self.invariant c.args.name.now c.args.directory (omega arith)
-    (subst (λ value. Permits value c.args.name.now (ToList (location_of c.args.directory))) (sym c.self.view_is) c.requires)
+    (subst (λ value. Permits value c.args.name.now (ToList (location_of c.args.directory)))
+    (sym c.self.view_is) c.requires)
     ∙ ap (λ value. node_at nat_eq (world_of value) (location_of c.args.directory)) c.self.view_is)
     c.list.ensures.ok

@@ -5,4 +5,5 @@ use Rattle.vt_ns.proofs.LookingAlone.{looking_changes_nothing}
 use Rattle.vt_ns.proofs.world.World.looking_changes_nothing.Goals as goal
 
 pub returns : goal.returns
-returns c = subst LookingChangesNothing c.self.view_is (looking_changes_nothing (the_view c.self.inside) c.self.invariant)
+returns c = subst LookingChangesNothing c.self.view_is
+    (looking_changes_nothing (the_view c.self.inside) c.self.invariant)

@@ -18,8 +18,10 @@ use Rattle.vt_ns.proofs.world.World.mount_lines.Goals.{in-Some+in_ok-line+in-Ok,
 pub mount_line-requires : goal.mount_line-requires
 mount_line-requires c = record {
   order =
-      rising_ids c.attached_in-listed.result.now (attached_in (counted c.args.namespace.count) c.self.inside.mounts) c.attached_in-listed.ensures
-      (ascending_filter (λ mount. holds_of (nat_eq (counted c.args.namespace.count)) mount.namespace) (mounts_in c.self.inside.mounts) c.are_ascending.ensures);
+      rising_ids c.attached_in-listed.result.now
+      (attached_in (counted c.args.namespace.count) c.self.inside.mounts) c.attached_in-listed.ensures
+      (ascending_filter (λ mount. holds_of (nat_eq (counted c.args.namespace.count)) mount.namespace)
+      (mounts_in c.self.inside.mounts) c.are_ascending.ensures);
 }
 
 pub loop-id-preserved : goal.loop-id-preserved
@@ -27,21 +29,25 @@ loop-id-preserved c =
     let all = attached_in (counted c.args.namespace.count) c.self.inside.mounts in
     let change : Mount ℕ → answers.MountLine = mount_line nat_eq (world_of c.args.self.now) all in
     let seen = c.in_ok-filesystems.ensures.ok
-    ∙ sym (ap (λ (value : WorldValue). filesystems_seen nat_eq (attached_in (counted c.args.namespace.count) value.mounts)) c.self.view_is) in
+    ∙ sym (ap (λ (value : WorldValue). filesystems_seen nat_eq
+    (attached_in (counted c.args.namespace.count) value.mounts)) c.self.view_is) in
     let groups = c.in_ok-groups.ensures.ok
-    ∙ sym (ap (λ (value : WorldValue). groups_seen nat_eq (world_of c.args.self.now) (attached_in (counted c.args.namespace.count) value.mounts)) c.self.view_is) in
+    ∙ sym (ap (λ (value : WorldValue). groups_seen nat_eq (world_of c.args.self.now)
+    (attached_in (counted c.args.namespace.count) value.mounts)) c.self.view_is) in
     elim c.match-get.branch [
       | in-Some+in_ok-line+in-Ok w ↦
           ap (λ lines. map mount_line_of lines.items) w.lines-is
           ∙ ap (map mount_line_of) (let pushed = w.in-Ok.ensures in search rules)
-          ∙ next_made mount_line_of (λ id. option_map change (find (λ mount. nat_eq (counted id.count) mount.number) (mounts_in c.self.inside.mounts)))
+          ∙ next_made mount_line_of (λ id.
+          option_map change (find (λ mount. nat_eq (counted id.count) mount.number) (mounts_in c.self.inside.mounts)))
           c.loop-id.id-index _ c.attached_in-listed.result.now (let more = c.loop-id-test.true in search rules)
           c.loop-id.lines.items c.loop-id.invariant w.in_ok-line.line
           (ap (option_map change) (sym c.get.ensures ∙ ap (option_map mount_of) w.in-Some.is)
           ∙ ap Some (sym (w.in_ok-line.ensures.ok all c.attached_in-listed.ensures seen groups)))
       | in_default w ↦
           ap (λ lines. map mount_line_of lines.items) w.lines-is
-          ∙ none_made mount_line_of (λ id. option_map change (find (λ mount. nat_eq (counted id.count) mount.number) (mounts_in c.self.inside.mounts)))
+          ∙ none_made mount_line_of (λ id.
+          option_map change (find (λ mount. nat_eq (counted id.count) mount.number) (mounts_in c.self.inside.mounts)))
           c.loop-id.id-index _ c.attached_in-listed.result.now (let more = c.loop-id-test.true in search rules)
           c.loop-id.lines.items c.loop-id.invariant
           (ap (option_map change) (sym c.get.ensures ∙ ap (option_map mount_of) w.in_default.is))
@@ -58,5 +64,6 @@ returns-clause-ok c =
     ∙ picked change mounts all c.attached_in-listed.result.now c.attached_in-listed.ensures
     (λ mount m. ascending_found mounts c.are_ascending.ensures mount
     (among-from_filter (λ mount. holds_of (nat_eq (counted c.args.namespace.count)) mount.namespace) mounts mount m).0)
-    ∙ ap (λ (value : WorldValue). map (mount_line nat_eq (world_of c.args.self.now) (attached_in (counted c.args.namespace.count) value.mounts))
+    ∙ ap (λ (value : WorldValue). map
+    (mount_line nat_eq (world_of c.args.self.now) (attached_in (counted c.args.namespace.count) value.mounts))
     (attached_in (counted c.args.namespace.count) value.mounts)) c.self.view_is

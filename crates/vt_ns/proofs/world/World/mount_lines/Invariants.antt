@@ -11,5 +11,7 @@ use Rattle.vt_ns.proofs.world.World.mount_lines.Given as goal
 abbrev pub invariant-loop-id : goal.invariant-loop-id
 invariant-loop-id l =
     map mount_line_of l.lines.items
-    ≡ filter_map (λ id. option_map (mount_line nat_eq (world_of l.self) (attached_in (counted l.fn.namespace.count) l.self-inside.mounts))
-    (find (λ mount. nat_eq (counted id.count) mount.number) (mounts_in l.self-inside.mounts))) (take l.id-index l.listed)
+    ≡ filter_map (λ id. option_map
+    (mount_line nat_eq (world_of l.self) (attached_in (counted l.fn.namespace.count) l.self-inside.mounts))
+    (find (λ mount. nat_eq (counted id.count) mount.number) (mounts_in l.self-inside.mounts)))
+    (take l.id-index l.listed)

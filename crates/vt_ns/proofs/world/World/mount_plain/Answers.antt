@@ -21,36 +21,64 @@ use Rattle.vt_ns.proofs.world.World.mount_plain.Goals as goal
 
 pub parts-requires : goal.parts-requires
 parts-requires c =
-    let permits : Permits (the_view c.self.inside) c.args.name.now (ToMountPlain (location_of c.args.place) (flags_of c.args.flags)) =
-    subst (λ value. Permits value c.args.name.now (ToMountPlain (location_of c.args.place) (flags_of c.args.flags))) (sym c.self.view_is) c.requires in
+    let permits : Permits (the_view c.self.inside) c.args.name.now
+    (ToMountPlain (location_of c.args.place) (flags_of c.args.flags)) =
+    subst (λ value. Permits value c.args.name.now (ToMountPlain (location_of c.args.place) (flags_of c.args.flags)))
+    (sym c.self.view_is) c.requires in
     place_mounted (the_view c.self.inside) c.args.place
-    (destination_there (the_view c.self.inside) c.self.invariant c.args.name.now (location_of c.args.place) (flags_of c.args.flags) permits)
+    (destination_there (the_view c.self.inside) c.self.invariant c.args.name.now (location_of c.args.place)
+    (flags_of c.args.flags) permits)
 
 pub mount_new-requires-clause-new : goal.mount_new-requires-clause-new
 mount_new-requires-clause-new c = next_is_free (the_view c.self.inside) c.self.invariant
 
 pub mount_new-requires-clause-may : goal.mount_new-requires-clause-may
 mount_new-requires-clause-may c =
-    let permits : Permits (the_view c.self.inside) c.args.name.now (ToMountPlain (location_of c.args.place) (flags_of c.args.flags)) =
-    subst (λ value. Permits value c.args.name.now (ToMountPlain (location_of c.args.place) (flags_of c.args.flags))) (sym c.self.view_is) c.requires in
+    let permits : Permits (the_view c.self.inside) c.args.name.now
+    (ToMountPlain (location_of c.args.place) (flags_of c.args.flags)) =
+    subst (λ value. Permits value c.args.name.now (ToMountPlain (location_of c.args.place) (flags_of c.args.flags)))
+    (sym c.self.view_is) c.requires in
     let value = the_view c.self.inside in
-    let graft : Graft = record { parts = c.deref.result; tree = record { ref_ptr = (c.tree-1.given, 0); now = c.mount_of_new.result ∷ [] }; place = c.args.place; moves = false } in
+    let graft : Graft = record {
+      parts = c.deref.result;
+      tree = record {
+        ref_ptr =
+            (c.tree-1.given, 0);
+        now = c.mount_of_new.result ∷ [];
+      };
+      place = c.args.place;
+      moves = false;
+    } in
     let counts : Counts = record { first = c.self.inside.next + 1; step = 2 } in
-    let tree_is : map mount_of (c.mount_of_new.result ∷ []) ≡ new_mount (counted c.self.inside.next) (inode_number c.self.inside.next 0) (flags_of c.args.flags) ∷ [] =
+    let tree_is : map mount_of (c.mount_of_new.result ∷ [])
+    ≡ new_mount (counted c.self.inside.next) (inode_number c.self.inside.next 0) (flags_of c.args.flags) ∷ [] =
     ap (λ (mount : meant.Mount ℕ). mount ∷ []) c.mount_of_new.ensures in
     let parts_are : map mount_of c.deref.result.now ≡ parts_of nat_eq (world_of value) (location_of c.args.place) =
     parts_found value c.args.self.now c.self.view_is c.self.invariant c.args.place c.in_ok-parts.parts.items c.deref.result.now c.deref.ensures.value c.in_ok-parts.ensures.ok in
-    may_mount value c.self.invariant c.args.name.now graft counts (flags_of c.args.flags) permits refl tree_is parts_are refl refl
+    may_mount value c.self.invariant c.args.name.now graft counts
+    (flags_of c.args.flags) permits refl tree_is parts_are refl refl
     c.are_ascending.ensures c.are_counted.ensures
 
 pub invariant_of-self-2 : goal.invariant_of-self-2
 invariant_of-self-2 c =
-    let permits : Permits (the_view c.self.inside) c.args.name.now (ToMountPlain (location_of c.args.place) (flags_of c.args.flags)) =
-    subst (λ value. Permits value c.args.name.now (ToMountPlain (location_of c.args.place) (flags_of c.args.flags))) (sym c.self.view_is) c.requires in
+    let permits : Permits (the_view c.self.inside) c.args.name.now
+    (ToMountPlain (location_of c.args.place) (flags_of c.args.flags)) =
+    subst (λ value. Permits value c.args.name.now (ToMountPlain (location_of c.args.place) (flags_of c.args.flags)))
+    (sym c.self.view_is) c.requires in
     let value = the_view c.self.inside in
-    let graft : Graft = record { parts = c.deref.result; tree = record { ref_ptr = (c.tree-1.given, 0); now = c.mount_of_new.result ∷ [] }; place = c.args.place; moves = false } in
+    let graft : Graft = record {
+      parts = c.deref.result;
+      tree = record {
+        ref_ptr =
+            (c.tree-1.given, 0);
+        now = c.mount_of_new.result ∷ [];
+      };
+      place = c.args.place;
+      moves = false;
+    } in
     let counts : Counts = record { first = c.self.inside.next + 1; step = 2 } in
-    let tree_is : map mount_of (c.mount_of_new.result ∷ []) ≡ new_mount (counted c.self.inside.next) (inode_number c.self.inside.next 0) (flags_of c.args.flags) ∷ [] =
+    let tree_is : map mount_of (c.mount_of_new.result ∷ [])
+    ≡ new_mount (counted c.self.inside.next) (inode_number c.self.inside.next 0) (flags_of c.args.flags) ∷ [] =
     ap (λ (mount : meant.Mount ℕ). mount ∷ []) c.mount_of_new.ensures in
     let parts_are : map mount_of c.deref.result.now ≡ parts_of nat_eq (world_of value) (location_of c.args.place) =
     parts_found value c.args.self.now c.self.view_is c.self.invariant c.args.place c.in_ok-parts.parts.items c.deref.result.now c.deref.ensures.value c.in_ok-parts.ensures.ok in
@@ -58,18 +86,32 @@ invariant_of-self-2 c =
     let grows : c.self.inside.next + c.in-Some.taken ≡ value.next + 2 * (length c.deref.result.now * 2) =
     ap (λ n. c.self.inside.next + n) (c.in-Some.ensures.count ∙ (λ i. 2 * (one i * 2))) in
     let made = c.in_ok-mount_new.ensures.ok in
-    (new_mount_is_done value c.self.invariant c.args.name.now graft counts (flags_of c.args.flags) permits refl tree_is parts_are refl refl
+    (new_mount_is_done value c.self.invariant c.args.name.now graft counts
+    (flags_of c.args.flags) permits refl tree_is parts_are refl refl
     c.are_ascending.ensures c.are_counted.ensures made.0 made.1
-    c.mount_new.new.mounts c.mount_new.new.groups c.mount_new.new.filesystems (c.self.inside.next + c.in-Some.taken) made.2 grows).held
+    c.mount_new.new.mounts c.mount_new.new.groups c.mount_new.new.filesystems
+    (c.self.inside.next + c.in-Some.taken) made.2 grows).held
 
 pub returns-clause-ok : goal.returns-clause-ok
 returns-clause-ok c =
-    let permits : Permits (the_view c.self.inside) c.args.name.now (ToMountPlain (location_of c.args.place) (flags_of c.args.flags)) =
-    subst (λ value. Permits value c.args.name.now (ToMountPlain (location_of c.args.place) (flags_of c.args.flags))) (sym c.self.view_is) c.requires in
+    let permits : Permits (the_view c.self.inside) c.args.name.now
+    (ToMountPlain (location_of c.args.place) (flags_of c.args.flags)) =
+    subst (λ value. Permits value c.args.name.now (ToMountPlain (location_of c.args.place) (flags_of c.args.flags)))
+    (sym c.self.view_is) c.requires in
     let value = the_view c.self.inside in
-    let graft : Graft = record { parts = c.deref.result; tree = record { ref_ptr = (c.tree-1.given, 0); now = c.mount_of_new.result ∷ [] }; place = c.args.place; moves = false } in
+    let graft : Graft = record {
+      parts = c.deref.result;
+      tree = record {
+        ref_ptr =
+            (c.tree-1.given, 0);
+        now = c.mount_of_new.result ∷ [];
+      };
+      place = c.args.place;
+      moves = false;
+    } in
     let counts : Counts = record { first = c.self.inside.next + 1; step = 2 } in
-    let tree_is : map mount_of (c.mount_of_new.result ∷ []) ≡ new_mount (counted c.self.inside.next) (inode_number c.self.inside.next 0) (flags_of c.args.flags) ∷ [] =
+    let tree_is : map mount_of (c.mount_of_new.result ∷ [])
+    ≡ new_mount (counted c.self.inside.next) (inode_number c.self.inside.next 0) (flags_of c.args.flags) ∷ [] =
     ap (λ (mount : meant.Mount ℕ). mount ∷ []) c.mount_of_new.ensures in
     let parts_are : map mount_of c.deref.result.now ≡ parts_of nat_eq (world_of value) (location_of c.args.place) =
     parts_found value c.args.self.now c.self.view_is c.self.invariant c.args.place c.in_ok-parts.parts.items c.deref.result.now c.deref.ensures.value c.in_ok-parts.ensures.ok in
@@ -77,9 +119,13 @@ returns-clause-ok c =
     let grows : c.self.inside.next + c.in-Some.taken ≡ value.next + 2 * (length c.deref.result.now * 2) =
     ap (λ n. c.self.inside.next + n) (c.in-Some.ensures.count ∙ (λ i. 2 * (one i * 2))) in
     let made = c.in_ok-mount_new.ensures.ok in
-    subst (λ (v : WorldValue). Becomes v c.args.name.now (ToMountPlain (location_of c.args.place) (flags_of c.args.flags))
-    (grafted_value (the_view c.self.inside) c.mount_new.new.mounts c.mount_new.new.groups c.mount_new.new.filesystems (c.self.inside.next + c.in-Some.taken)))
+    subst (λ (v : WorldValue). Becomes v c.args.name.now
+    (ToMountPlain (location_of c.args.place) (flags_of c.args.flags))
+    (grafted_value (the_view c.self.inside) c.mount_new.new.mounts c.mount_new.new.groups c.mount_new.new.filesystems
+    (c.self.inside.next + c.in-Some.taken)))
     c.self.view_is
-    (new_mount_is_done value c.self.invariant c.args.name.now graft counts (flags_of c.args.flags) permits refl tree_is parts_are refl refl
+    (new_mount_is_done value c.self.invariant c.args.name.now graft counts
+    (flags_of c.args.flags) permits refl tree_is parts_are refl refl
     c.are_ascending.ensures c.are_counted.ensures made.0 made.1
-    c.mount_new.new.mounts c.mount_new.new.groups c.mount_new.new.filesystems (c.self.inside.next + c.in-Some.taken) made.2 grows).becomes
+    c.mount_new.new.mounts c.mount_new.new.groups c.mount_new.new.filesystems
+    (c.self.inside.next + c.in-Some.taken) made.2 grows).becomes

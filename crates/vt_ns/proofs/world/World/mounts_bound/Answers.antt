@@ -13,10 +13,14 @@ pub returns-clause-ok : goal.returns-clause-ok
 returns-clause-ok c =
     let value = the_view c.self.inside in
     let there : is_located_well nat_eq (world_of value) (location_of c.args.source) ≡ true =
-    subst (λ (v : WorldValue). is_located_well nat_eq (world_of v) (location_of c.args.source) ≡ true) (sym c.self.view_is) c.requires in
-    let are : AreOf c.deref.result.now (bind_tree nat_eq (world_of value) (location_of c.args.source) c.args.recursive) =
+    subst (λ (v : WorldValue). is_located_well nat_eq (world_of v) (location_of c.args.source) ≡ true)
+    (sym c.self.view_is) c.requires in
+    let are : AreOf c.deref.result.now
+    (bind_tree nat_eq (world_of value) (location_of c.args.source) c.args.recursive) =
     ap (map (λ id. counted id.count)) c.deref.ensures.value ∙ c.in_ok-origins.ensures.ok
-    ∙ ap (λ (v : WorldValue). map (λ mount. mount.number) (bind_tree nat_eq (world_of v) (location_of c.args.source) c.args.recursive)) (sym c.self.view_is) in
+    ∙ ap (λ (v : WorldValue). map (λ mount. mount.number)
+    (bind_tree nat_eq (world_of v) (location_of c.args.source) c.args.recursive)) (sym c.self.view_is) in
     c.in-Ok.ensures
-    ∙ tree_bound value c.self.invariant c.args.source c.args.recursive (omega arith) there c.are_ascending.ensures c.deref.result.now are
+    ∙ tree_bound value c.self.invariant c.args.source c.args.recursive
+    (omega arith) there c.are_ascending.ensures c.deref.result.now are
     ∙ ap (λ (v : WorldValue). bind_tree nat_eq (world_of v) (location_of c.args.source) c.args.recursive) c.self.view_is

@@ -26,7 +26,8 @@ returns-in_err-new-clause-memory c =
 
 pub invariant_of-result : goal.invariant_of-result
 invariant_of-result c =
-    opening_held c.in_ok-first_mounts.field-0 c.new-2.result c.in_ok-first_filesystems.field-0 (entries_of c.in_ok-first_namespaces.field-0.entries)
+    opening_held c.in_ok-first_mounts.field-0 c.new-2.result c.in_ok-first_filesystems.field-0
+    (entries_of c.in_ok-first_namespaces.field-0.entries)
     c.in_ok-new.field-0
     (c.in_ok-first_mounts.ensures.ok
     ∙ mounts_made c.new-number.result c.new-namespace.result c.new-filesystem.result c.plain.result
@@ -42,7 +43,8 @@ invariant_of-result c =
 
 pub returns-clause-opening : goal.returns-clause-opening
 returns-clause-opening c =
-    opening_seen c.in_ok-first_mounts.field-0 c.new-2.result c.in_ok-first_filesystems.field-0 (entries_of c.in_ok-first_namespaces.field-0.entries)
+    opening_seen c.in_ok-first_mounts.field-0 c.new-2.result c.in_ok-first_filesystems.field-0
+    (entries_of c.in_ok-first_namespaces.field-0.entries)
     c.in_ok-new.field-0
     (c.in_ok-first_mounts.ensures.ok
     ∙ mounts_made c.new-number.result c.new-namespace.result c.new-filesystem.result c.plain.result

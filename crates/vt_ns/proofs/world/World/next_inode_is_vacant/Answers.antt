@@ -15,18 +15,23 @@ returns-in-Some c =
     let next = c.in-Some.next in
     let same = ap (λ filesystem. filesystem.count) c.in-Some.ensures.filesystem in
     subst (λ value. NextInodeIsVacant value (location_of c.args.directory)) c.self.view_is
-    (next_is_vacant (the_view c.self.inside) c.self.invariant c.are_counted.ensures c.groups_are_counted.ensures (location_of c.args.directory) count
-    (subst (λ value. counted count ≡ (mount_numbered nat_eq (world_of value) (counted c.args.directory.mount.count)).filesystem)
+    (next_is_vacant (the_view c.self.inside) c.self.invariant c.are_counted.ensures c.groups_are_counted.ensures
+    (location_of c.args.directory) count
+    (subst (λ value. counted count
+    ≡ (mount_numbered nat_eq (world_of value) (counted c.args.directory.mount.count)).filesystem)
     (sym c.self.view_is) c.shown-filesystem.ensures)
     next.slot (omega arith)
     ((λ i. Some (inode_number (sym same i) next.slot)) ∙ c.in-Some.ensures.number)
-    (subst (λ f. (inodes_at c.self.inside.filesystems count).inode (inode_number f next.slot) ≡ None) same c.in-Some.ensures.vacant))
+    (subst (λ f. (inodes_at c.self.inside.filesystems count).inode (inode_number f next.slot)
+    ≡ None) same c.in-Some.ensures.vacant))
 
 pub returns-in_default : goal.returns-in_default
 returns-in_default c =
     let count = c.shown-filesystem.result.count in
     subst (λ value. NextInodeIsVacant value (location_of c.args.directory)) c.self.view_is
-    (none_is_vacant (the_view c.self.inside) c.self.invariant c.are_counted.ensures c.groups_are_counted.ensures (location_of c.args.directory) count
-    (subst (λ value. counted count ≡ (mount_numbered nat_eq (world_of value) (counted c.args.directory.mount.count)).filesystem)
+    (none_is_vacant (the_view c.self.inside) c.self.invariant c.are_counted.ensures c.groups_are_counted.ensures
+    (location_of c.args.directory) count
+    (subst (λ value. counted count
+    ≡ (mount_numbered nat_eq (world_of value) (counted c.args.directory.mount.count)).filesystem)
     (sym c.self.view_is) c.shown-filesystem.ensures)
     c.in_default.ensures.number)

@@ -5,4 +5,5 @@ use Rattle.vt_ns.proofs.VacantNumbers.{root_is_vacant}
 use Rattle.vt_ns.proofs.world.World.next_root_is_vacant.Goals as goal
 
 pub returns : goal.returns
-returns c = subst NextRootIsVacant c.self.view_is (root_is_vacant (the_view c.self.inside) c.self.invariant c.are_counted.ensures c.groups_are_counted.ensures)
+returns c = subst NextRootIsVacant c.self.view_is
+    (root_is_vacant (the_view c.self.inside) c.self.invariant c.are_counted.ensures c.groups_are_counted.ensures)

@@ -11,27 +11,35 @@ use Rattle.vt_ns.proofs.world.World.open.Goals as goal
 
 pub open-requires : goal.open-requires
 open-requires c =
-    may_open_more (the_view c.self.inside) c.self.invariant c.args.name.now (location_of c.args.file) (access_of c.args.access)
-    (subst (λ value. Permits value c.args.name.now (ToOpen (location_of c.args.file) (access_of c.args.access))) (sym c.self.view_is) c.requires)
+    may_open_more (the_view c.self.inside) c.self.invariant c.args.name.now (location_of c.args.file)
+    (access_of c.args.access)
+    (subst (λ value. Permits value c.args.name.now (ToOpen (location_of c.args.file) (access_of c.args.access)))
+    (sym c.self.view_is) c.requires)
 
 pub invariant_of-self-in_default : goal.invariant_of-self-in_default
 invariant_of-self-in_default c =
-    (file_is_opened (the_view c.self.inside) c.args.name.now (record { location = c.args.file; access = c.args.access }) c.hold.new.mounts c.hold.new.filesystems c.open.new.self
+    (file_is_opened (the_view c.self.inside) c.args.name.now
+    (record { location = c.args.file; access = c.args.access }) c.hold.new.mounts c.hold.new.filesystems c.open.new.self
     c.self.invariant
-    (subst (λ value. Permits value c.args.name.now (ToOpen (location_of c.args.file) (access_of c.args.access))) (sym c.self.view_is) c.requires)
+    (subst (λ value. Permits value c.args.name.now (ToOpen (location_of c.args.file) (access_of c.args.access)))
+    (sym c.self.view_is) c.requires)
     (nothing_copied (the_view c.self.inside) (location_of c.args.file) (access_of c.args.access))
     c.hold.ensures.slot
     c.in_ok-number.ensures.ok
-    (c.in_default.ensures.ok ∙ ap (λ writes. with_location c.args.file writes (kept c.self.inside.mounts c.self.inside.filesystems)) c.writes.ensures)).held
+    (c.in_default.ensures.ok ∙ ap (λ writes.
+    with_location c.args.file writes (kept c.self.inside.mounts c.self.inside.filesystems)) c.writes.ensures)).held
 
 pub returns-clause-ok : goal.returns-clause-ok
 returns-clause-ok c =
     subst (λ value. Becomes value c.args.name.now (ToOpen (location_of c.args.file) (access_of c.args.access))
     (remade (the_view c.self.inside) c.hold.new.mounts c.hold.new.filesystems c.open.new.self)) c.self.view_is
-    (file_is_opened (the_view c.self.inside) c.args.name.now (record { location = c.args.file; access = c.args.access }) c.hold.new.mounts c.hold.new.filesystems c.open.new.self
+    (file_is_opened (the_view c.self.inside) c.args.name.now
+    (record { location = c.args.file; access = c.args.access }) c.hold.new.mounts c.hold.new.filesystems c.open.new.self
     c.self.invariant
-    (subst (λ value. Permits value c.args.name.now (ToOpen (location_of c.args.file) (access_of c.args.access))) (sym c.self.view_is) c.requires)
+    (subst (λ value. Permits value c.args.name.now (ToOpen (location_of c.args.file) (access_of c.args.access)))
+    (sym c.self.view_is) c.requires)
     (nothing_copied (the_view c.self.inside) (location_of c.args.file) (access_of c.args.access))
     c.hold.ensures.slot
     c.in_ok-number.ensures.ok
-    (c.in_default.ensures.ok ∙ ap (λ writes. with_location c.args.file writes (kept c.self.inside.mounts c.self.inside.filesystems)) c.writes.ensures)).becomes
+    (c.in_default.ensures.ok ∙ ap (λ writes.
+    with_location c.args.file writes (kept c.self.inside.mounts c.self.inside.filesystems)) c.writes.ensures)).becomes

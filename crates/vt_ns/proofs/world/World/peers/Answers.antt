@@ -17,16 +17,21 @@ returns-clause-ok c =
     let world : World ℕ = world_of c.args.self.now in
     let items = c.in_ok-placed.placed.items in
     let kept = c.as_slice-namespaces.ensures ∙ c.keys.ensures.rest in
-    let numbers : map (λ (id : NamespaceId). counted id.count) c.as_slice-namespaces.result.now ≡ map (λ (namespace : Namespace ℕ). namespace.number) world.namespaces =
+    let numbers : map (λ (id : NamespaceId). counted id.count) c.as_slice-namespaces.result.now
+    ≡ map (λ (namespace : Namespace ℕ). namespace.number) world.namespaces =
     ap (map (λ (id : NamespaceId). counted id.count)) kept
     ∙ namespaces_kept c.self.inside.namespaces.entries
-    ∙ ap (λ (value : WorldValue). map (λ (namespace : Namespace ℕ). namespace.number) (map namespace_of value.namespaces)) c.self.view_is in
-    let placed = c.in_ok-placed.ensures.ok ∙ ap (placed_from world 1) numbers ∙ all_namespaces world 1 world.namespaces in
+    ∙ ap (λ (value : WorldValue). map (λ (namespace : Namespace ℕ). namespace.number)
+    (map namespace_of value.namespaces)) c.self.view_is in
+    let placed = c.in_ok-placed.ensures.ok ∙ ap (placed_from world 1) numbers
+    ∙ all_namespaces world 1 world.namespaces in
     let seen = c.in_ok-groups.ensures.ok
-    ∙ ap (λ some. each_once nat_eq (flat_map (λ (one : ℕ × ℕ × Propagation ℕ). groups_in_type world one.2) (all_seen some))) c.deref.ensures.value in
+    ∙ ap (λ some. each_once nat_eq
+    (flat_map (λ (one : ℕ × ℕ × Propagation ℕ). groups_in_type world one.2) (all_seen some))) c.deref.ensures.value in
     IfOk-weaker c.lines_of.result _ _
     (λ lines told. told
-    ∙ ap (λ some. map (line_from world (group_numbers c.in_ok-groups.groups.keys) (all_seen some)) (group_numbers c.in_ok-groups.groups.keys))
+    ∙ ap (λ some. map (line_from world (group_numbers c.in_ok-groups.groups.keys) (all_seen some))
+    (group_numbers c.in_ok-groups.groups.keys))
     c.deref-2.ensures.value
     ∙ lines_so world (all_seen items) (group_numbers c.in_ok-groups.groups.keys) placed seen)
     c.lines_of.ensures.ok

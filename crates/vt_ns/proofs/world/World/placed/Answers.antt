@@ -18,4 +18,5 @@ pub returns-clause-ok : goal.returns-clause-ok
 returns-clause-ok c =
     c.loop-namespace.invariant.1
     ∙ ap (λ ids. placed_from (world_of c.args.self.now) 1 (map (λ id. counted id.count) ids))
-    (all_taken c.loop-namespace.namespace-index c.args.namespaces.now (let done = c.loop-namespace-test.false in search rules))
+    (all_taken c.loop-namespace.namespace-index c.args.namespaces.now
+    (let done = c.loop-namespace-test.false in search rules))

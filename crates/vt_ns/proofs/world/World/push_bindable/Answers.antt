@@ -17,19 +17,25 @@ on-ok (Ok a) so p = so p
 on-ok (Err e) so p = tt
 
 pub returns-then-branch-eq0 : goal.returns-then-branch-eq0
-returns-then-branch-eq0 c = next-flat (mounts_in c.args.self.now.mounts) c.args.waiting.now.items c.args.branch c.if-branch-eq0.true
+returns-then-branch-eq0 c = next-flat
+    (mounts_in c.args.self.now.mounts) c.args.waiting.now.items c.args.branch c.if-branch-eq0.true
 
 pub returns : goal.returns
 returns c =
     let mounts = mounts_in c.args.self.now.mounts in
     let held = subst IsHeld c.self.view_is c.self.invariant in
     let deep : c.args.branch.depth ≡ suc (c.args.branch.depth - 1) = omega (arith, c.if-branch-eq0.false) in
-    let kids = bindable_kids mounts held.in_world.mounts.one_number (counted c.args.branch.mount.count) c.children.result.now
-    (c.children.ensures ∙ ap (λ (value : WorldValue). numbers (children nat_eq (mounts_in value.mounts) (counted c.args.branch.mount.count))) c.self.view_is) in
+    let kids = bindable_kids mounts held.in_world.mounts.one_number
+    (counted c.args.branch.mount.count) c.children.result.now
+    (c.children.ensures ∙ ap (λ (value : WorldValue). numbers
+    (children nat_eq (mounts_in value.mounts) (counted c.args.branch.mount.count))) c.self.view_is) in
     on-ok c.extend.result
-    (λ pushed. next-deep mounts c.args.waiting.now.items c.args.branch (c.args.branch.depth - 1) (bindable mounts) c.children.result.now deep kids
+    (λ pushed. next-deep mounts c.args.waiting.now.items c.args.branch (c.args.branch.depth - 1)
+    (bindable mounts) c.children.result.now deep kids
     ∙ ap (λ waiting. counted c.args.branch.mount.count ∷ bindable_to_come mounts waiting) (sym pushed.0))
     (items_from_extend c.extend.result c.extend.ensures.ran
     (YieldsList-from_map _ (branch_of (c.args.branch.depth - 1))
-    (YieldsList-from_filter _ (bindable mounts) (YieldsList-from_rev_slice c.children.result.now cc) (let same : c.map.result.iter.p ≡ c.filter.result.p = cc in same ∙ c.filter.ensures.closure) (λ x b q k. search rules))
+    (YieldsList-from_filter _ (bindable mounts) (YieldsList-from_rev_slice c.children.result.now cc)
+    (let same : c.map.result.iter.p ≡ c.filter.result.p = cc in same ∙ c.filter.ensures.closure)
+    (λ x b q k. search rules))
     c.map.ensures.closure (λ x r q k. search rules)))

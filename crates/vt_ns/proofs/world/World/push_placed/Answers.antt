@@ -26,9 +26,11 @@ loop-id-preserved c =
     let old = c.loop-id.invariant in
     elim c.match-get.branch [
       | in-Some+in-Ok w ↦
-          let next = mounts_next (λ id. option_map same (find (λ mount. nat_eq (counted id.count) mount.number) (mounts_in c.self.inside.mounts)))
+          let next = mounts_next (λ id. option_map same
+          (find (λ mount. nat_eq (counted id.count) mount.number) (mounts_in c.self.inside.mounts)))
           c.loop-id.id-index _ ids (let more = c.loop-id-test.true in search rules) c.args.number c.loop-id.place
-          (all_seen c.args.placed.now.items) (all_seen c.loop-id.placed.items) old.0 old.1 old.2 (mount_of w.in-Some.mount)
+          (all_seen c.args.placed.now.items) (all_seen c.loop-id.placed.items) old.0 old.1 old.2
+          (mount_of w.in-Some.mount)
           (ap (option_map same) (sym c.get.ensures ∙ ap (option_map mount_of) w.in-Some.is)) in (
             omega (arith, w.place-is, next.0),
             w.place-is ∙ next.1,
@@ -38,7 +40,8 @@ loop-id-preserved c =
                 ∙ next.2,
           )
       | in_default w ↦
-          let next = mounts_same (λ id. option_map same (find (λ mount. nat_eq (counted id.count) mount.number) (mounts_in c.self.inside.mounts)))
+          let next = mounts_same (λ id. option_map same
+          (find (λ mount. nat_eq (counted id.count) mount.number) (mounts_in c.self.inside.mounts)))
           c.loop-id.id-index _ ids (let more = c.loop-id-test.true in search rules) c.args.number c.loop-id.place
           (all_seen c.args.placed.now.items) (all_seen c.loop-id.placed.items) old.0 old.1 old.2
           (ap (option_map same) (sym c.get.ensures ∙ ap (option_map mount_of) w.in_default.is)) in (
@@ -55,11 +58,13 @@ returns-clause-ok c =
     let same : Mount ℕ → Mount ℕ = λ mount. mount in
     c.loop-id.invariant.2
     ∙ ap (λ ids. all_seen c.args.placed.now.items
-    ++ each_placed c.args.number (filter_map (λ id. option_map same (find (λ mount. nat_eq (counted id.count) mount.number) mounts)) ids))
+    ++ each_placed c.args.number (filter_map
+    (λ id. option_map same (find (λ mount. nat_eq (counted id.count) mount.number) mounts)) ids))
     (all_taken c.loop-id.id-index c.attached_in-id-items.result.now (let done = c.loop-id-test.false in search rules))
     ∙ ap (λ some. all_seen c.args.placed.now.items ++ each_placed c.args.number some)
     (picked same mounts all c.attached_in-id-items.result.now c.attached_in-id-items.ensures
     (λ mount m. ascending_found mounts c.are_ascending.ensures mount
     (among-from_filter (λ mount. holds_of (nat_eq (counted c.args.namespace.count)) mount.namespace) mounts mount m).0)
     ∙ map_itself all)
-    ∙ ap (λ (value : WorldValue). all_seen c.args.placed.now.items ++ each_placed c.args.number (attached_in (counted c.args.namespace.count) value.mounts)) c.self.view_is
+    ∙ ap (λ (value : WorldValue). all_seen c.args.placed.now.items
+    ++ each_placed c.args.number (attached_in (counted c.args.namespace.count) value.mounts)) c.self.view_is

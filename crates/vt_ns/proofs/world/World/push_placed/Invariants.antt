@@ -10,7 +10,9 @@ abbrev pub invariant-loop-id : goal.invariant-loop-id
 invariant-loop-id l =
     (l.place ≤ l.id-index)
     × (l.place ≡ length (filter_map (λ id. option_map (λ mount. mount)
-    (find (λ mount. nat_eq (counted id.count) mount.number) (mounts_in l.self-inside.mounts))) (take l.id-index l.id-items)))
+    (find (λ mount. nat_eq (counted id.count) mount.number) (mounts_in l.self-inside.mounts)))
+    (take l.id-index l.id-items)))
     × (all_seen l.placed.items ≡ all_seen l.initial.placed.items
     ++ each_placed l.number (filter_map (λ id. option_map (λ mount. mount)
-    (find (λ mount. nat_eq (counted id.count) mount.number) (mounts_in l.self-inside.mounts))) (take l.id-index l.id-items)))
+    (find (λ mount. nat_eq (counted id.count) mount.number) (mounts_in l.self-inside.mounts)))
+    (take l.id-index l.id-items)))

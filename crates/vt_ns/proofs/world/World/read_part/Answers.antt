@@ -11,8 +11,11 @@ use Rattle.vt_ns.proofs.world.World.read_part.Goals as goal
 
 pub returns-clause-ok : goal.returns-clause-ok
 returns-clause-ok c =
-    subst (λ node. IfOk c.read_part.result (λ bytes. bytes.items ≡ take c.args.size (drop c.args.offset (bytes_in node))))
-    (read_node (the_view c.self.inside) c.self.invariant c.args.name.now c.args.file c.args.offset c.args.size (omega arith)
-    (subst (λ value. Permits value c.args.name.now (ToReadPart (location_of c.args.file) c.args.offset c.args.size)) (sym c.self.view_is) c.requires)
+    subst (λ node. IfOk c.read_part.result
+    (λ bytes. bytes.items ≡ take c.args.size (drop c.args.offset (bytes_in node))))
+    (read_node (the_view c.self.inside) c.self.invariant c.args.name.now c.args.file c.args.offset c.args.size
+    (omega arith)
+    (subst (λ value. Permits value c.args.name.now (ToReadPart (location_of c.args.file) c.args.offset c.args.size))
+    (sym c.self.view_is) c.requires)
     ∙ ap (λ value. node_at nat_eq (world_of value) (location_of c.args.file)) c.self.view_is)
     c.read_part.ensures.ok

@@ -5,7 +5,8 @@ use Rattle.vt_ns.proofs.MountPaths.{named_once_at, root_there}
 use Rattle.vt_ns.proofs.world.World.root_spot.Goals as goal
 
 pub path_from_root-requires : goal.path_from_root-requires
-path_from_root-requires c = named_once_at (the_view c.self.inside) c.self.invariant c.args.mount.now.root.filesystem.count
+path_from_root-requires c = named_once_at
+    (the_view c.self.inside) c.self.invariant c.args.mount.now.root.filesystem.count
 
 pub returns-clause-ok : goal.returns-clause-ok
 returns-clause-ok c =

@@ -10,14 +10,19 @@ use Rattle.vt_ns.proofs.world.World.set_attr.Goals as goal
 
 pub invariant_of-self : goal.invariant_of-self
 invariant_of-self c =
-    (attr_is_set (the_view c.self.inside) c.self.invariant c.args.name.now c.args.object c.args.attr c.set_attr.new.self (omega arith)
-    (subst (λ value. Permits value c.args.name.now (ToChange (location_of c.args.object) (SetAttr (number_of c.args.object.node) c.args.attr)))
+    (attr_is_set (the_view c.self.inside) c.self.invariant c.args.name.now c.args.object c.args.attr c.set_attr.new.self
+    (omega arith)
+    (subst (λ value. Permits value c.args.name.now
+    (ToChange (location_of c.args.object) (SetAttr (number_of c.args.object.node) c.args.attr)))
     (sym c.self.view_is) c.requires) c.set_attr.ensures).held
 
 pub returns : goal.returns
 returns c =
-    subst (λ value. Becomes value c.args.name.now (ToChange (location_of c.args.object) (SetAttr (number_of c.args.object.node) c.args.attr))
+    subst (λ value. Becomes value c.args.name.now
+    (ToChange (location_of c.args.object) (SetAttr (number_of c.args.object.node) c.args.attr))
     (with_filesystems (the_view c.self.inside) c.set_attr.new.self)) c.self.view_is
-    (attr_is_set (the_view c.self.inside) c.self.invariant c.args.name.now c.args.object c.args.attr c.set_attr.new.self (omega arith)
-    (subst (λ value. Permits value c.args.name.now (ToChange (location_of c.args.object) (SetAttr (number_of c.args.object.node) c.args.attr)))
+    (attr_is_set (the_view c.self.inside) c.self.invariant c.args.name.now c.args.object c.args.attr c.set_attr.new.self
+    (omega arith)
+    (subst (λ value. Permits value c.args.name.now
+    (ToChange (location_of c.args.object) (SetAttr (number_of c.args.object.node) c.args.attr)))
     (sym c.self.view_is) c.requires) c.set_attr.ensures).becomes

@@ -12,7 +12,8 @@ pub invariant_of-self-in-Some : goal.invariant_of-self-in-Some
 invariant_of-self-in-Some c =
     (directory_is_set (the_view c.self.inside) c.args.name.now c.args.directory c.in-Some.left c.leave.new.mounts c.leave.new.filesystems c.set_directory.new.self
     c.self.invariant
-    (subst (λ value. Permits value c.args.name.now (ToSetDirectory (location_of c.args.directory))) (sym c.self.view_is) c.requires)
+    (subst (λ value. Permits value c.args.name.now (ToSetDirectory (location_of c.args.directory)))
+    (sym c.self.view_is) c.requires)
     c.in_ok-hold.ensures.slot c.leave.ensures.slot
     (sym (ap (option_map location_of) c.in-Some.is) ∙ c.set_directory.ensures.left)
     c.set_directory.ensures.rest
@@ -24,7 +25,8 @@ returns-in-Some-clause-ok c =
     (remade (the_view c.self.inside) c.leave.new.mounts c.leave.new.filesystems c.set_directory.new.self)) c.self.view_is
     (directory_is_set (the_view c.self.inside) c.args.name.now c.args.directory c.in-Some.left c.leave.new.mounts c.leave.new.filesystems c.set_directory.new.self
     c.self.invariant
-    (subst (λ value. Permits value c.args.name.now (ToSetDirectory (location_of c.args.directory))) (sym c.self.view_is) c.requires)
+    (subst (λ value. Permits value c.args.name.now (ToSetDirectory (location_of c.args.directory)))
+    (sym c.self.view_is) c.requires)
     c.in_ok-hold.ensures.slot c.leave.ensures.slot
     (sym (ap (option_map location_of) c.in-Some.is) ∙ c.set_directory.ensures.left)
     c.set_directory.ensures.rest

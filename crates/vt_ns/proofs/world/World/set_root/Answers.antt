@@ -12,7 +12,8 @@ pub invariant_of-self-in-Some : goal.invariant_of-self-in-Some
 invariant_of-self-in-Some c =
     (root_is_set (the_view c.self.inside) c.args.name.now c.args.root c.in-Some.left c.leave.new.mounts c.leave.new.filesystems c.set_root.new.self
     c.self.invariant
-    (subst (λ value. Permits value c.args.name.now (ToSetRoot (location_of c.args.root))) (sym c.self.view_is) c.requires)
+    (subst (λ value. Permits value c.args.name.now (ToSetRoot (location_of c.args.root)))
+    (sym c.self.view_is) c.requires)
     c.in_ok-hold.ensures.slot c.leave.ensures.slot
     (sym (ap (option_map location_of) c.in-Some.is) ∙ c.set_root.ensures.left)
     c.set_root.ensures.rest
@@ -24,7 +25,8 @@ returns-in-Some-clause-ok c =
     (remade (the_view c.self.inside) c.leave.new.mounts c.leave.new.filesystems c.set_root.new.self)) c.self.view_is
     (root_is_set (the_view c.self.inside) c.args.name.now c.args.root c.in-Some.left c.leave.new.mounts c.leave.new.filesystems c.set_root.new.self
     c.self.invariant
-    (subst (λ value. Permits value c.args.name.now (ToSetRoot (location_of c.args.root))) (sym c.self.view_is) c.requires)
+    (subst (λ value. Permits value c.args.name.now (ToSetRoot (location_of c.args.root)))
+    (sym c.self.view_is) c.requires)
     c.in_ok-hold.ensures.slot c.leave.ensures.slot
     (sym (ap (option_map location_of) c.in-Some.is) ∙ c.set_root.ensures.left)
     c.set_root.ensures.rest

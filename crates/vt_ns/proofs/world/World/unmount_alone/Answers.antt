@@ -16,16 +16,25 @@ turned false e = refl
 
 pub invariant_of-self : goal.invariant_of-self
 invariant_of-self c =
-    let alone = and_parts _ _ (subst (λ value. unmounts_alone (mounts_in value.mounts) (counted c.args.mount.count) ≡ true) (sym c.self.view_is) c.requires.alone) in
-    (unmount_is_done (the_view c.self.inside) c.args.name.now (counted c.args.mount.count) c.detach.result c.detach.new.mounts c.detach.new.filesystems c.self.invariant
-    (subst (λ value. Permits value c.args.name.now (ToUnmount (counted c.args.mount.count))) (sym c.self.view_is) c.requires.permitted)
+    let alone = and_parts _ _ (subst
+    (λ value. unmounts_alone (mounts_in value.mounts) (counted c.args.mount.count) ≡ true)
+    (sym c.self.view_is) c.requires.alone) in
+    (unmount_is_done (the_view c.self.inside) c.args.name.now
+    (counted c.args.mount.count) c.detach.result c.detach.new.mounts c.detach.new.filesystems c.self.invariant
+    (subst (λ value. Permits value c.args.name.now (ToUnmount (counted c.args.mount.count)))
+    (sym c.self.view_is) c.requires.permitted)
     alone.0 (turned _ alone.1) c.detach.ensures.point c.detach.ensures.slot c.detach.ensures.left).held
 
 pub returns : goal.returns
 returns c =
-    let alone = and_parts _ _ (subst (λ value. unmounts_alone (mounts_in value.mounts) (counted c.args.mount.count) ≡ true) (sym c.self.view_is) c.requires.alone) in
+    let alone = and_parts _ _ (subst
+    (λ value. unmounts_alone (mounts_in value.mounts) (counted c.args.mount.count) ≡ true)
+    (sym c.self.view_is) c.requires.alone) in
     subst (λ value. Becomes value c.args.name.now (ToUnmount (counted c.args.mount.count))
-    (remade (the_view c.self.inside) c.detach.new.mounts c.detach.new.filesystems (the_view c.self.inside).tasks)) c.self.view_is
-    (unmount_is_done (the_view c.self.inside) c.args.name.now (counted c.args.mount.count) c.detach.result c.detach.new.mounts c.detach.new.filesystems c.self.invariant
-    (subst (λ value. Permits value c.args.name.now (ToUnmount (counted c.args.mount.count))) (sym c.self.view_is) c.requires.permitted)
+    (remade (the_view c.self.inside) c.detach.new.mounts c.detach.new.filesystems
+    (the_view c.self.inside).tasks)) c.self.view_is
+    (unmount_is_done (the_view c.self.inside) c.args.name.now
+    (counted c.args.mount.count) c.detach.result c.detach.new.mounts c.detach.new.filesystems c.self.invariant
+    (subst (λ value. Permits value c.args.name.now (ToUnmount (counted c.args.mount.count)))
+    (sym c.self.view_is) c.requires.permitted)
     alone.0 (turned _ alone.1) c.detach.ensures.point c.detach.ensures.slot c.detach.ensures.left).becomes

@@ -23,42 +23,54 @@ pub move_use-requires-clause-uses : goal.move_use-requires-clause-uses
 move_use-requires-clause-uses c =
     let own = c.unwrap-task.result.now in
     let made = c.in_ok-attach_copies.ensures.ok in
-    uses_left (the_view c.self.inside) c.self.invariant c.are_counted.ensures (attached_in (counted own.namespace.count) c.self.inside.mounts)
-    made.0 c.attach_copies.new.mounts c.attach_copies.new.filesystems made.3 own.root c.moved-new_root.result c.moved-new_root.ensures
+    uses_left (the_view c.self.inside) c.self.invariant c.are_counted.ensures
+    (attached_in (counted own.namespace.count) c.self.inside.mounts)
+    made.added c.attach_copies.new.mounts c.attach_copies.new.filesystems made.attached own.root
+    c.moved-new_root.result c.moved-new_root.ensures
 
 pub move_use-requires-clause-writers : goal.move_use-requires-clause-writers
 move_use-requires-clause-writers c =
     let own = c.unwrap-task.result.now in
     let made = c.in_ok-attach_copies.ensures.ok in
-    writers_left (the_view c.self.inside) c.self.invariant c.are_counted.ensures (attached_in (counted own.namespace.count) c.self.inside.mounts)
-    made.0 c.attach_copies.new.mounts c.attach_copies.new.filesystems made.3 own.root c.moved-new_root.result c.moved-new_root.ensures
+    writers_left (the_view c.self.inside) c.self.invariant c.are_counted.ensures
+    (attached_in (counted own.namespace.count) c.self.inside.mounts)
+    made.added c.attach_copies.new.mounts c.attach_copies.new.filesystems made.attached own.root
+    c.moved-new_root.result c.moved-new_root.ensures
 
 pub move_use-requires-2-clause-uses : goal.move_use-requires-2-clause-uses
 move_use-requires-2-clause-uses c = λ other.
     let own = c.unwrap-task.result.now in
     let made = c.in_ok-attach_copies.ensures.ok in
-    uses_left_then (the_view c.self.inside) c.self.invariant c.are_counted.ensures (attached_in (counted own.namespace.count) c.self.inside.mounts)
-    made.0 c.attach_copies.new.mounts c.attach_copies.new.filesystems made.3 own.directory c.moved-new_directory.result c.moved-new_directory.ensures other
-    (counted own.root.mount.count) (counted c.moved-new_root.result.mount.count) c.move_use.new.mounts c.move_use.ensures
+    uses_left_then (the_view c.self.inside) c.self.invariant c.are_counted.ensures
+    (attached_in (counted own.namespace.count) c.self.inside.mounts)
+    made.added c.attach_copies.new.mounts c.attach_copies.new.filesystems made.attached own.directory
+    c.moved-new_directory.result c.moved-new_directory.ensures other
+    (counted own.root.mount.count)
+    (counted c.moved-new_root.result.mount.count) c.move_use.new.mounts c.move_use.ensures
 
 pub move_use-requires-2-clause-writers : goal.move_use-requires-2-clause-writers
 move_use-requires-2-clause-writers c = λ other.
     let own = c.unwrap-task.result.now in
     let made = c.in_ok-attach_copies.ensures.ok in
-    writers_left_then (the_view c.self.inside) c.self.invariant c.are_counted.ensures (attached_in (counted own.namespace.count) c.self.inside.mounts)
-    made.0 c.attach_copies.new.mounts c.attach_copies.new.filesystems made.3 own.directory c.moved-new_directory.result c.moved-new_directory.ensures other
-    (counted own.root.mount.count) (counted c.moved-new_root.result.mount.count) c.move_use.new.mounts c.move_use.ensures
+    writers_left_then (the_view c.self.inside) c.self.invariant c.are_counted.ensures
+    (attached_in (counted own.namespace.count) c.self.inside.mounts)
+    made.added c.attach_copies.new.mounts c.attach_copies.new.filesystems made.attached own.directory
+    c.moved-new_directory.result c.moved-new_directory.ensures other
+    (counted own.root.mount.count)
+    (counted c.moved-new_root.result.mount.count) c.move_use.new.mounts c.move_use.ensures
 
 permitted : (c : goal.After-self-1) → Permits (the_view c.self.inside) c.args.name.now ToUnshare
 permitted c = subst (λ value. Permits value c.args.name.now ToUnshare) (sym c.self.view_is) c.requires
 
 -- the new namespace comes last
 entered : (c : goal.After-self-1)
-    → entries_of c.insert.new.self.entries ≡ entries_of c.self.inside.namespaces.entries ++ record { count = c.self.inside.next; tasks = 1 } ∷ []
+    → entries_of c.insert.new.self.entries ≡ entries_of c.self.inside.namespaces.entries
+    ++ record { count = c.self.inside.next; tasks = 1 } ∷ []
 entered c =
     let room = not-err c.reserve.result c.if-is_err.ensures.value c.reserve.ensures.ok in
     ap entries_of (of-ok c.insert.result (c.insert.ensures.succeeds room) c.insert.ensures.entries)
-    ∙ namespace_added (the_view c.self.inside) (permitted c).given.serves c.reserve.new.self.entries (ap entries_of c.reserve.ensures.entries)
+    ∙ namespace_added (the_view c.self.inside) (permitted c).given.serves c.reserve.new.self.entries
+    (ap entries_of c.reserve.ensures.entries)
     c.new-new.result (ap (λ (id : NamespaceId). id.count) c.new-new.ensures) (record { tasks = 1 })
 
 abbrev after : (c : goal.After-self-1) → WorldValue
@@ -74,19 +86,18 @@ after c = record {
 done : (c : goal.After-self-1) → IsDone (the_view c.self.inside) c.args.name.now ToUnshare (after c)
 done c =
     let own = c.unwrap-task.result.now in
-    let made = c.in_ok-attach_copies.ensures.ok in
     let root = c.moved-new_root.result in
     let directory = c.moved-new_directory.result in
     task_is_unshared (the_view c.self.inside) c.self.invariant c.args.name.now (permitted c) own
     (sym (ap (λ found. option_map task_of (option_copied found)) c.unwrap-task.ensures) ∙ c.get.ensures)
-    made.0 root directory c.attach_copies.new.mounts c.attach_copies.new.filesystems c.move_use-2.new.mounts (entries_of c.insert.new.self.entries) (after c)
+    root directory c.attach_copies.new.mounts c.attach_copies.new.groups c.attach_copies.new.filesystems
+    c.move_use-2.new.mounts (entries_of c.insert.new.self.entries) (after c)
     (record {
-      copied = made.1;
-      slots = made.2;
-      attached = made.3;
+      made = c.in_ok-attach_copies.ensures.ok;
       root_is = c.moved-new_root.ensures;
       directory_is = c.moved-new_directory.ensures;
-      uses = c.move_use-2.ensures ∙ ap (with_use_moved (counted own.directory.mount.count) (counted directory.mount.count)) c.move_use.ensures;
+      uses = c.move_use-2.ensures ∙ ap
+          (with_use_moved (counted own.directory.mount.count) (counted directory.mount.count)) c.move_use.ensures;
       entered = entered c;
       left = c.leave_namespace.ensures.mounts;
       before = numbers_before (the_view c.self.inside) c.self.invariant c.are_counted.ensures;
@@ -96,7 +107,8 @@ done c =
           (λ task. record task { namespace = counted n; root = location_of root; directory = location_of directory }) c.self.inside.tasks)
           (ap (λ (id : NamespaceId). id.count) c.new-new.ensures);
       next = ap (λ n. c.self.inside.next + 2 * n)
-          (as_many c.attached_in.result.now (attached_in (counted own.namespace.count) c.self.inside.mounts) c.attached_in.ensures);
+          (as_many c.attached_in.result.now
+          (attached_in (counted own.namespace.count) c.self.inside.mounts) c.attached_in.ensures);
     })
 
 pub invariant_of-self-2 : goal.invariant_of-self-2

@@ -11,23 +11,37 @@ use Rattle.vt_ns.proofs.world.World.write.Goals as goal
 
 pub write-requires-clause-file : goal.write-requires-clause-file
 write-requires-clause-file c =
-    (change_fits (the_view c.self.inside) c.self.invariant c.args.name.now c.args.file (omega arith) (SetBytes (number_of c.args.file.node) c.args.bytes.items)
-    (subst (λ value. Permits value c.args.name.now (ToChange (location_of c.args.file) (SetBytes (number_of c.args.file.node) c.args.bytes.items))) (sym c.self.view_is) c.requires)).0
+    (change_fits (the_view c.self.inside) c.self.invariant c.args.name.now c.args.file (omega arith)
+    (SetBytes (number_of c.args.file.node) c.args.bytes.items)
+    (subst (λ value. Permits value c.args.name.now
+    (ToChange (location_of c.args.file) (SetBytes (number_of c.args.file.node) c.args.bytes.items)))
+    (sym c.self.view_is) c.requires)).0
 
 pub write-requires-clause-size : goal.write-requires-clause-size
 write-requires-clause-size c =
-    (change_fits (the_view c.self.inside) c.self.invariant c.args.name.now c.args.file (omega arith) (SetBytes (number_of c.args.file.node) c.args.bytes.items)
-    (subst (λ value. Permits value c.args.name.now (ToChange (location_of c.args.file) (SetBytes (number_of c.args.file.node) c.args.bytes.items))) (sym c.self.view_is) c.requires)).1
+    (change_fits (the_view c.self.inside) c.self.invariant c.args.name.now c.args.file (omega arith)
+    (SetBytes (number_of c.args.file.node) c.args.bytes.items)
+    (subst (λ value. Permits value c.args.name.now
+    (ToChange (location_of c.args.file) (SetBytes (number_of c.args.file.node) c.args.bytes.items)))
+    (sym c.self.view_is) c.requires)).1
 
 pub invariant_of-self : goal.invariant_of-self
 invariant_of-self c =
-    (write_is_done (the_view c.self.inside) c.self.invariant c.args.name.now c.args.file c.args.bytes.items (omega arith)
-    (subst (λ value. Permits value c.args.name.now (ToChange (location_of c.args.file) (SetBytes (number_of c.args.file.node) c.args.bytes.items))) (sym c.self.view_is) c.requires)
+    (write_is_done (the_view c.self.inside) c.self.invariant c.args.name.now c.args.file c.args.bytes.items
+    (omega arith)
+    (subst (λ value. Permits value c.args.name.now
+    (ToChange (location_of c.args.file) (SetBytes (number_of c.args.file.node) c.args.bytes.items)))
+    (sym c.self.view_is) c.requires)
     c.write.new.self c.write.ensures).held
 
 pub returns : goal.returns
 returns c =
-    subst (λ value. Becomes value c.args.name.now (ToChange (location_of c.args.file) (SetBytes (number_of c.args.file.node) c.args.bytes.items)) (with_filesystems (the_view c.self.inside) c.write.new.self)) c.self.view_is
-    (write_is_done (the_view c.self.inside) c.self.invariant c.args.name.now c.args.file c.args.bytes.items (omega arith)
-    (subst (λ value. Permits value c.args.name.now (ToChange (location_of c.args.file) (SetBytes (number_of c.args.file.node) c.args.bytes.items))) (sym c.self.view_is) c.requires)
+    subst (λ value. Becomes value c.args.name.now
+    (ToChange (location_of c.args.file) (SetBytes (number_of c.args.file.node) c.args.bytes.items))
+    (with_filesystems (the_view c.self.inside) c.write.new.self)) c.self.view_is
+    (write_is_done (the_view c.self.inside) c.self.invariant c.args.name.now c.args.file c.args.bytes.items
+    (omega arith)
+    (subst (λ value. Permits value c.args.name.now
+    (ToChange (location_of c.args.file) (SetBytes (number_of c.args.file.node) c.args.bytes.items)))
+    (sym c.self.view_is) c.requires)
     c.write.new.self c.write.ensures).becomes

@@ -9,20 +9,24 @@ use Rattle.vt_ns.proofs.world.World.write_part.Goals as goal
 
 pub returns-then-is_empty-clause-ok : goal.returns-then-is_empty-clause-ok
 returns-then-is_empty-clause-ok c =
-    subst (λ value. Becomes value c.args.name.now (ToWritePart (location_of c.args.file) c.args.offset c.args.bytes.now) (the_view c.self.inside)) c.self.view_is
-    (nothing_is_written (the_view c.self.inside) c.self.invariant c.args.name.now (location_of c.args.file) c.args.offset c.args.bytes.now
+    subst (λ value. Becomes value c.args.name.now (ToWritePart (location_of c.args.file) c.args.offset c.args.bytes.now)
+    (the_view c.self.inside)) c.self.view_is
+    (nothing_is_written (the_view c.self.inside) c.self.invariant c.args.name.now
+    (location_of c.args.file) c.args.offset c.args.bytes.now
     (no_bytes c.args.bytes.now c.is_empty.result c.is_empty.ensures c.if-is_empty.true))
 
 pub write_at-requires-clause-file : goal.write_at-requires-clause-file
 write_at-requires-clause-file c =
     (write_part_fits (the_view c.self.inside) c.self.invariant c.args.name.now c.args.file c.args.offset c.args.bytes.now (omega arith)
-    (subst (λ value. Permits value c.args.name.now (ToWritePart (location_of c.args.file) c.args.offset c.args.bytes.now)) (sym c.self.view_is) c.requires)
+    (subst (λ value. Permits value c.args.name.now
+    (ToWritePart (location_of c.args.file) c.args.offset c.args.bytes.now)) (sym c.self.view_is) c.requires)
     (some_bytes c.args.bytes.now c.is_empty.result c.is_empty.ensures c.if-is_empty.false)).0
 
 pub write_at-requires-clause-size : goal.write_at-requires-clause-size
 write_at-requires-clause-size c =
     (write_part_fits (the_view c.self.inside) c.self.invariant c.args.name.now c.args.file c.args.offset c.args.bytes.now (omega arith)
-    (subst (λ value. Permits value c.args.name.now (ToWritePart (location_of c.args.file) c.args.offset c.args.bytes.now)) (sym c.self.view_is) c.requires)
+    (subst (λ value. Permits value c.args.name.now
+    (ToWritePart (location_of c.args.file) c.args.offset c.args.bytes.now)) (sym c.self.view_is) c.requires)
     (some_bytes c.args.bytes.now c.is_empty.result c.is_empty.ensures c.if-is_empty.false)).1
 
 pub invariant_of-self : goal.invariant_of-self
@@ -31,14 +35,18 @@ invariant_of-self c = c.self.invariant
 pub invariant_of-self-2 : goal.invariant_of-self-2
 invariant_of-self-2 c =
     (write_part_is_answered (the_view c.self.inside) c.self.invariant c.args.name.now c.args.file c.args.offset c.args.bytes.now (omega arith)
-    (subst (λ value. Permits value c.args.name.now (ToWritePart (location_of c.args.file) c.args.offset c.args.bytes.now)) (sym c.self.view_is) c.requires)
+    (subst (λ value. Permits value c.args.name.now
+    (ToWritePart (location_of c.args.file) c.args.offset c.args.bytes.now)) (sym c.self.view_is) c.requires)
     (some_bytes c.args.bytes.now c.is_empty.result c.is_empty.ensures c.if-is_empty.false)
     c.write_at.new.self c.write_at.result c.write_at.ensures.ok c.write_at.ensures.err).held
 
 pub returns-clause-ok : goal.returns-clause-ok
 returns-clause-ok c =
-    subst (λ value. OnOk c.write_at.result (Becomes value c.args.name.now (ToWritePart (location_of c.args.file) c.args.offset c.args.bytes.now) (with_filesystems (the_view c.self.inside) c.write_at.new.self))) c.self.view_is
+    subst (λ value. OnOk c.write_at.result
+    (Becomes value c.args.name.now (ToWritePart (location_of c.args.file) c.args.offset c.args.bytes.now)
+    (with_filesystems (the_view c.self.inside) c.write_at.new.self))) c.self.view_is
     (write_part_is_answered (the_view c.self.inside) c.self.invariant c.args.name.now c.args.file c.args.offset c.args.bytes.now (omega arith)
-    (subst (λ value. Permits value c.args.name.now (ToWritePart (location_of c.args.file) c.args.offset c.args.bytes.now)) (sym c.self.view_is) c.requires)
+    (subst (λ value. Permits value c.args.name.now
+    (ToWritePart (location_of c.args.file) c.args.offset c.args.bytes.now)) (sym c.self.view_is) c.requires)
     (some_bytes c.args.bytes.now c.is_empty.result c.is_empty.ensures c.if-is_empty.false)
     c.write_at.new.self c.write_at.result c.write_at.ensures.ok c.write_at.ensures.err).ok

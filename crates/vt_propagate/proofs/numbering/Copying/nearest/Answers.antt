@@ -8,7 +8,8 @@ use Rattle.vt_propagate.proofs.numbering.Copying.nearest.Goals as goal
 
 pub loop-preserved : goal.loop-preserved
 loop-preserved c =
-    let n : c.len-end.result - c.loop.counter ≡ suc (c.len-end.result - (c.loop.counter + 1)) = omega (arith, c.loop-test.true) in
+    let n : c.len-end.result - c.loop.counter
+    ≡ suc (c.len-end.result - (c.loop.counter + 1)) = omega (arith, c.loop-test.true) in
     find_up (has_members nat_eq (parts_seen c.args.self.now)) (master_in c.args.groups.now)
     (counted c.loop.here.count) (counted c.in_ok-here.here.count) _ _ n
     (sym c.has_part.ensures ∙ c.if-has_part.false) (sym c.in_ok-here.ensures)

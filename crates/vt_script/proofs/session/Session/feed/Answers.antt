@@ -25,7 +25,9 @@ returns-in_err-take_line-clause-feeds g c =
     ∙ sym (append_assoc inv.read line after) in
     rw p.1 (λ begun reading.
     let first = inv.feeds begun reading in
-    subst (λ bytes. Broke g.W.Sink (moment (state_of g.C.Calls.world c.args.self.now) begun) bytes c.args.sink.now c.take_line.new.sink) (sym split)
+    subst (λ bytes. Broke g.W.Sink
+    (moment (state_of g.C.Calls.world c.args.self.now) begun) bytes c.args.sink.now c.take_line.new.sink)
+    (sym split)
     (broke_before g.W.Sink _ (inv.read ++ line) after _ _
     (broke_then g.W.Sink _ inv.read line _ _ _ _ first (c.in_err-take_line.ensures.feeds first.line first.reading))))
 
@@ -38,7 +40,8 @@ loop-line-preserved g c =
       failures = c.in_ok-take_line.ensures.kept ∙ inv.failures;
       read = inv.read ++ line;
       split =
-          inv.split ∙ ap (λ rest. inv.read ++ rest) (c.in-Some.ensures.0 ∙ sym (append_assoc c.in-Some.line.now (10 ∷ []) after))
+          inv.split ∙ ap (λ rest. inv.read ++ rest)
+          (c.in-Some.ensures.0 ∙ sym (append_assoc c.in-Some.line.now (10 ∷ []) after))
           ∙ sym (append_assoc inv.read line after);
       begun = omega (arith, c.in_ok-take_line.ensures.begun, inv.begun, length-append inv.read line, length-append c.in-Some.line.now (10 ∷ []));
       feeds = λ begun reading.
@@ -55,7 +58,8 @@ returns-clause-feeds g c = λ begun reading.
     let first = inv.feeds begun reading in
     let last = fed_bytes g.W.Sink old new first.line rest c.loop-line.sink first.reading c.in_default.ensures refl refl
     (c.extend.ensures.holds first.line first.reading.held) in
-    subst (λ bytes. Fed g.W.Sink (moment (state_of g.C.Calls.world c.args.self.now) begun) bytes new c.args.sink.now c.loop-line.sink) (sym inv.split)
+    subst (λ bytes. Fed g.W.Sink (moment
+    (state_of g.C.Calls.world c.args.self.now) begun) bytes new c.args.sink.now c.loop-line.sink) (sym inv.split)
     (fed_then g.W.Sink _ inv.read rest _ _ _ _ _ first last)
 
 pub returns-clause-begun : goal.returns-clause-begun

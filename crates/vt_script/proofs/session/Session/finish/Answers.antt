@@ -5,7 +5,8 @@ use Rattle.vt_script.proofs.session.Session.finish.Goals as goal
 
 pub returns-then-is_empty-clause-closes : goal.returns-then-is_empty-clause-closes
 returns-then-is_empty-clause-closes g c = λ line reading.
-    closed_none g.W.Sink (state_of g.C.Calls.world c.args.self.now) line c.args.sink.now ((c.is_empty.ensures.holds line reading.held).0 c.if-is_empty.true)
+    closed_none g.W.Sink (state_of g.C.Calls.world c.args.self.now) line c.args.sink.now
+    ((c.is_empty.ensures.holds line reading.held).0 c.if-is_empty.true)
 
 pub overflow_add-self : goal.overflow_add-self
 overflow_add-self g c =

@@ -9,8 +9,10 @@ invariant_of-self-2 c =
     let es = c.self.inside.by_number.entries in
     let free = c.free_number-free.result in
     let is : free_from 0 (opened es) ≡ free = ap (free_from 0) c.self.view_is ∙ sym c.free_number-free.ensures.value in
-    let within : free ≤ length es = omega (arith, c.free_number-free.ensures.limit, ap length c.self.view_is, length-opened es) in
-    ap (are_ascending 0) (entries-inserted c.self.inside.by_number free _ c.args.opened _ (lookup-free free 0 es c.self.invariant is) within c.in-Ok.ensures.index c.in-Ok.ensures.entries)
+    let within : free ≤ length es = omega
+    (arith, c.free_number-free.ensures.limit, ap length c.self.view_is, length-opened es) in
+    ap (are_ascending 0) (entries-inserted c.self.inside.by_number free _ c.args.opened _
+    (lookup-free free 0 es c.self.invariant is) within c.in-Ok.ensures.index c.in-Ok.ensures.entries)
     ∙ ascending-inserted c.args.opened free 0 free es c.self.invariant is (omega arith)
 
 pub returns-clause-ok : goal.returns-clause-ok
@@ -18,8 +20,10 @@ returns-clause-ok c =
     let es = c.self.inside.by_number.entries in
     let free = c.free_number-free.result in
     let is : free_from 0 (opened es) ≡ free = ap (free_from 0) c.self.view_is ∙ sym c.free_number-free.ensures.value in
-    let within : free ≤ length es = omega (arith, c.free_number-free.ensures.limit, ap length c.self.view_is, length-opened es) in
-    ap opened (entries-inserted c.self.inside.by_number free _ c.args.opened _ (lookup-free free 0 es c.self.invariant is) within c.in-Ok.ensures.index c.in-Ok.ensures.entries)
+    let within : free ≤ length es = omega
+    (arith, c.free_number-free.ensures.limit, ap length c.self.view_is, length-opened es) in
+    ap opened (entries-inserted c.self.inside.by_number free _ c.args.opened _
+    (lookup-free free 0 es c.self.invariant is) within c.in-Ok.ensures.index c.in-Ok.ensures.entries)
     ∙ opened-inserted c.args.opened free 0 free es c.self.invariant is (omega arith)
     ∙ ap (inserted (numbered free c.args.opened)) c.self.view_is
 
@@ -28,8 +32,10 @@ returns-clause-undone c =
     let es = c.self.inside.by_number.entries in
     let free = c.free_number-free.result in
     let is : free_from 0 (opened es) ≡ free = ap (free_from 0) c.self.view_is ∙ sym c.free_number-free.ensures.value in
-    let within : free ≤ length es = omega (arith, c.free_number-free.ensures.limit, ap length c.self.view_is, length-opened es) in
+    let within : free ≤ length es = omega
+    (arith, c.free_number-free.ensures.limit, ap length c.self.view_is, length-opened es) in
     closed-again c.args.opened free es _ _ c.self.invariant c.self.view_is is
-    (ap opened (entries-inserted c.self.inside.by_number free _ c.args.opened _ (lookup-free free 0 es c.self.invariant is) within c.in-Ok.ensures.index c.in-Ok.ensures.entries)
+    (ap opened (entries-inserted c.self.inside.by_number free _ c.args.opened _
+    (lookup-free free 0 es c.self.invariant is) within c.in-Ok.ensures.index c.in-Ok.ensures.entries)
     ∙ opened-inserted c.args.opened free 0 free es c.self.invariant is (omega arith)
     ∙ ap (inserted (numbered free c.args.opened)) c.self.view_is)

@@ -6,7 +6,8 @@ use Rattle.vt_tasks.proofs.descriptors.Descriptors.remove.Goals as goal
 
 pub invariant_of-self : goal.invariant_of-self
 invariant_of-self c =
-    ap (are_ascending 0) c.shift_remove.ensures.entries ∙ ascending-removed c.args.number 0 c.self.inside.by_number.entries c.self.invariant
+    ap (are_ascending 0) c.shift_remove.ensures.entries
+    ∙ ascending-removed c.args.number 0 c.self.inside.by_number.entries c.self.invariant
 
 pub returns-clause-value : goal.returns-clause-value
 returns-clause-value c =

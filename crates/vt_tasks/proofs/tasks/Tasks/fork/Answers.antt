@@ -17,9 +17,11 @@ use Rattle.vt_tasks.proofs.tasks.Tasks.fork.Goals as goal
 use Rattle.vt_tasks.proofs.tasks.Tasks.fork.Goals.{in-Some, in_default-get_mut}
 
 -- the parent, under its name
-abbrev the_parent : (q name : TaskName) (tasks : Tasks) (m : IndexMap (Vec ℕ Global) Held (BuildHasherDefault FoldHasher)) (parent : Held) → AreFit m.entries → q ≡ name
+abbrev the_parent : (q name : TaskName) (tasks : Tasks)
+    (m : IndexMap (Vec ℕ Global) Held (BuildHasherDefault FoldHasher)) (parent : Held) → AreFit m.entries → q ≡ name
     → tasks_of m.entries ≡ tasks → get_by (is_key q) m ≡ Some parent → called name tasks ≡ Some (task_of parent)
-the_parent q name tasks m parent fit same view found = (λ i. called (sym same i) (sym view i)) ∙ called-found q m m fit parent found
+the_parent q name tasks m parent fit same view found = (λ i. called (sym same i) (sym view i))
+    ∙ called-found q m m fit parent found
 
 pub unwrap-parent-requires : goal.unwrap-parent-requires
 unwrap-parent-requires c =
@@ -50,14 +52,16 @@ invariant_of-self-2 c =
     let parent = c.unwrap-parent.result.now in
     let name = c.numbers-numbers.result.now in
     let is = sym c.get.ensures.value ∙ ap option_copied c.unwrap-parent.ensures in
-    let key_is : c.in-Ok-from_slice.key.items ≡ c.in-Ok.child.name = c.in-Ok-from_slice.ensures.items ∙ c.numbers.ensures.value ∙ c.in-Ok-clone.ensures.cases in
+    let key_is : c.in-Ok-from_slice.key.items ≡ c.in-Ok.child.name = c.in-Ok-from_slice.ensures.items
+    ∙ c.numbers.ensures.value ∙ c.in-Ok-clone.ensures.cases in
     let inserts = c.in-Ok-insert.ensures.entries in
     elim c.match-get_mut.branch [
       | in-Some w ↦
           subst AreFit (sym (ap (λ inside. inside.by_name.entries) w.self-inside-is))
           (fit-forked name map c.insert.new.self _ c.in-Ok-from_slice.key parent c.in-Ok.child c.args.cred c.self.invariant is key_is c.in-Ok.ensures inserts
           w.in-Some.parent.now _
-          (sym c.get_mut.ensures.value ∙ ap option_copied_mut w.in-Some.is) refl c.get_mut.ensures.unique (c.get_mut.follows.holds _))
+          (sym c.get_mut.ensures.value ∙ ap option_copied_mut w.in-Some.is) refl c.get_mut.ensures.unique
+          (c.get_mut.follows.holds _))
       | in_default-get_mut w ↦
           absurd (never-absent name map c.insert.new.self c.insert.new.self c.in-Ok-from_slice.key parent c.in-Ok.child c.args.cred c.self.invariant is key_is
           c.in-Ok.ensures inserts (sym c.get_mut.ensures.value ∙ ap option_copied_mut w.in_default-get_mut.is))
@@ -68,7 +72,8 @@ returns-clause-name c =
     let parent = c.unwrap-parent.result.now in
     let found = the_parent _ _ _ c.self.inside.by_name parent c.self.invariant c.numbers-numbers.ensures.value c.self.view_is
     (sym c.get.ensures.value ∙ ap option_copied c.unwrap-parent.ensures) in
-    ap Some (c.in-Ok-clone.ensures.cases ∙ ap (λ (task : Task ℕ). task.name) c.in-Ok.ensures) ∙ sym (ap (option_map child_name) found)
+    ap Some (c.in-Ok-clone.ensures.cases ∙ ap (λ (task : Task ℕ). task.name) c.in-Ok.ensures)
+    ∙ sym (ap (option_map child_name) found)
 
 pub returns-clause-ok : goal.returns-clause-ok
 returns-clause-ok c =
@@ -76,14 +81,16 @@ returns-clause-ok c =
     let parent = c.unwrap-parent.result.now in
     let name = c.numbers-numbers.result.now in
     let is = sym c.get.ensures.value ∙ ap option_copied c.unwrap-parent.ensures in
-    let key_is : c.in-Ok-from_slice.key.items ≡ c.in-Ok.child.name = c.in-Ok-from_slice.ensures.items ∙ c.numbers.ensures.value ∙ c.in-Ok-clone.ensures.cases in
+    let key_is : c.in-Ok-from_slice.key.items ≡ c.in-Ok.child.name = c.in-Ok-from_slice.ensures.items
+    ∙ c.numbers.ensures.value ∙ c.in-Ok-clone.ensures.cases in
     let inserts = c.in-Ok-insert.ensures.entries in
     elim c.match-get_mut.branch [
       | in-Some w ↦
           ap (λ inside. tasks_of inside.by_name.entries) w.self-inside-is
           ∙ forked-so name map c.insert.new.self _ c.in-Ok-from_slice.key parent c.in-Ok.child c.args.cred c.self.invariant is key_is c.in-Ok.ensures inserts
           w.in-Some.parent.now _
-          (sym c.get_mut.ensures.value ∙ ap option_copied_mut w.in-Some.is) refl c.get_mut.ensures.unique (c.get_mut.follows.holds _)
+          (sym c.get_mut.ensures.value ∙ ap option_copied_mut w.in-Some.is) refl c.get_mut.ensures.unique
+          (c.get_mut.follows.holds _)
           ∙ (λ i. forked (c.numbers-numbers.ensures.value i) c.args.cred (c.self.view_is i))
       | in_default-get_mut w ↦
           absurd (never-absent name map c.insert.new.self c.insert.new.self c.in-Ok-from_slice.key parent c.in-Ok.child c.args.cred c.self.invariant is key_is

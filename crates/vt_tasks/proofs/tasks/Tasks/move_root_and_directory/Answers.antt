@@ -9,7 +9,8 @@ use Rattle.vt_tasks.proofs.tasks.Tasks.move_root_and_directory.Goals as goal
 pub returns-in_err-task-clause-left : goal.returns-in_err-task-clause-left
 returns-in_err-task-clause-left c =
     let map = c.self.inside.by_name in
-    let absent = called-absent c.numbers.result.now map map c.self.invariant (sym c.get_mut.ensures.value ∙ ap option_copied_mut c.in_err-task.was) in
+    let absent = called-absent c.numbers.result.now map map c.self.invariant
+    (sym c.get_mut.ensures.value ∙ ap option_copied_mut c.in_err-task.was) in
     ap (option_map left_of) c.from_residual.ensures
     ∙ sym (ap (option_map left_by) ((λ i. called (sym c.numbers.ensures.value i) (sym c.self.view_is i)) ∙ absent))
 
@@ -24,7 +25,8 @@ returns-in_err-task-clause-rest c =
 pub invariant_of-self-2 : goal.invariant_of-self-2
 invariant_of-self-2 c =
     written-fit c.numbers.result.now c.self.inside.by_name _ c.self.invariant c.in_ok-task.task.now _
-    (sym c.get_mut.ensures.value ∙ ap option_copied_mut c.in_ok-task.was) refl c.get_mut.ensures.unique (c.get_mut.follows.holds _) (omega arith) (λ e. e)
+    (sym c.get_mut.ensures.value ∙ ap option_copied_mut c.in_ok-task.was) refl c.get_mut.ensures.unique
+    (c.get_mut.follows.holds _) (omega arith) (λ e. e)
 
 pub returns-clause-left : goal.returns-clause-left
 returns-clause-left c =
@@ -36,5 +38,6 @@ returns-clause-left c =
 pub returns-clause-rest : goal.returns-clause-rest
 returns-clause-rest c =
     written-change c.numbers.result.now c.self.inside.by_name _ c.self.invariant (λ task. record task { namespace = counted c.args.namespace.count; root = location_of c.args.root; directory = location_of c.args.directory }) c.in_ok-task.task.now _
-    (sym c.get_mut.ensures.value ∙ ap option_copied_mut c.in_ok-task.was) refl c.get_mut.ensures.unique (c.get_mut.follows.holds _) refl
+    (sym c.get_mut.ensures.value ∙ ap option_copied_mut c.in_ok-task.was) refl c.get_mut.ensures.unique
+    (c.get_mut.follows.holds _) refl
     ∙ (λ i. changed_called (c.numbers.ensures.value i) (λ task. record task { namespace = counted c.args.namespace.count; root = location_of c.args.root; directory = location_of c.args.directory }) (c.self.view_is i))

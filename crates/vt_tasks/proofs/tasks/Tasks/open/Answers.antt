@@ -27,7 +27,8 @@ insert-requires c =
 pub invariant_of-self : goal.invariant_of-self
 invariant_of-self c =
     written-fit c.numbers.result.now c.self.inside.by_name _ c.self.invariant c.unwrap-task.result.now _
-    (sym c.get_mut.ensures.value ∙ ap option_copied_mut c.unwrap-task.ensures) refl c.get_mut.ensures.unique (c.get_mut.follows.holds _) (omega arith)
+    (sym c.get_mut.ensures.value ∙ ap option_copied_mut c.unwrap-task.ensures) refl c.get_mut.ensures.unique
+    (c.get_mut.follows.holds _) (omega arith)
     (opened-in_order c.insert.result c.args.opened _ _ c.insert.ensures.number c.insert.ensures.ok c.insert.ensures.err)
 
 pub returns-clause-number : goal.returns-clause-number
@@ -43,8 +44,10 @@ pub returns-clause-ok : goal.returns-clause-ok
 returns-clause-ok c =
     on-ok c.insert.result
     (λ is.
-    written-change c.numbers.result.now c.self.inside.by_name _ c.self.invariant (with_open c.args.opened) c.unwrap-task.result.now _
-    (sym c.get_mut.ensures.value ∙ ap option_copied_mut c.unwrap-task.ensures) refl c.get_mut.ensures.unique (c.get_mut.follows.holds _)
+    written-change c.numbers.result.now c.self.inside.by_name _ c.self.invariant
+    (with_open c.args.opened) c.unwrap-task.result.now _
+    (sym c.get_mut.ensures.value ∙ ap option_copied_mut c.unwrap-task.ensures) refl c.get_mut.ensures.unique
+    (c.get_mut.follows.holds _)
     (λ i. record (task_of c.unwrap-task.result.now) { descriptors = is i })
     ∙ (λ i. changed_called (c.numbers.ensures.value i) (with_open c.args.opened) (c.self.view_is i)))
     (opened-under c.insert.result c.args.opened _ _ _ c.insert.ensures.number c.insert.ensures.ok)
@@ -63,8 +66,10 @@ pub returns-clause-undone : goal.returns-clause-undone
 returns-clause-undone c =
     if-ok _ _ c.insert.result
     (λ number undone.
-    written-back c.numbers.result.now c.self.inside.by_name _ c.self.invariant _ (λ task. without_descriptor task number) c.unwrap-task.result.now _
-    c.numbers.ensures.value (sym c.get_mut.ensures.value ∙ ap option_copied_mut c.unwrap-task.ensures) refl c.get_mut.ensures.unique
+    written-back c.numbers.result.now c.self.inside.by_name _ c.self.invariant _
+    (λ task. without_descriptor task number) c.unwrap-task.result.now _
+    c.numbers.ensures.value (sym c.get_mut.ensures.value
+    ∙ ap option_copied_mut c.unwrap-task.ensures) refl c.get_mut.ensures.unique
     (c.get_mut.follows.holds _)
     (λ i. record (task_of c.unwrap-task.result.now) { descriptors = undone i })
     ∙ c.self.view_is)

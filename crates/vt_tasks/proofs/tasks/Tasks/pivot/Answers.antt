@@ -15,7 +15,8 @@ invariant_of-self c =
     let namespace = counted c.args.namespace.count in
     let root = mount_of c.args.root.now in
     let other = mount_of c.args.new.now in
-    let last : c.loop-index.index ≡ length old = omega (arith, c.loop-index-test.false, c.loop-index.auto.index-end, c.len-index-end.ensures.len) in
+    let last : c.loop-index.index ≡ length old = omega
+    (arith, c.loop-index-test.false, c.loop-index.auto.index-end, c.len-index-end.ensures.len) in
     fit-pivoted namespace root other old new c.self.invariant c.loop-index.invariant.0
     (all-of (pivoting namespace root other) c.loop-index.index old new last c.loop-index.invariant.1)
 
@@ -26,7 +27,8 @@ loop-index-preserved c =
     let change = pivoting (counted c.args.namespace.count) (mount_of c.args.root.now) (mount_of c.args.new.now) in
     elim c.match-get_index_mut.branch [
       | in-Some w ↦ (
-        ap (λ inside. keys_of inside.by_name.entries) w.self-inside-is ∙ keys-set_value_at es c.loop-index.index _ ∙ c.loop-index.invariant.0,
+        ap (λ inside. keys_of inside.by_name.entries) w.self-inside-is ∙ keys-set_value_at es c.loop-index.index _
+            ∙ c.loop-index.invariant.0,
         ap (λ inside. tasks_of inside.by_name.entries) w.self-inside-is
             ∙ changed-next change c.loop-index.index es (tasks_of old) w.in-Some.task.now _ c.loop-index.invariant.1
             (sym c.get_index_mut.ensures.value ∙ ap option_copied_mut w.in-Some.is) w.pivot.ensures,
@@ -41,5 +43,6 @@ returns c =
     let old = c.self.inside.by_name.entries in
     let new = c.loop-index.self-inside.by_name.entries in
     let change = pivoting (counted c.args.namespace.count) (mount_of c.args.root.now) (mount_of c.args.new.now) in
-    let last : c.loop-index.index ≡ length old = omega (arith, c.loop-index-test.false, c.loop-index.auto.index-end, c.len-index-end.ensures.len) in
+    let last : c.loop-index.index ≡ length old = omega
+    (arith, c.loop-index-test.false, c.loop-index.auto.index-end, c.len-index-end.ensures.len) in
     all-of change c.loop-index.index old new last c.loop-index.invariant.1 ∙ ap (map change) c.self.view_is

@@ -9,22 +9,27 @@ use Rattle.vt_tasks.proofs.tasks.Tasks.set_root.Goals as goal
 pub returns-in_err-task-clause-left : goal.returns-in_err-task-clause-left
 returns-in_err-task-clause-left c =
     let map = c.self.inside.by_name in
-    let absent = called-absent c.numbers.result.now map map c.self.invariant (sym c.get_mut.ensures.value ∙ ap option_copied_mut c.in_err-task.was) in
+    let absent = called-absent c.numbers.result.now map map c.self.invariant
+    (sym c.get_mut.ensures.value ∙ ap option_copied_mut c.in_err-task.was) in
     ap (option_map location_of) c.from_residual.ensures
-    ∙ sym (ap (option_map (λ task. task.root)) ((λ i. called (sym c.numbers.ensures.value i) (sym c.self.view_is i)) ∙ absent))
+    ∙ sym (ap (option_map (λ task. task.root))
+    ((λ i. called (sym c.numbers.ensures.value i) (sym c.self.view_is i)) ∙ absent))
 
 pub returns-in_err-task-clause-rest : goal.returns-in_err-task-clause-rest
 returns-in_err-task-clause-rest c =
     let map = c.self.inside.by_name in
     ap (λ map. tasks_of map.entries) c.get_mut.follows.holds-at-none
-    ∙ sym (changed-absent c.numbers.result.now map map c.self.invariant (λ task. record task { root = location_of c.args.root })
+    ∙ sym (changed-absent c.numbers.result.now map map c.self.invariant
+    (λ task. record task { root = location_of c.args.root })
     (sym c.get_mut.ensures.value ∙ ap option_copied_mut c.in_err-task.was))
-    ∙ (λ i. changed_called (c.numbers.ensures.value i) (λ task. record task { root = location_of c.args.root }) (c.self.view_is i))
+    ∙ (λ i. changed_called (c.numbers.ensures.value i) (λ task. record task { root = location_of c.args.root })
+    (c.self.view_is i))
 
 pub invariant_of-self-2 : goal.invariant_of-self-2
 invariant_of-self-2 c =
     written-fit c.numbers.result.now c.self.inside.by_name _ c.self.invariant c.in_ok-task.task.now _
-    (sym c.get_mut.ensures.value ∙ ap option_copied_mut c.in_ok-task.was) refl c.get_mut.ensures.unique (c.get_mut.follows.holds _) (omega arith) (λ e. e)
+    (sym c.get_mut.ensures.value ∙ ap option_copied_mut c.in_ok-task.was) refl c.get_mut.ensures.unique
+    (c.get_mut.follows.holds _) (omega arith) (λ e. e)
 
 pub returns-clause-left : goal.returns-clause-left
 returns-clause-left c =
@@ -32,11 +37,15 @@ returns-clause-left c =
     let found = called-found c.numbers.result.now map map c.self.invariant c.in_ok-task.task.now
     (sym c.get_mut.ensures.value ∙ ap option_copied_mut c.in_ok-task.was) in
     ap (λ left. Some (location_of left)) c.replace.ensures.value
-    ∙ sym (ap (option_map (λ task. task.root)) ((λ i. called (sym c.numbers.ensures.value i) (sym c.self.view_is i)) ∙ found))
+    ∙ sym (ap (option_map (λ task. task.root))
+    ((λ i. called (sym c.numbers.ensures.value i) (sym c.self.view_is i)) ∙ found))
 
 pub returns-clause-rest : goal.returns-clause-rest
 returns-clause-rest c =
-    written-change c.numbers.result.now c.self.inside.by_name _ c.self.invariant (λ task. record task { root = location_of c.args.root }) c.in_ok-task.task.now _
-    (sym c.get_mut.ensures.value ∙ ap option_copied_mut c.in_ok-task.was) refl c.get_mut.ensures.unique (c.get_mut.follows.holds _)
+    written-change c.numbers.result.now c.self.inside.by_name _ c.self.invariant
+    (λ task. record task { root = location_of c.args.root }) c.in_ok-task.task.now _
+    (sym c.get_mut.ensures.value ∙ ap option_copied_mut c.in_ok-task.was) refl c.get_mut.ensures.unique
+    (c.get_mut.follows.holds _)
     (λ i. record (task_of c.in_ok-task.task.now) { root = location_of (c.replace.ensures.after i) })
-    ∙ (λ i. changed_called (c.numbers.ensures.value i) (λ task. record task { root = location_of c.args.root }) (c.self.view_is i))
+    ∙ (λ i. changed_called (c.numbers.ensures.value i) (λ task. record task { root = location_of c.args.root })
+    (c.self.view_is i))

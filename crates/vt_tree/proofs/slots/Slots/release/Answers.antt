@@ -11,4 +11,5 @@ returns-then-uses-le1-clause-released c =
     let removed = rw c.index.ensures at c.try_remove.ensures.updates in
     get-updates c.self.inside.slab c.try_remove.new.self c.args.id None removed
     ∙ ap (λ table. put_at (slot_at table) c.args.id None) c.self.view_is
-    ∙ ap (put_at (slot_at c.args.self.now) c.args.id) (sym (used_once_less-last (slot_at c.args.self.now c.args.id) few))
+    ∙ ap (put_at (slot_at c.args.self.now) c.args.id)
+    (sym (used_once_less-last (slot_at c.args.self.now c.args.id) few))

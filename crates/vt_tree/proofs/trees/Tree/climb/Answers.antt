@@ -6,18 +6,23 @@ use Rattle.vt_tree.proofs.trees.Tree.climb.Goals as goal
 
 pub loop-alloc-preserved : goal.loop-alloc-preserved
 loop-alloc-preserved c =
-    let other : nat_eq c.args.top c.loop-alloc.here ≡ false = negated (nat_eq c.args.top c.loop-alloc.here) true (sym c.loop-alloc-test.true ∙ c.ne.ensures) in
-    goes_on (inodes_of c.args.self.now) c.args.top (map (λ name. name.items) c.loop-alloc.names.items) (map (λ name. name.items) c.push.new.self.items)
+    let other : nat_eq c.args.top c.loop-alloc.here
+    ≡ false = negated (nat_eq c.args.top c.loop-alloc.here) true (sym c.loop-alloc-test.true ∙ c.ne.ensures) in
+    goes_on (inodes_of c.args.self.now) c.args.top (map (λ name. name.items) c.loop-alloc.names.items)
+    (map (λ name. name.items) c.push.new.self.items)
     c.in_ok-copied_bytes.field-0.items c.loop-alloc.left c.loop-alloc.here _ _
-    (ap (map (λ name. name.items)) c.in_ok-push.ensures.items ∙ map-append (λ name. name.items) c.loop-alloc.names.items _)
+    (ap (map (λ name. name.items)) c.in_ok-push.ensures.items
+    ∙ map-append (λ name. name.items) c.loop-alloc.names.items _)
     (search rules) other c.in-Some.ensures.parent
     (search rules)
     c.loop-alloc.invariant
 
 pub returns : goal.returns
 returns c =
-    let same : nat_eq c.args.top c.loop-alloc.here ≡ true = negated (nat_eq c.args.top c.loop-alloc.here) false (sym c.loop-alloc-test.false ∙ c.ne.ensures) in
+    let same : nat_eq c.args.top c.loop-alloc.here
+    ≡ true = negated (nat_eq c.args.top c.loop-alloc.here) false (sym c.loop-alloc-test.false ∙ c.ne.ensures) in
     ap (λ names. Some (map (λ name. name.items) names)) c.reverse.ensures.items
     ∙ ap Some (map-reverse (λ name. name.items) c.loop-alloc.names.items)
-    ∙ sym (arrives (inodes_of c.args.self.now) c.args.top (map (λ name. name.items) c.loop-alloc.names.items) c.loop-alloc.left c.loop-alloc.here same)
+    ∙ sym (arrives (inodes_of c.args.self.now) c.args.top
+    (map (λ name. name.items) c.loop-alloc.names.items) c.loop-alloc.left c.loop-alloc.here same)
     ∙ c.loop-alloc.invariant

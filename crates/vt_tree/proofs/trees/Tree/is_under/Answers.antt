@@ -10,7 +10,10 @@ loop-left-preserved c =
     let inodes = inodes_of c.args.self.now in
     let some : 0 < c.loop-left.left = omega arith in
     let other : nat_eq c.args.top c.loop-left.here ≡ false = cc in
-    let below : nat_eq c.loop-left.here inodes.root ≡ false = sym (ap (λ value. nat_eq c.loop-left.here (inodes_of value).root) c.self.view_is ∙ refl) ∙ sym c.if-eq-2.ensures in
-    ap (λ parent. is_among nat_eq c.args.top (chain (c.loop-left.left - 1) (parent_above nat_eq inodes) parent)) c.parent-here.ensures
+    let below : nat_eq c.loop-left.here inodes.root
+    ≡ false = sym (ap (λ value. nat_eq c.loop-left.here (inodes_of value).root) c.self.view_is ∙ refl)
+    ∙ sym c.if-eq-2.ensures in
+    ap (λ parent. is_among nat_eq c.args.top
+    (chain (c.loop-left.left - 1) (parent_above nat_eq inodes) parent)) c.parent-here.ensures
     ∙ sym (climb inodes c.args.top c.loop-left.here c.loop-left.left some other below)
     ∙ c.loop-left.invariant

@@ -9,9 +9,11 @@ use Rattle.vt_tree.proofs.trees.Tree.link.Goals as goal
 -- an entry leaves the count below its limit
 pub count_use-requires : goal.count_use-requires
 count_use-requires c =
-    let kept : uses_in (slot_at c.insert_entry.new.slots c.args.object) ≡ uses_in (slot_at c.self.inside.slots c.args.object) =
+    let kept : uses_in (slot_at c.insert_entry.new.slots c.args.object)
+    ≡ uses_in (slot_at c.self.inside.slots c.args.object) =
     ap (λ inodes. uses_in (inodes.inode c.args.object)) (c.in_ok-insert_entry.ensures.ok c.self.inside.root)
-    ∙ uses-with_changed (inodes_in c.self.inside.root c.self.inside.slots) c.args.directory (node_with_entry c.args.name.items c.args.object) c.args.object in
+    ∙ uses-with_changed (inodes_in c.self.inside.root c.self.inside.slots) c.args.directory
+    (node_with_entry c.args.name.items c.args.object) c.args.object in
     omega (arith, kept, c.uses.ensures, c.if-uses.false)
 
 pub returns-clause-ok : goal.returns-clause-ok

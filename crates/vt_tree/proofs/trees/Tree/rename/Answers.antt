@@ -13,7 +13,8 @@ use Rattle.vt_tree.proofs.trees.Tree.rename.Goals.{After-set_parent}
 -- the tree with the new entry, without the old one, and with the parent
 abbrev with_entries_moved : After-set_parent → Inodes ℕ
 with_entries_moved c = with_changed nat_eq
-    (with_changed nat_eq (with_changed nat_eq (inodes_of c.args.self.now) c.args.from (node_without_entry c.args.old.now))
+    (with_changed nat_eq (with_changed nat_eq (inodes_of c.args.self.now) c.args.from
+    (node_without_entry c.args.old.now))
     c.args.to (node_with_entry c.args.new.items c.args.object))
     c.args.object (node_with_parent c.args.to)
 
@@ -29,12 +30,14 @@ placed c =
     (inodes_in c.self.inside.root c.insert_entry.new.slots) (inodes_in c.self.inside.root c.remove_entry.new.slots)
     (inodes_in c.self.inside.root c.set_parent.new.slots)
     (c.in_ok-insert_entry.ensures.ok c.self.inside.root
-    ∙ ap (λ value. with_changed nat_eq (inodes_of value) c.args.to (node_with_entry c.args.new.items c.args.object)) c.self.view_is)
+    ∙ ap (λ value. with_changed nat_eq (inodes_of value) c.args.to
+    (node_with_entry c.args.new.items c.args.object)) c.self.view_is)
     (c.remove_entry.ensures.removed c.self.inside.root)
     (c.set_parent.ensures.set c.self.inside.root)
 
 -- what had the new name
-replaced : (c : After-set_parent) → c.look-replaced.result ≡ entry_at (tree_of c.args.self.now) c.args.to c.args.new.items
+replaced : (c : After-set_parent)
+    → c.look-replaced.result ≡ entry_at (tree_of c.args.self.now) c.args.to c.args.new.items
 replaced c = c.look-replaced.ensures ∙ ap (entry_at (tree_of c.args.self.now) c.args.to) c.deref.ensures.value
 
 pub returns-in-Some-clause-ok : goal.returns-in-Some-clause-ok

@@ -7,5 +7,8 @@ use Rattle.vt_tree.proofs.trees.Tree.unlink.Goals as goal
 pub returns : goal.returns
 returns c =
     c.remove_object.ensures.removed c.self.inside.root
-    ∙ ap (λ inodes. without_replaced nat_eq inodes (Some c.args.object)) (c.remove_entry.ensures.removed c.self.inside.root)
-    ∙ ap (λ value. without_replaced nat_eq (with_changed nat_eq (inodes_of value) c.args.directory (node_without_entry c.args.name.now)) (Some c.args.object)) c.self.view_is
+    ∙ ap (λ inodes. without_replaced nat_eq inodes (Some c.args.object))
+    (c.remove_entry.ensures.removed c.self.inside.root)
+    ∙ ap (λ value. without_replaced nat_eq
+    (with_changed nat_eq (inodes_of value) c.args.directory (node_without_entry c.args.name.now))
+    (Some c.args.object)) c.self.view_is

@@ -7,4 +7,5 @@ use Rattle.vt_tree.proofs.trees.Tree.write.Goals as goal
 pub returns : goal.returns
 returns c =
     c.set_bytes.ensures.set c.self.inside.root
-    ∙ ap (λ value. with_changed nat_eq (inodes_of value) c.args.file (node_with_bytes c.args.bytes.items)) c.self.view_is
+    ∙ ap (λ value. with_changed nat_eq (inodes_of value) c.args.file
+    (node_with_bytes c.args.bytes.items)) c.self.view_is

@@ -11,5 +11,6 @@ returns-clause-ok c =
     on_ok_weaker c.write_bytes.result
     (λ written. written
     ∙ ap (λ value. with_changed nat_eq (inodes_of value) c.args.file
-    (node_with_bytes (overwritten c.args.offset c.args.bytes.now (bytes_in ((tree_of value).node c.args.file))))) c.self.view_is)
+    (node_with_bytes (overwritten c.args.offset c.args.bytes.now
+    (bytes_in ((tree_of value).node c.args.file))))) c.self.view_is)
     (c.write_bytes.ensures.ok c.self.inside.root)

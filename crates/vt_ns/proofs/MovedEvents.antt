@@ -1,0 +1,81 @@
+-- What the event that moves mounts finds: its place, and the tree that moves.
+use Rattle.std.proofs.Common.{◌≡◌, refl, sym, ap, ◌∙◌, ℕ, nat_eq, eqb-true, Bool, true, false, cond, List, find, Some, is_some, unwrap_or}
+use Rattle.vt_letting_go.proofs.AttachedSwept.{of_tree}
+use Rattle.vt_letting_go.proofs.Lists.{Among, map_same}
+use Rattle.vt_letting_go.proofs.PlacesLeft.{found_is_there}
+use Rattle.vt_location.specs.declared.locations.Location.{Location}
+use Rattle.vt_location.specs.declared.mounts.Mount.{Mount as Code}
+use Rattle.vt_location.specs.declared.numbers.MountId.{MountId}
+use Rattle.vt_location.specs.Locations.{location_of, number_of}
+use Rattle.vt_location.specs.MountValue.{mount_of}
+use Rattle.vt_location.specs.Numbers.{counted}
+use Rattle.vt_mount.specs.MountsValue.{are_ascending, mounts_in}
+use Rattle.vt_spec.specs.Language.Calls.{TaskName}
+use Rattle.vt_spec.specs.Machine.Mounts.{Mount, mount_tree, no_mount}
+use Rattle.vt_spec.specs.Machine.Permits.Permit.{ToMove}
+use Rattle.vt_spec.specs.Machine.World.{mount_numbered}
+use Rattle.vt_spec.specs.Machine.Invariants.{is_located_well}
+use Rattle.vt_attach.specs.BoundMounts.{bound_mounts, rooted_at}
+use Rattle.vt_attach.specs.Copying.{AreOf}
+use Rattle.vt_attach.proofs.CopyLemmas.{ascending_found, picked}
+use Rattle.vt_attach.proofs.MovesAscend.{ascending_once}
+use Rattle.vt_attach.proofs.TypedMounts.{same_numbered}
+use Rattle.vt_detach.specs.Events.{Permits}
+use Rattle.vt_detach.specs.Held.{IsHeld}
+use Rattle.vt_detach.specs.WorldValue.{WorldValue, world_of}
+use Rattle.vt_detach.proofs.FileEvents.{permit_fits}
+
+module _ (value : WorldValue) (whole : IsHeld value) (name : TaskName) (number : ℕ) (place : Location)
+    (permits : Permits value name (ToMove number (location_of place))) where
+  pub move_place_there : is_located_well nat_eq (world_of value) (location_of place) ≡ true
+  move_place_there =
+      (permit_fits value whole name
+      (ToMove number (location_of place)) permits).names.destination.directory.reached.there
+
+  pub moved_there : is_some (mount_numbered nat_eq (world_of value) number).namespace ≡ true
+  moved_there = ap is_some (permit_fits value whole name (ToMove number (location_of place)) permits).names.own
+
+-- the tree of a mount that is there, by its numbers
+module _ (value : WorldValue) (number : ℕ)
+    (attached : is_some (mount_numbered nat_eq (world_of value) number).namespace ≡ true)
+    (ascending : are_ascending (mounts_in value.mounts) ≡ true) (top : Code)
+    (found : Some (mount_of top) ≡ find (λ (mount : Mount ℕ). nat_eq number mount.number)
+    (mounts_in value.mounts)) where
+  abbrev source : Location
+  source = record { mount = top.number; node = top.root }
+
+  abbrev tree : List (Mount ℕ)
+  tree = mount_tree nat_eq (mounts_in value.mounts) (mount_numbered nat_eq (world_of value) number)
+
+  there : (mount : Mount ℕ) → Among mount tree → Among mount (mounts_in value.mounts)
+  there mount m = of_tree (world_of value) number attached _ mount m
+
+  top_is : mount_of top ≡ mount_numbered nat_eq (world_of value) number
+  top_is = ap (λ o. unwrap_or o (no_mount number)) found
+
+  top_there : Among (mount_numbered nat_eq (world_of value) number) (mounts_in value.mounts)
+  top_there = found_is_there (mounts_in value.mounts) number attached
+
+  same_rooted : (mount : Mount ℕ) → Among mount tree → rooted_at source mount ≡ mount
+  same_rooted mount m = by (nat_eq mount.number (counted top.number.count)) refl
+    where
+      by : (b : Bool) → nat_eq mount.number (counted top.number.count) ≡ b
+          → cond b (record mount { filesystem = counted top.root.filesystem.count; root = number_of top.root }) mount
+          ≡ mount
+      by false e = refl
+      by true e =
+          let same : mount ≡ mount_of top =
+          same_numbered (mounts_in value.mounts) (ascending_once (mounts_in value.mounts) ascending) mount
+          (mount_numbered nat_eq (world_of value) number) (there mount m) top_there
+          (eqb-true mount.number (counted top.number.count) e ∙ ap (λ (x : Mount ℕ). x.number) top_is)
+          ∙ sym top_is in
+          ap (λ (x : Mount ℕ). record mount { filesystem = x.filesystem; root = x.root }) (sym same)
+
+  pub tree_below : (ids : List MountId)
+      → AreOf ids (mount_tree nat_eq (mounts_in value.mounts) (mount_numbered nat_eq (world_of value) number))
+      → bound_mounts (record { mount = top.number; node = top.root }) (mounts_in value.mounts) ids
+      ≡ mount_tree nat_eq (mounts_in value.mounts) (mount_numbered nat_eq (world_of value) number)
+  tree_below ids are =
+      picked (rooted_at source) (mounts_in value.mounts) tree ids are
+      (λ mount m. ascending_found (mounts_in value.mounts) ascending mount (there mount m))
+      ∙ map_same (rooted_at source) tree same_rooted

@@ -1,0 +1,40 @@
+use Rattle.std.proofs.Common.{ap, map, subst, true, ◌∙◌, ◌≡◌, List, []}
+use Rattle.std.specs.List.{list_all}
+use Rattle.std.proofs.lemmas.List.{append-nil}
+use Rattle.vt_location.specs.declared.locations.Location.{Location}
+use Rattle.vt_location.specs.Locations.{location_of}
+use Rattle.vt_location.specs.Numbers.{counted}
+use Rattle.vt_mount.specs.MountsValue.{are_ascending, mounts_in}
+use Rattle.vt_attach.specs.Planned.{Point, is_small, points_left, points_taken, with_planned}
+use Rattle.vt_detach.specs.Detached.{LeaveTogether}
+use Rattle.vt_detach.specs.Uses.{kept}
+use Rattle.vt_ns.proofs.unmounting.take_away.Goals as goal
+
+pub attach_planned-requires : goal.attach_planned-requires
+attach_planned-requires c = ap are_ascending (append-nil (mounts_in c.args.mounts.now)) ∙ c.are_ascending.ensures
+
+pub returns-clause-ok : goal.returns-clause-ok
+returns-clause-ok c =
+    let points : List Point = c.args.plan.now.points.items in
+    let moved = subst (λ (all : List Point). (left : List Location)
+    × (map location_of left ≡ points_left all c.args.mounts.now)
+    × (list_all is_small left ≡ true)
+    × (kept c.attach_planned.new.mounts c.attach_planned.new.filesystems
+    ≡ with_planned [] all left (kept c.args.mounts.now c.args.filesystems.now)))
+    c.deref.ensures.value c.in_ok-attach_planned.ensures.ok in
+    record {
+      between = c.attach_planned.new.mounts;
+      files = c.attach_planned.new.filesystems;
+      groups = c.attach_planned.new.groups;
+      left = moved.0;
+      left_are = moved.1;
+      left_small = moved.2;
+      taken_small = subst (λ (all : List Point). list_all is_small (points_taken all c.args.mounts.now) ≡ true)
+          c.deref.ensures.value c.in_ok-attach_planned.ensures.places;
+      moved = moved.3;
+      grown = c.in_ok-attach_planned.ensures.groups_ok;
+      together = subst (λ ids. LeaveTogether (map (λ id. counted id.count) ids)
+          (kept c.attach_planned.new.mounts c.attach_planned.new.filesystems) c.attach_planned.new.groups
+          (kept c.detach_together.new.mounts c.detach_together.new.filesystems) c.detach_together.new.groups)
+          c.deref-2.ensures.value c.detach_together.ensures;
+    }

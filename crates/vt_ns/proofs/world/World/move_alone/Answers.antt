@@ -1,0 +1,144 @@
+use Rattle.std.proofs.Common.{Ok, Err, OnOk, Result, ap, arith, nat_eq, subst, sym, ℕ, ◌<◌, ◌≡◌, ◌∙◌}
+use Rattle.std.specs.Prelude.{IfErr, IsErrOf, ◌↔◌}
+use Rattle.vt_fs.specs.FilesystemsValue.{shown}
+use Rattle.vt_location.specs.declared.locations.Location.{Location}
+use Rattle.vt_location.specs.Locations.{location_of, number_of}
+use Rattle.vt_location.specs.Numbers.{counted}
+use Rattle.vt_spec.specs.declared.errors.Deny.{Deny}
+use Rattle.vt_spec.specs.declared.errors.Rule.TheVariants.{S5}
+use Rattle.vt_spec.specs.Errors.{denial}
+use Rattle.vt_spec.specs.Machine.Permits.Permit.{ToMove}
+use Rattle.vt_spec.specs.Machine.Mounts.{is_shared}
+use Rattle.vt_spec.specs.Machine.World.{mount_at, mount_numbered}
+use Rattle.vt_ns.specs.contracts.world.World.{the_view}
+use Rattle.vt_detach.specs.Events.{Becomes, Permits}
+use Rattle.vt_detach.specs.Uses.{inode_of, pinned_in, unpinned_at, unpinned_in}
+use Rattle.vt_detach.specs.WorldValue.{WorldValue, world_of}
+use Rattle.vt_detach.proofs.MountsMoved.{mount_is_moved}
+use Rattle.vt_detach.proofs.Remaining.{remade}
+use Rattle.vt_detach.proofs.Shown.{pins, unpins}
+use Rattle.vt_detach.proofs.Staying.{IsDone}
+use Rattle.vt_ns.proofs.world.World.move_alone.Goals as goal
+
+-- one use more is counted, where there was room
+surely : {A P : Type 0} (r : Result A Deny) (uses : ℕ) → IsErrOf r (denial S5) ↔ (uses ≡ 18446744073709551615)
+    → IfErr r (λ deny. deny ≡ denial S5)
+    → ((uses ≡ 18446744073709551615) → ⊥) → OnOk r P → P
+surely (Ok a) uses limit memory room so = so
+surely (Err deny) uses limit memory room so = absurd (room (limit.0 (ap Err memory)))
+
+pub invariant_of-self-in-Some : goal.invariant_of-self-in-Some
+invariant_of-self-in-Some c =
+    let permits : Permits (the_view c.self.inside) c.args.name.now
+    (ToMove (counted c.args.mount.count) (location_of c.args.place)) =
+    subst (λ value. Permits value c.args.name.now (ToMove (counted c.args.mount.count) (location_of c.args.place)))
+    (sym c.self.view_is) c.requires.permitted in
+    let pinned_so = surely c.pin.result _ c.pin.ensures.limit c.pin.ensures.memory
+    (λ full. absurd (omega (arith, c.if-uses.false, c.uses.ensures, full))) c.pin.ensures.ok in
+    (subst (λ mounts. IsDone (the_view c.self.inside) c.args.name.now
+    (ToMove (counted c.args.mount.count) (location_of c.args.place))
+    (remade (the_view c.self.inside) mounts c.unpin.new.self c.self.inside.tasks)) (sym c.in_ok-move_to.ensures.ok)
+    (mount_is_moved (the_view c.self.inside) c.self.invariant c.args.name.now
+    (counted c.args.mount.count) c.args.place c.mount_point-left.result c.unpin.new.self
+    permits
+    (ap (λ (value : WorldValue). is_shared (mount_at nat_eq (world_of value) (location_of c.args.place)).propagation)
+    c.self.view_is ∙ c.requires.alone)
+    (omega arith)
+    (λ point is. let same : c.in-Some.point
+    ≡ point = cc in subst (λ (at : Location). at.node.slot < 18446744073709551616) same c.in-Some.ensures.slot)
+    (c.mount_point-left.ensures.point
+    ∙ ap (λ (value : WorldValue). (mount_numbered nat_eq (world_of value) (counted c.args.mount.count)).mount_point)
+    (sym c.self.view_is))
+    (unpins c.in-Some.point.node.filesystem.count
+    (number_of c.in-Some.point.node) c.pin.new.self c.unpin.new.self c.unpin.ensures
+    ∙ ap (unpinned_in (inode_of c.in-Some.point.node))
+    (pins c.args.place.node.filesystem.count
+    (number_of c.args.place.node) c.self.inside.filesystems c.pin.new.self pinned_so)
+    ∙ ap (λ o. unpinned_at o (pinned_in (inode_of c.args.place.node) (shown c.self.inside.filesystems)))
+    (sym c.in-Some.is)))).held
+
+pub invariant_of-self-in_default : goal.invariant_of-self-in_default
+invariant_of-self-in_default c =
+    let permits : Permits (the_view c.self.inside) c.args.name.now
+    (ToMove (counted c.args.mount.count) (location_of c.args.place)) =
+    subst (λ value. Permits value c.args.name.now (ToMove (counted c.args.mount.count) (location_of c.args.place)))
+    (sym c.self.view_is) c.requires.permitted in
+    let pinned_so = surely c.pin.result _ c.pin.ensures.limit c.pin.ensures.memory
+    (λ full. absurd (omega (arith, c.if-uses.false, c.uses.ensures, full))) c.pin.ensures.ok in
+    (subst (λ mounts. IsDone (the_view c.self.inside) c.args.name.now
+    (ToMove (counted c.args.mount.count) (location_of c.args.place))
+    (remade (the_view c.self.inside) mounts c.pin.new.self c.self.inside.tasks)) (sym c.in_ok-move_to.ensures.ok)
+    (mount_is_moved (the_view c.self.inside) c.self.invariant c.args.name.now
+    (counted c.args.mount.count) c.args.place c.mount_point-left.result c.pin.new.self
+    permits
+    (ap (λ (value : WorldValue). is_shared (mount_at nat_eq (world_of value) (location_of c.args.place)).propagation)
+    c.self.view_is ∙ c.requires.alone)
+    (omega arith)
+    (λ point is. absurd cc)
+    (c.mount_point-left.ensures.point
+    ∙ ap (λ (value : WorldValue). (mount_numbered nat_eq (world_of value) (counted c.args.mount.count)).mount_point)
+    (sym c.self.view_is))
+    (pins c.args.place.node.filesystem.count
+    (number_of c.args.place.node) c.self.inside.filesystems c.pin.new.self pinned_so
+    ∙ ap (λ o. unpinned_at o (pinned_in (inode_of c.args.place.node) (shown c.self.inside.filesystems)))
+    (sym c.in_default.is)))).held
+
+pub returns-in-Some-clause-ok : goal.returns-in-Some-clause-ok
+returns-in-Some-clause-ok c =
+    let permits : Permits (the_view c.self.inside) c.args.name.now
+    (ToMove (counted c.args.mount.count) (location_of c.args.place)) =
+    subst (λ value. Permits value c.args.name.now (ToMove (counted c.args.mount.count) (location_of c.args.place)))
+    (sym c.self.view_is) c.requires.permitted in
+    let pinned_so = surely c.pin.result _ c.pin.ensures.limit c.pin.ensures.memory
+    (λ full. absurd (omega (arith, c.if-uses.false, c.uses.ensures, full))) c.pin.ensures.ok in
+    subst (λ value. Becomes value c.args.name.now (ToMove (counted c.args.mount.count) (location_of c.args.place))
+    (remade (the_view c.self.inside) c.move_to.new.self c.unpin.new.self c.self.inside.tasks)) c.self.view_is
+    (subst (λ mounts. IsDone (the_view c.self.inside) c.args.name.now
+    (ToMove (counted c.args.mount.count) (location_of c.args.place))
+    (remade (the_view c.self.inside) mounts c.unpin.new.self c.self.inside.tasks)) (sym c.in_ok-move_to.ensures.ok)
+    (mount_is_moved (the_view c.self.inside) c.self.invariant c.args.name.now
+    (counted c.args.mount.count) c.args.place c.mount_point-left.result c.unpin.new.self
+    permits
+    (ap (λ (value : WorldValue). is_shared (mount_at nat_eq (world_of value) (location_of c.args.place)).propagation)
+    c.self.view_is ∙ c.requires.alone)
+    (omega arith)
+    (λ point is. let same : c.in-Some.point
+    ≡ point = cc in subst (λ (at : Location). at.node.slot < 18446744073709551616) same c.in-Some.ensures.slot)
+    (c.mount_point-left.ensures.point
+    ∙ ap (λ (value : WorldValue). (mount_numbered nat_eq (world_of value) (counted c.args.mount.count)).mount_point)
+    (sym c.self.view_is))
+    (unpins c.in-Some.point.node.filesystem.count
+    (number_of c.in-Some.point.node) c.pin.new.self c.unpin.new.self c.unpin.ensures
+    ∙ ap (unpinned_in (inode_of c.in-Some.point.node))
+    (pins c.args.place.node.filesystem.count
+    (number_of c.args.place.node) c.self.inside.filesystems c.pin.new.self pinned_so)
+    ∙ ap (λ o. unpinned_at o (pinned_in (inode_of c.args.place.node) (shown c.self.inside.filesystems)))
+    (sym c.in-Some.is)))).becomes
+
+pub returns-in_default-clause-ok : goal.returns-in_default-clause-ok
+returns-in_default-clause-ok c =
+    let permits : Permits (the_view c.self.inside) c.args.name.now
+    (ToMove (counted c.args.mount.count) (location_of c.args.place)) =
+    subst (λ value. Permits value c.args.name.now (ToMove (counted c.args.mount.count) (location_of c.args.place)))
+    (sym c.self.view_is) c.requires.permitted in
+    let pinned_so = surely c.pin.result _ c.pin.ensures.limit c.pin.ensures.memory
+    (λ full. absurd (omega (arith, c.if-uses.false, c.uses.ensures, full))) c.pin.ensures.ok in
+    subst (λ value. Becomes value c.args.name.now (ToMove (counted c.args.mount.count) (location_of c.args.place))
+    (remade (the_view c.self.inside) c.move_to.new.self c.pin.new.self c.self.inside.tasks)) c.self.view_is
+    (subst (λ mounts. IsDone (the_view c.self.inside) c.args.name.now
+    (ToMove (counted c.args.mount.count) (location_of c.args.place))
+    (remade (the_view c.self.inside) mounts c.pin.new.self c.self.inside.tasks)) (sym c.in_ok-move_to.ensures.ok)
+    (mount_is_moved (the_view c.self.inside) c.self.invariant c.args.name.now
+    (counted c.args.mount.count) c.args.place c.mount_point-left.result c.pin.new.self
+    permits
+    (ap (λ (value : WorldValue). is_shared (mount_at nat_eq (world_of value) (location_of c.args.place)).propagation)
+    c.self.view_is ∙ c.requires.alone)
+    (omega arith)
+    (λ point is. absurd cc)
+    (c.mount_point-left.ensures.point
+    ∙ ap (λ (value : WorldValue). (mount_numbered nat_eq (world_of value) (counted c.args.mount.count)).mount_point)
+    (sym c.self.view_is))
+    (pins c.args.place.node.filesystem.count
+    (number_of c.args.place.node) c.self.inside.filesystems c.pin.new.self pinned_so
+    ∙ ap (λ o. unpinned_at o (pinned_in (inode_of c.args.place.node) (shown c.self.inside.filesystems)))
+    (sym c.in_default.is)))).becomes

@@ -1,0 +1,44 @@
+use Rattle.std.proofs.Common.{map, refl, subst, sym, List, ℕ}
+use Rattle.vt_location.specs.Numbers.{counted}
+use Rattle.vt_propagate.specs.Seen.{IsSeen}
+use Rattle.vt_spec.specs.Machine.Permits.Permit.{ToUnmountLazily}
+use Rattle.vt_spec.specs.Machine.World.{World}
+use Rattle.vt_ns.specs.contracts.world.World.{the_view}
+use Rattle.vt_detach.specs.Events.{Becomes, Permits}
+use Rattle.vt_detach.specs.WorldValue.{WorldValue, entries_of, world_of}
+use Rattle.vt_detach.proofs.Staying.{IsDone}
+use Rattle.vt_ns.proofs.UnmountedEverywhere.{unmounted_lazily}
+use Rattle.vt_ns.proofs.world.World.unmount_lazily_everywhere.Goals as goal
+
+abbrev after : (c : goal.After-drop-plan-3) → WorldValue
+after c = record {
+  mounts = c.take_away.new.mounts;
+  groups = c.take_away.new.groups;
+  filesystems = c.take_away.new.filesystems;
+  namespaces = entries_of c.self.inside.namespaces.entries;
+  tasks = c.self.inside.tasks;
+  next = c.self.inside.next;
+}
+
+done : (c : goal.After-drop-plan-3)
+    → IsDone (the_view c.self.inside) c.args.name.now (ToUnmountLazily (counted c.args.mount.count)) (after c)
+done c =
+    let value : WorldValue = the_view c.self.inside in
+    let world : World ℕ = world_of value in
+    let seen : IsSeen world c.self.inside.mounts c.self.inside.groups =
+    record { mounts = refl; groups = c.self.invariant.groups; living = c.self.invariant.in_world.mounts.groups } in
+    let gone : List ℕ = map (λ id. counted id.count) c.in_ok-plan.plan.gone.items in
+    unmounted_lazily value c.self.invariant c.args.name.now (counted c.args.mount.count)
+    (subst (λ one. Permits one c.args.name.now (ToUnmountLazily (counted c.args.mount.count)))
+    (sym c.self.view_is) c.requires)
+    gone c.in_ok-plan.plan.points.items (c.in_ok-plan.ensures.gone world seen) (c.in_ok-plan.ensures.left world refl)
+    (c.in_ok-plan.ensures.each world refl)
+    c.take_away.new.mounts c.take_away.new.groups c.take_away.new.filesystems c.in_ok-take_away.ensures.ok
+
+pub invariant_of-self-2 : goal.invariant_of-self-2
+invariant_of-self-2 c = (done c).held
+
+pub returns-clause-ok : goal.returns-clause-ok
+returns-clause-ok c =
+    subst (λ value. Becomes value c.args.name.now (ToUnmountLazily (counted c.args.mount.count)) (after c))
+    c.self.view_is (done c).becomes

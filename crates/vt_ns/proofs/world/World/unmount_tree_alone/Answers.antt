@@ -1,0 +1,50 @@
+use Rattle.std.proofs.Common.{not, map, sym, subst, true, true≢false, false, Bool, List, ◌&&◌, ◌≡◌, refl, ℕ}
+use Rattle.std.proofs.lemmas.Bool.{and_parts}
+use Rattle.vt_location.specs.Numbers.{counted}
+use Rattle.vt_mount.specs.MountsValue.{mounts_in}
+use Rattle.vt_spec.specs.Machine.Permits.Permit.{ToUnmountLazily}
+use Rattle.vt_ns.specs.contracts.world.World.{the_view}
+use Rattle.vt_ns.specs.Unmounting.{are_ungrouped, stands_on_shared}
+use Rattle.vt_detach.specs.Detached.{tree_numbers}
+use Rattle.vt_detach.specs.Events.{Becomes, Permits}
+use Rattle.vt_detach.specs.WorldValue.{WorldValue}
+use Rattle.vt_detach.proofs.Remaining.{remade}
+use Rattle.vt_detach.proofs.UnmountedLazily.{lazy_unmount_is_done}
+use Rattle.vt_ns.proofs.world.World.unmount_tree_alone.Goals as goal
+
+turned : (b : Bool) → not b ≡ true → b ≡ false
+turned true e = absurd (true≢false (sym e))
+turned false e = refl
+
+pub invariant_of-self : goal.invariant_of-self
+invariant_of-self c =
+    let number = counted c.args.mount.count in
+    let tree : List ℕ = map (λ id. counted id.count) c.args.tree.now in
+    let alone = and_parts _ _ (subst
+    (λ (value : WorldValue). (are_ungrouped (mounts_in value.mounts) tree
+    && not (stands_on_shared (mounts_in value.mounts) number)) ≡ true)
+    (sym c.self.view_is) c.requires.alone) in
+    (lazy_unmount_is_done (the_view c.self.inside) c.args.name.now number tree c.detach_each.new.mounts
+    c.detach_each.new.filesystems c.self.invariant
+    (subst (λ value. Permits value c.args.name.now (ToUnmountLazily number)) (sym c.self.view_is) c.requires.permitted)
+    (subst (λ (value : WorldValue). tree ≡ tree_numbers (mounts_in value.mounts) number) (sym c.self.view_is)
+    c.requires.tree)
+    alone.0 (turned _ alone.1) c.detach_each.ensures).held
+
+pub returns : goal.returns
+returns c =
+    let number = counted c.args.mount.count in
+    let tree : List ℕ = map (λ id. counted id.count) c.args.tree.now in
+    let alone = and_parts _ _ (subst
+    (λ (value : WorldValue). (are_ungrouped (mounts_in value.mounts) tree
+    && not (stands_on_shared (mounts_in value.mounts) number)) ≡ true)
+    (sym c.self.view_is) c.requires.alone) in
+    subst (λ value. Becomes value c.args.name.now (ToUnmountLazily number)
+    (remade (the_view c.self.inside) c.detach_each.new.mounts c.detach_each.new.filesystems
+    (the_view c.self.inside).tasks)) c.self.view_is
+    (lazy_unmount_is_done (the_view c.self.inside) c.args.name.now number tree c.detach_each.new.mounts
+    c.detach_each.new.filesystems c.self.invariant
+    (subst (λ value. Permits value c.args.name.now (ToUnmountLazily number)) (sym c.self.view_is) c.requires.permitted)
+    (subst (λ (value : WorldValue). tree ≡ tree_numbers (mounts_in value.mounts) number) (sym c.self.view_is)
+    c.requires.tree)
+    alone.0 (turned _ alone.1) c.detach_each.ensures).becomes

@@ -1,0 +1,207 @@
+-- A lazy unmount, whose events detach mounts in turn, leaves the world from which all of them are detached at once.
+use Rattle.std.proofs.Common.{◌≡◌, refl, sym, ap, subst, ◌∙◌, ℕ, nat_eq, Bool, true, false, true≢false, ◌||◌, List, [], ◌∷◌, ◌++◌, filter, Option, None, Some, option_map, is_some, ⊎_elim}
+use Rattle.std.proofs.lemmas.List.Folds.{list_any-append}
+use Rattle.std.proofs.lemmas.Option.{same_Some}
+use Rattle.std.specs.Prelude.{Contains, if◌then◌else◌, length}
+use Rattle.vt_spec.specs.Lists.{folded, is_among}
+use Rattle.vt_spec.specs.Machine.Detach.{after_going, going, going_at, has_child, is_going, lazily_unmounted, mount_point_left, mount_point_of_parent, taken_away, unmounted, unmounted_if_there}
+use Rattle.vt_spec.specs.Machine.Invariants.{MountInvariants, Stands}
+use Rattle.vt_spec.specs.Machine.Invariants.Stands.{at_root, on_parent}
+use Rattle.vt_spec.specs.Machine.Mounts.{Location, Mount, mount_tree}
+use Rattle.vt_spec.specs.Machine.Receives.{has_members, is_member_of, regrouped}
+use Rattle.vt_spec.specs.Machine.Settled.{mount_lives, settled, without_dead_groups}
+use Rattle.vt_spec.specs.Machine.World.{World, mount_numbered, with_mounts}
+use Rattle.vt_spec.proofs.Lists.{all_from_among, among_cases, among_numbers, contains_from_among, head_among, map_same, none-filter}
+use Rattle.vt_group.specs.Grouping.{Grouping, GroupsLive, are_rising, numbers_of, peers_of}
+use Rattle.vt_group.proofs.Together.{regrouped_living}
+use Rattle.vt_mount.specs.MountsValue.{MountEntry}
+use Rattle.vt_mount.proofs.PointLemmas.{end-here}
+use Rattle.vt_mount_laws.proofs.EndingLazy.{IsUnderWay, begun, childless, lazy_unmount_keeps_mounts, next}
+use Rattle.vt_mount_laws.proofs.EndingOrder.{is_taken_in_turn, taken_in_turn}
+use Rattle.vt_mount_laws.proofs.MountsFound.{number_found}
+use Rattle.vt_mount_laws.proofs.Standing.{LiesIn, lies_in_tree, stand}
+use Rattle.vt_mount_laws.proofs.Standing.LiesIn.{itself, under}
+use Rattle.vt_mount_laws.proofs.Unmounting.{kept_by_number}
+use Rattle.vt_mount_laws.proofs.UnmountingEnds.{the_mount_itself_goes}
+use Rattle.vt_propagate.specs.LazyUnmounts.{LazyUnmountsAreAtOnce, LazyUnmountsAreSeen, LazyUnmountsSettleAlike, LazyUnmountsTakeTheTree, gone_by, gone_lazily, going_if_there}
+use Rattle.vt_propagate.specs.Seen.{IsSeen}
+use Rattle.vt_propagate.proofs.TakenTwice.{taken_twice}
+
+-- where nothing goes, nothing changes
+nothing_taken : (world : World ℕ) → MountInvariants nat_eq world → taken_away nat_eq world [] ≡ world
+nothing_taken world kept =
+    ap (λ mounts. regrouped nat_eq (with_mounts world mounts))
+    (map_same (after_going nat_eq world []) world.mounts (λ mount m. λ i. record mount {
+      mount_point = stays mount.mount_point i;
+    }))
+    ∙ regrouped_living world kept.groups
+  where
+    stays : (o : Option (Location ℕ)) → option_map (mount_point_left nat_eq world []) o ≡ o
+    stays None = refl
+    stays (Some place) = ap Some (end-here (mount_point_of_parent nat_eq world []) (length world.mounts) place refl)
+
+-- the first of some events takes its mounts with all that the others take
+abbrev left_by_event : Bool → World ℕ → ℕ → World ℕ
+left_by_event there now number = if there then unmounted nat_eq now number else now
+
+abbrev gone_by_event : Bool → World ℕ → ℕ → List ℕ
+gone_by_event there now number = if there then going nat_eq now (mount_numbered nat_eq now number) else []
+
+event_and_others : (now : World ℕ) → MountInvariants nat_eq now → (number : ℕ) (there : Bool) (others : List ℕ)
+    → without_dead_groups nat_eq (taken_away nat_eq (left_by_event there now number) others)
+    ≡ without_dead_groups nat_eq (taken_away nat_eq now (gone_by_event there now number ++ others))
+event_and_others now kept number true others =
+    taken_twice now (going nat_eq now (mount_numbered nat_eq now number)) others kept
+event_and_others now kept number false others = refl
+
+module _ (start : World ℕ) (at_first : MountInvariants nat_eq start) (one : ℕ) where
+  events_at_once : (events : List (Mount ℕ)) (now : World ℕ) → IsUnderWay start at_first one now events
+      → without_dead_groups nat_eq (folded (unmounted_if_there nat_eq) now events)
+      ≡ without_dead_groups nat_eq (taken_away nat_eq now (gone_by now events))
+  events_at_once [] now way = ap (without_dead_groups nat_eq) (sym (nothing_taken now way.kept))
+  events_at_once (mount ∷ rest) now way =
+      events_at_once rest (unmounted_if_there nat_eq now mount) (next start at_first one now mount rest way)
+      ∙ event_and_others now way.kept mount.number (is_some (mount_numbered nat_eq now mount.number).namespace)
+      (gone_by (unmounted_if_there nat_eq now mount) rest)
+
+pub lazy_unmounts_are_at_once : LazyUnmountsAreAtOnce
+lazy_unmounts_are_at_once world number kept =
+    events_at_once world kept number (taken_in_turn world number) world (begun world kept number)
+
+-- The tree
+
+abbrev is_attached : World ℕ → ℕ → Bool
+is_attached world number = is_some (mount_numbered nat_eq world number).namespace
+
+-- a mount goes in its own event, since nothing stands on it then
+goes_itself : (now : World ℕ) → MountInvariants nat_eq now → (number : ℕ) → has_child nat_eq now number ≡ false
+    → is_going nat_eq (going nat_eq now (mount_numbered nat_eq now number)) number ≡ true
+goes_itself now kept number alone = by (mount_numbered nat_eq now number).mount_point refl
+  where
+    by : (o : Option (Location ℕ)) → (mount_numbered nat_eq now number).mount_point ≡ o
+        → is_going nat_eq (going nat_eq now (mount_numbered nat_eq now number)) number ≡ true
+    by None e =
+        ap (λ p. is_going nat_eq (going_at nat_eq now (mount_numbered nat_eq now number) p) number) e
+        ∙ head_among number (mount_numbered nat_eq now number).number [] (sym (number_found now.mounts number))
+    by (Some place) e = the_mount_itself_goes now number place kept.one_child e alone
+
+-- what stands in a tree stands in the namespace of its top
+same_namespace_in : (world : World ℕ) → MountInvariants nat_eq world → (top number : ℕ) → LiesIn world top number
+    → (mount_numbered nat_eq world number).namespace ≡ (mount_numbered nat_eq world top).namespace
+same_namespace_in world kept top number (itself it) = refl
+same_namespace_in world kept top number (under above it place e way) =
+    by (stand world kept.one_number kept.standing it) ∙ same_namespace_in world kept above place.mount way
+  where
+    by : Stands nat_eq world it
+        → (mount_numbered nat_eq world it).namespace ≡ (mount_numbered nat_eq world place.mount).namespace
+    by (at_root other f) = absurd (true≢false (sym (ap is_some e) ∙ ap is_some f))
+    by (on_parent other at f same on) =
+        same ∙ ap (λ (p : Location ℕ). (mount_numbered nat_eq world p.mount).namespace) (same_Some at place (sym f ∙ e))
+
+module _ (start : World ℕ) (at_first : MountInvariants nat_eq start) (one : ℕ) where
+  -- each mount that has an event, and is attached as yet, goes
+  events_take : (events : List (Mount ℕ)) (now : World ℕ) → IsUnderWay start at_first one now events
+      → (number : ℕ) → is_among nat_eq number (numbers_of events) ≡ true → is_attached now number ≡ true
+      → is_among nat_eq number (gone_by now events) ≡ true
+  events_take [] now way number m there = absurd (true≢false (sym m))
+  events_take (mount ∷ rest) now way number m there =
+      list_any-append (nat_eq number) (going_if_there now mount)
+      (gone_by (unmounted_if_there nat_eq now mount) rest)
+      ∙ ⊎_elim
+      (λ same. own same (is_attached now mount.number) refl)
+      (λ later. further (is_attached now mount.number) refl
+      (events_take rest (unmounted_if_there nat_eq now mount) (next start at_first one now mount rest way) number
+      later))
+      (among_cases number mount.number (numbers_of rest) m)
+    where
+      others : Bool
+      others = is_among nat_eq number (gone_by (unmounted_if_there nat_eq now mount) rest)
+
+      own : number ≡ mount.number → (b : Bool) → is_attached now mount.number ≡ b
+          → (is_among nat_eq number (gone_by_event b now mount.number) || others) ≡ true
+      own same true e =
+          ap (λ t. t || others)
+          (subst (λ n. is_among nat_eq n (going nat_eq now (mount_numbered nat_eq now mount.number)) ≡ true) (sym same)
+          (goes_itself now way.kept mount.number (childless start at_first one now mount rest way)))
+      own same false e = absurd (true≢false (sym there ∙ ap (is_attached now) same ∙ e))
+
+      further : (b : Bool) → is_attached now mount.number ≡ b
+          → (is_attached (left_by_event b now mount.number) number ≡ true → others ≡ true)
+          → (is_among nat_eq number (gone_by_event b now mount.number) || others) ≡ true
+      further true e later = by (is_among nat_eq number (gone_by_event true now mount.number)) refl
+        where
+          by : (goes : Bool) → is_among nat_eq number (gone_by_event true now mount.number) ≡ goes
+              → (goes || others) ≡ true
+          by true f = refl
+          by false f =
+              later (ap is_some (kept_by_number now (gone_by_event true now mount.number) number f).namespace ∙ there)
+      further false e later = later there
+
+pub lazy_unmounts_take_the_tree : LazyUnmountsTakeTheTree
+lazy_unmounts_take_the_tree world number kept there =
+    all_from_among (λ mount. Contains (gone_lazily world number) mount.number)
+    (mount_tree nat_eq world.mounts (mount_numbered nat_eq world number)) (λ mount m.
+    let lies = subst (λ top. LiesIn world top mount.number) (number_found world.mounts number)
+    (lies_in_tree world kept.one_number kept.standing (length world.mounts) (mount_numbered nat_eq world number)
+    mount m) in
+    contains_from_among (gone_lazily world number) mount.number
+    (among_numbers (gone_lazily world number) mount.number
+    (events_take world kept number (taken_in_turn world number) world (begun world kept number) mount.number
+    (is_taken_in_turn world kept.one_number kept.standing number mount.number lies)
+    (ap is_some (same_namespace_in world kept number mount.number lies) ∙ there))))
+
+-- What the two worlds are seen as, and settled
+
+-- worlds that differ in the masters of groups without members have the same groups
+seen_alike : (one other : World ℕ) (kept : List MountEntry) (grouping : Grouping)
+    → without_dead_groups nat_eq other ≡ without_dead_groups nat_eq one → GroupsLive other
+    → IsSeen one kept grouping → IsSeen other kept grouping
+seen_alike one other kept grouping same live seen =
+    let mounts : other.mounts ≡ one.mounts = ap (λ (w : World ℕ). w.mounts) same in
+    record {
+      mounts = seen.mounts ∙ sym mounts;
+      groups = record {
+        order = ap (λ m. are_rising (numbers_of m)) mounts ∙ seen.groups.order;
+        peers = seen.groups.peers ∙ sym (ap peers_of mounts);
+        masters_order = seen.groups.masters_order;
+        masters = λ group. seen.groups.masters group ∙ sym (ap (λ (w : World ℕ). w.master group) same);
+      };
+      living = live;
+    }
+
+-- Where the mounts that go are detached at once, code has the mounts and groups of the world after the lazy unmount.
+pub seen_lazily : LazyUnmountsAreSeen
+seen_lazily world number kept grouping invariants seen =
+    seen_alike (taken_away nat_eq world (gone_lazily world number)) (lazily_unmounted nat_eq world number) kept grouping
+    (lazy_unmounts_are_at_once world number invariants)
+    (lazy_unmount_keeps_mounts world number invariants).groups seen
+
+-- a world settles to the same where groups without members ended before
+settled_without_groups : (world : World ℕ) → settled nat_eq (without_dead_groups nat_eq world) ≡ settled nat_eq world
+settled_without_groups world = λ i. record (settled nat_eq world) { master = λ group. same group i }
+  where
+    living : List (Mount ℕ)
+    living = filter (mount_lives nat_eq world) world.mounts
+
+    same : (group : ℕ) → (settled nat_eq (without_dead_groups nat_eq world)).master group
+        ≡ (settled nat_eq world).master group
+    same group = by (has_members nat_eq living group) refl (has_members nat_eq world.mounts group) refl
+      where
+        by : (b : Bool) → has_members nat_eq living group ≡ b → (c : Bool) → has_members nat_eq world.mounts group ≡ c
+            → (settled nat_eq (without_dead_groups nat_eq world)).master group
+            ≡ (settled nat_eq world).master group
+        by true e true f = ap (λ c. if has_members nat_eq living group
+            then (if c then world.master group else None) else None) f
+        by true e false f =
+            absurd (true≢false (sym e
+            ∙ none-filter (is_member_of nat_eq group) (mount_lives nat_eq world) world.mounts f))
+        by false e c f =
+            ap (λ b. if b then (if has_members nat_eq world.mounts group then world.master group else None) else None) e
+            ∙ sym (ap (λ b. if b then world.master group else None) e)
+
+-- A lazy unmount settles to the world in which they were detached at once.
+pub settled_lazily : LazyUnmountsSettleAlike
+settled_lazily world number kept =
+    sym (settled_without_groups (lazily_unmounted nat_eq world number))
+    ∙ ap (settled nat_eq) (lazy_unmounts_are_at_once world number kept)
+    ∙ settled_without_groups (taken_away nat_eq world (gone_lazily world number))
