@@ -17,8 +17,6 @@ received60, received600, received2000
 chain   a mount and its unmount along 200 peer groups, each the slave of the one before
 trees   a tree of 1,000 mounts, bound recursively onto a shared mount with one more peer, and unmounted lazily
 
-The last five need mount propagation, which the program does not have yet: bench/run leaves them out.
-
 The number of directories is 1,000, or fewer for a short script. The same words give the same script.
 """
 import sys
@@ -279,21 +277,16 @@ def trees_round(i, count):
 KINDS = {
     'files': files, 'listed': listed, 'deep': deep, 'one': one, 'users': users, 'links': links, 'mounts': mounts,
     'spaces': spaces,
-}
-
-# of lines that the program refuses as yet
-WAITING = {
     'received60': lambda lines: received(lines, 60), 'received600': lambda lines: received(lines, 600),
     'received2000': lambda lines: received(lines, 2000), 'chain': chain, 'trees': trees,
 }
 
 
 def main():
-    kinds = KINDS | WAITING
-    if len(sys.argv) != 3 or sys.argv[1] not in kinds or not sys.argv[2].isdigit():
+    if len(sys.argv) != 3 or sys.argv[1] not in KINDS or not sys.argv[2].isdigit():
         sys.exit(__doc__.strip())
     out = sys.stdout
-    for line in kinds[sys.argv[1]](int(sys.argv[2])):
+    for line in KINDS[sys.argv[1]](int(sys.argv[2])):
         out.write(line + '\n')
 
 
