@@ -5,6 +5,7 @@ pub mod Counting
 pub mod Indexing
 pub mod Planning
 pub mod Fallen
+pub mod GoneSets
 pub mod Pushed
 pub mod PushedOnce
 pub mod Attached

@@ -1,5 +1,6 @@
 -- Where mounts stand once others are detached, and how a list of new mount points is applied.
 use Rattle.std.specs.Prelude.{List, None, Option, Some, [], false, filter_map, find, flat_map, if◌then◌else◌, map, nat_eq, option_map, ℕ, ◌≡◌}
+use Rattle.std.specs.List.{list_any}
 use Rattle.std.specs.Map.{lookup}
 use Rattle.vt_spec.specs.Lists.{or_else, then_some}
 use Rattle.vt_spec.specs.Machine.Detach.{is_going, mount_point_left, taken_away}
@@ -7,7 +8,9 @@ use Rattle.vt_spec.specs.Machine.Mounts.{Location, Mount, children, detached}
 use Rattle.vt_spec.specs.Machine.Receives.{regrouped}
 use Rattle.vt_spec.specs.Machine.World.{World, mount_numbered, with_mounts}
 use Rattle.vt_location.specs.Locations.{location_of}
+use Rattle.vt_location.specs.declared.numbers.MountId.{MountId}
 use Rattle.vt_location.specs.Numbers.{counted}
+use Rattle.vt_mount.specs.Listed.{same_id}
 use Rattle.vt_propagate.specs.declared.falling.NewPoint.{NewPoint}
 
 abbrev pub point_of : NewPoint → ℕ × Location ℕ
@@ -47,6 +50,10 @@ point_left mounts gone mount =
 abbrev pub point_left_of : List (Mount ℕ) → List ℕ → ℕ → Option (ℕ × Location ℕ)
 point_left_of mounts gone number =
     then_some (find (λ mount. nat_eq number mount.number) mounts) (point_left mounts gone)
+
+-- a set of just these mounts
+abbrev pub HasJust : List MountId → List ℕ → Type 0
+HasJust keys numbers = (id : MountId) → list_any (same_id id) keys ≡ is_going nat_eq numbers (counted id.count)
 
 -- of all mounts on one that goes, and on all that go
 abbrev pub points_left_on : List (Mount ℕ) → List ℕ → ℕ → List (ℕ × Location ℕ)

@@ -8,8 +8,10 @@ ghost use Rattle.vt_spec.specs.Machine.World.{World};
 ghost use Rattle.vt_location.specs.Locations.{location_of};
 ghost use Rattle.vt_location.specs.Numbers.{counted};
 ghost use Rattle.vt_mount.specs.MountsValue.{mounts_in};
-ghost use Rattle.vt_propagate.specs.Falling.{FallsTo, LeavesBy, all_points_left, of_mounts, point_left_of, point_of};
+ghost use Rattle.vt_propagate.specs.Falling.{FallsTo, HasJust, LeavesBy, all_points_left, of_mounts, point_left_of};
+ghost use Rattle.vt_propagate.specs.Falling.{point_of};
 
+use indexmap::IndexSet;
 use std::alloc::{AllocError, Global};
 use vt_location::{Location, MountId};
 use vt_mount::Mounts;
@@ -20,6 +22,13 @@ use vt_spec::errors::{Deny, Rule};
 pub struct NewPoint {
     pub mount: MountId,
     pub place: Location,
+}
+
+// The mounts that go, and the same as a set.
+#[derive(Clone, Copy, Debug)]
+struct Gone<'a> {
+    ids: &'a [MountId],
+    set: &'a IndexSet<MountId>,
 }
 
 /// The new mount points of the mounts that stay where these are detached. A mount on one of them takes that one's mount
@@ -45,22 +54,39 @@ fn all_left(alloc: Global, mounts: &Mounts, gone: &[MountId]) -> Result<Vec<NewP
     ensures { IfOk result (λ points. map point_of points.items
         ≡ all_points_left (mounts_in mounts.now) (map (λ id. counted id.count) gone.now)) }
 {
+    let set = set_of(alloc, gone)?;
+    let gone = Gone {
+        ids: gone,
+        set: &set,
+    };
     let mut points = Vec::new(alloc);
-    for id in gone {
-        push_left(mounts, gone, mounts.children(*id), &mut points)?;
+    for id in gone.ids {
+        push_left(mounts, &gone, mounts.children(*id), &mut points)?;
     }
     Ok(points)
+}
+
+// The set of these mounts.
+fn set_of(alloc: Global, ids: &[MountId]) -> Result<IndexSet<MountId>, AllocError>
+    ensures { IfOk result (λ set. HasJust set.keys (map (λ id. counted id.count) ids.now)) }
+{
+    let mut set = IndexSet::new(alloc);
+    for id in ids {
+        set.insert(*id)?;
+    }
+    Ok(set)
 }
 
 // Adds the new mount points of these mounts.
 fn push_left(
     mounts: &Mounts,
-    gone: &[MountId],
+    gone: &Gone,
     children: &[MountId],
     points: &mut Vec<NewPoint>,
 ) -> Result<(), AllocError>
+    requires { HasJust gone.now.set.now.keys (map (λ id. counted id.count) gone.now.ids.now) }
     ensures { OnOk result (map point_of points.new.items ≡ map point_of points.old.items
-        ++ filter_map (point_left_of (mounts_in mounts.now) (map (λ id. counted id.count) gone.now))
+        ++ filter_map (point_left_of (mounts_in mounts.now) (map (λ id. counted id.count) gone.now.ids.now))
         (map (λ id. counted id.count) children.now)) }
 {
     for child in children {
@@ -72,9 +98,10 @@ fn push_left(
 }
 
 // The new mount point of a mount that stays.
-fn point_left(mounts: &Mounts, gone: &[MountId], id: MountId) -> Option<NewPoint>
+fn point_left(mounts: &Mounts, gone: &Gone, id: MountId) -> Option<NewPoint>
+    requires { HasJust gone.now.set.now.keys (map (λ id. counted id.count) gone.now.ids.now) }
     ensures { option_map point_of result
-        ≡ point_left_of (mounts_in mounts.now) (map (λ id. counted id.count) gone.now) (counted id.count) }
+        ≡ point_left_of (mounts_in mounts.now) (map (λ id. counted id.count) gone.now.ids.now) (counted id.count) }
 {
     let mount = mounts.get(id)?;
     if is_gone(gone, id) {
@@ -87,9 +114,10 @@ fn point_left(mounts: &Mounts, gone: &[MountId], id: MountId) -> Option<NewPoint
 }
 
 // Where a mount point is left.
-fn place_left(mounts: &Mounts, gone: &[MountId], place: Location) -> Location
+fn place_left(mounts: &Mounts, gone: &Gone, place: Location) -> Location
+    requires { HasJust gone.now.set.now.keys (map (λ id. counted id.count) gone.now.ids.now) }
     ensures { location_of result
-        ≡ mount_point_left nat_eq (of_mounts (mounts_in mounts.now)) (map (λ id. counted id.count) gone.now)
+        ≡ mount_point_left nat_eq (of_mounts (mounts_in mounts.now)) (map (λ id. counted id.count) gone.now.ids.now)
         (location_of place) }
 {
     let mut here = place;
@@ -103,9 +131,10 @@ fn place_left(mounts: &Mounts, gone: &[MountId], place: Location) -> Location
 }
 
 // The mount point of the mount that a mount point is on, if that mount goes.
-fn below_gone(mounts: &Mounts, gone: &[MountId], place: Location) -> Option<Location>
+fn below_gone(mounts: &Mounts, gone: &Gone, place: Location) -> Option<Location>
+    requires { HasJust gone.now.set.now.keys (map (λ id. counted id.count) gone.now.ids.now) }
     ensures { option_map location_of result
-        ≡ mount_point_of_parent nat_eq (of_mounts (mounts_in mounts.now)) (map (λ id. counted id.count) gone.now)
+        ≡ mount_point_of_parent nat_eq (of_mounts (mounts_in mounts.now)) (map (λ id. counted id.count) gone.now.ids.now)
         (location_of place) }
 {
     if !is_gone(gone, place.mount) {
@@ -115,8 +144,9 @@ fn below_gone(mounts: &Mounts, gone: &[MountId], place: Location) -> Option<Loca
 }
 
 // Whether a mount is one of these.
-fn is_gone(gone: &[MountId], id: MountId) -> bool
-    ensures { result ≡ is_going nat_eq (map (λ id. counted id.count) gone.now) (counted id.count) }
+fn is_gone(gone: &Gone, id: MountId) -> bool
+    requires { HasJust gone.now.set.now.keys (map (λ id. counted id.count) gone.now.ids.now) }
+    ensures { result ≡ is_going nat_eq (map (λ id. counted id.count) gone.now.ids.now) (counted id.count) }
 {
-    gone.iter().any(|other| *other == id)
+    gone.set.contains(&id)
 }

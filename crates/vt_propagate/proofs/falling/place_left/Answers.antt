@@ -9,7 +9,7 @@ use Rattle.vt_propagate.proofs.falling.place_left.Goals as goal
 
 pub loop-preserved : goal.loop-preserved
 loop-preserved c =
-    let step = mount_point_of_parent nat_eq (of_mounts (mounts_in c.args.mounts.now)) (counts c.args.gone.now) in
+    let step = mount_point_of_parent nat_eq (of_mounts (mounts_in c.args.mounts.now)) (counts c.args.gone.now.ids.now) in
     let is : step (location_of c.loop.here) ≡ Some (location_of c.in-Some.below) = sym c.in-Some.ensures in
     let one : c.len-end.result - c.loop.counter
     ≡ suc (c.len-end.result - (c.loop.counter + 1)) = omega (arith, c.loop-test.true) in (

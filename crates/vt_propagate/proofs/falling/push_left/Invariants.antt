@@ -7,7 +7,7 @@ use Rattle.vt_propagate.proofs.falling.push_left.Given as goal
 
 abbrev pub invariant-loop-child : goal.invariant-loop-child
 invariant-loop-child l =
-    map point_of l.points.items ++ filter_map (point_left_of (mounts_in l.mounts) (counts l.gone)) (counts
+    map point_of l.points.items ++ filter_map (point_left_of (mounts_in l.mounts) (counts l.gone.ids.now)) (counts
     (drop l.child-index l.children))
-    ≡ map point_of l.fn.points.items ++ filter_map (point_left_of (mounts_in l.mounts) (counts l.gone))
+    ≡ map point_of l.fn.points.items ++ filter_map (point_left_of (mounts_in l.mounts) (counts l.gone.ids.now))
     (counts l.children)
