@@ -2,8 +2,8 @@
 ghost use Rattle.vt_later_laws.specs.Undone.{UnmountTakesWhatStoodThere, UnmountUndoesBindBeneath, UnmountUndoesNewMountBeneath};
 
 /// The unmount of a new mount, or of a bind of one mount, at a free location undoes it where each receiver with a mount
-/// at the same location takes part: each mount that was there has its record back, also those beneath which copies came;
-/// all copies are detached, and groups have the masters that they had.
+/// at the same location takes part: each mount that was there has its record back, also those beneath which copies
+/// came; all copies are detached, and groups have the masters that they had.
 ///
 /// Of a bind, the source does not hear the destination's group, or its root is another node than the destination's, or
 /// what copies came beneath may not go: then that is detached with the copies. The numbers handed in are not in use,

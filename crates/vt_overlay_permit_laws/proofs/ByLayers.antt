@@ -73,8 +73,8 @@ granted_calls_are_by_layers world fresh task call permit location change overlay
     let place = asked_changes_have_places (stack_of nat_eq world overlay upper)
     (merge_of nat_eq world (filesystem_at nat_eq world location) overlay upper) change
     (overlays_are_whole world (mount_at nat_eq world location).filesystem overlay upper conditions is has)
-    (permits_ask_overlays_well world fresh task call permit location change overlay upper conditions serves called judged
-    asks is has) in
+    (permits_ask_overlays_well world fresh task call permit location change overlay upper conditions serves called
+    judged asks is has) in
     record {
       at = place.0;
       asks = place.1;
