@@ -435,6 +435,73 @@ module _ (world : World ℕ) (fresh : Fresh ℕ) (place : Location ℕ) (first :
           ∙ ap (λ n. Some (record { mount = (copy part).number; node = n }))
           ((each_is_copied it part first can c of_first).root ∙ eqb-true first.root place.node root)
 
+  -- What stands there at a receiver that takes no part goes, if it may.
+  hears_after : (x : Mount ℕ) → Among x world.mounts → (group : ℕ) → receives nat_eq world group x ≡ true
+      → receives nat_eq after group (push_it x) ≡ true
+  hears_after x m group r =
+      let t = heard world x group r in
+      hears after groups_later (push_it x) (push_among x m) t.0 group (ap source_of (keeps x).propagation ∙ t.1)
+      (old_up_after world (supply it can) place false (first ∷ []) (serve_images it can) can.each_once t.0 group
+      (lives_in world can.groups x m t.0 t.1) t.2)
+
+  -- the node of the place, on a mount
+  abbrev place_on : ℕ → Location ℕ
+  place_on number = record { mount = number; node = place.node }
+
+  pub taken_beside : child_at nat_eq world.mounts place ≡ None → (group : ℕ) (receiver mount : Mount ℕ)
+      → destination.propagation ≡ Shared group → Among receiver world.mounts
+      → receives nat_eq world group receiver ≡ true → Among mount world.mounts
+      → stands_at nat_eq (record { mount = receiver.number; node = place.node }) mount ≡ true
+      → takes_part nat_eq world place receiver ≡ false
+      → may_go nat_eq after (mount_numbered nat_eq after mount.number) ≡ true
+      → mount_left after gone mount.number ≡ detached (mount_numbered nat_eq after mount.number)
+  taken_beside free group receiver mount e r hearing m stood apart may =
+      what_goes_is_detached after gone mount.number
+      ((what_goes_is_named after gone mount.number groups_later).1
+      (subst (Goes after (copy destination)) (keeps mount).number
+      (at_receiver (record { mount = destination.number; node = place.node }) group (push_it receiver) (push_it mount)
+      (copy_stands destination destination_part) (destination_later ∙ e)
+      (contains_from_among after.mounts (push_it receiver) (push_among receiver r))
+      (receives_soundly after group (push_it receiver) (hears_after receiver r group hearing))
+      (found_at_its_place after.mounts one_place (push_it mount) (push_among mount m)
+      (record { mount = (push_it receiver).number; node = place.node })
+      (⊎_elim still risen (rises_or_stays mount)
+      ∙ ap (λ n. Some (record { mount = n; node = place.node })) (sym (keeps receiver).number)))
+      (ap (may_go nat_eq after) (sym (kept_itself mount m)) ∙ may))))
+    where
+      stands : mount.mount_point ≡ Some (record { mount = receiver.number; node = place.node })
+      stands = stands_there (record { mount = receiver.number; node = place.node }) mount stood
+
+      still : (push_it mount ≡ mount) × ((part : Mount ℕ) → Among part (rest_of parts)
+          → stands_at nat_eq (record { mount = part.number; node = place.node }) mount ≡ false)
+          → (push_it mount).mount_point ≡ Some (record { mount = receiver.number; node = place.node })
+      still stayed = ap (λ (x : Mount ℕ). x.mount_point) stayed.0 ∙ stands
+
+      risen : (part : Mount ℕ) × IsPart it part
+          × (mount.mount_point ≡ Some (record { mount = part.number; node = place.node }))
+          × ((push_it mount).mount_point ≡ Some (root_of (copy part)))
+          → (push_it mount).mount_point ≡ Some (record { mount = receiver.number; node = place.node })
+      risen up =
+          ⊎_elim
+          (λ same. absurd (true≢false
+          (sym (stands_at_its_place place mount
+          (up.2 ∙ ap (λ (x : Mount ℕ). Some (record { mount = x.number; node = place.node })) same
+          ∙ ap (λ n. Some (record { mount = n; node = place.node })) (number_found world.mounts place.mount)))
+          ∙ unfound (stands_at nat_eq place) world.mounts free mount m)))
+          (λ rest. absurd (true≢false
+          (sym (among-from_filter (takes_part nat_eq world place) (receivers_of nat_eq world destination) up.0 rest).1
+          ∙ ap (takes_part nat_eq world place) one ∙ apart)))
+          (among_from_contains parts up.0 up.1)
+        where
+          here : place_on up.0.number ≡ place_on receiver.number
+          here = same_Some (place_on up.0.number) (place_on receiver.number) (sym up.2 ∙ stands)
+
+          one : up.0 ≡ receiver
+          one =
+              sym (found_itself world.mounts can.one_number up.0 (part_old up.0 up.1))
+              ∙ ap (λ (l : Location ℕ). mount_numbered nat_eq world l.mount) here
+              ∙ found_itself world.mounts can.one_number receiver r
+
   module _ (takes : (group : ℕ) (receiver mount : Mount ℕ) → (mount_at nat_eq world place).propagation ≡ Shared group
       → Among receiver world.mounts → receives nat_eq world group receiver ≡ true → Among mount world.mounts
       → stands_at nat_eq (record { mount = receiver.number; node = place.node }) mount ≡ true

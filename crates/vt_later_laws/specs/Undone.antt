@@ -13,7 +13,7 @@ use Rattle.vt_spec.specs.Machine.Receives.{receives}
 use Rattle.vt_spec.specs.Machine.Run.{Serves}
 use Rattle.vt_spec.specs.Machine.World.{Filesystem, World, mount_at, mount_numbered}
 use Rattle.vt_mount_laws.specs.Mounts.Attaching.{is_mount}
-use Rattle.vt_mount_laws.specs.Mounts.Propagation.{IsUndone, bind_of, new_mount_of, number_at, world_after}
+use Rattle.vt_mount_laws.specs.Mounts.Propagation.{Attachment, IsUndone, bind_of, destination_of, new_mount_of, number_at, world_after}
 use Rattle.vt_mount_laws.specs.Mounts.Unmounting.{mount_left}
 
 -- Each receiver with a mount at the node of the place takes part, so that it gets a copy beneath that mount.
@@ -41,6 +41,30 @@ bound_world fresh world source place = world_after (bind_of fresh world source p
 
 abbrev pub mount_bound : Fresh ℕ → World ℕ → Location ℕ → Location ℕ → ℕ → Mount ℕ
 mount_bound fresh world source place number = mount_numbered nat_eq (bound_world fresh world source place) number
+
+-- What stands there at a receiver that takes no part, and may go, is detached: an unmount looks at each receiver.
+abbrev pub TakesWhatStoodBeside : Attachment → Mount ℕ → Type 0
+TakesWhatStoodBeside it one =
+    (group : ℕ) (receiver mount : Mount ℕ) → (destination_of it).propagation ≡ Shared group
+    → Contains it.world.mounts receiver → receives nat_eq it.world group receiver ≡ true
+    → Contains it.world.mounts mount
+    → stands_at nat_eq (record { mount = receiver.number; node = it.mount_point.node }) mount ≡ true
+    → takes_part nat_eq it.world it.mount_point receiver ≡ false
+    → may_go nat_eq (world_after it) (mount_numbered nat_eq (world_after it) mount.number) ≡ true
+    → mount_left (world_after it) (number_at it (destination_of it) one) mount.number
+    ≡ detached (mount_numbered nat_eq (world_after it) mount.number)
+
+-- So it is after a new mount, and after a bind of one mount: each receiver with a mount there has to take part.
+abbrev pub UnmountTakesWhatStoodBeside : Type 0
+UnmountTakesWhatStoodBeside =
+    ((world : World ℕ) (fresh : Fresh ℕ) (place : Location ℕ) (filesystem : Filesystem ℕ) (flags : MountFlags)
+    → Serves nat_eq (with_new_filesystem world filesystem) fresh → MountInvariants nat_eq world
+    → is_mount world place.mount ≡ true → child_at nat_eq world.mounts place ≡ None
+    → TakesWhatStoodBeside (new_mount_of fresh world place filesystem flags)
+    (new_mount filesystem.number filesystem.files.tree.root flags))
+    × ((world : World ℕ) (fresh : Fresh ℕ) (source place : Location ℕ) → Serves nat_eq world fresh
+    → MountInvariants nat_eq world → is_mount world place.mount ≡ true → child_at nat_eq world.mounts place ≡ None
+    → TakesWhatStoodBeside (bind_of fresh world source place false) (bound nat_eq world source))
 
 -- The copies of a source that hears the destination's group hear the unmount too. Where their root is the node of the
 -- place, what a copy came beneath stands at that place of it: it is unmounted with the copies, unless something stands

@@ -18,8 +18,8 @@ use Rattle.vt_mount_laws.proofs.MountsNumbered.{is_one_of}
 use Rattle.vt_mount_laws.proofs.PropagationPremises.{binds_can, new_mounts_can}
 use Rattle.vt_mount_laws.proofs.Standing.{standing_is_computed}
 use Rattle.vt_mount_laws.proofs.Unsharing.{parent_of}
-use Rattle.vt_later_laws.specs.Undone.{CoveredTakePart, NoneGoesWithTheCopies, UnmountTakesWhatStoodThere, UnmountUndoesBindBeneath, UnmountUndoesNewMountBeneath}
-use Rattle.vt_later_laws.proofs.UndoneBeneath.{copy_is_gone, has_its_record_back, masters_back, one_of, taken_along}
+use Rattle.vt_later_laws.specs.Undone.{CoveredTakePart, NoneGoesWithTheCopies, UnmountTakesWhatStoodBeside, UnmountTakesWhatStoodThere, UnmountUndoesBindBeneath, UnmountUndoesNewMountBeneath}
+use Rattle.vt_later_laws.proofs.UndoneBeneath.{copy_is_gone, has_its_record_back, masters_back, one_of, taken_along, taken_beside}
 
 on_mounts : (world : World ℕ) → MountInvariants nat_eq world → (mount : Mount ℕ) → Among mount world.mounts
     → (at : Location ℕ) → mount.mount_point ≡ Some at → is_mount world at.mount ≡ true
@@ -122,3 +122,34 @@ unmount_takes_what_stood_there world fresh source place group receiver mount ser
     hears))
     takes)
     (among_from_contains world.mounts mount n) stood hearing root may
+
+pub unmount_takes_what_stood_beside : UnmountTakesWhatStoodBeside
+unmount_takes_what_stood_beside = (
+  λ world fresh place filesystem flags serves mounts there free group receiver mount shared r hears n stood apart may.
+      let larger = with_new_filesystem world filesystem in
+      let first = new_mount filesystem.number filesystem.files.tree.root flags in
+      let can = new_mounts_can world fresh place filesystem flags serves mounts in
+      let after = world_after (one_of larger fresh place first) in
+      let ends = (standing_is_computed after
+      (new_mounts_keep_numbers world fresh place filesystem flags serves mounts.one_number)).0
+      (new_mounts_keep_standing world fresh place filesystem flags serves mounts.one_number mounts.nowhere
+      mounts.standing there) in
+      let places = new_mounts_keep_places world fresh place filesystem flags serves mounts.one_number mounts.nowhere
+      mounts.standing there free mounts.one_child in
+      taken_beside larger fresh place first can there (on_mounts world mounts) ends places free group receiver mount
+      shared (among_from_contains world.mounts receiver r) hears (among_from_contains world.mounts mount n) stood
+      apart may,
+  λ world fresh source place serves mounts there free group receiver mount shared r hears n stood apart may.
+      let first = bound nat_eq world source in
+      let can = binds_can world fresh source place false serves mounts in
+      let after = world_after (one_of world fresh place first) in
+      let ends = (standing_is_computed after
+      (binds_keep_numbers world fresh source place false serves mounts.one_number mounts.standing)).0
+      (binds_keep_standing world fresh source place false serves mounts.one_number mounts.nowhere mounts.standing
+      there) in
+      let places = binds_keep_places world fresh source place false serves mounts.one_number mounts.nowhere
+      mounts.standing there free mounts.one_child in
+      taken_beside world fresh place first can there (on_mounts world mounts) ends places free group receiver mount
+      shared (among_from_contains world.mounts receiver r) hears (among_from_contains world.mounts mount n) stood
+      apart may,
+)
