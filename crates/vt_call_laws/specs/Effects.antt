@@ -6,6 +6,7 @@ use Rattle.vt_spec.specs.declared.attributes.Kind.TheVariants.{Symlink}
 use Rattle.vt_spec.specs.FileTree.{is_kind_in, opaque_of}
 use Rattle.vt_spec.specs.Language.Answers.Answer.{Bytes, Names, Opened}
 use Rattle.vt_spec.specs.Language.Calls.{Access, Call, TaskName}
+use Rattle.vt_spec.specs.Language.Calls.Call.{Ls, Pread, Read, Readlink}
 use Rattle.vt_spec.specs.Lists.{Fresh}
 use Rattle.vt_spec.specs.Machine.Apply.{apply}
 use Rattle.vt_spec.specs.Machine.Judge.{judge_in}
@@ -15,6 +16,7 @@ use Rattle.vt_spec.specs.Machine.Permits.{Permit}
 use Rattle.vt_spec.specs.Machine.Policy.{policy}
 use Rattle.vt_spec.specs.Machine.Rightful.{node_allows}
 use Rattle.vt_spec.specs.Machine.Rules.Descriptors.{access_rights, descriptor_numbered}
+use Rattle.vt_spec.specs.Machine.Walk.{Here, directory_walk, object_walk, symlink_walk}
 use Rattle.vt_spec.specs.Machine.World.{Descriptor, Task, World, mount_at, node_at, task_called}
 use Rattle.vt_spec.specs.Rights.{cap_chown, cap_sys_admin, execute_right, has_all, owns, read_right, write_right}
 use Rattle.vt_spec.specs.Tree.{Node, bytes_in, bytes_of, entries_of, entry_named, names_in}
@@ -58,28 +60,39 @@ ChangesAreByRight =
     → inode_in (policy nat_eq fresh world name call).world filesystem number ≡ Some now
     → IsByRight world task filesystem number was now
 
--- Names that a granted call tells are those of a directory that the task may read: getdents(2).
+-- What a call tells of: that to which its path leads.
+pub data TellsOf (world : World ℕ) (task : Task ℕ) : Call → Location ℕ → Type 0 where
+  a_directory : (path : List ℕ) (here : Here ℕ)
+      → directory_walk nat_eq world task path ≡ Ok here → TellsOf world task (Ls path) here.location
+  an_object : (path : List ℕ) (here : Here ℕ)
+      → object_walk nat_eq world task path ≡ Ok here → TellsOf world task (Read path) here.location
+  a_symlink : (path : List ℕ) (here : Here ℕ)
+      → symlink_walk nat_eq world task path ≡ Ok here → TellsOf world task (Readlink path) here.location
+
+-- Names that a granted call tells are those of the directory that its path leads to, which the task may read:
+-- getdents(2).
 abbrev pub NamesAreToldByRight : Type 0
 NamesAreToldByRight =
     (fresh : Fresh ℕ) (world : World ℕ) (call : Call) (task : Task ℕ) (permit : Permit ℕ) (names : List (List ℕ))
     → judge_in nat_eq fresh world task call ≡ Ok permit
     → (apply nat_eq fresh world task permit).answer ≡ Ok (Names names)
-    → (directory : Location ℕ) × (names ≡ names_in (node_at nat_eq world directory))
+    → (directory : Location ℕ) × TellsOf world task call directory
+    × (names ≡ names_in (node_at nat_eq world directory))
     × (node_allows task.credentials read_right (node_at nat_eq world directory) ≡ true)
 
--- Bytes that it tells are those of an object that the task may read, a part of those of a file that it has open for
--- reading, or the text of a symlink: read(2), pread(2), readlink(2).
+-- Bytes that it tells are those of the object that its path leads to, which the task may read; the text of the symlink
+-- that its path leads to; or a part of those of a file that it has open for reading: read(2), readlink(2), pread(2).
 abbrev pub BytesAreToldByRight : Type 0
 BytesAreToldByRight =
     (fresh : Fresh ℕ) (world : World ℕ) (call : Call) (task : Task ℕ) (permit : Permit ℕ) (bytes : List ℕ)
     → judge_in nat_eq fresh world task call ≡ Ok permit
     → (apply nat_eq fresh world task permit).answer ≡ Ok (Bytes bytes)
-    → ((file : Location ℕ) × (bytes ≡ bytes_in (node_at nat_eq world file))
+    → ((file : Location ℕ) × TellsOf world task call file × (bytes ≡ bytes_in (node_at nat_eq world file))
     × (node_allows task.credentials read_right (node_at nat_eq world file) ≡ true))
-    ⊎ (((file : Location ℕ) × (bytes ≡ bytes_in (node_at nat_eq world file))
+    ⊎ (((file : Location ℕ) × TellsOf world task call file × (bytes ≡ bytes_in (node_at nat_eq world file))
     × (is_kind_in Symlink (node_at nat_eq world file) ≡ true))
-    ⊎ ((descriptor : Descriptor ℕ) × (which offset size : ℕ) × (descriptor_numbered task which ≡ Some descriptor)
-    × (descriptor.reads ≡ true) × (bytes
+    ⊎ ((descriptor : Descriptor ℕ) × (which offset size : ℕ) × (call ≡ Pread which offset size)
+    × (descriptor_numbered task which ≡ Some descriptor) × (descriptor.reads ≡ true) × (bytes
     ≡ take size (drop offset (bytes_in (node_at nat_eq world descriptor.location))))))
 
 -- A descriptor that a granted call gives is for a file that the task may read and write as it asked, both as one

@@ -6,9 +6,9 @@ ghost use Rattle.vt_call_laws.specs.Effects.{BytesAreToldByRight, ChangesAreByRi
 /// CAP_CHOWN; an entry, as it may write and search the directory; the opaque mark by CAP_SYS_ADMIN. Where there are no
 /// overlays.
 ///
-/// What it tells the task may read: the names of a directory, the bytes of an object, or those of a file that it has
-/// open for reading. The text of a symlink is told to each who may search the way: symlink(7). What it opens the task
-/// may read and write as it asked, or it is new.
+/// What it tells the task may read, and is of what its path leads to: the names of a directory, the bytes of an object;
+/// or of a file that it has open for reading, by its descriptor. The text of a symlink is told to each who may search
+/// the way: symlink(7). What it opens the task may read and write as it asked, or it is new.
 pub fn a_right_stands_behind_each_effect()
     ensures changes { ChangesAreByRight }
     ensures names { NamesAreToldByRight }

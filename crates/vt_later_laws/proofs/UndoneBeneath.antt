@@ -68,14 +68,6 @@ module _ (world : World ℕ) (fresh : Fresh ℕ) (place : Location ℕ) (first :
     (can : CanAttach (one_of world fresh place first)) (there : is_mount world place.mount ≡ true)
     (on_old : (mount : Mount ℕ) → Among mount world.mounts → (at : Location ℕ) → mount.mount_point ≡ Some at
     → is_mount world at.mount ≡ true)
-    (takes : (group : ℕ) (receiver mount : Mount ℕ) → (mount_at nat_eq world place).propagation ≡ Shared group
-    → Among receiver world.mounts → receives nat_eq world group receiver ≡ true → Among mount world.mounts
-    → stands_at nat_eq (record { mount = receiver.number; node = place.node }) mount ≡ true
-    → takes_part nat_eq world place receiver ≡ true)
-    (apart_from : (group : ℕ) (receiver mount : Mount ℕ) → (mount_at nat_eq world place).propagation ≡ Shared group
-    → Among receiver world.mounts → receives nat_eq world group receiver ≡ true → Among mount world.mounts
-    → stands_at nat_eq (record { mount = receiver.number; node = place.node }) mount ≡ true
-    → (receives nat_eq world group first ≡ false) ⊎ (nat_eq first.root place.node ≡ false))
     (ends : PlacesEnd (world_after (one_of world fresh place first)))
     (one_place : OneMountAPlace (world_after (one_of world fresh place first)).mounts) where
   abbrev it : Attachment
@@ -308,22 +300,6 @@ module _ (world : World ℕ) (fresh : Fresh ℕ) (place : Location ℕ) (first :
       (old_up_after world (supply it can) place false (first ∷ []) (serve_images it can) can.each_once t.0 group
       (lives_in world can.groups part (part_old part c) t.0 t.1) t.2)
 
-  -- a copy that came beneath a mount, and hears the destination's group, has another root
-  off_root : (part : Mount ℕ) → IsPart it part → (group : ℕ) → destination.propagation ≡ Shared group
-      → receives nat_eq after group (copy part) ≡ true → (mount : Mount ℕ) → Among mount world.mounts
-      → mount.mount_point ≡ Some (record { mount = part.number; node = place.node })
-      → nat_eq (copy part).root place.node ≡ false
-  off_root part c group e hearing mount m at =
-      ⊎_elim
-      (λ quiet. absurd (true≢false (sym hearing
-      ∙ copies_hear_as_their_origins it part first group can c of_first
-      (any_from_among (is_member_of nat_eq group) world.mounts destination destination_among
-      (shared_member group destination e))
-      ∙ quiet)))
-      (λ other. ap (λ n. nat_eq n place.node) (each_is_copied it part first can c of_first).root ∙ other)
-      (apart_from group part mount e (part_old part c) (hears_group part c group e) m
-      (stands_at_its_place (record { mount = part.number; node = place.node }) mount at))
-
   -- what stands on a copy covers its root
   covers : (part : Mount ℕ) → IsPart it part → (mount : Mount ℕ) → Among mount after.mounts
       → stands_on nat_eq (copy part).number mount ≡ true → mount.mount_point ≡ Some (root_of (copy part))
@@ -406,247 +382,402 @@ module _ (world : World ℕ) (fresh : Fresh ℕ) (place : Location ℕ) (first :
   goes : (part : Mount ℕ) → IsPart it part → goes_with after gone (copy part).number ≡ true
   goes part c = (what_goes_is_named after gone (copy part).number groups_later).1 (copy_goes part c)
 
-  -- nothing that was there goes
-  still_hears : (one : ℕ) (x : Mount ℕ) → Among x world.mounts → receives nat_eq after one x ≡ true
-      → receives nat_eq world one x ≡ true
-  still_hears one x m r =
-      let t = heard after x one r in
-      hears world can.groups x m t.0 one t.1
-      (old_up world (supply it can) place false (first ∷ []) (serve_images it can) can.each_once t.0 one
+  -- What stood at a receiver that takes part goes too, if it may, where the copies hear the destination's group and
+  -- their root is the node of the place.
+  pub taken_along : (group : ℕ) (part mount : Mount ℕ) → destination.propagation ≡ Shared group
+      → Among part (rest_of parts) → Among mount world.mounts
+      → stands_at nat_eq (record { mount = part.number; node = place.node }) mount ≡ true
+      → receives nat_eq world group first ≡ true → nat_eq first.root place.node ≡ true
+      → may_go nat_eq after (mount_numbered nat_eq after mount.number) ≡ true
+      → mount_left after gone mount.number ≡ detached (mount_numbered nat_eq after mount.number)
+  taken_along group part mount e p m stood hearing root may =
+      what_goes_is_detached after gone mount.number
+      ((what_goes_is_named after gone mount.number groups_later).1
+      (subst (Goes after (copy destination)) (keeps mount).number
+      (at_receiver (record { mount = destination.number; node = place.node }) group (copy part) (push_it mount)
+      (copy_stands destination destination_part) (destination_later ∙ e)
+      (contains_from_among after.mounts (copy part) (copy_among part c))
+      (receives_soundly after group (copy part)
+      (copies_hear_as_their_origins it part first group can c of_first
+      (any_from_among (is_member_of nat_eq group) world.mounts destination destination_among
+      (shared_member group destination e))
+      ∙ hearing))
+      (found_at_its_place after.mounts one_place (push_it mount) (push_among mount m)
+      (record { mount = (copy part).number; node = place.node }) (⊎_elim stays_not rises (rises_or_stays mount)))
+      (ap (may_go nat_eq after) (sym (kept_itself mount m)) ∙ may))))
+    where
+      c : IsPart it part
+      c = contains_from_among parts part (inr p)
+
+      at_place : Option (Location ℕ)
+      at_place = Some (record { mount = (copy part).number; node = place.node })
+
+      stays_not : (push_it mount ≡ mount) × ((other : Mount ℕ) → Among other (rest_of parts)
+          → stands_at nat_eq (record { mount = other.number; node = place.node }) mount ≡ false)
+          → (push_it mount).mount_point ≡ at_place
+      stays_not stayed = absurd (true≢false (sym stood ∙ stayed.1 part p))
+
+      rises : (other : Mount ℕ) × IsPart it other
+          × (mount.mount_point ≡ Some (record { mount = other.number; node = place.node }))
+          × ((push_it mount).mount_point ≡ Some (root_of (copy other)))
+          → (push_it mount).mount_point ≡ at_place
+      rises risen =
+          let here : record { mount = risen.0.number; node = place.node }
+          ≡ record { mount = part.number; node = place.node } =
+          same_Some (record { mount = risen.0.number; node = place.node })
+          (record { mount = part.number; node = place.node })
+          (sym risen.2 ∙ stands_there (record { mount = part.number; node = place.node }) mount stood) in
+          let one : risen.0 ≡ part =
+          sym (found_itself world.mounts can.one_number risen.0 (part_old risen.0 risen.1))
+          ∙ ap (λ (l : Location ℕ). mount_numbered nat_eq world l.mount) here
+          ∙ found_itself world.mounts can.one_number part (part_old part c) in
+          risen.3 ∙ ap (λ x. Some (root_of (copy x))) one
+          ∙ ap (λ n. Some (record { mount = (copy part).number; node = n }))
+          ((each_is_copied it part first can c of_first).root ∙ eqb-true first.root place.node root)
+
+  -- What stands there at a receiver that takes no part goes, if it may.
+  hears_after : (x : Mount ℕ) → Among x world.mounts → (group : ℕ) → receives nat_eq world group x ≡ true
+      → receives nat_eq after group (push_it x) ≡ true
+  hears_after x m group r =
+      let t = heard world x group r in
+      hears after groups_later (push_it x) (push_among x m) t.0 group (ap source_of (keeps x).propagation ∙ t.1)
+      (old_up_after world (supply it can) place false (first ∷ []) (serve_images it can) can.each_once t.0 group
       (lives_in world can.groups x m t.0 t.1) t.2)
 
-  -- an old mount stands at no place of a mount that hears the destination's group
-  no_old_there : (group : ℕ) (receiver child : Mount ℕ) → destination.propagation ≡ Shared group
-      → Among receiver after.mounts → receives nat_eq after group receiver ≡ true
-      → (old : Mount ℕ) → Among old world.mounts → child ≡ push_it old
-      → stands_at nat_eq (record { mount = receiver.number; node = place.node }) child ≡ true → ⊥
-  no_old_there group receiver child shared m hearing old old_m child_is stood =
-      ⊎_elim (λ stayed. still stayed (old_or_new receiver m))
-      (λ risen. rose risen.0 risen.1 risen.2 risen.3) (rises_or_stays old)
+  -- the node of the place, on a mount
+  abbrev place_on : ℕ → Location ℕ
+  place_on number = record { mount = number; node = place.node }
+
+  pub taken_beside : child_at nat_eq world.mounts place ≡ None → (group : ℕ) (receiver mount : Mount ℕ)
+      → destination.propagation ≡ Shared group → Among receiver world.mounts
+      → receives nat_eq world group receiver ≡ true → Among mount world.mounts
+      → stands_at nat_eq (record { mount = receiver.number; node = place.node }) mount ≡ true
+      → takes_part nat_eq world place receiver ≡ false
+      → may_go nat_eq after (mount_numbered nat_eq after mount.number) ≡ true
+      → mount_left after gone mount.number ≡ detached (mount_numbered nat_eq after mount.number)
+  taken_beside free group receiver mount e r hearing m stood apart may =
+      what_goes_is_detached after gone mount.number
+      ((what_goes_is_named after gone mount.number groups_later).1
+      (subst (Goes after (copy destination)) (keeps mount).number
+      (at_receiver (record { mount = destination.number; node = place.node }) group (push_it receiver) (push_it mount)
+      (copy_stands destination destination_part) (destination_later ∙ e)
+      (contains_from_among after.mounts (push_it receiver) (push_among receiver r))
+      (receives_soundly after group (push_it receiver) (hears_after receiver r group hearing))
+      (found_at_its_place after.mounts one_place (push_it mount) (push_among mount m)
+      (record { mount = (push_it receiver).number; node = place.node })
+      (⊎_elim still risen (rises_or_stays mount)
+      ∙ ap (λ n. Some (record { mount = n; node = place.node })) (sym (keeps receiver).number)))
+      (ap (may_go nat_eq after) (sym (kept_itself mount m)) ∙ may))))
     where
-      stands : child.mount_point ≡ Some (record { mount = receiver.number; node = place.node })
-      stands = stands_there (record { mount = receiver.number; node = place.node }) child stood
+      stands : mount.mount_point ≡ Some (record { mount = receiver.number; node = place.node })
+      stands = stands_there (record { mount = receiver.number; node = place.node }) mount stood
 
-      still : (push_it old ≡ old) × ((part : Mount ℕ) → Among part (rest_of parts)
-          → stands_at nat_eq (record { mount = part.number; node = place.node }) old ≡ false)
-          → IsOldOrNew receiver → ⊥
-      still stayed (inl was) =
-          let number : receiver.number ≡ was.0.number =
-          ap (λ (x : Mount ℕ). x.number) was.2 ∙ (keeps was.0).number in
-          let there_still : stands_at nat_eq (record { mount = was.0.number; node = place.node }) old ≡ true =
-          (λ i. stands_at nat_eq (record { mount = sym number i; node = place.node })
-          ((sym stayed.0 ∙ sym child_is) i)) ∙ stood in
-          let heard_before : receives nat_eq world group was.0 ≡ true =
-          still_hears group was.0 was.1
-          (ap (λ k. holds_of (λ source. is_among nat_eq group (groups_up after source)) (source_of k))
-          (sym (keeps was.0).propagation ∙ ap (λ (x : Mount ℕ). x.propagation) (sym was.2)) ∙ hearing) in
-          true≢false
-          (sym there_still
-          ∙ stayed.1 was.0
-          (among-filter (takes_part nat_eq world place) (receivers_of nat_eq world destination) was.0
-          (subst (λ k. Among was.0 (unwrap_or (option_map (receivers nat_eq world) (group_of k)) [])) (sym shared)
-          (among-filter (receives nat_eq world group) world.mounts was.0 was.1 heard_before))
-          (takes group was.0 old shared was.1 heard_before old_m there_still)))
-      still stayed (inr copied) =
-          true≢false
-          (sym (on_old old old_m (record { mount = receiver.number; node = place.node })
-          (ap (λ (x : Mount ℕ). x.mount_point) (sym stayed.0 ∙ sym child_is) ∙ stands))
-          ∙ ap (λ (x : Mount ℕ). is_mount world x.number) copied.2
-          ∙ ap (is_mount world) (copy_number copied.0) ∙ copy_new copied.0 copied.1)
-
-      rose : (part : Mount ℕ) → IsPart it part
-          → old.mount_point ≡ Some (record { mount = part.number; node = place.node })
-          → (push_it old).mount_point ≡ Some (root_of (copy part)) → ⊥
-      rose part c was risen =
-          let here : record { mount = receiver.number; node = place.node } ≡ root_of (copy part) =
-          same_Some (record { mount = receiver.number; node = place.node }) (root_of (copy part))
-          (sym stands ∙ ap (λ (x : Mount ℕ). x.mount_point) child_is ∙ risen) in
-          let it_is : receiver ≡ copy part =
-          sym (found_itself after.mounts one_after receiver m)
-          ∙ ap (mount_numbered nat_eq after) (ap (λ (l : Location ℕ). l.mount) here)
-          ∙ found_itself after.mounts one_after (copy part) (copy_among part c) in
-          true≢false
-          (sym (eq-eqb (copy part).root place.node (sym (ap (λ (l : Location ℕ). l.node) here)))
-          ∙ off_root part c group shared (ap (receives nat_eq after group) (sym it_is) ∙ hearing) old old_m was)
-
-  not_gone : (went : ℕ) → Goes after (copy destination) went → (number : ℕ) → is_mount world number ≡ true
-      → went ≡ number → ⊥
-  not_gone went (from_nowhere e) number is same =
-      true≢false (ap is_some (sym (copy_stands destination destination_part) ∙ e))
-  not_gone went (alone at e f) number is same =
-      true≢false (sym is ∙ ap (is_mount world) (sym same ∙ copy_number destination)
-      ∙ copy_new destination destination_part)
-  not_gone went (at_receiver at group receiver child e f contained hears_it found may) number is same =
-      let at_is : record { mount = destination.number; node = place.node } ≡ at =
-      same_Some (record { mount = destination.number; node = place.node }) at
-      (sym (copy_stands destination destination_part) ∙ e) in
-      let t = found_in (stands_at nat_eq
-      (record { mount = receiver.number; node = at.node })) after.mounts child found in
-      let stood : stands_at nat_eq (record { mount = receiver.number; node = place.node }) child ≡ true =
-      ap (λ (l : Location ℕ). stands_at nat_eq (record { mount = receiver.number; node = l.node }) child) at_is ∙ t.1 in
-      let shared : destination.propagation ≡ Shared group =
-      sym destination_later
-      ∙ ap (λ (l : Location ℕ). (mount_at nat_eq after l).propagation) at_is ∙ f in
-      ⊎_elim
-      (λ old. no_old_there group receiver child shared (among_from_contains after.mounts receiver contained)
-      (receives_completely after groups_later group receiver
-      (among_from_contains after.mounts receiver contained) hears_it)
-      old.0 old.1 old.2 stood)
-      (λ copied.
-      true≢false
-      (sym is ∙ ap (is_mount world) (sym same ∙ ap (λ (x : Mount ℕ). x.number) copied.2 ∙ copy_number copied.0)
-      ∙ copy_new copied.0 copied.1))
-      (old_or_new child t.0)
-
-  stays : (number : ℕ) → is_mount world number ≡ true → goes_with after gone number ≡ false
-  stays number is = false_from_ne_true (goes_with after gone number) (λ h.
-      not_gone number ((what_goes_is_named after gone number groups_later).0 h) number is refl)
-
-  -- so it is as it was
-  abbrev undone : World ℕ
-  undone = unmounted nat_eq after gone
-
-  left_among : (number : ℕ) → is_mount world number ≡ true → Among (mount_left after gone number) undone.mounts
-  left_among number is =
-      found_there undone.mounts number
-      (ap (is_among nat_eq number) (unmount_keeps_the_order after gone) ∙ later_number number is)
-
-  same_type : (number : ℕ) → is_mount world number ≡ true
-      → (mount_numbered nat_eq after number).propagation ≡ (mount_numbered nat_eq world number).propagation
-  same_type number is =
-      ap (λ (x : Mount ℕ). x.propagation) (kept number is) ∙ (keeps (mount_numbered nat_eq world number)).propagation
-
-  type_stays : (number : ℕ) → is_mount world number ≡ true
-      → has_its_master undone (mount_numbered nat_eq world number).propagation ≡ true
-      → (mount_left after gone number).propagation ≡ (mount_numbered nat_eq world number).propagation
-  type_stays number is e =
-      what_stays_keeps_its_type after gone number (stays number is)
-      (ap (has_its_master undone) (same_type number is) ∙ e)
-      ∙ same_type number is
-
-  -- groups keep members
-  still_members : (group : ℕ) → has_members nat_eq world.mounts group ≡ true
-      → has_members nat_eq undone.mounts group ≡ true
-  still_members group has =
-      let member = any_among (is_member_of nat_eq group) world.mounts has in
-      let is = is_one_of world.mounts member.0 member.1 in
-      let shared : (mount_numbered nat_eq world member.0.number).propagation ≡ Shared group =
-      ap (λ (x : Mount ℕ). x.propagation) (found_itself world.mounts can.one_number member.0 member.1)
-      ∙ member_shared group member.0 member.2 in
-      any_from_among (is_member_of nat_eq group) undone.mounts (mount_left after gone member.0.number)
-      (left_among member.0.number is)
-      (shared_member group (mount_left after gone member.0.number)
-      (type_stays member.0.number is (ap (has_its_master undone) shared) ∙ shared))
-
-  master_there : (number : ℕ) → is_mount world number ≡ true
-      → has_its_master undone (mount_numbered nat_eq world number).propagation ≡ true
-  master_there number is = by (mount_numbered nat_eq world number).propagation refl
-    where
-      by : (kind : Propagation ℕ) → (mount_numbered nat_eq world number).propagation ≡ kind
-          → has_its_master undone (mount_numbered nat_eq world number).propagation ≡ true
-      by (Shared group) e = ap (has_its_master undone) e
-      by (Slave master) e =
-          ap (has_its_master undone) e
-          ∙ still_members master
-          (live_members world.master (has_members nat_eq world.mounts) master
-          (lives_in world can.groups (mount_numbered nat_eq world number) (found_there world.mounts number is) master
-          (ap source_of e)))
-      by Private e = ap (has_its_master undone) e
-      by Unbindable e = ap (has_its_master undone) e
-
-  -- what a copy came beneath falls back to its place
-  falls_back : (number : ℕ) → is_mount world number ≡ true → (part : Mount ℕ) → IsPart it part
-      → (mount_numbered nat_eq after number).mount_point ≡ Some (root_of (copy part))
-      → (mount_left after gone number).mount_point ≡ Some (record { mount = part.number; node = place.node })
-  falls_back number is part c e =
-      what_covered_falls after gone number (root_of (copy part)) (record { mount = part.number; node = place.node })
-      ends (stays number is) e
-      (falls (root_of (copy part)) (record { mount = part.number; node = place.node })
-      (record { mount = part.number; node = place.node })
-      (goes part c)
-      (ap (λ (x : Mount ℕ). x.mount_point) (found_itself after.mounts one_after (copy part) (copy_among part c))
-      ∙ copy_stands part c)
-      (rests (record { mount = part.number; node = place.node })
-      (stays part.number (is_one_of world.mounts part (part_old part c)))))
-
-  place_stays : (number : ℕ) → is_mount world number ≡ true
-      → (mount_left after gone number).mount_point ≡ (mount_numbered nat_eq world number).mount_point
-  place_stays number is = ⊎_elim same risen (rises_or_stays (mount_numbered nat_eq world number))
-    where
-      same : (push_it (mount_numbered nat_eq world number) ≡ mount_numbered nat_eq world number)
-          × ((part : Mount ℕ) → Among part (rest_of parts)
-          → stands_at nat_eq (record { mount = part.number; node = place.node }) (mount_numbered nat_eq world number)
-          ≡ false)
-          → (mount_left after gone number).mount_point ≡ (mount_numbered nat_eq world number).mount_point
-      same stayed = by (mount_numbered nat_eq world number).mount_point refl
-        where
-          as_before : (mount_numbered nat_eq after number).mount_point
-              ≡ (mount_numbered nat_eq world number).mount_point
-          as_before = ap (λ (x : Mount ℕ). x.mount_point) (kept number is ∙ stayed.0)
-
-          by : (found : Option (Location ℕ)) → (mount_numbered nat_eq world number).mount_point ≡ found
-              → (mount_left after gone number).mount_point ≡ (mount_numbered nat_eq world number).mount_point
-          by None e = root_mounts_stay after gone number (as_before ∙ e) ∙ sym e
-          by (Some at) e =
-              what_stays_keeps_its_place after gone number at (stays number is) (as_before ∙ e)
-              (stays at.mount
-              (on_old (mount_numbered nat_eq world number) (found_there world.mounts number is) at e))
-              ∙ sym e
+      still : (push_it mount ≡ mount) × ((part : Mount ℕ) → Among part (rest_of parts)
+          → stands_at nat_eq (record { mount = part.number; node = place.node }) mount ≡ false)
+          → (push_it mount).mount_point ≡ Some (record { mount = receiver.number; node = place.node })
+      still stayed = ap (λ (x : Mount ℕ). x.mount_point) stayed.0 ∙ stands
 
       risen : (part : Mount ℕ) × IsPart it part
-          × ((mount_numbered nat_eq world number).mount_point
-          ≡ Some (record { mount = part.number; node = place.node }))
-          × ((push_it (mount_numbered nat_eq world number)).mount_point ≡ Some (root_of (copy part)))
-          → (mount_left after gone number).mount_point ≡ (mount_numbered nat_eq world number).mount_point
+          × (mount.mount_point ≡ Some (record { mount = part.number; node = place.node }))
+          × ((push_it mount).mount_point ≡ Some (root_of (copy part)))
+          → (push_it mount).mount_point ≡ Some (record { mount = receiver.number; node = place.node })
       risen up =
-          falls_back number is up.0 up.1 (ap (λ (x : Mount ℕ). x.mount_point) (kept number is) ∙ up.3) ∙ sym up.2
+          ⊎_elim
+          (λ same. absurd (true≢false
+          (sym (stands_at_its_place place mount
+          (up.2 ∙ ap (λ (x : Mount ℕ). Some (record { mount = x.number; node = place.node })) same
+          ∙ ap (λ n. Some (record { mount = n; node = place.node })) (number_found world.mounts place.mount)))
+          ∙ unfound (stands_at nat_eq place) world.mounts free mount m)))
+          (λ rest. absurd (true≢false
+          (sym (among-from_filter (takes_part nat_eq world place) (receivers_of nat_eq world destination) up.0 rest).1
+          ∙ ap (takes_part nat_eq world place) one ∙ apart)))
+          (among_from_contains parts up.0 up.1)
+        where
+          here : place_on up.0.number ≡ place_on receiver.number
+          here = same_Some (place_on up.0.number) (place_on receiver.number) (sym up.2 ∙ stands)
 
-  pub has_its_record_back : (number : ℕ) → is_mount world number ≡ true
-      → mount_left after gone number ≡ mount_numbered nat_eq world number
-  has_its_record_back number is =
-      let k = what_stays_keeps after gone number (stays number is) in
-      let same = kept number is in
-      let up = keeps (mount_numbered nat_eq world number) in
-      λ i. record {
-        number = (k.number ∙ ap (λ (x : Mount ℕ). x.number) same ∙ up.number) i;
-        namespace = (k.namespace ∙ ap (λ (x : Mount ℕ). x.namespace) same ∙ up.namespace) i;
-        mount_point = place_stays number is i;
-        filesystem = (k.filesystem ∙ ap (λ (x : Mount ℕ). x.filesystem) same ∙ up.filesystem) i;
-        root = (k.root ∙ ap (λ (x : Mount ℕ). x.root) same ∙ up.root) i;
-        flags = (k.flags ∙ ap (λ (x : Mount ℕ). x.flags) same ∙ up.flags) i;
-        propagation = type_stays number is (master_there number is) i;
-      }
+          one : up.0 ≡ receiver
+          one =
+              sym (found_itself world.mounts can.one_number up.0 (part_old up.0 up.1))
+              ∙ ap (λ (l : Location ℕ). mount_numbered nat_eq world l.mount) here
+              ∙ found_itself world.mounts can.one_number receiver r
 
-  pub copy_is_gone : (part : Mount ℕ) → IsPart it part → mount_left after gone (new part) ≡ detached (copy part)
-  copy_is_gone part c =
-      what_goes_is_detached after gone (new part)
-      (ap (goes_with after gone) (sym (copy_number part)) ∙ goes part c)
+  module _ (takes : (group : ℕ) (receiver mount : Mount ℕ) → (mount_at nat_eq world place).propagation ≡ Shared group
+      → Among receiver world.mounts → receives nat_eq world group receiver ≡ true → Among mount world.mounts
+      → stands_at nat_eq (record { mount = receiver.number; node = place.node }) mount ≡ true
+      → takes_part nat_eq world place receiver ≡ true)
+      (apart_from : (group : ℕ) (receiver mount : Mount ℕ) → (mount_at nat_eq world place).propagation ≡ Shared group
+      → Among receiver world.mounts → receives nat_eq world group receiver ≡ true → Among mount world.mounts
+      → stands_at nat_eq (record { mount = receiver.number; node = place.node }) mount ≡ true
+      → (receives nat_eq world group first ≡ false)
+      ⊎ ((nat_eq first.root place.node ≡ false)
+      ⊎ (may_go nat_eq after (mount_numbered nat_eq after mount.number) ≡ false))) where
+    -- a copy that came beneath a mount, and hears the destination's group, has another root, or the mount stays
+    off_root : (part : Mount ℕ) → IsPart it part → (group : ℕ) → destination.propagation ≡ Shared group
+        → receives nat_eq after group (copy part) ≡ true → (mount : Mount ℕ) → Among mount world.mounts
+        → mount.mount_point ≡ Some (record { mount = part.number; node = place.node })
+        → (nat_eq (copy part).root place.node ≡ false) ⊎ (may_go nat_eq after (push_it mount) ≡ false)
+    off_root part c group e hearing mount m at =
+        ⊎_elim
+        (λ quiet. absurd (true≢false (sym hearing
+        ∙ copies_hear_as_their_origins it part first group can c of_first
+        (any_from_among (is_member_of nat_eq group) world.mounts destination destination_among
+        (shared_member group destination e))
+        ∙ quiet)))
+        (λ rest.
+        ⊎_elim
+        (λ other. inl (ap (λ n. nat_eq n place.node) (each_is_copied it part first can c of_first).root ∙ other))
+        (λ stays_on. inr (ap (may_go nat_eq after) (sym (kept_itself mount m)) ∙ stays_on)) rest)
+        (apart_from group part mount e (part_old part c) (hears_group part c group e) m
+        (stands_at_its_place (record { mount = part.number; node = place.node }) mount at))
 
-  -- Masters
-  none_inherits : (b : Bool) (any : World ℕ) (group : ℕ) → any.master group ≡ None
-      → (regrouped_by nat_eq b any).master group ≡ None
-  none_inherits true any group e = ap (heir nat_eq any) e
-  none_inherits false any group e = e
+    -- nothing that was there goes
+    still_hears : (one : ℕ) (x : Mount ℕ) → Among x world.mounts → receives nat_eq after one x ≡ true
+        → receives nat_eq world one x ≡ true
+    still_hears one x m r =
+        let t = heard after x one r in
+        hears world can.groups x m t.0 one t.1
+        (old_up world (supply it can) place false (first ∷ []) (serve_images it can) can.each_once t.0 one
+        (lives_in world can.groups x m t.0 t.1) t.2)
 
-  pub masters_back : (group : ℕ) → has_members nat_eq world.mounts group ≡ true
-      → undone.master group ≡ world.master group
-  masters_back group has = by (world.master group) refl
-    where
-      by : (found : Option ℕ) → world.master group ≡ found → undone.master group ≡ world.master group
-      by None e =
-          none_inherits (list_any (lost_a_group nat_eq (middle after (going nat_eq after
-          (mount_numbered nat_eq after gone))))
-          (middle after (going nat_eq after (mount_numbered nat_eq after gone))).mounts)
-          (middle after (going nat_eq after (mount_numbered nat_eq after gone))) group
-          (old_master world (supply it can) place false (first ∷ []) (serve_images it can) can.each_once group has ∙ e)
-          ∙ sym e
-      by (Some master) e =
-          let one = any_among (is_member_of nat_eq group) world.mounts has in
-          let life = lives_in world can.groups one.0 one.1 group (ap source_of (member_shared group one.0 one.2)) in
-          groups_keep_their_masters after gone group master
-          (old_master world (supply it can) place false (first ∷ []) (serve_images it can) can.each_once group has ∙ e)
-          (still_members master
-          (live_members world.master (has_members nat_eq world.mounts) master
-          (lives_up world.master (has_members nat_eq world.mounts) group master life (above group master master e
-          (here master)))))
-          ∙ sym e
+    -- an old mount stands at no place of a mount that hears the destination's group
+    no_old_there : (group : ℕ) (receiver child : Mount ℕ) → destination.propagation ≡ Shared group
+        → Among receiver after.mounts → receives nat_eq after group receiver ≡ true
+        → (old : Mount ℕ) → Among old world.mounts → child ≡ push_it old
+        → stands_at nat_eq (record { mount = receiver.number; node = place.node }) child ≡ true
+        → may_go nat_eq after child ≡ true → ⊥
+    no_old_there group receiver child shared m hearing old old_m child_is stood may =
+        ⊎_elim (λ stayed. still stayed (old_or_new receiver m))
+        (λ risen. rose risen.0 risen.1 risen.2 risen.3) (rises_or_stays old)
+      where
+        stands : child.mount_point ≡ Some (record { mount = receiver.number; node = place.node })
+        stands = stands_there (record { mount = receiver.number; node = place.node }) child stood
+
+        still : (push_it old ≡ old) × ((part : Mount ℕ) → Among part (rest_of parts)
+            → stands_at nat_eq (record { mount = part.number; node = place.node }) old ≡ false)
+            → IsOldOrNew receiver → ⊥
+        still stayed (inl was) =
+            let number : receiver.number ≡ was.0.number =
+            ap (λ (x : Mount ℕ). x.number) was.2 ∙ (keeps was.0).number in
+            let there_still : stands_at nat_eq (record { mount = was.0.number; node = place.node }) old ≡ true =
+            (λ i. stands_at nat_eq (record { mount = sym number i; node = place.node })
+            ((sym stayed.0 ∙ sym child_is) i)) ∙ stood in
+            let heard_before : receives nat_eq world group was.0 ≡ true =
+            still_hears group was.0 was.1
+            (ap (λ k. holds_of (λ source. is_among nat_eq group (groups_up after source)) (source_of k))
+            (sym (keeps was.0).propagation ∙ ap (λ (x : Mount ℕ). x.propagation) (sym was.2)) ∙ hearing) in
+            true≢false
+            (sym there_still
+            ∙ stayed.1 was.0
+            (among-filter (takes_part nat_eq world place) (receivers_of nat_eq world destination) was.0
+            (subst (λ k. Among was.0 (unwrap_or (option_map (receivers nat_eq world) (group_of k)) [])) (sym shared)
+            (among-filter (receives nat_eq world group) world.mounts was.0 was.1 heard_before))
+            (takes group was.0 old shared was.1 heard_before old_m there_still)))
+        still stayed (inr copied) =
+            true≢false
+            (sym (on_old old old_m (record { mount = receiver.number; node = place.node })
+            (ap (λ (x : Mount ℕ). x.mount_point) (sym stayed.0 ∙ sym child_is) ∙ stands))
+            ∙ ap (λ (x : Mount ℕ). is_mount world x.number) copied.2
+            ∙ ap (is_mount world) (copy_number copied.0) ∙ copy_new copied.0 copied.1)
+
+        rose : (part : Mount ℕ) → IsPart it part
+            → old.mount_point ≡ Some (record { mount = part.number; node = place.node })
+            → (push_it old).mount_point ≡ Some (root_of (copy part)) → ⊥
+        rose part c was risen =
+            let here : record { mount = receiver.number; node = place.node } ≡ root_of (copy part) =
+            same_Some (record { mount = receiver.number; node = place.node }) (root_of (copy part))
+            (sym stands ∙ ap (λ (x : Mount ℕ). x.mount_point) child_is ∙ risen) in
+            let it_is : receiver ≡ copy part =
+            sym (found_itself after.mounts one_after receiver m)
+            ∙ ap (mount_numbered nat_eq after) (ap (λ (l : Location ℕ). l.mount) here)
+            ∙ found_itself after.mounts one_after (copy part) (copy_among part c) in
+            ⊎_elim
+            (λ other. true≢false
+            (sym (eq-eqb (copy part).root place.node (sym (ap (λ (l : Location ℕ). l.node) here))) ∙ other))
+            (λ stays_on. true≢false (sym may ∙ ap (may_go nat_eq after) child_is ∙ stays_on))
+            (off_root part c group shared (ap (receives nat_eq after group) (sym it_is) ∙ hearing) old old_m was)
+
+    not_gone : (went : ℕ) → Goes after (copy destination) went → (number : ℕ) → is_mount world number ≡ true
+        → went ≡ number → ⊥
+    not_gone went (from_nowhere e) number is same =
+        true≢false (ap is_some (sym (copy_stands destination destination_part) ∙ e))
+    not_gone went (alone at e f) number is same =
+        true≢false (sym is ∙ ap (is_mount world) (sym same ∙ copy_number destination)
+        ∙ copy_new destination destination_part)
+    not_gone went (at_receiver at group receiver child e f contained hears_it found may) number is same =
+        let at_is : record { mount = destination.number; node = place.node } ≡ at =
+        same_Some (record { mount = destination.number; node = place.node }) at
+        (sym (copy_stands destination destination_part) ∙ e) in
+        let t = found_in (stands_at nat_eq
+        (record { mount = receiver.number; node = at.node })) after.mounts child found in
+        let stood : stands_at nat_eq (record { mount = receiver.number; node = place.node }) child ≡ true =
+        ap (λ (l : Location ℕ). stands_at nat_eq (record { mount = receiver.number; node = l.node }) child) at_is
+        ∙ t.1 in
+        let shared : destination.propagation ≡ Shared group =
+        sym destination_later
+        ∙ ap (λ (l : Location ℕ). (mount_at nat_eq after l).propagation) at_is ∙ f in
+        ⊎_elim
+        (λ old. no_old_there group receiver child shared (among_from_contains after.mounts receiver contained)
+        (receives_completely after groups_later group receiver
+        (among_from_contains after.mounts receiver contained) hears_it)
+        old.0 old.1 old.2 stood may)
+        (λ copied.
+        true≢false
+        (sym is ∙ ap (is_mount world) (sym same ∙ ap (λ (x : Mount ℕ). x.number) copied.2 ∙ copy_number copied.0)
+        ∙ copy_new copied.0 copied.1))
+        (old_or_new child t.0)
+
+    stays : (number : ℕ) → is_mount world number ≡ true → goes_with after gone number ≡ false
+    stays number is = false_from_ne_true (goes_with after gone number) (λ h.
+        not_gone number ((what_goes_is_named after gone number groups_later).0 h) number is refl)
+
+    -- so it is as it was
+    abbrev undone : World ℕ
+    undone = unmounted nat_eq after gone
+
+    left_among : (number : ℕ) → is_mount world number ≡ true → Among (mount_left after gone number) undone.mounts
+    left_among number is =
+        found_there undone.mounts number
+        (ap (is_among nat_eq number) (unmount_keeps_the_order after gone) ∙ later_number number is)
+
+    same_type : (number : ℕ) → is_mount world number ≡ true
+        → (mount_numbered nat_eq after number).propagation ≡ (mount_numbered nat_eq world number).propagation
+    same_type number is =
+        ap (λ (x : Mount ℕ). x.propagation) (kept number is) ∙ (keeps (mount_numbered nat_eq world number)).propagation
+
+    type_stays : (number : ℕ) → is_mount world number ≡ true
+        → has_its_master undone (mount_numbered nat_eq world number).propagation ≡ true
+        → (mount_left after gone number).propagation ≡ (mount_numbered nat_eq world number).propagation
+    type_stays number is e =
+        what_stays_keeps_its_type after gone number (stays number is)
+        (ap (has_its_master undone) (same_type number is) ∙ e)
+        ∙ same_type number is
+
+    -- groups keep members
+    still_members : (group : ℕ) → has_members nat_eq world.mounts group ≡ true
+        → has_members nat_eq undone.mounts group ≡ true
+    still_members group has =
+        let member = any_among (is_member_of nat_eq group) world.mounts has in
+        let is = is_one_of world.mounts member.0 member.1 in
+        let shared : (mount_numbered nat_eq world member.0.number).propagation ≡ Shared group =
+        ap (λ (x : Mount ℕ). x.propagation) (found_itself world.mounts can.one_number member.0 member.1)
+        ∙ member_shared group member.0 member.2 in
+        any_from_among (is_member_of nat_eq group) undone.mounts (mount_left after gone member.0.number)
+        (left_among member.0.number is)
+        (shared_member group (mount_left after gone member.0.number)
+        (type_stays member.0.number is (ap (has_its_master undone) shared) ∙ shared))
+
+    master_there : (number : ℕ) → is_mount world number ≡ true
+        → has_its_master undone (mount_numbered nat_eq world number).propagation ≡ true
+    master_there number is = by (mount_numbered nat_eq world number).propagation refl
+      where
+        by : (kind : Propagation ℕ) → (mount_numbered nat_eq world number).propagation ≡ kind
+            → has_its_master undone (mount_numbered nat_eq world number).propagation ≡ true
+        by (Shared group) e = ap (has_its_master undone) e
+        by (Slave master) e =
+            ap (has_its_master undone) e
+            ∙ still_members master
+            (live_members world.master (has_members nat_eq world.mounts) master
+            (lives_in world can.groups (mount_numbered nat_eq world number) (found_there world.mounts number is) master
+            (ap source_of e)))
+        by Private e = ap (has_its_master undone) e
+        by Unbindable e = ap (has_its_master undone) e
+
+    -- what a copy came beneath falls back to its place
+    falls_back : (number : ℕ) → is_mount world number ≡ true → (part : Mount ℕ) → IsPart it part
+        → (mount_numbered nat_eq after number).mount_point ≡ Some (root_of (copy part))
+        → (mount_left after gone number).mount_point ≡ Some (record { mount = part.number; node = place.node })
+    falls_back number is part c e =
+        what_covered_falls after gone number (root_of (copy part)) (record { mount = part.number; node = place.node })
+        ends (stays number is) e
+        (falls (root_of (copy part)) (record { mount = part.number; node = place.node })
+        (record { mount = part.number; node = place.node })
+        (goes part c)
+        (ap (λ (x : Mount ℕ). x.mount_point) (found_itself after.mounts one_after (copy part) (copy_among part c))
+        ∙ copy_stands part c)
+        (rests (record { mount = part.number; node = place.node })
+        (stays part.number (is_one_of world.mounts part (part_old part c)))))
+
+    place_stays : (number : ℕ) → is_mount world number ≡ true
+        → (mount_left after gone number).mount_point ≡ (mount_numbered nat_eq world number).mount_point
+    place_stays number is = ⊎_elim same risen (rises_or_stays (mount_numbered nat_eq world number))
+      where
+        same : (push_it (mount_numbered nat_eq world number) ≡ mount_numbered nat_eq world number)
+            × ((part : Mount ℕ) → Among part (rest_of parts)
+            → stands_at nat_eq (record { mount = part.number; node = place.node }) (mount_numbered nat_eq world number)
+            ≡ false)
+            → (mount_left after gone number).mount_point ≡ (mount_numbered nat_eq world number).mount_point
+        same stayed = by (mount_numbered nat_eq world number).mount_point refl
+          where
+            as_before : (mount_numbered nat_eq after number).mount_point
+                ≡ (mount_numbered nat_eq world number).mount_point
+            as_before = ap (λ (x : Mount ℕ). x.mount_point) (kept number is ∙ stayed.0)
+
+            by : (found : Option (Location ℕ)) → (mount_numbered nat_eq world number).mount_point ≡ found
+                → (mount_left after gone number).mount_point ≡ (mount_numbered nat_eq world number).mount_point
+            by None e = root_mounts_stay after gone number (as_before ∙ e) ∙ sym e
+            by (Some at) e =
+                what_stays_keeps_its_place after gone number at (stays number is) (as_before ∙ e)
+                (stays at.mount
+                (on_old (mount_numbered nat_eq world number) (found_there world.mounts number is) at e))
+                ∙ sym e
+
+        risen : (part : Mount ℕ) × IsPart it part
+            × ((mount_numbered nat_eq world number).mount_point
+            ≡ Some (record { mount = part.number; node = place.node }))
+            × ((push_it (mount_numbered nat_eq world number)).mount_point ≡ Some (root_of (copy part)))
+            → (mount_left after gone number).mount_point ≡ (mount_numbered nat_eq world number).mount_point
+        risen up =
+            falls_back number is up.0 up.1 (ap (λ (x : Mount ℕ). x.mount_point) (kept number is) ∙ up.3) ∙ sym up.2
+
+    pub has_its_record_back : (number : ℕ) → is_mount world number ≡ true
+        → mount_left after gone number ≡ mount_numbered nat_eq world number
+    has_its_record_back number is =
+        let k = what_stays_keeps after gone number (stays number is) in
+        let same = kept number is in
+        let up = keeps (mount_numbered nat_eq world number) in
+        λ i. record {
+          number = (k.number ∙ ap (λ (x : Mount ℕ). x.number) same ∙ up.number) i;
+          namespace = (k.namespace ∙ ap (λ (x : Mount ℕ). x.namespace) same ∙ up.namespace) i;
+          mount_point = place_stays number is i;
+          filesystem = (k.filesystem ∙ ap (λ (x : Mount ℕ). x.filesystem) same ∙ up.filesystem) i;
+          root = (k.root ∙ ap (λ (x : Mount ℕ). x.root) same ∙ up.root) i;
+          flags = (k.flags ∙ ap (λ (x : Mount ℕ). x.flags) same ∙ up.flags) i;
+          propagation = type_stays number is (master_there number is) i;
+        }
+
+    pub copy_is_gone : (part : Mount ℕ) → IsPart it part → mount_left after gone (new part) ≡ detached (copy part)
+    copy_is_gone part c =
+        what_goes_is_detached after gone (new part)
+        (ap (goes_with after gone) (sym (copy_number part)) ∙ goes part c)
+
+    -- Masters
+    none_inherits : (b : Bool) (any : World ℕ) (group : ℕ) → any.master group ≡ None
+        → (regrouped_by nat_eq b any).master group ≡ None
+    none_inherits true any group e = ap (heir nat_eq any) e
+    none_inherits false any group e = e
+
+    pub masters_back : (group : ℕ) → has_members nat_eq world.mounts group ≡ true
+        → undone.master group ≡ world.master group
+    masters_back group has = by (world.master group) refl
+      where
+        by : (found : Option ℕ) → world.master group ≡ found → undone.master group ≡ world.master group
+        by None e =
+            none_inherits (list_any (lost_a_group nat_eq (middle after (going nat_eq after
+            (mount_numbered nat_eq after gone))))
+            (middle after (going nat_eq after (mount_numbered nat_eq after gone))).mounts)
+            (middle after (going nat_eq after (mount_numbered nat_eq after gone))) group
+            (old_master world (supply it can) place false (first ∷ []) (serve_images it can) can.each_once group has
+            ∙ e)
+            ∙ sym e
+        by (Some master) e =
+            let one = any_among (is_member_of nat_eq group) world.mounts has in
+            let life = lives_in world can.groups one.0 one.1 group (ap source_of (member_shared group one.0 one.2)) in
+            groups_keep_their_masters after gone group master
+            (old_master world (supply it can) place false (first ∷ []) (serve_images it can) can.each_once group has
+            ∙ e)
+            (still_members master
+            (live_members world.master (has_members nat_eq world.mounts) master
+            (lives_up world.master (has_members nat_eq world.mounts) group master life (above group master master e
+            (here master)))))
+            ∙ sym e

@@ -135,3 +135,21 @@ pub fn mount_points_of_an_upper_directory()
         ++ codes "15 3 1 /u/p plain:3 / rw private\n15 4 2 /p plain:4 / rw private\n16 deny 16 EBUSY P1\n17 ok\n"
         ++ codes "18 ok 2\n18 1 - - plain:1 / rw private\n18 2 1 /m overlay:2 / rw private\n" }
 {}
+
+/// A name that only the second lower layer has leaves a whiteout, so it does not show after mounting again.
+pub fn a_name_of_a_second_lower_layer()
+    ensures { machine_text One [] (codes "t mkdir /l1\nt mkdir /l2\nt write /l2/a x\nt mkdir /u\nt mkdir /w\nt mkdir /m\n"
+        ++ codes "t mount overlay /m lowerdir=/l1:/l2,upperdir=/u,workdir=/w\nt unlink /m/a\nt ls /m\nt stat /u/a\n"
+        ++ codes "t umount /m\nt mount overlay /m lowerdir=/l1:/l2,upperdir=/u,workdir=/w\nt ls /m\n")
+        ≡ codes "1 ok\n2 ok\n3 ok\n4 ok\n5 ok\n6 ok\n7 ok\n8 ok\n9 ok\n10 ok white 0000 0 0\n11 ok\n12 ok\n13 ok\n" }
+{}
+
+/// A directory that is copied up has no mark: after mounting again the names in it show that were not copied.
+pub fn a_copied_directory_hides_nothing()
+    ensures { machine_text One [] (codes "t mkdir /l\nt mkdir /l/d\nt write /l/d/f x\nt write /l/d/g y\nt mkdir /u\nt mkdir /w\nt mkdir /m\n"
+        ++ codes "t mount overlay /m lowerdir=/l,upperdir=/u,workdir=/w\nt chmod /m/d/f 600\nt ls /m/d\n"
+        ++ codes "t stat /u/d\nt ls /u/d\nt umount /m\nt mount overlay /m lowerdir=/l,upperdir=/u,workdir=/w\n"
+        ++ codes "t ls /m/d\n")
+        ≡ codes "1 ok\n2 ok\n3 ok\n4 ok\n5 ok\n6 ok\n7 ok\n8 ok\n9 ok\n10 ok f g\n11 ok dir 0755 0 0\n12 ok f\n"
+        ++ codes "13 ok\n14 ok\n15 ok f g\n" }
+{}

@@ -63,3 +63,15 @@ pub fn a_child_of_what_moves_is_pushed_up()
         ++ codes "13 4 3 /x plain:2 / rw shared:3,slave:1\n13 5 6 / plain:4 / rw shared:4\n"
         ++ codes "13 6 4 /p plain:3 / rw slave:2\n13 7 6 /x plain:2 / rw slave:3\n13 8 7 /p plain:4 / rw slave:4\n" }
 {}
+
+/// A location of a shared mount is bound onto itself. The copies hear its group, so the unmount takes what stood at a
+/// receiver, too.
+pub fn a_location_bound_onto_itself()
+    ensures { machine_text One [] (codes "t mkdir /a\nt mount plain /a\nt type /a shared\nt mkdir /a/b\nt fork\nt.1 unshare\n"
+        ++ codes "t.1 type /a slave\nt.1 mount plain /a/b\nt.1 mkdir /a/b/x\nt bind /a/b /a/b\nt.1 ls /a/b\n"
+        ++ codes "t.1 mounts\nt umount /a/b\nt.1 ls /a/b\nt.1 mounts\n")
+        ≡ codes "1 ok\n2 ok\n3 ok\n4 ok\n5 ok t.1\n6 ok\n7 ok\n8 ok\n9 ok\n10 ok\n11 ok x\n12 ok 4\n"
+        ++ codes "12 1 - - plain:1 / rw private\n12 2 1 /a plain:2 / rw slave:1\n12 3 4 / plain:3 / rw private\n"
+        ++ codes "12 4 2 /b plain:2 /b rw slave:1\n13 ok\n14 ok\n15 ok 2\n15 1 - - plain:1 / rw private\n"
+        ++ codes "15 2 1 /a plain:2 / rw slave:1\n" }
+{}

@@ -7,6 +7,7 @@ pub mod UpperWorlds
 pub mod UpperAsked
 pub mod MountedLeft
 pub mod MountedAgain
+pub mod MountedLinks
 pub mod MountedWorlds
 pub mod WorldsRaised
 pub mod MountedReached

@@ -17,7 +17,6 @@ use Rattle.vt_laws.proofs.CallsJudged.{call_is_judged_then_applied}
 use Rattle.vt_layer_laws.proofs.LowersMounts.{taken_filesystems, taken_mounted}
 use Rattle.vt_spec.specs.Machine.World.{Filesystem, Layer, Overlay, Task, World, filesystem_at, filesystem_numbered, mount_at, no_filesystem, with_filesystem}
 use Rattle.vt_spec.specs.Tree.{is_directory_node}
-use Rattle.vt_spec.specs.TreeLaws.{IsReached}
 use Rattle.vt_layer_laws.proofs.LowersWorld.{filesystem_elsewhere, filesystem_there, number_of_filesystem}
 use Rattle.vt_layer_laws.proofs.UpperWorld.{upper_elsewhere}
 use Rattle.vt_overlay_laws.specs.WhatIsShown.{IsWhole}

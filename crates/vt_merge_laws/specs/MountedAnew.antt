@@ -1,16 +1,16 @@
 -- Overlays that are mounted, and mounted anew, in the world that the call leaves: mount(2), and the kernel's overlayfs
 -- document, "upper and lower" and "changes to underlying filesystems".
-use Rattle.std.specs.Prelude.{All, List, Ok, Option, Some, map, nat_eq, ℕ, ◌≡◌}
+use Rattle.std.specs.Prelude.{All, List, Ok, Option, Some, map, nat_eq, ℕ, ◌≡◌, ◌↔◌}
 use Rattle.vt_spec.specs.Language.Answers.Answer.{Done}
 use Rattle.vt_spec.specs.Language.Calls.{MountFlags, OverlayWords, TaskName}
 use Rattle.vt_spec.specs.Language.Calls.Call.{MountOverlay}
 use Rattle.vt_spec.specs.Lists.{Fresh, evens}
-use Rattle.vt_spec.specs.Machine.Invariants.{IsWorld, OverlayInvariants, TreeInvariants}
+use Rattle.vt_spec.specs.Machine.Invariants.{IsWorld, OverlayInvariants, TreeInvariants, number_at_path}
 use Rattle.vt_spec.specs.Machine.Outcome.Mounting.{LayerPlaces, layers_walked, overlay_at}
 use Rattle.vt_spec.specs.Machine.Policy.{call_outcome, numbers_raised, policy}
 use Rattle.vt_spec.specs.Machine.Run.{Serves}
 use Rattle.vt_spec.specs.Machine.Settled.{settled}
-use Rattle.vt_spec.specs.Machine.World.{Layer, Overlay, Task, World, filesystem_numbered, layers_of, open_layer, shown_layers, task_called}
+use Rattle.vt_spec.specs.Machine.World.{Filesystem, Layer, Overlay, Task, World, filesystem_numbered, layers_of, open_layer, shown_layers, task_called}
 use Rattle.vt_spec.specs.TreeLaws.{IsReached}
 use Rattle.vt_layer_laws.specs.Layers.Mounted.{AreAsOthers, ShowTheSame}
 use Rattle.vt_layer_laws.specs.Layers.Mounting.{AreNewNumbers, OfMounting}
@@ -66,6 +66,28 @@ MountedOverTheSameLayers =
     → layers_walked nat_eq later task words ≡ Ok places
     → shown_layers (overlay_at nat_eq later task places) ≡ shown_layers left → AreKept before later (shown_layers left)
     → ShowTheSame (filesystem_numbered nat_eq (world_mounted fresh later task path words flags) (number_mounted fresh))
+    (filesystem_numbered nat_eq before number)
+
+-- Two paths lead to one inode, or both nowhere, in one filesystem just where they do in the other: link(2).
+abbrev pub LinkTheSame : Filesystem ℕ → Filesystem ℕ → Type 0
+LinkTheSame one other =
+    (path another : List (List ℕ))
+    → (number_at_path one.files path ≡ number_at_path one.files another)
+    ↔ (number_at_path other.files path ≡ number_at_path other.files another)
+
+-- Each inode has the names that it had, too, where the upper layer is the one that the first overlay had, or neither
+-- has one: what lies only below is one inode for each name of it.
+abbrev pub MountedAnewLinksTheSame : Type 0
+MountedAnewLinksTheSame =
+    (fresh : Fresh ℕ) (before later : World ℕ) (number : ℕ) (left : Overlay ℕ) (task : Task ℕ) (path : List ℕ)
+    (words : OverlayWords) (flags : MountFlags) (places : LayerPlaces ℕ)
+    → IsWorld nat_eq before → (filesystem_numbered nat_eq before number).overlay ≡ Some left
+    → IsWorld nat_eq later → AreNewNumbers fresh later → task_called later task.name ≡ Some task
+    → (policy nat_eq fresh later task.name (MountOverlay path (Some words) flags)).answer ≡ Ok Done
+    → layers_walked nat_eq later task words ≡ Ok places
+    → (overlay_at nat_eq later task places).upper ≡ left.upper
+    → (overlay_at nat_eq later task places).lowers ≡ left.lowers → AreKept before later (shown_layers left)
+    → LinkTheSame (filesystem_numbered nat_eq (world_mounted fresh later task path words flags) (number_mounted fresh))
     (filesystem_numbered nat_eq before number)
 
 -- What `mount overlay` of a task of the world leaves, granted or refused, has all invariants: nothing goes, and

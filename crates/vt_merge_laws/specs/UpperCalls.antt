@@ -19,7 +19,6 @@ use Rattle.vt_spec.specs.Machine.Permits.{Permit}
 use Rattle.vt_spec.specs.Machine.Permits.Permit.{ToChange, ToMake, ToOpen, ToOpenNew, ToRemoveDirectory, ToRename, ToWritePart}
 use Rattle.vt_spec.specs.Machine.World.{Layer, Overlay, Task, World, filesystem_at, filesystem_numbered, node_at}
 use Rattle.vt_spec.specs.Tree.{Node, bytes_in, node_with_bytes}
-use Rattle.vt_spec.specs.TreeLaws.{IsReached}
 use Rattle.vt_tree_laws.specs.Trees.{MayMove}
 use Rattle.vt_overlay_laws.specs.WhatIsShown.{IsWhole}
 use Rattle.vt_overlay_laws.specs.WholeChanges.{IsAskedWell}

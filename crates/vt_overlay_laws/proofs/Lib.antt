@@ -22,6 +22,7 @@ pub mod WholeLines
 pub mod WholeLinked
 pub mod WholeLowers
 pub mod WholeMade
+pub mod WholeMarked
 pub mod WholeMoved
 pub mod WholeMovedTree
 pub mod WholeNames

@@ -1,13 +1,13 @@
 -- Each step of a change of an overlay keeps that its tree is what its layers show: the kernel's overlayfs document,
 -- "upper and lower", "directories" and "whiteouts and opaque directories".
-use Rattle.std.specs.Prelude.{List, [], None, Option, Some, false, is_some, nat_eq, option_map, slice_get, true, ℕ, ◌∷◌, ◌≡◌}
+use Rattle.std.specs.Prelude.{Bool, List, [], None, Option, Some, false, is_some, nat_eq, option_map, slice_get, true, ℕ, ◌∷◌, ◌≡◌}
 use Rattle.vt_spec.specs.declared.attributes.Attr.{Attr}
 use Rattle.vt_spec.specs.declared.attributes.Kind.TheVariants.{White}
 use Rattle.vt_spec.specs.FileTree.{a_name, is_kind, is_kind_in, is_opaque_in}
-use Rattle.vt_spec.specs.Language.Changes.{node_with_attr}
+use Rattle.vt_spec.specs.Language.Changes.{changed_node, node_with_attr, node_with_mark}
 use Rattle.vt_spec.specs.Lists.{Fresh, then_some}
-use Rattle.vt_spec.specs.Machine.CopyUp.{Merge, Stack, changed_both, copied_up, copy_of_node, linked, made, moved, path_to, removed}
-use Rattle.vt_spec.specs.Machine.Layers.{OpenLayer, has_lower_directory, node_at_path, shown}
+use Rattle.vt_spec.specs.Machine.CopyUp.{Merge, Stack, changed_both, copied_up, copy_of_node, linked, made, moved, path_to, removed, upper_of}
+use Rattle.vt_spec.specs.Machine.Layers.{OpenLayer, has_lower_directory, lowers_have_directory, node_at_path, shown}
 use Rattle.vt_spec.specs.Machine.Merging.{layer_node, merged_at, real_object}
 use Rattle.vt_spec.specs.Machine.World.{Real, upper_object}
 use Rattle.vt_spec.specs.Machine.World.Real.{Below, Upper}
@@ -72,6 +72,26 @@ AttrKeepsWhole =
     (stack : Stack ℕ) (merge : Merge ℕ) (object : ℕ) (attr : Attr)
     → IsWhole stack merge → StandsInUpper merge object
     → IsWhole stack (changed_both nat_eq merge object (node_with_attr attr))
+
+-- The mark of a directory that stands in the upper layer is set there, or taken, where lower layers have no directory
+-- that is not cut by one of them: that shows nothing else. Through an overlay no call does so (O4).
+abbrev pub marked_above : Merge ℕ → ℕ → Bool → Merge ℕ
+marked_above merge directory opaque =
+    record merge { upper = changed_node nat_eq merge.upper (upper_of merge directory) (node_with_mark opaque) }
+
+abbrev pub MarkKeepsWhole : Type 0
+MarkKeepsWhole =
+    (stack : Stack ℕ) (merge : Merge ℕ) (directory : ℕ) (opaque : Bool)
+    → IsWhole stack merge → StandsInUpper merge directory
+    → ((way : List (List ℕ)) → number_at_path merge.files way ≡ Some directory
+    → lowers_have_directory stack.lowers way ≡ false)
+    → IsWhole stack (marked_above merge directory opaque)
+
+-- As a change of the overlay, which changes its tree too, a mark would be in that: so O4 refuses it.
+abbrev pub MarkOfTheTreeIsNotShown : Type 0
+MarkOfTheTreeIsNotShown =
+    (stack : Stack ℕ) (merge : Merge ℕ) (directory : ℕ) → IsDirectory merge.files.tree directory
+    → ¬ (IsWhatIsShown stack (changed_both nat_eq merge directory (node_with_mark true)))
 
 -- One object that lies only below is copied up, by a number that no inode of the upper layer's tree has: under its
 -- name, where the directory of that stands in the upper layer, or under none.

@@ -2,6 +2,7 @@ pub mod AskedNames
 pub mod AskedOthers
 pub mod AskedOverlays
 pub mod ChangedOverlays
+pub mod ByLayers
 pub mod KeptOverlays
 pub mod UnlockedNames
 pub mod UnlockedOthers

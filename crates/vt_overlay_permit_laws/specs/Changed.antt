@@ -9,11 +9,13 @@ use Rattle.vt_spec.specs.Machine.Judge.{judge_in}
 use Rattle.vt_spec.specs.Machine.Mounts.{Location}
 use Rattle.vt_spec.specs.Machine.Permits.{Permit}
 use Rattle.vt_spec.specs.Machine.Permits.Permit.{ToMake, ToOpenNew}
+use Rattle.vt_spec.specs.Machine.Policy.{call_outcome}
 use Rattle.vt_spec.specs.Machine.Run.{Serves}
-use Rattle.vt_spec.specs.Machine.World.{Layer, Overlay, Task, World, filesystem_at, task_called}
+use Rattle.vt_spec.specs.Machine.World.{Layer, Overlay, Task, World, filesystem_at, filesystem_numbered, task_called}
 use Rattle.vt_layer_laws.specs.Layers.Untouched.{inode_in}
 use Rattle.vt_overlay_laws.specs.WholeChanges.{IsAskedWell}
 use Rattle.vt_overlays_let_go.specs.OverlayChanges.{CanChange}
+use Rattle.vt_merge_laws.specs.UpperCalls.{Asks, ChangeAt, changed_above}
 use Rattle.vt_overlay_permit_laws.specs.Asked.{change_asked}
 
 -- The change of an overlay that asks for what it may leaves both trees trees.
@@ -43,3 +45,25 @@ PermitsCanChange =
     → judge_in nat_eq fresh world task call ≡ Ok permit → change_asked fresh world permit ≡ Some (location, change)
     → (filesystem_at nat_eq world location).overlay ≡ Some overlay → overlay.upper ≡ Some upper
     → CanChange (numbers_left fresh permit) world location change overlay upper
+
+-- The places at which it changes the overlay, and the upper layer's files after the call, by layers alone (before what
+-- nothing uses is gone).
+pub record IsByLayers (fresh : Fresh ℕ) (world later : World ℕ) (location : Location ℕ) (change : Change ℕ)
+    (overlay : Overlay ℕ) (upper : Layer ℕ) : Type 0 where
+  pub at : ChangeAt
+  pub asks : Asks (merge_of nat_eq world (filesystem_at nat_eq world location) overlay upper) change at
+  pub files : (filesystem_numbered nat_eq later upper.filesystem).files
+      ≡ changed_above fresh (stack_of nat_eq world overlay upper)
+      (filesystem_numbered nat_eq world upper.filesystem).files at
+
+-- So the upper layer changes in each granted call through an overlay.
+abbrev pub GrantedCallsAreByLayers : Type 0
+GrantedCallsAreByLayers =
+    (world : World ℕ) (fresh : Fresh ℕ) (task : Task ℕ) (call : Call) (permit : Permit ℕ) (location : Location ℕ)
+    (change : Change ℕ)
+    (overlay : Overlay ℕ) (upper : Layer ℕ)
+    → IsWorld nat_eq world → Serves nat_eq world fresh → task_called world task.name ≡ Some task
+    → judge_in nat_eq fresh world task call ≡ Ok permit → change_asked fresh world permit ≡ Some (location, change)
+    → (filesystem_at nat_eq world location).overlay ≡ Some overlay → overlay.upper ≡ Some upper
+    → IsByLayers (numbers_left fresh permit) world (call_outcome nat_eq fresh world task call).world location change
+    overlay upper

@@ -11,7 +11,7 @@ use Rattle.vt_spec.specs.Machine.Policy.{policy}
 use Rattle.vt_spec.specs.Machine.World.{Overlay, Task, World, filesystem_numbered, open_layer, opening, shown_layers, task_called}
 use Rattle.vt_layer_laws.specs.Layers.Mounted.{AreAsOthers, ShowTheSame}
 use Rattle.vt_layer_laws.specs.Layers.Mounting.{AreNewNumbers}
-use Rattle.vt_merge_laws.specs.MountedAnew.{AreKept, number_mounted, world_mounted}
+use Rattle.vt_merge_laws.specs.MountedAnew.{AreKept, LinkTheSame, number_mounted, world_mounted}
 use Rattle.vt_world_laws.specs.Worlds.Calls.{LeadsTo}
 
 -- a world that some script leads to, in whatever grammar, from an opening world with numbers that are no number twice
@@ -50,4 +50,19 @@ SameLayersOverScripts =
     → layers_walked nat_eq later task words ≡ Ok places
     → shown_layers (overlay_at nat_eq later task places) ≡ shown_layers left → AreKept before later (shown_layers left)
     → ShowTheSame (filesystem_numbered nat_eq (world_mounted fresh later task path words flags) (number_mounted fresh))
+    (filesystem_numbered nat_eq before number)
+
+-- Each inode has the names that it had, too, where the upper layer is the one that the first overlay had, or neither
+-- has one.
+abbrev pub LinksOverScripts : Type 0
+LinksOverScripts =
+    (fresh : Fresh ℕ) (before later : World ℕ) (number : ℕ) (left : Overlay ℕ) (task : Task ℕ) (path : List ℕ)
+    (words : OverlayWords) (flags : MountFlags) (places : LayerPlaces ℕ)
+    → IsLedTo before → (filesystem_numbered nat_eq before number).overlay ≡ Some left
+    → IsLedTo later → AreNewNumbers fresh later → task_called later task.name ≡ Some task
+    → (policy nat_eq fresh later task.name (MountOverlay path (Some words) flags)).answer ≡ Ok Done
+    → layers_walked nat_eq later task words ≡ Ok places
+    → (overlay_at nat_eq later task places).upper ≡ left.upper
+    → (overlay_at nat_eq later task places).lowers ≡ left.lowers → AreKept before later (shown_layers left)
+    → LinkTheSame (filesystem_numbered nat_eq (world_mounted fresh later task path words flags) (number_mounted fresh))
     (filesystem_numbered nat_eq before number)

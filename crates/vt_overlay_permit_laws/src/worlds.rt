@@ -1,7 +1,7 @@
 //! Every world that a script leads to has the invariants of a world, with overlays too.
 ghost use Rattle.vt_overlay_permit_laws.specs.HiddenOverScripts.{EveryCallUncoversNothing, HiddenOverScripts};
 ghost use Rattle.vt_overlay_permit_laws.specs.LockedOverScripts.{EveryCallLeavesLowers, LowersStayOverScripts};
-ghost use Rattle.vt_overlay_permit_laws.specs.MountedOverScripts.{MountedAnewOverScripts, SameLayersOverScripts};
+ghost use Rattle.vt_overlay_permit_laws.specs.MountedOverScripts.{LinksOverScripts, MountedAnewOverScripts, SameLayersOverScripts};
 ghost use Rattle.vt_overlay_permit_laws.specs.EveryWorld.{EveryCallKeepsWorlds, EveryScriptLeadsToWorlds, SettlingLeavesEveryWorld};
 
 /// Every call, granted or refused, leaves a world that has all invariants, if the world before had them and the numbers
@@ -40,10 +40,12 @@ pub fn what_is_hidden_stays_hidden()
 
 /// An overlay that is mounted anew, in a world that a script leads to, over layers that lead everywhere to what the
 /// layers of an overlay led to in another such world, or over the same layers, where their trees were not changed,
-/// shows the same tree in the world that the call leaves, whoever mounts it.
+/// shows the same tree in the world that the call leaves, whoever mounts it. With the same upper layer each inode has
+/// the names that it had.
 ///
 /// The second world may be one that the same script leads to later. Nothing is asked of the worlds but that.
 pub fn an_overlay_mounted_anew_shows_the_same_over_scripts()
     ensures layers { MountedAnewOverScripts }
     ensures same { SameLayersOverScripts }
+    ensures links { LinksOverScripts }
 {}

@@ -5,6 +5,7 @@ use Rattle.vt_overlay_laws.proofs.WholeMade.{make_keeps_shown}
 use Rattle.vt_overlay_laws.proofs.WholeCopied.{copy_keeps_whole}
 use Rattle.vt_overlay_laws.proofs.WholeLines.{copies_keep_whole}
 use Rattle.vt_overlay_laws.proofs.WholeAttributes.{attr_keeps_whole, bytes_keep_whole}
+use Rattle.vt_overlay_laws.proofs.WholeMarked.{mark_keeps_whole, mark_of_the_tree_is_not_shown}
 use Rattle.vt_overlay_laws.proofs.steps.steps_keep_what_is_shown.Goals as goal
 
 pub returns-clause-bytes : goal.returns-clause-bytes
@@ -12,6 +13,12 @@ returns-clause-bytes c = bytes_keep_whole
 
 pub returns-clause-attr : goal.returns-clause-attr
 returns-clause-attr c = attr_keeps_whole
+
+pub returns-clause-mark : goal.returns-clause-mark
+returns-clause-mark c = mark_keeps_whole
+
+pub returns-clause-tree_mark : goal.returns-clause-tree_mark
+returns-clause-tree_mark c = mark_of_the_tree_is_not_shown
 
 pub returns-clause-copy : goal.returns-clause-copy
 returns-clause-copy c = copy_keeps_whole

@@ -1,4 +1,4 @@
-use Rattle.vt_overlay_permit_laws.proofs.MountedScripts.{mounted_anew_over_scripts, same_layers_over_scripts}
+use Rattle.vt_overlay_permit_laws.proofs.MountedScripts.{links_over_scripts, mounted_anew_over_scripts, same_layers_over_scripts}
 use Rattle.vt_overlay_permit_laws.proofs.worlds.an_overlay_mounted_anew_shows_the_same_over_scripts.Goals as goal
 
 pub returns-clause-layers : goal.returns-clause-layers
@@ -6,3 +6,6 @@ returns-clause-layers c = mounted_anew_over_scripts
 
 pub returns-clause-same : goal.returns-clause-same
 returns-clause-same c = same_layers_over_scripts
+
+pub returns-clause-links : goal.returns-clause-links
+returns-clause-links c = links_over_scripts

@@ -1,9 +1,10 @@
 -- What a call tells its task may read.
-use Rattle.std.proofs.Common.{◌≡◌, refl, sym, ap, ◌∙◌, inl, inr, ◌⊎◌, true≢false, ℕ, nat_eq, Bool, true, false, List, [], Option, None, take, drop, Some, Result, Ok, IfOk, ok_or, find, option_to_list}
-use Rattle.std.specs.Prelude.{⊤}
+use Rattle.std.proofs.Common.{◌≡◌, refl, sym, ap, subst, ◌∙◌, inl, inr, ◌⊎◌, true≢false, ℕ, nat_eq, Bool, true, false, List, [], Option, None, take, drop, Some, Result, Ok, Err, IfOk, ok_or, find, option_to_list}
+use Rattle.std.specs.Prelude.{is_ok, ⊤}
 use Rattle.vt_call_laws.proofs.EffectsRights.{anyhow, open_found, ruled}
 use Rattle.vt_laws.proofs.GivenPermits.{given, permits_are_for_their_calls}
-use Rattle.vt_call_laws.specs.Effects.{BytesAreToldByRight, NamesAreToldByRight, OpensAreByRight}
+use Rattle.vt_call_laws.specs.Effects.{BytesAreToldByRight, NamesAreToldByRight, OpensAreByRight, TellsOf}
+use Rattle.vt_call_laws.specs.Effects.TellsOf.{a_directory, a_symlink, an_object}
 use Rattle.vt_laws.specs.Given.{IsFor}
 use Rattle.vt_spec.specs.declared.attributes.Kind.TheVariants.{Symlink}
 use Rattle.vt_spec.specs.declared.errors.Deny.{Deny}
@@ -28,7 +29,7 @@ use Rattle.vt_spec.specs.Machine.Rightful.{node_allows}
 use Rattle.vt_spec.specs.Machine.Rules.Descriptors.{access_rights, descriptor_numbered, descriptor_rules, exclusive_word_rules, open_rules}
 use Rattle.vt_spec.specs.Machine.Rules.Making.{file_word_rules, make_rules}
 use Rattle.vt_spec.specs.Machine.Rules.Looking.{list_rules, read_rules, readlink_rules}
-use Rattle.vt_spec.specs.Machine.Walking.{Place, directory_walk, file_walk, new_walk, object_walk, symlink_walk, walk_end}
+use Rattle.vt_spec.specs.Machine.Walking.{Here, Place, Stop, directory_walk, file_walk, new_walk, object_walk, symlink_walk, walk_end}
 use Rattle.vt_spec.specs.Machine.World.{Descriptor, Task, World, node_at}
 use Rattle.vt_spec.specs.Rights.{read_right}
 use Rattle.vt_spec.specs.Tree.{bytes_in, names_in}
@@ -48,115 +49,133 @@ same_names a b e = cc
 same_bytes : (a b : List ℕ) → Path (Result Answer Deny) (Ok (Bytes a)) (Ok (Bytes b)) → a ≡ b
 same_bytes a b e = cc
 
+-- a walk that is not refused has ended
+ended : (walk : Result (Here ℕ) (Stop ℕ)) (a : Here ℕ) → walk_end walk ≡ Ok a → walk ≡ Ok a
+ended (Ok b) a e =
+    ap (λ (r : Result (Here ℕ) Deny). elim r as (λ r. Result (Here ℕ) (Stop ℕ)) [ Ok c ↦ Ok c | Err deny ↦ Ok b ]) e
+ended (Err stop) a e = absurd (true≢false (sym (ap is_ok e)))
+
 module _ (fresh : Fresh ℕ) (world : World ℕ) (task : Task ℕ) where
   abbrev MayRead : Location ℕ → Type 0
   MayRead location = node_allows task.credentials read_right (node_at nat_eq world location) ≡ true
 
   -- what is known of a permit to look
-  abbrev ReadsIt : Permit ℕ → Type 0
-  ReadsIt (ToList directory) = MayRead directory
-  ReadsIt (ToRead file) = MayRead file
-  ReadsIt permit = ⊤
+  abbrev ReadsIt : Call → Permit ℕ → Type 0
+  ReadsIt call (ToList directory) = TellsOf world task call directory × MayRead directory
+  ReadsIt call (ToRead file) = TellsOf world task call file × MayRead file
+  ReadsIt call permit = ⊤
 
-  abbrev IsLinkRead : Permit ℕ → Type 0
-  IsLinkRead (ToRead file) = is_kind_in Symlink (node_at nat_eq world file) ≡ true
-  IsLinkRead permit = ⊤
+  abbrev IsLinkRead : Call → Permit ℕ → Type 0
+  IsLinkRead call (ToRead file) =
+      TellsOf world task call file × (is_kind_in Symlink (node_at nat_eq world file) ≡ true)
+  IsLinkRead call permit = ⊤
 
-  abbrev HasItOpen : Permit ℕ → Type 0
-  HasItOpen (ToReadPart file offset size) =
-      (descriptor : Descriptor ℕ) × (which : ℕ) × (descriptor_numbered task which ≡ Some descriptor)
-      × (descriptor.reads ≡ true)
+  abbrev HasItOpen : ℕ → Permit ℕ → Type 0
+  HasItOpen which (ToReadPart file offset size) =
+      (descriptor : Descriptor ℕ) × (descriptor_numbered task which ≡ Some descriptor) × (descriptor.reads ≡ true)
       × (descriptor.location ≡ file)
-  HasItOpen permit = ⊤
+  HasItOpen which permit = ⊤
 
-  listed : (path : List ℕ) → IfOk (judge_in nat_eq fresh world task (Ls path)) ReadsIt
+  listed : (path : List ℕ) → IfOk (judge_in nat_eq fresh world task (Ls path)) (ReadsIt (Ls path))
   unfolding list_permit
   listed path =
-      anyhow fresh world task ReadsIt (walk_end (directory_walk nat_eq (looks_of nat_eq world) task path)) _ (λ here e.
-      ruled fresh world task ReadsIt (list_rules (looks_of nat_eq world) task here.location) _
-      (λ pass. not_true _ pass.0))
+      anyhow fresh world task (ReadsIt (Ls path)) (walk_end (directory_walk nat_eq (looks_of nat_eq world) task path)) _
+      (λ here e.
+      ruled fresh world task (ReadsIt (Ls path)) (list_rules (looks_of nat_eq world) task here.location) _
+      (λ pass. (a_directory path here (ended _ here e), not_true _ pass.0)))
 
-  read : (path : List ℕ) → IfOk (judge_in nat_eq fresh world task (Read path)) ReadsIt
+  read : (path : List ℕ) → IfOk (judge_in nat_eq fresh world task (Read path)) (ReadsIt (Read path))
   unfolding read_permit
   read path =
-      anyhow fresh world task ReadsIt (walk_end (object_walk nat_eq (looks_of nat_eq world) task path)) _ (λ here e.
-      ruled fresh world task ReadsIt (read_rules (looks_of nat_eq world) task here.location) _
-      (λ pass. not_true _ pass.1.1.0))
+      anyhow fresh world task (ReadsIt (Read path)) (walk_end (object_walk nat_eq (looks_of nat_eq world) task path)) _
+      (λ here e.
+      ruled fresh world task (ReadsIt (Read path)) (read_rules (looks_of nat_eq world) task here.location) _
+      (λ pass. (an_object path here (ended _ here e), not_true _ pass.1.1.0)))
 
-  link_read : (path : List ℕ) → IfOk (judge_in nat_eq fresh world task (Readlink path)) IsLinkRead
+  link_read : (path : List ℕ) → IfOk (judge_in nat_eq fresh world task (Readlink path)) (IsLinkRead (Readlink path))
   unfolding readlink_permit
   link_read path =
-      anyhow fresh world task IsLinkRead (walk_end (symlink_walk nat_eq (looks_of nat_eq world) task path)) _ (λ here e.
-      ruled fresh world task IsLinkRead (readlink_rules (looks_of nat_eq world) here.location) _
-      (λ pass. not_true _ pass.0))
+      anyhow fresh world task (IsLinkRead (Readlink path))
+      (walk_end (symlink_walk nat_eq (looks_of nat_eq world) task path)) _ (λ here e.
+      ruled fresh world task (IsLinkRead (Readlink path)) (readlink_rules (looks_of nat_eq world) here.location) _
+      (λ pass. (a_symlink path here (ended _ here e), not_true _ pass.0)))
 
-  part_read : (which offset size : ℕ) → IfOk (judge_in nat_eq fresh world task (Pread which offset size)) HasItOpen
+  part_read : (which offset size : ℕ)
+      → IfOk (judge_in nat_eq fresh world task (Pread which offset size)) (HasItOpen which)
   unfolding pread_permit
   part_read which offset size =
-      anyhow fresh world task HasItOpen
+      anyhow fresh world task (HasItOpen which)
       (ok_or (find (λ (d : Descriptor ℕ). d.reads) (option_to_list (descriptor_numbered task which)))
       (denial S4)) _
       (λ descriptor e.
       let found = open_found (descriptor_numbered task which) (λ d. d.reads) descriptor e in
-      (descriptor, which, found.0, found.1, refl))
+      (descriptor, found.0, found.1, refl))
 
   -- the permits that tell names, and bytes
   names_of : (call : Call) (names : List (List ℕ)) (permit : Permit ℕ) → IsFor (looks_of nat_eq world) task call permit
       → judge_in nat_eq fresh world task call ≡ Ok permit
       → (apply nat_eq fresh world task permit).answer ≡ Ok (Names names)
-      → (directory : Location ℕ) × (names ≡ names_in (node_at nat_eq world directory))
+      → (directory : Location ℕ) × TellsOf world task call directory
+      × (names ≡ names_in (node_at nat_eq world directory))
       × (node_allows task.credentials read_right (node_at nat_eq world directory) ≡ true)
   unfolding are_names
-  names_of call names (ToList directory) for judged e = (
-    directory,
-    sym (same_names _ names e),
-    given ReadsIt (judge_in nat_eq fresh world task (Ls for.0)) (ToList directory)
-        (ap (judge_in nat_eq fresh world task) (sym for.1) ∙ judged) (listed for.0),
-  )
+  names_of call names (ToList directory) for judged e =
+      let reads = given (ReadsIt (Ls for.0)) (judge_in nat_eq fresh world task (Ls for.0)) (ToList directory)
+      (ap (judge_in nat_eq fresh world task) (sym for.1) ∙ judged) (listed for.0) in (
+        directory,
+        subst (λ c. TellsOf world task c directory) (sym for.1) reads.0,
+        sym (same_names _ names e),
+        reads.1,
+      )
   names_of call names permit for judged e = absurd (true≢false (sym (ap are_names e)))
 
-  abbrev ToldBytes : List ℕ → Type 0
-  ToldBytes bytes =
-      ((file : Location ℕ) × (bytes ≡ bytes_in (node_at nat_eq world file))
+  abbrev ToldBytes : Call → List ℕ → Type 0
+  ToldBytes call bytes =
+      ((file : Location ℕ) × TellsOf world task call file × (bytes ≡ bytes_in (node_at nat_eq world file))
       × (node_allows task.credentials read_right (node_at nat_eq world file) ≡ true))
-      ⊎ (((file : Location ℕ) × (bytes ≡ bytes_in (node_at nat_eq world file))
+      ⊎ (((file : Location ℕ) × TellsOf world task call file × (bytes ≡ bytes_in (node_at nat_eq world file))
       × (is_kind_in Symlink (node_at nat_eq world file) ≡ true))
-      ⊎ ((descriptor : Descriptor ℕ) × (which offset size : ℕ) × (descriptor_numbered task which ≡ Some descriptor)
-      × (descriptor.reads ≡ true) × (bytes
+      ⊎ ((descriptor : Descriptor ℕ) × (which offset size : ℕ) × (call ≡ Pread which offset size)
+      × (descriptor_numbered task which ≡ Some descriptor) × (descriptor.reads ≡ true) × (bytes
       ≡ take size (drop offset (bytes_in (node_at nat_eq world descriptor.location))))))
 
   bytes_of : (call : Call) (bytes : List ℕ) (permit : Permit ℕ) → IsFor (looks_of nat_eq world) task call permit
       → judge_in nat_eq fresh world task call ≡ Ok permit
       → (apply nat_eq fresh world task permit).answer ≡ Ok (Bytes bytes)
-      → ToldBytes bytes
+      → ToldBytes call bytes
   unfolding are_bytes
   bytes_of call bytes (ToRead file) (inl for) judged e =
+      let reads = given (ReadsIt (Read for.0)) (judge_in nat_eq fresh world task (Read for.0)) (ToRead file)
+      (ap (judge_in nat_eq fresh world task) (sym for.1) ∙ judged) (read for.0) in
       inl (
         file,
+        subst (λ c. TellsOf world task c file) (sym for.1) reads.0,
         sym (same_bytes _ bytes e),
-        given ReadsIt (judge_in nat_eq fresh world task (Read for.0)) (ToRead file)
-            (ap (judge_in nat_eq fresh world task) (sym for.1) ∙ judged) (read for.0),
+        reads.1,
       )
   bytes_of call bytes (ToRead file) (inr for) judged e =
+      let reads = given (IsLinkRead (Readlink for.0)) (judge_in nat_eq fresh world task (Readlink for.0)) (ToRead file)
+      (ap (judge_in nat_eq fresh world task) (sym for.1) ∙ judged) (link_read for.0) in
       inr (inl (
         file,
+        subst (λ c. TellsOf world task c file) (sym for.1) reads.0,
         sym (same_bytes _ bytes e),
-        given IsLinkRead (judge_in nat_eq fresh world task (Readlink for.0)) (ToRead file)
-            (ap (judge_in nat_eq fresh world task) (sym for.1) ∙ judged) (link_read for.0),
+        reads.1,
       ))
   bytes_of call bytes (ToReadPart file offset size) for judged e =
-      let open_it = given HasItOpen (judge_in nat_eq fresh world task (Pread for.0 offset size))
+      let open_it = given (HasItOpen for.0) (judge_in nat_eq fresh world task (Pread for.0 offset size))
       (ToReadPart file offset size)
       (ap (judge_in nat_eq fresh world task) (sym for.1) ∙ judged) (part_read for.0 offset size) in
       inr (inr (
         open_it.0,
-        open_it.1,
+        for.0,
         offset,
         size,
+        for.1,
+        open_it.1,
         open_it.2,
-        open_it.3,
         sym (same_bytes _ bytes e) ∙ ap (λ l. take size (drop offset (bytes_in (node_at nat_eq world l))))
-            (sym open_it.4),
+            (sym open_it.3),
       ))
   bytes_of call bytes permit for judged e = absurd (true≢false (sym (ap are_bytes e)))
 

@@ -1,13 +1,15 @@
 -- An unmount undoes a new mount and a bind of one mount, where mounts stood at receivers.
-use Rattle.std.proofs.Common.{◌≡◌, ◌⊎◌, false, inl, refl, subst, true, nat_eq, ℕ, Some}
-use Rattle.vt_spec.proofs.Lists.{Among, contains_from_among}
-use Rattle.vt_spec.specs.Machine.Attach.{bound, takes_part}
+use Rattle.std.proofs.Common.{◌≡◌, ◌⊎◌, false, inl, option_map, refl, subst, sym, true, nat_eq, unwrap_or, ℕ, Some, []}
+use Rattle.vt_spec.proofs.Lists.{Among, among-filter, among_from_contains, contains_from_among}
+use Rattle.vt_spec.specs.Lists.{Fresh}
+use Rattle.vt_spec.specs.Machine.Attach.{bound, receivers_of, takes_part}
+use Rattle.vt_spec.specs.Machine.Detach.{may_go}
 use Rattle.vt_spec.specs.Machine.Invariants.{MountInvariants}
-use Rattle.vt_spec.specs.Machine.Mounts.{Location, Mount, stands_at}
+use Rattle.vt_spec.specs.Machine.Mounts.{Location, Mount, group_of, stands_at}
 use Rattle.vt_spec.specs.Machine.Mounts.Propagation.{Shared}
 use Rattle.vt_spec.specs.Machine.Outcome.Mounting.{new_mount, with_new_filesystem}
-use Rattle.vt_spec.specs.Machine.Receives.{receives}
-use Rattle.vt_spec.specs.Machine.World.{Filesystem, World, mount_at}
+use Rattle.vt_spec.specs.Machine.Receives.{receivers, receives}
+use Rattle.vt_spec.specs.Machine.World.{Filesystem, World, mount_at, mount_numbered}
 use Rattle.vt_spec.specs.Language.Calls.{MountFlags}
 use Rattle.vt_mount_laws.specs.Mounts.Attaching.{is_mount}
 use Rattle.vt_mount_laws.specs.Mounts.Propagation.{world_after}
@@ -16,8 +18,8 @@ use Rattle.vt_mount_laws.proofs.MountsNumbered.{is_one_of}
 use Rattle.vt_mount_laws.proofs.PropagationPremises.{binds_can, new_mounts_can}
 use Rattle.vt_mount_laws.proofs.Standing.{standing_is_computed}
 use Rattle.vt_mount_laws.proofs.Unsharing.{parent_of}
-use Rattle.vt_later_laws.specs.Undone.{CoveredTakePart, DoesNotHearItself, UnmountUndoesBindBeneath, UnmountUndoesNewMountBeneath}
-use Rattle.vt_later_laws.proofs.UndoneBeneath.{copy_is_gone, has_its_record_back, masters_back, one_of}
+use Rattle.vt_later_laws.specs.Undone.{CoveredTakePart, NoneGoesWithTheCopies, UnmountTakesWhatStoodBeside, UnmountTakesWhatStoodThere, UnmountUndoesBindBeneath, UnmountUndoesNewMountBeneath}
+use Rattle.vt_later_laws.proofs.UndoneBeneath.{copy_is_gone, has_its_record_back, masters_back, one_of, taken_along, taken_beside}
 
 on_mounts : (world : World ℕ) → MountInvariants nat_eq world → (mount : Mount ℕ) → Among mount world.mounts
     → (at : Location ℕ) → mount.mount_point ≡ Some at → is_mount world at.mount ≡ true
@@ -35,20 +37,24 @@ they_take_part world place covered group receiver mount e m r n stood =
     (contains_from_among world.mounts mount n) stood
 
 -- a new mount is private, so it hears nothing
-abbrev Quiet : World ℕ → Location ℕ → Mount ℕ → Type 0
-Quiet world place first =
+abbrev Quiet : World ℕ → Fresh ℕ → Location ℕ → Mount ℕ → Type 0
+Quiet world fresh place first =
     (group : ℕ) (receiver mount : Mount ℕ) → (mount_at nat_eq world place).propagation ≡ Shared group
     → Among receiver world.mounts → receives nat_eq world group receiver ≡ true → Among mount world.mounts
     → stands_at nat_eq (record { mount = receiver.number; node = place.node }) mount ≡ true
-    → (receives nat_eq world group first ≡ false) ⊎ (nat_eq first.root place.node ≡ false)
+    → (receives nat_eq world group first ≡ false)
+    ⊎ ((nat_eq first.root place.node ≡ false)
+    ⊎ (may_go nat_eq (world_after (one_of world fresh place first))
+    (mount_numbered nat_eq (world_after (one_of world fresh place first)) mount.number)
+    ≡ false))
 
-quiet : (world : World ℕ) (place : Location ℕ) (flags : MountFlags) (filesystem : Filesystem ℕ)
-    → Quiet world place (new_mount filesystem.number filesystem.files.tree.root flags)
-quiet world place flags filesystem group receiver mount e m r n stood = inl refl
+quiet : (world : World ℕ) (fresh : Fresh ℕ) (place : Location ℕ) (flags : MountFlags) (filesystem : Filesystem ℕ)
+    → Quiet world fresh place (new_mount filesystem.number filesystem.files.tree.root flags)
+quiet world fresh place flags filesystem group receiver mount e m r n stood = inl refl
 
-apart_so : (world : World ℕ) (source place : Location ℕ) → DoesNotHearItself world source place
-    → Quiet world place (bound nat_eq world source)
-apart_so world source place apart group receiver mount e m r n stood =
+apart_so : (world : World ℕ) (fresh : Fresh ℕ) (source place : Location ℕ)
+    → NoneGoesWithTheCopies fresh world source place → Quiet world fresh place (bound nat_eq world source)
+apart_so world fresh source place apart group receiver mount e m r n stood =
     apart group receiver mount e (contains_from_among world.mounts receiver m) r
     (contains_from_among world.mounts mount n) stood
 
@@ -67,12 +73,12 @@ unmount_undoes_new_mount_beneath world fresh place filesystem flags serves mount
     let places = new_mounts_keep_places world fresh place filesystem flags serves mounts.one_number mounts.nowhere
     mounts.standing there free mounts.one_child in
     record {
-      back = has_its_record_back larger fresh place mount can there on_old takes
-          (quiet larger place flags filesystem) ends places;
-      gone = copy_is_gone larger fresh place mount can there on_old takes
-          (quiet larger place flags filesystem) ends places;
-      masters = masters_back larger fresh place mount can there on_old takes
-          (quiet larger place flags filesystem) ends places;
+      back = has_its_record_back larger fresh place mount can there on_old ends places takes
+          (quiet larger fresh place flags filesystem);
+      gone = copy_is_gone larger fresh place mount can there on_old ends places takes
+          (quiet larger fresh place flags filesystem);
+      masters = masters_back larger fresh place mount can there on_old ends places takes
+          (quiet larger fresh place flags filesystem);
     }
 
 pub unmount_undoes_bind_beneath : UnmountUndoesBindBeneath
@@ -89,10 +95,61 @@ unmount_undoes_bind_beneath world fresh source place serves mounts there free co
     let places = binds_keep_places world fresh source place false serves mounts.one_number mounts.nowhere
     mounts.standing there free mounts.one_child in
     record {
-      back = has_its_record_back world fresh place mount can there on_old takes
-          (apart_so world source place apart) ends places;
-      gone = copy_is_gone world fresh place mount can there on_old takes
-          (apart_so world source place apart) ends places;
-      masters = masters_back world fresh place mount can there on_old takes
-          (apart_so world source place apart) ends places;
+      back = has_its_record_back world fresh place mount can there on_old ends places takes
+          (apart_so world fresh source place apart);
+      gone = copy_is_gone world fresh place mount can there on_old ends places takes
+          (apart_so world fresh source place apart);
+      masters = masters_back world fresh place mount can there on_old ends places takes
+          (apart_so world fresh source place apart);
     }
+
+pub unmount_takes_what_stood_there : UnmountTakesWhatStoodThere
+unmount_takes_what_stood_there world fresh source place group receiver mount serves mounts there free shared r hears n
+    stood takes hearing root may =
+    let first = bound nat_eq world source in
+    let can = binds_can world fresh source place false serves mounts in
+    let after = world_after (one_of world fresh place first) in
+    let ends = (standing_is_computed after
+    (binds_keep_numbers world fresh source place false serves mounts.one_number mounts.standing)).0
+    (binds_keep_standing world fresh source place false serves mounts.one_number mounts.nowhere mounts.standing
+    there) in
+    let places = binds_keep_places world fresh source place false serves mounts.one_number mounts.nowhere
+    mounts.standing there free mounts.one_child in
+    taken_along world fresh place first can there (on_mounts world mounts) ends places group receiver mount shared
+    (among-filter (takes_part nat_eq world place) (receivers_of nat_eq world (mount_at nat_eq world place)) receiver
+    (subst (λ k. Among receiver (unwrap_or (option_map (receivers nat_eq world) (group_of k)) [])) (sym shared)
+    (among-filter (receives nat_eq world group) world.mounts receiver (among_from_contains world.mounts receiver r)
+    hears))
+    takes)
+    (among_from_contains world.mounts mount n) stood hearing root may
+
+pub unmount_takes_what_stood_beside : UnmountTakesWhatStoodBeside
+unmount_takes_what_stood_beside = (
+  λ world fresh place filesystem flags serves mounts there free group receiver mount shared r hears n stood apart may.
+      let larger = with_new_filesystem world filesystem in
+      let first = new_mount filesystem.number filesystem.files.tree.root flags in
+      let can = new_mounts_can world fresh place filesystem flags serves mounts in
+      let after = world_after (one_of larger fresh place first) in
+      let ends = (standing_is_computed after
+      (new_mounts_keep_numbers world fresh place filesystem flags serves mounts.one_number)).0
+      (new_mounts_keep_standing world fresh place filesystem flags serves mounts.one_number mounts.nowhere
+      mounts.standing there) in
+      let places = new_mounts_keep_places world fresh place filesystem flags serves mounts.one_number mounts.nowhere
+      mounts.standing there free mounts.one_child in
+      taken_beside larger fresh place first can there (on_mounts world mounts) ends places free group receiver mount
+      shared (among_from_contains world.mounts receiver r) hears (among_from_contains world.mounts mount n) stood
+      apart may,
+  λ world fresh source place serves mounts there free group receiver mount shared r hears n stood apart may.
+      let first = bound nat_eq world source in
+      let can = binds_can world fresh source place false serves mounts in
+      let after = world_after (one_of world fresh place first) in
+      let ends = (standing_is_computed after
+      (binds_keep_numbers world fresh source place false serves mounts.one_number mounts.standing)).0
+      (binds_keep_standing world fresh source place false serves mounts.one_number mounts.nowhere mounts.standing
+      there) in
+      let places = binds_keep_places world fresh source place false serves mounts.one_number mounts.nowhere
+      mounts.standing there free mounts.one_child in
+      taken_beside world fresh place first can there (on_mounts world mounts) ends places free group receiver mount
+      shared (among_from_contains world.mounts receiver r) hears (among_from_contains world.mounts mount n) stood
+      apart may,
+)
