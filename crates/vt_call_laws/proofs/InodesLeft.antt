@@ -16,20 +16,9 @@ use Rattle.vt_spec.specs.Machine.Permits.{Permit}
 use Rattle.vt_spec.specs.Machine.Permits.Permit.{ToChange, ToEnterNamespace, ToExit, ToMake, ToMountOverlay, ToMountPlain, ToOpen, ToOpenNew, ToRemoveDirectory, ToRename, ToSetType, ToUnmount, ToUnmountLazily, ToUnshare, ToWritePart}
 use Rattle.vt_spec.specs.Machine.World.{Filesystem, Overlay, Task, World, files_at, filesystem_at, is_overlay, mount_at, mount_numbered, new_plain, no_filesystem, replaced_if_numbered, root_attr, without_task}
 use Rattle.vt_spec.specs.Tree.{Node, new_directory}
-use Rattle.vt_tree_laws.proofs.TreesOfWorlds.{number_numbered, numbered, numbered_anyhow, taken_files, taken_filesystems, taken_shows}
+use Rattle.vt_tree_laws.proofs.TreesOfWorlds.{number_numbered, numbered, numbered_anyhow, taken_files}
 use Rattle.vt_tree_laws.proofs.ChangesByOthers.{lazily_filesystems, typed_filesystems}
-
--- what is seen at a location stays where mounts are taken away for what is replaced
-pub replaced_filesystems : (world : World ℕ) (replaced : Option (Location ℕ))
-    → (without_replaced nat_eq world replaced).filesystems ≡ world.filesystems
-replaced_filesystems world None = refl
-replaced_filesystems world (Some location) = taken_filesystems world _
-
-replaced_shows : (world : World ℕ) (replaced : Option (Location ℕ)) (location : Location ℕ)
-    → (mount_at nat_eq (without_replaced nat_eq world replaced) location).filesystem
-    ≡ (mount_at nat_eq world location).filesystem
-replaced_shows world None location = refl
-replaced_shows world (Some gone) location = taken_shows world _ location
+use Rattle.vt_spec.proofs.Worlds.{filesystems-taken_away, filesystems-without_replaced, shown-without_replaced}
 
 replaced_files : (world : World ℕ) (replaced : Option (Location ℕ)) (location : Location ℕ)
     → files_at nat_eq (without_replaced nat_eq world replaced) location ≡ files_at nat_eq world location
@@ -133,12 +122,12 @@ module _ (Q : Option (Node ℕ) → Type 0) (number inode : ℕ) where
         change).filesystems
     replaced_left replaced location change here =
         change_left fresh (without_replaced nat_eq world replaced) location change
-        (subst (All (λ filesystem. is_overlay filesystem ≡ false)) (sym (replaced_filesystems world replaced)) plain)
-        (same_list (without_replaced nat_eq world replaced).filesystems (replaced_filesystems world replaced))
+        (subst (All (λ filesystem. is_overlay filesystem ≡ false)) (sym (filesystems-without_replaced world replaced)) plain)
+        (same_list (without_replaced nat_eq world replaced).filesystems (filesystems-without_replaced world replaced))
         (λ same.
         subst (λ files. Q ((changed nat_eq files change).tree.node inode))
         (sym (replaced_files world replaced location))
-        (here (same ∙ replaced_shows world replaced location)))
+        (here (same ∙ shown-without_replaced world replaced location)))
 
     copied_left : (copies : Bool) (file : Location ℕ)
         → Holds (with_copy nat_eq copies fresh world file).filesystems
@@ -163,10 +152,10 @@ module _ (Q : Option (Node ℕ) → Type 0) (number inode : ℕ) where
     inode_left task (ToOpenNew directory name node access) here =
         change_left (odds fresh) world directory _ plain h here
     inode_left task (ToWritePart file offset bytes) here = written_left file offset bytes here
-    inode_left task ToExit here = same_list _ (taken_filesystems (without_task world task.name) _)
-    inode_left task ToUnshare here = same_list _ (taken_filesystems (unshared nat_eq world fresh task) _)
+    inode_left task ToExit here = same_list _ (filesystems-taken_away (without_task world task.name) _)
+    inode_left task ToUnshare here = same_list _ (filesystems-taken_away (unshared nat_eq world fresh task) _)
     inode_left task (ToEnterNamespace namespace) here =
-        same_list _ (taken_filesystems (namespace_entered nat_eq world task namespace) _)
+        same_list _ (filesystems-taken_away (namespace_entered nat_eq world task namespace) _)
     inode_left task (ToMountPlain place flags) here =
         added_holds (new_plain nat_eq (evens fresh 0) (evens fresh 1)) root world.filesystems h
       where
@@ -179,7 +168,7 @@ module _ (Q : Option (Node ℕ) → Type 0) (number inode : ℕ) where
             by true e = here same (eqb-true inode (evens fresh 1) e)
             by false e = none
     inode_left task (ToMountOverlay place overlay flags) here = absurd here
-    inode_left task (ToUnmount mount) here = same_list _ (taken_filesystems world _)
+    inode_left task (ToUnmount mount) here = same_list _ (filesystems-taken_away world _)
     inode_left task (ToUnmountLazily mount) here =
         same_list _
         (lazily_filesystems (deepest_first nat_eq world

@@ -15,6 +15,7 @@ use Rattle.vt_spec.specs.Machine.Settled.{filesystem_lives, only_used, only_used
 use Rattle.vt_spec.specs.Machine.World.{Filesystem, Task, World, is_overlay, no_filesystem, task_called}
 use Rattle.vt_spec.specs.Tree.{Node}
 use Rattle.vt_tree_laws.proofs.TreesOfWorlds.{numbered}
+use Rattle.vt_spec.proofs.Worlds.{number-only_used}
 
 abbrev pub Inode : Type 0
 Inode = Option (Node ℕ)
@@ -119,11 +120,6 @@ module _ (Q : Inode → Type 0) (number inode : ℕ) where
     used_by_number true used filesystem = refl
     used_by_number false used filesystem = refl
 
-    used_number : (world : World ℕ) (chosen : Bool) (filesystem : Filesystem ℕ)
-        → (only_used nat_eq world chosen filesystem).number ≡ filesystem.number
-    used_number world true filesystem = used_by_number _ (used_in nat_eq world filesystem) filesystem
-    used_number world false filesystem = refl
-
     used_by_holds : (whole : Bool) (used : List ℕ) (filesystem : Filesystem ℕ) → Q (filesystem.files.tree.node inode)
         → Q ((only_used_by nat_eq whole used filesystem).files.tree.node inode)
     used_by_holds true used filesystem h = h
@@ -142,7 +138,7 @@ module _ (Q : Inode → Type 0) (number inode : ℕ) where
         → HoldsIn (without_dead_in nat_eq chosen world).filesystems
     dead_in_holds chosen world h =
         mapped (λ filesystem. only_used nat_eq world (chosen filesystem) filesystem)
-        (λ filesystem. used_number world (chosen filesystem) filesystem)
+        (λ filesystem. number-only_used world (chosen filesystem) filesystem)
         (λ filesystem. used_holds world (chosen filesystem) filesystem) world.filesystems h
 
     -- settling

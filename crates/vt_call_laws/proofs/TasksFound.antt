@@ -1,19 +1,13 @@
 -- Tasks by their names, in lists that are changed.
 use Rattle.std.proofs.Common.{◌≡◌, refl, sym, ap, ◌∙◌, true≢false, ℕ, Bool, true, false, not, cond, List, [], ◌∷◌, ◌++◌, map, filter, find, Option, Some, None, option_map}
-use Rattle.std.specs.Cmp.Lexicographic.{bytes_decides}
 use Rattle.vt_spec.specs.Machine.Filesystems.{raised}
 use Rattle.vt_spec.specs.Machine.Mounts.{Mount}
 use Rattle.vt_spec.specs.Machine.Namespaces.{pivoted_location, pivoted_task}
 use Rattle.vt_spec.specs.Machine.Policy.{raised_task}
-use Rattle.vt_spec.specs.Machine.World.{Task, replaced_if_called}
+use Rattle.vt_spec.specs.Machine.World.{Task}
 use Rattle.vt_spec.specs.Language.Calls.{TaskName, same_name}
 use Rattle.std.proofs.Common.{nat_eq}
-
-pub same_is : (a b : TaskName) → same_name a b ≡ true → a ≡ b
-same_is a b e = (bytes_decides a b).0 e
-
-pub same_self : (a : TaskName) → same_name a a ≡ true
-same_self a = (bytes_decides a a).1 refl
+use Rattle.vt_spec.proofs.Worlds.{same_name_itself, same_task_name}
 
 abbrev pub Found : Type 0
 Found = Option (Task ℕ)
@@ -30,7 +24,7 @@ found_name name (first ∷ rest) task e = by (same_name name first.name) refl e 
     by : (b : Bool) → same_name name first.name ≡ b → cond b (Some first) (called name rest) ≡ Some task
         → (called name rest ≡ Some task → name ≡ task.name) → name ≡ task.name
     by true is e later =
-        let same : first ≡ task = cc in same_is name first.name is ∙ ap (λ t. t.name) same
+        let same : first ≡ task = cc in same_task_name name first.name is ∙ ap (λ t. t.name) same
     by false is e later = later e
 
 -- a change that keeps names is found changed
@@ -46,13 +40,6 @@ find_mapped change keeps name (first ∷ rest) =
         ≡ option_map change (cond b (Some first) (called name rest))
     by true later = refl
     by false later = later
-
-pub replaced_keeps_name : (new old : Task ℕ) → (replaced_if_called new old).name ≡ old.name
-replaced_keeps_name new old = by (same_name new.name old.name) refl
-  where
-    by : (b : Bool) → same_name new.name old.name ≡ b → (cond b new old).name ≡ old.name
-    by true e = same_is new.name old.name e
-    by false e = refl
 
 -- raising changes the change number alone
 pub raised_is : (name : TaskName) (task : Task ℕ)
@@ -106,8 +93,8 @@ others_left name other apart (first ∷ rest) =
         → called other stay ≡ called other rest
         → called other (cond (not b) (first ∷ stay) stay) ≡ cond c (Some first) (called other rest)
     by true e true f later =
-        let same : name ≡ other = same_is name first.name e ∙ sym (same_is other first.name f) in
-        absurd (true≢false (sym (same_self name) ∙ ap (same_name name) same ∙ apart))
+        let same : name ≡ other = same_task_name name first.name e ∙ sym (same_task_name other first.name f) in
+        absurd (true≢false (sym (same_name_itself name) ∙ ap (same_name name) same ∙ apart))
     by true e false f later = later
     by false e c f later =
         ap (λ c. cond c (Some first) (called other stay)) f ∙ ap (λ found. cond c (Some first) found) later

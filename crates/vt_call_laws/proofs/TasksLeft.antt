@@ -18,22 +18,18 @@ use Rattle.vt_spec.specs.Machine.Permits.{Permit}
 use Rattle.vt_spec.specs.Machine.Permits.Permit.{ToChange, ToClose, ToEnterNamespace, ToExit, ToFork, ToMake, ToOpen, ToOpenNew, ToPivot, ToRemoveDirectory, ToRename, ToSetCredentials, ToSetDirectory, ToSetRoot, ToSetType, ToSetUmask, ToUnmount, ToUnmountLazily, ToUnshare, ToWritePart}
 use Rattle.vt_spec.specs.Machine.Policy.{filesystems_changed_by, finished, finished_by, only_looks, policy, raised_task}
 use Rattle.vt_spec.specs.Machine.World.{Task, World, mount_at, mount_numbered, mounts_of, replaced_if_called, task_called, without_task}
-use Rattle.vt_tree_laws.proofs.TreesLimits.{changed_tasks, lazily_tasks, taken_tasks, typed_tasks}
-
-replaced_tasks : (world : World ℕ) (replaced : Option (Location ℕ))
-    → (without_replaced nat_eq world replaced).tasks ≡ world.tasks
-replaced_tasks world None = refl
-replaced_tasks world (Some location) = taken_tasks world _
+use Rattle.vt_tree_laws.proofs.TreesLimits.{lazily_tasks, typed_tasks}
+use Rattle.vt_spec.proofs.Worlds.{tasks-taken_away, tasks-with_change, tasks-without_replaced}
 
 copied_tasks : (copies : Bool) (fresh : Fresh ℕ) (world : World ℕ) (file : Location ℕ)
     → (with_copy nat_eq copies fresh world file).tasks ≡ world.tasks
-copied_tasks true fresh world file = changed_tasks fresh world file _
+copied_tasks true fresh world file = tasks-with_change fresh world file _
 copied_tasks false fresh world file = refl
 
 written_tasks : (fresh : Fresh ℕ) (world : World ℕ) (file : Location ℕ) (offset : ℕ) (bytes : List ℕ)
     → (pwritten nat_eq fresh world file offset bytes).tasks ≡ world.tasks
 written_tasks fresh world file offset [] = refl
-written_tasks fresh world file offset (byte ∷ bytes) = changed_tasks fresh world file _
+written_tasks fresh world file offset (byte ∷ bytes) = tasks-with_change fresh world file _
 
 abbrev Tasks : Type 0
 Tasks = List (Task ℕ)
@@ -73,25 +69,25 @@ module _ (fresh : Fresh ℕ) (world : World ℕ) (task : Task ℕ) where
   left_tasks permit = world.tasks
 
   pub tasks_left : (permit : Permit ℕ) → (apply nat_eq fresh world task permit).world.tasks ≡ left_tasks permit
-  tasks_left (ToChange location change) = changed_tasks fresh world location change
-  tasks_left (ToMake directory name node) = changed_tasks (odds fresh) world directory _
+  tasks_left (ToChange location change) = tasks-with_change fresh world location change
+  tasks_left (ToMake directory name node) = tasks-with_change (odds fresh) world directory _
   tasks_left (ToRemoveDirectory parent name directory) =
-      changed_tasks fresh (without_mounts_on nat_eq world directory) parent _ ∙ taken_tasks world _
+      tasks-with_change fresh (without_mounts_on nat_eq world directory) parent _ ∙ tasks-taken_away world _
   tasks_left (ToRename from old to new object replaced) =
-      changed_tasks fresh (without_replaced nat_eq world replaced) from _
-      ∙ replaced_tasks world replaced
+      tasks-with_change fresh (without_replaced nat_eq world replaced) from _
+      ∙ tasks-without_replaced world replaced
   tasks_left (ToOpen file access) =
       ap (map (replaced_if_called (with_descriptor task file access)))
       (copied_tasks (is_copied_up nat_eq world file access) fresh world file)
   tasks_left (ToOpenNew directory name node access) =
       ap (map (replaced_if_called
       (with_descriptor task (record { mount = directory.mount; node = evens fresh 0 }) access)))
-      (changed_tasks (odds fresh) world directory _)
+      (tasks-with_change (odds fresh) world directory _)
   tasks_left (ToWritePart file offset bytes) = written_tasks fresh world file offset bytes
-  tasks_left ToExit = taken_tasks (without_task world task.name) _
-  tasks_left ToUnshare = taken_tasks (unshared nat_eq world fresh task) _
-  tasks_left (ToEnterNamespace namespace) = taken_tasks (namespace_entered nat_eq world task namespace) _
-  tasks_left (ToUnmount mount) = taken_tasks world _
+  tasks_left ToExit = tasks-taken_away (without_task world task.name) _
+  tasks_left ToUnshare = tasks-taken_away (unshared nat_eq world fresh task) _
+  tasks_left (ToEnterNamespace namespace) = tasks-taken_away (namespace_entered nat_eq world task namespace) _
+  tasks_left (ToUnmount mount) = tasks-taken_away world _
   tasks_left (ToUnmountLazily mount) =
       lazily_tasks (deepest_first nat_eq world
       (mount_tree nat_eq world.mounts (mount_numbered nat_eq world mount))) world

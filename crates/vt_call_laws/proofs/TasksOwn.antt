@@ -5,7 +5,7 @@ use Rattle.std.proofs.lemmas.Bool.{and_parts, not-false}
 use Rattle.std.specs.Cmp.Lexicographic.{bytes_decides}
 use Rattle.std.specs.Int.Bits.{and_self}
 use Rattle.vt_laws.proofs.GivenPermits.{permits_are_for_their_calls}
-use Rattle.vt_call_laws.proofs.TasksFound.{Found, called, find_appended, find_mapped, found_name, none_left, others_left, pivoted_keeps_name, raised_is, replaced_keeps_name, same_is}
+use Rattle.vt_call_laws.proofs.TasksFound.{Found, called, find_appended, find_mapped, found_name, none_left, others_left, pivoted_keeps_name, raised_is}
 use Rattle.vt_call_laws.proofs.TasksLeft.{alone, entered, left_tasks, tasks_after_call, with_new}
 use Rattle.vt_laws.specs.Given.{IsFor, NoneFails}
 use Rattle.vt_call_laws.specs.Tasks.{IsForked, IsNoMore, MayGive, Opens, Pivots, moves_directory, moves_namespace, moves_root, task_after}
@@ -26,6 +26,7 @@ use Rattle.vt_spec.specs.Machine.Rules.Tasks.{fork_rules}
 use Rattle.vt_spec.specs.Machine.World.{Descriptor, Task, World, mount_at, mount_numbered, replaced_if_called, task_called}
 use Rattle.vt_spec.specs.Rights.{Credentials, cap_setgid, cap_setuid, has_all, without}
 use Rattle.vt_spec.proofs.Lists.{Among, among-from_filter}
+use Rattle.vt_spec.proofs.Worlds.{name-replaced_if_called, same_task_name}
 
 -- Capabilities
 
@@ -140,7 +141,7 @@ module _ (fresh : Fresh ℕ) (world : World ℕ) (name : TaskName) (call : Call)
     changed_becomes : (new : Task ℕ) → new.name ≡ task.name → Changed call task new → BecomesIn (with_new world new)
     changed_becomes new keeps so =
         subst (λ found. Becomes (task_called world other) found)
-        (sym (find_mapped (replaced_if_called new) (replaced_keeps_name new) other world.tasks))
+        (sym (find_mapped (replaced_if_called new) (name-replaced_if_called new) other world.tasks))
         (by (task_called world other) refl)
       where
         by : (found : Found) → task_called world other ≡ found
@@ -152,7 +153,7 @@ module _ (fresh : Fresh ℕ) (world : World ℕ) (name : TaskName) (call : Call)
             inside false c = inl refl
             inside true c =
                 let same : other ≡ name =
-                found_name other world.tasks entry e ∙ sym (same_is new.name entry.name c) ∙ keeps ∙ sym named
+                found_name other world.tasks entry e ∙ sym (same_task_name new.name entry.name c) ∙ keeps ∙ sym named
                 in
                 let it : Some entry ≡ Some task = sym e ∙ ap (λ n. called n world.tasks) same ∙ is in
                 let was : task ≡ entry = cc in
@@ -169,7 +170,7 @@ module _ (fresh : Fresh ℕ) (world : World ℕ) (name : TaskName) (call : Call)
         by : (b : Bool) → same_name task.name other ≡ b
             → BecomesIn (filter (λ one. not (same_name task.name one.name)) world.tasks)
         by true e =
-            let same : other ≡ task.name = sym (same_is task.name other e) in
+            let same : other ≡ task.name = sym (same_task_name task.name other e) in
             subst (λ found. Becomes (task_called world other) found)
             (sym (ap (λ n. called n (filter (λ one. not (same_name task.name one.name)) world.tasks)) same
             ∙ none_left task.name world.tasks))
@@ -196,7 +197,7 @@ module _ (fresh : Fresh ℕ) (world : World ℕ) (name : TaskName) (call : Call)
           task,
           forks,
           is,
-          same_is other (child_name task) e,
+          same_task_name other (child_name task) e,
           ap (child_of task) given,
           gives,
         )
@@ -360,7 +361,7 @@ module _ (fresh : Fresh ℕ) (world : World ℕ) (name : TaskName) (call : Call)
         where
           inside : (b : Bool) → same_name name task.name ≡ b
               → (cond b (record task { change = raised task.change }) task ≡ task) ⊎ (other ≡ name)
-          inside true f = inr (found_name other tasks task e ∙ sym (same_is name task.name f))
+          inside true f = inr (found_name other tasks task e ∙ sym (same_task_name name task.name f))
           inside false f = inl refl
 
   pub becomes : BecomesAndIsRaised (policy nat_eq fresh world name call).world.tasks

@@ -14,7 +14,6 @@ use Rattle.vt_spec.specs.Machine.World.{Filesystem, Overlay, World, filesystem_a
 use Rattle.vt_spec.specs.Fits.{Fits, MayReplace}
 use Rattle.vt_spec.specs.Inodes.{Inodes, changed, node_in, tree_of, with_changed, without_replaced}
 use Rattle.vt_spec.specs.Tree.{Node, entries_in, entry_named, is_directory_node, node_with_bytes, node_with_entry}
-use Rattle.vt_letting_go.proofs.NamesKept.{same_entries_attr, same_entries_bytes, same_entries_mark}
 use Rattle.vt_letting_go.specs.InUse.{AllInUse, IsListedTree, is_inode_used}
 use Rattle.vt_letting_go.specs.OneByOne as LettingGo
 use Rattle.vt_letting_go.specs.TreeChanges.{with_tree}
@@ -29,6 +28,8 @@ use Rattle.vt_count_laws.proofs.NameCounts as Names
 use Rattle.vt_count_laws.proofs.Swept as Swept
 use Rattle.vt_count_laws.proofs.Swept.{base_of, counted_start, found_is, plain_of, there_if_counted}
 use Rattle.vt_count_laws.proofs.TreeCounts.{IsStart, IsTallied, linked, rewritten}
+use Rattle.vt_spec.proofs.NodeChanges.{entries-node_with_attr, entries-node_with_mark}
+use Rattle.vt_spec.proofs.Nodes.{entries-node_with_bytes}
 
 -- The tree and the counted inodes after a change, before the sweep
 module _ (base : ℕ → ℕ) (files : FileTree ℕ) (inodes : Inodes ℕ) (root : inodes.root ≡ files.tree.root)
@@ -95,12 +96,12 @@ module _ (base : ℕ → ℕ) (files : FileTree ℕ) (inodes : Inodes ℕ) (root
       same : entry_named new (entries_in (node_in (inodes.inode to))) ≡ entry_named new (entries_in (node to))
       same = ap (λ x. entry_named new (entries_in x)) (start.same to)
   tallied (SetBytes file bytes) fits links = rewritten base node files.numbers inodes start file (node_with_bytes bytes)
-      (same_entries_bytes bytes) refl (λ some. (_, refl))
+      (entries-node_with_bytes bytes) refl (λ some. (_, refl))
   tallied (SetAttr object attr) fits links = rewritten base node files.numbers inodes start object (node_with_attr attr)
-      (same_entries_attr attr) refl (λ some. (_, refl))
+      (entries-node_with_attr attr) refl (λ some. (_, refl))
   tallied (SetMark directory opaque) fits links =
       rewritten base node files.numbers inodes start directory (node_with_mark opaque)
-      (same_entries_mark opaque) refl (λ some. (_, refl))
+      (entries-node_with_mark opaque) refl (λ some. (_, refl))
   tallied (CopyUp object) fits links = start.tallied
 
   -- the root stays

@@ -1,5 +1,5 @@
 -- Inodes that get some uses and lose some.
-use Rattle.std.proofs.Common.{◌≡◌, ◌≢◌, refl, sym, ap, subst, ◌∙◌, ⊎_elim, inl, inr, ◌⊎◌, ℕ, ◌+◌, ◌≤◌, nat_eq, eqb-true, eq-eqb, ne_eqb, Bool, true, false, true≢false, cond, not, ◌&&◌, ◌||◌, List, [], ◌∷◌, ◌++◌, length, map, filter, find, flat_map, Option, Some, None, is_some, unwrap_or, arith}
+use Rattle.std.proofs.Common.{◌≡◌, ◌≢◌, refl, sym, ap, subst, ◌∙◌, ⊎_elim, inl, inr, ℕ, ◌+◌, ◌≤◌, nat_eq, eqb-true, eq-eqb, ne_eqb, Bool, true, false, true≢false, cond, not, ◌&&◌, ◌||◌, List, [], ◌∷◌, ◌++◌, length, map, filter, find, flat_map, Option, Some, None, is_some, unwrap_or, arith}
 use Rattle.std.specs.List.{list_all}
 use Rattle.std.proofs.lemmas.Bool.{and_parts, or_cases}
 use Rattle.std.proofs.lemmas.Bool.Decides.{eqb_tells}
@@ -7,7 +7,7 @@ use Rattle.vt_spec.specs.FileTree.{targets_in}
 use Rattle.vt_spec.specs.Lists.{folded, is_among}
 use Rattle.vt_spec.specs.Machine.Settled.{named_in, used_in}
 use Rattle.vt_spec.specs.Machine.World.{Filesystem, World, filesystem_numbered, is_overlay, no_filesystem}
-use Rattle.vt_spec.specs.Inodes.{Inodes, node_in, uses_in}
+use Rattle.vt_spec.specs.Inodes.{Inodes, node_in}
 use Rattle.vt_spec.specs.Inodes as Trees
 use Rattle.vt_spec.specs.Tree.{Node}
 use Rattle.vt_letting_go.specs.Counts.{inode_uses, times}
@@ -28,6 +28,8 @@ use Rattle.vt_count_laws.specs.Using.{AreThere, Exchanges, ExchangesTurn, UsesAr
 use Rattle.vt_count_laws.proofs.Listed.{no_repeats, times_is}
 use Rattle.vt_count_laws.proofs.Swept.{base_of, found_is, found_number, plain_of, plain_uses_are, start_counts, there_if_counted, there_if_some}
 use Rattle.vt_count_laws.proofs.TreeCounts.{other_uses, unpinned_counts}
+use Rattle.std.proofs.Math.Bool.{or-false}
+use Rattle.vt_spec.proofs.Inodes.{is_some-node_in, node_in-none, uses_in-none}
 
 -- one if the test passes
 abbrev pub one_when : Bool → ℕ
@@ -209,11 +211,7 @@ module _ (world : World ℕ) (inode : Inode) (plain : LettingGo.IsPlain world) w
     same_uses n = plain_uses_are next plain_next f n ∙ sym (plain_uses_are world plain f n)
 
     among_one : (n : ℕ) → is_inode_among k n (inode ∷ []) ≡ (nat_eq k inode.0 && nat_eq n inode.1)
-    among_one n = by (nat_eq k inode.0 && nat_eq n inode.1)
-      where
-        by : (b : Bool) → (b || false) ≡ b
-        by true = refl
-        by false = refl
+    among_one n = or-false (nat_eq k inode.0 && nat_eq n inode.1)
 
     -- it stays
     left_same : (nat_eq f.number inode.0 && not (is_inode_used world f inode.1)) ≡ false
@@ -305,11 +303,6 @@ module _ (world : World ℕ) (inode : Inode) (plain : LettingGo.IsPlain world) w
             let not_so : (nat_eq f.number inode.0 && not (is_inode_used world f inode.1))
             ≡ false = ap (λ b. b && not (is_inode_used world f inode.1)) e in
             subst (λ b. IsLeft k world f (inode ∷ []) next (cond b gone_f f)) (sym not_so) (left_same not_so)
-
--- and then others
-some_or_zero : (n : ℕ) → (n ≡ 0) ⊎ (1 ≤ n)
-some_or_zero Rattle.std.proofs.Common.zero = inl refl
-some_or_zero (Rattle.std.proofs.Common.suc n) = inr (omega arith)
 
 all_left : (k : ℕ) (world : World ℕ) (lost : List Inode) → LettingGo.IsPlain world
     → is_among nat_eq k (map (λ f. f.number) world.filesystems) ≡ true
@@ -454,14 +447,6 @@ module _ (world after : World ℕ) (gained lost : List Inode) (k : ℕ) (inodes 
   node_last : (n : ℕ) → node_in ((exchanged k gained lost inodes).inode n) ≡ f_last.files.tree.node n
   node_last n = by (is_some ((exchanged k gained lost inodes).inode n)) refl
     where
-      missing : (o : Option (Trees.Inode ℕ)) → is_some o ≡ false → node_in o ≡ None
-      missing None e = refl
-      missing (Some inode) e = cc
-
-      unused : (o : Option (Trees.Inode ℕ)) → is_some o ≡ false → uses_in o ≡ 0
-      unused None e = refl
-      unused (Some inode) e = cc
-
       not_lost : (list : List Inode) → is_inode_among k n list ≡ false → times (is_inode k n) list ≡ 0
       not_lost [] e = refl
       not_lost (first ∷ rest) e =
@@ -471,16 +456,16 @@ module _ (world after : World ℕ) (gained lost : List Inode) (k : ℕ) (inodes 
 
       never : (b : Bool) → is_some (inodes.inode n) ≡ b → inode_uses world f n ≡ 0 → f.files.tree.node n ≡ None
       never true e none = absurd (let some = start.in_use n e in let same = start.uses_are n in omega arith)
-      never false e none = sym (counted.node n) ∙ missing (inodes.inode n) e
+      never false e none = sym (counted.node n) ∙ node_in-none (inodes.inode n) e
 
       by : (b : Bool) → is_some ((exchanged k gained lost inodes).inode n) ≡ b
           → node_in ((exchanged k gained lost inodes).inode n) ≡ f_last.files.tree.node n
       by true e = sym (counted_then.kept n e) ∙ sym (left.used n
           (let some = counted_then.in_use n e in let same = counted_then.uses_are n in omega arith))
       by false e =
-          missing ((exchanged k gained lost inodes).inode n) e
+          node_in-none ((exchanged k gained lost inodes).inode n) e
           ∙ sym (gone (is_inode_among k n lost) refl
-          (sym (counted_then.uses_are n) ∙ unused ((exchanged k gained lost inodes).inode n) e))
+          (sym (counted_then.uses_are n) ∙ uses_in-none ((exchanged k gained lost inodes).inode n) e))
         where
           gone : (b : Bool) → is_inode_among k n lost ≡ b → used_then n ≡ 0 → f_last.files.tree.node n ≡ None
           gone true h none = left.gone n none h
@@ -488,11 +473,7 @@ module _ (world after : World ℕ) (gained lost : List Inode) (k : ℕ) (inodes 
               (let all = exchange_uses n in let nothing = not_lost lost h in omega arith)
 
   there_last : (n : ℕ) → is_some (f_last.files.tree.node n) ≡ is_some ((exchanged k gained lost inodes).inode n)
-  there_last n = sym (ap is_some (node_last n)) ∙ by ((exchanged k gained lost inodes).inode n)
-    where
-      by : (o : Option (Trees.Inode ℕ)) → is_some (node_in o) ≡ is_some o
-      by None = refl
-      by (Some inode) = refl
+  there_last n = sym (ap is_some (node_last n)) ∙ is_some-node_in ((exchanged k gained lost inodes).inode n)
 
   counted_last : IsCounted last f_last (exchanged k gained lost inodes)
   counted_last = record {

@@ -15,6 +15,7 @@ use Rattle.vt_letting_go.proofs.UsesCounted.{located_while_counted, mounted_whil
 use Rattle.vt_count_laws.specs.Going.{FilesystemGoesAtZero, MountGoesAtZero, MountTakesItsCount}
 use Rattle.vt_count_laws.proofs.Listed.{turned}
 use Rattle.vt_count_laws.proofs.Swept.{plain_of}
+use Rattle.std.proofs.Math.Bool.{or-false}
 
 pub mount_goes_at_zero : MountGoesAtZero
 mount_goes_at_zero world number one =
@@ -28,11 +29,7 @@ filesystem_goes_at_zero world number plain =
     ∙ ap (λ b. cond (is_mounted nat_eq world number || b) world (without_filesystem world number))
     (no_layers number world world.filesystems (plain_of world plain))
     ∙ ap (λ b. cond b world (without_filesystem world number))
-    (alone (is_mounted nat_eq world number) ∙ mounted_while_counted world number)
-  where
-    alone : (b : Bool) → (b || false) ≡ b
-    alone true = refl
-    alone false = refl
+    (or-false (is_mounted nat_eq world number) ∙ mounted_while_counted world number)
 
 -- a list without its one element of a number
 one_taken : (test : Mount ℕ → Bool) (mounts : List (Mount ℕ)) (number : ℕ)

@@ -1,5 +1,5 @@
 -- The counts of a tree's inodes where names come, go and move, before anything is swept.
-use Rattle.std.proofs.Common.{◌≡◌, ◌≢◌, refl, sym, ap, subst, ◌∙◌, ⊎_elim, inl, inr, ◌⊎◌, ℕ, zero, suc, ◌+◌, ◌≤◌, nat_eq, eq-eqb, ne_eqb, Bool, true, false, true≢false, cond, List, [], ◌∷◌, ◌++◌, Option, Some, None, is_some, arith}
+use Rattle.std.proofs.Common.{◌≡◌, ◌≢◌, refl, sym, ap, subst, ◌∙◌, ⊎_elim, ◌⊎◌, ℕ, ◌+◌, ◌≤◌, nat_eq, eq-eqb, ne_eqb, Bool, true, false, true≢false, cond, List, [], ◌∷◌, ◌++◌, Option, Some, None, is_some, arith}
 use Rattle.std.specs.Cmp.Lexicographic.{bytes_decides}
 use Rattle.std.specs.FinMap.Entries.{is_sorted}
 use Rattle.std.specs.Str.{bytes_eq}
@@ -8,31 +8,19 @@ use Rattle.vt_spec.specs.Language.Changes.{node_with_parent, node_without_entry,
 use Rattle.vt_spec.specs.FileTree.{targets_in}
 use Rattle.vt_spec.specs.Laws.Trees.{IsNewIn}
 use Rattle.vt_spec.specs.Inodes.{Inodes, inode_with_node, node_in, with_changed, with_new, without_name, without_replaced}
-use Rattle.vt_spec.specs.Rights.{is_directory}
-use Rattle.vt_spec.specs.Tree.{Content, Node, entries_in, entries_of, entry_named, is_directory_node, kind_of, name_cmp, node_with_entry, with_entry}
-use Rattle.vt_spec.specs.Tree.Content.{Directory, Regular, Symlink, Whiteout}
+use Rattle.vt_spec.specs.Tree.{Node, entries_in, entry_named, is_directory_node, name_cmp, node_with_entry, with_entry}
 use Rattle.vt_one_text.specs.OneTree.{times_in}
 use Rattle.vt_one_text.proofs.OneTreeCounts as Counts
-use Rattle.vt_one_text.proofs.OneTreeCounts.{counted_new, other_if}
+use Rattle.vt_one_text.proofs.OneTreeCounts.{apart_one, counted_new, other_if, one_if-itself}
 use Rattle.vt_one_text.proofs.OneTreeEntries.{changed_at, found_target, named_apart, named_by, named_changed, one_if, one_if_some, sorted_without, targets, times_put, times_without}
-use Rattle.vt_one_text.proofs.OneTreeMakes.{entries_with_entry, new_entries}
-use Rattle.vt_one_text.proofs.OneTreeNames.{at_other, at_place, directory_without, entries_with_parent, entries_without, part_at, some_with, some_with_parent, some_without, sorted_at}
+use Rattle.vt_one_text.proofs.OneTreeMakes.{new_entries}
+use Rattle.vt_one_text.proofs.OneTreeNames.{at_other, at_place, part_at, sorted_at}
 use Rattle.vt_one_text.proofs.OneTreeTrees.{times_append}
 use Rattle.vt_one_text.proofs.OneTreeMoves.{commute, find_without}
-use Rattle.vt_count_laws.proofs.TreeCounts.{IsStart, IsTallied, added_targets, apart_one, changed_counts, changed_same, once_directory, other_uses, own_one, there_directory, unpinned_counts, uses_of}
-
--- what has an entry is a directory
-pub directory_with : (name : List ℕ) (object : ℕ) (o : Option (Node ℕ)) → entry_named name (entries_in o) ≡ Some object
-    → is_directory_node o ≡ true
-directory_with name object None e = cc
-directory_with name object (Some node) e = by node.content e
-  where
-    by : (content : Content ℕ) → entry_named name (entries_of content) ≡ Some object
-        → is_directory (kind_of content) ≡ true
-    by (Directory parent entries opaque) e = refl
-    by (Regular bytes) e = cc
-    by (Symlink text) e = cc
-    by Whiteout e = cc
+use Rattle.vt_count_laws.proofs.TreeCounts.{IsStart, IsTallied, added_targets, changed_counts, changed_same, once_directory, other_uses, there_directory, unpinned_counts, uses_of}
+use Rattle.vt_spec.proofs.NodeChanges.{directory_from_entry, entries-node_with_parent, entries-node_without_entry, is_directory-node_without_entry, is_some-node_with_parent, is_some-node_without_entry}
+use Rattle.vt_spec.proofs.Nodes.{entries-node_with_entry, is_some-node_with_entry}
+use Rattle.vt_spec.proofs.Truths.{zero_or_some}
 
 -- A new inode
 module _ (base : ℕ → ℕ) (node : ℕ → Option (Node ℕ)) (numbers : List ℕ) (inodes : Inodes ℕ)
@@ -118,7 +106,7 @@ module _ (base : ℕ → ℕ) (node : ℕ → Option (Node ℕ)) (numbers : List
       ≡ times_in n numbers = omega arith in all)
       ∙ start.tallied.once n
       ∙ ap (λ b. cond b 1 0) (sym (part_at is_some node directory (node_with_entry name number)
-      (some_with name number (node directory)) n))
+      (is_some-node_with_entry name number (node directory)) n))
       ∙ sym (ap (λ b. cond (is_some (cond b (Some new) (node_on n))) 1 0) t.0))
       (eqb_tells n number)
 
@@ -141,7 +129,7 @@ module _ (base : ℕ → ℕ) (node : ℕ → Option (Node ℕ)) (numbers : List
   uses = uses_of base node numbers
 
   pub is_directory_off : is_directory_node (node directory) ≡ true
-  is_directory_off = directory_with name object (node directory) leads
+  is_directory_off = directory_from_entry name object (node directory) leads
 
   abbrev pub node_off : ℕ → Option (Node ℕ)
   node_off = at_place node directory (node_without_entry name)
@@ -156,11 +144,11 @@ module _ (base : ℕ → ℕ) (node : ℕ → Option (Node ℕ)) (numbers : List
       ap (one_if_some n) leads in
       let same : times_in n (targets_in (node_without_entry name (node directory)))
       ≡ times_in n (targets (without_entry name (entries_in (node directory)))) = ap (λ e. times_in n (targets e))
-      (entries_without name (node directory)) in
+      (entries-node_without_entry name (node directory)) in
       omega arith
 
   pub is_target : 1 ≤ times_in object (targets_in (node directory))
-  is_target = let off = off_targets object in let one = own_one object in omega arith
+  is_target = let off = off_targets object in let one = one_if-itself object in omega arith
 
 module _ (base : ℕ → ℕ) (node : ℕ → Option (Node ℕ)) (numbers : List ℕ) (inodes : Inodes ℕ)
     (start : IsStart base node numbers inodes)
@@ -187,7 +175,7 @@ module _ (base : ℕ → ℕ) (node : ℕ → Option (Node ℕ)) (numbers : List
 
   removed_entries : (n : ℕ) → entries_in (node_removed n) ≡ entries_in (node_less n)
   removed_entries = part_at entries_in node_less object (node_with_parent object)
-      (entries_with_parent object (node_less object))
+      (entries-node_with_parent object (node_less object))
 
   named_same : (list : List ℕ) → named_by node_removed list ≡ named_by node_less list
   named_same [] = refl
@@ -217,8 +205,8 @@ module _ (base : ℕ → ℕ) (node : ℕ → Option (Node ℕ)) (numbers : List
         ∙ ap entries_in (at_other node directory (node_without_entry name) object apart_r)
         ∙ empty));
     once = λ n. start.tallied.once n ∙ ap (λ b. cond b 1 0) (sym
-        (part_at is_some node_less object (node_with_parent object) (some_with_parent object (node_less object)) n
-        ∙ part_at is_some node directory (node_without_entry name) (some_without name (node directory)) n));
+        (part_at is_some node_less object (node_with_parent object) (is_some-node_with_parent object (node_less object)) n
+        ∙ part_at is_some node directory (node_without_entry name) (is_some-node_without_entry name (node directory)) n));
   }
 
 -- A name that is moved
@@ -266,12 +254,12 @@ module _ (base : ℕ → ℕ) (node : ℕ → Option (Node ℕ)) (numbers : List
   object_target = is_target base node numbers inodes start from old object leads
 
   to_from : is_directory_node (node_from to) ≡ true
-  to_from = part_at is_directory_node node from (node_without_entry old) (directory_without old (node from)) to ∙ to_is
+  to_from = part_at is_directory_node node from (node_without_entry old) (is_directory-node_without_entry old (node from)) to ∙ to_is
 
   order_from : (n : ℕ) → is_sorted name_cmp (entries_in (node_from n)) ≡ true
   order_from =
       sorted_at node from (node_without_entry old) start.in_order
-      (ap (is_sorted name_cmp) (entries_without old (node from))
+      (ap (is_sorted name_cmp) (entries-node_without_entry old (node from))
       ∙ sorted_without old (entries_in (node from)) (start.in_order from))
 
   -- the new name still leads where it led
@@ -279,7 +267,7 @@ module _ (base : ℕ → ℕ) (node : ℕ → Option (Node ℕ)) (numbers : List
   finds_from =
       ⊎_elim
       (λ t. ap (λ b. entry_named new (entries_in (cond b (node_without_entry old (node from)) (node to)))) t.0
-      ∙ ap (entry_named new) (entries_without old (node from))
+      ∙ ap (entry_named new) (entries-node_without_entry old (node from))
       ∙ here t.1 (bytes_eq new old) refl)
       (λ t. ap (λ b. entry_named new (entries_in (cond b (node_without_entry old (node from)) (node to)))) t.0 ∙ finds)
       (eqb_tells to from)
@@ -291,7 +279,7 @@ module _ (base : ℕ → ℕ) (node : ℕ → Option (Node ℕ)) (numbers : List
           let it : replaced ≡ Some object =
           sym finds ∙ (λ i. entry_named (name i) (entries_in (node (same i)))) ∙ leads in
           let one : one_if_some object replaced ≡ one_if object object = ap (one_if_some object) it in
-          let self = own_one object in
+          let self = one_if-itself object in
           absurd (omega (arith, other))
       here same false e = find_without old new (entries_in (node from)) e
           ∙ ap (λ n. entry_named new (entries_in (node n))) (sym same)
@@ -307,33 +295,33 @@ module _ (base : ℕ → ℕ) (node : ℕ → Option (Node ℕ)) (numbers : List
       ap (one_if_some n) finds_from in
       let same : times_in n (targets_in (node_with_entry new object (node_from to)))
       ≡ times_in n (targets (with_entry new object (entries_in (node_from to)))) = ap (λ e. times_in n (targets e))
-      (entries_with_entry new object (node_from to) to_from) in
+      (entries-node_with_entry new object (node_from to) to_from) in
       omega arith
 
   entries_moved : (n : ℕ) → entries_in (node_moved replaced n) ≡ entries_in (node_to n)
   entries_moved n = by replaced
     where
       under : entries_in (node_under n) ≡ entries_in (node_to n)
-      under = part_at entries_in node_to object (node_with_parent to) (entries_with_parent to (node_to object)) n
+      under = part_at entries_in node_to object (node_with_parent to) (entries-node_with_parent to (node_to object)) n
 
       by : (o : Option ℕ) → entries_in (node_moved o n) ≡ entries_in (node_to n)
       by None = under
       by (Some gone) = part_at entries_in node_under gone (node_with_parent gone)
-          (entries_with_parent gone (node_under gone)) n ∙ under
+          (entries-node_with_parent gone (node_under gone)) n ∙ under
 
   some_moved : (n : ℕ) → is_some (node_moved replaced n) ≡ is_some (node n)
   some_moved n = by replaced
     where
       under : is_some (node_under n) ≡ is_some (node n)
       under =
-          part_at is_some node_to object (node_with_parent to) (some_with_parent to (node_to object)) n
-          ∙ part_at is_some node_from to (node_with_entry new object) (some_with new object (node_from to)) n
-          ∙ part_at is_some node from (node_without_entry old) (some_without old (node from)) n
+          part_at is_some node_to object (node_with_parent to) (is_some-node_with_parent to (node_to object)) n
+          ∙ part_at is_some node_from to (node_with_entry new object) (is_some-node_with_entry new object (node_from to)) n
+          ∙ part_at is_some node from (node_without_entry old) (is_some-node_without_entry old (node from)) n
 
       by : (o : Option ℕ) → is_some (node_moved o n) ≡ is_some (node n)
       by None = under
       by (Some gone) = part_at is_some node_under gone (node_with_parent gone)
-          (some_with_parent gone (node_under gone)) n ∙ under
+          (is_some-node_with_parent gone (node_under gone)) n ∙ under
 
   named_moved : (list : List ℕ) → named_by (node_moved replaced) list ≡ named_by node_to list
   named_moved [] = refl
@@ -372,11 +360,7 @@ module _ (base : ℕ → ℕ) (node : ℕ → Option (Node ℕ)) (numbers : List
 
   -- a replaced object has no entries, and is neither of the directories
   none_or_one : (n : ℕ) → (one_if_some n replaced ≡ 0) ⊎ (1 ≤ one_if_some n replaced)
-  none_or_one n = by (one_if_some n replaced)
-    where
-      by : (k : ℕ) → (k ≡ 0) ⊎ (1 ≤ k)
-      by zero = inl refl
-      by (suc k) = inr (omega arith)
+  none_or_one n = zero_or_some (one_if_some n replaced)
 
   full_stays : (d n : ℕ) → 1 ≤ times_in n (targets_in (node d)) → one_if_some d replaced ≡ 0
   full_stays d n full =
@@ -413,7 +397,7 @@ module _ (base : ℕ → ℕ) (node : ℕ → Option (Node ℕ)) (numbers : List
           (λ n. let l = less n in let none : one_if_some n replaced
           ≡ 0 = ap (one_if_some n) e in omega arith) counted_under
       by (Some gone) e =
-          let one : one_if_some gone replaced ≡ 1 = ap (one_if_some gone) e ∙ own_one gone in
+          let one : one_if_some gone replaced ≡ 1 = ap (one_if_some gone) e ∙ one_if-itself gone in
           let second = changed_counts uses_m node_under inodes_under gone (node_with_parent gone) counted_under
           (same_under gone) refl
           (λ some. (_, refl)) in

@@ -15,7 +15,7 @@ use Rattle.vt_letting_go.specs.Counts.{inode_uses, mounts_showing, times}
 use Rattle.vt_letting_go.specs.Mounting.{inode_at}
 use Rattle.vt_letting_go.specs.OneByOne.{Inode}
 use Rattle.vt_letting_go.proofs.Lists.{Among, all_pass, among-append_left, among-append_right, among_numbers, filter_alike, passes}
-use Rattle.vt_letting_go.proofs.PlacesLeft.{found_itself, no_layers_of, no_objects_of, number_found}
+use Rattle.vt_letting_go.proofs.PlacesLeft.{found_itself, no_layers_of}
 use Rattle.vt_one_text.specs.OneTree.{times_in}
 use Rattle.vt_one_text.proofs.OneTreeEntries.{one_if}
 use Rattle.vt_count_laws.specs.Counted.{IsCounted}
@@ -23,6 +23,9 @@ use Rattle.vt_count_laws.specs.Going.{LocationsUseMounts, MountsUseFilesystems}
 use Rattle.vt_count_laws.specs.Using.{ExchangesFollow, MountIsPlaced, OthersUseNothing, LocationsAreUses, MountsAreUses, NewTreeIsCounted, OpeningIsCounted, is_inode, is_on, one_counted, places_of, root_counted}
 use Rattle.vt_count_laws.proofs.Swept.{base_of, found_number, plain_of, plain_uses_are, uses_split}
 use Rattle.vt_count_laws.proofs.TreeCounts.{uses_of}
+use Rattle.vt_letting_go.proofs.UpperUses.{times_append}
+use Rattle.vt_spec.proofs.Worlds.{mount_in-among, number-mount_in}
+use Rattle.vt_letting_go.proofs.Inodes.{no_objects_of}
 
 -- how many of some locations are at an inode
 module _ (mounts : List (Mount ℕ)) (k n : ℕ) where
@@ -159,19 +162,6 @@ points_append (first ∷ rest) other = by first.mount_point (points_append rest 
     by None e = e
     by (Some place) e = ap (λ l. place ∷ l) e
 
--- a mount that is there is found
-mount_is : (mounts : List (Mount ℕ)) (number : ℕ) → is_among nat_eq number (map (λ mount. mount.number) mounts) ≡ true
-    → Among (mount_in nat_eq mounts number) mounts
-mount_is [] number there = absurd (true≢false (sym there))
-mount_is (first ∷ rest) number there = by (nat_eq number first.number) there (mount_is rest number)
-  where
-    by : (b : Bool) → (b || is_among nat_eq number (map (λ mount. mount.number) rest)) ≡ true
-        → (is_among nat_eq number (map (λ mount. mount.number) rest) ≡ true → Among (mount_in nat_eq rest number) rest)
-        → Among (unwrap_or (cond b (Some first) (find (λ mount. nat_eq number mount.number) rest)) (no_mount number))
-        (first ∷ rest)
-    by true h later = inl refl
-    by false h later = inr (later h)
-
 -- among more mounts, each with its own number, it is found still
 found_still : (front added back : List (Mount ℕ)) (number : ℕ)
     → any_pair (λ (a b : Mount ℕ). nat_eq a.number b.number) (front ++ (added ++ back)) ≡ false
@@ -179,9 +169,9 @@ found_still : (front added back : List (Mount ℕ)) (number : ℕ)
     → mount_in nat_eq (front ++ (added ++ back)) number
     ≡ mount_in nat_eq (front ++ back) number
 found_still front added back number one there =
-    ap (mount_in nat_eq (front ++ (added ++ back))) (sym (number_found (front ++ back) number))
+    ap (mount_in nat_eq (front ++ (added ++ back))) (sym (number-mount_in (front ++ back) number))
     ∙ found_itself (front ++ (added ++ back)) one (mount_in nat_eq (front ++ back) number)
-    (more (mount_in nat_eq (front ++ back) number) (mount_is (front ++ back) number there))
+    (more (mount_in nat_eq (front ++ back) number) (mount_in-among (front ++ back) number there))
   where
     more : (mount : Mount ℕ) → Among mount (front ++ back) → Among mount (front ++ (added ++ back))
     more mount m =
@@ -369,17 +359,12 @@ mount_is_placed world after front back old new filesystems locations were are nu
 
 -- Exchanges
 
-times_both : {A : Type 0} (test : A → Bool) (one other : List A)
-    → times test (one ++ other) ≡ times test one + times test other
-times_both test [] other = omega arith
-times_both test (first ∷ rest) other = let later = times_both test rest other in omega arith
-
 pub exchanges_follow : ExchangesFollow
 exchanges_follow world between after gained lost more less k first second = record {
   same = second.same ∙ first.same;
   uses = λ n.
       let a = first.uses n in let b = second.uses n in
-      let c = times_both (is_inode k n) gained more in let d = times_both (is_inode k n) lost less in omega arith;
+      let c = times_append (is_inode k n) gained more in let d = times_append (is_inode k n) lost less in omega arith;
 }
 
 pub others_use_nothing : OthersUseNothing
@@ -405,8 +390,8 @@ others_use_nothing world after k plain plain_after mounts locations same = recor
 exchanged_times : {A : Type 0} (test : A → Bool) (front one other back : List A)
     → times test (front ++ (one ++ back)) + times test other ≡ times test (front ++ (other ++ back)) + times test one
 exchanged_times test front one other back =
-    let a = times_both test front (one ++ back) in let b = times_both test one back in
-    let c = times_both test front (other ++ back) in let d = times_both test other back in omega arith
+    let a = times_append test front (one ++ back) in let b = times_append test one back in
+    let c = times_append test front (other ++ back) in let d = times_append test other back in omega arith
 
 pub locations_use_mounts : LocationsUseMounts
 locations_use_mounts world after gained lost front back was is number =

@@ -1,5 +1,5 @@
 -- Counted inodes after the sweep at the end of a call.
-use Rattle.std.proofs.Common.{◌≡◌, refl, sym, ap, subst, ◌∙◌, ℕ, ◌+◌, ◌≤◌, nat_eq, Bool, true, false, cond, not, List, [], map, filter, Option, Some, None, is_some, arith}
+use Rattle.std.proofs.Common.{◌≡◌, refl, sym, ap, subst, ◌∙◌, ℕ, ◌+◌, ◌≤◌, nat_eq, Bool, true, false, cond, not, List, [], map, filter, None, is_some, arith}
 use Rattle.std.specs.List.{list_all}
 use Rattle.vt_spec.specs.FileTree.{targets_in}
 use Rattle.vt_spec.specs.Lists.{is_among}
@@ -24,6 +24,7 @@ use Rattle.vt_count_laws.proofs.Exchanged as Exchanged
 use Rattle.vt_count_laws.proofs.Exchanged.{found_mapped, root_pinned, root_unpinned}
 use Rattle.vt_count_laws.proofs.Listed.{no_repeats, times_is}
 use Rattle.vt_count_laws.proofs.Swept.{base_of, found_is, plain_of, plain_uses_are}
+use Rattle.vt_spec.proofs.Inodes.{node_in-none, node_in_is_there, uses_in-none}
 
 module _ (world after : World ℕ) (gained lost : List Inode) (k : ℕ) (inodes : Inodes ℕ) (trees : HasTrees world)
     (in_use : InodesInUse world) (plain : IsPlain after)
@@ -90,30 +91,22 @@ module _ (world after : World ℕ) (gained lost : List Inode) (k : ℕ) (inodes 
   used_there : (n : ℕ) → is_among nat_eq n used ≡ is_some (result.inode n)
   used_there n = by (is_some (result.inode n)) refl
     where
-      unused : (o : Option (Trees.Inode ℕ)) → is_some o ≡ false → uses_in o ≡ 0
-      unused None e = refl
-      unused (Some inode) e = cc
-
       none : (b : Bool) → is_among nat_eq n used ≡ b → times_in n used ≡ 0 → b ≡ false
       none true e zero_times = absurd (let some = among_times n used e in omega arith)
       none false e zero_times = refl
 
       by : (b : Bool) → is_some (result.inode n) ≡ b → is_among nat_eq n used ≡ b
       by true e = times_among n used (let some = counts.in_use n e in let same = used_times n in omega arith)
-      by false e = none (is_among nat_eq n used) refl (used_times n ∙ unused (result.inode n) e)
+      by false e = none (is_among nat_eq n used) refl (used_times n ∙ uses_in-none (result.inode n) e)
 
   node_last : (n : ℕ) → node_in (result.inode n) ≡ cond (not (is_among nat_eq n used)) None (f.files.tree.node n)
   node_last n = by (is_some (result.inode n)) refl
       ∙ sym (ap (λ b. cond (not b) None (f.files.tree.node n)) (used_there n))
     where
-      missing : (o : Option (Trees.Inode ℕ)) → is_some o ≡ false → node_in o ≡ None
-      missing None e = refl
-      missing (Some inode) e = cc
-
       by : (b : Bool) → is_some (result.inode n) ≡ b → node_in (result.inode n)
           ≡ cond (not (is_some (result.inode n))) None (f.files.tree.node n)
       by true e = sym (counts.kept n e) ∙ sym (ap (λ b. cond (not b) None (f.files.tree.node n)) e)
-      by false e = missing (result.inode n) e ∙ sym (ap (λ b. cond (not b) None (f.files.tree.node n)) e)
+      by false e = node_in-none (result.inode n) e ∙ sym (ap (λ b. cond (not b) None (f.files.tree.node n)) e)
 
   bare : (n : ℕ) → is_among nat_eq n used ≡ false → targets_in (f.files.tree.node n) ≡ []
   bare n e = counts.emptied n (sym (used_there n) ∙ e)
@@ -142,14 +135,10 @@ module _ (world after : World ℕ) (gained lost : List Inode) (k : ℕ) (inodes 
       ∙ ap (λ b. cond (not (not b)) (times_in n f.files.numbers) 0) (used_there n)
       ∙ by (is_some (result.inode n)) refl
     where
-      there_in : (o : Option (Trees.Inode ℕ)) → is_some o ≡ true → is_some (node_in o) ≡ true
-      there_in None e = e
-      there_in (Some inode) e = refl
-
       by : (b : Bool) → is_some (result.inode n) ≡ b → cond (not (not b)) (times_in n f.files.numbers) 0 ≡ cond b 1 0
       by true e =
           Exchanged.once_f world lives gained lost k inodes trees in_use plain_living exchange counted gains n
-          ∙ ap (λ b. cond b 1 0) (ap is_some (counts.kept n e) ∙ there_in (result.inode n) e)
+          ∙ ap (λ b. cond b 1 0) (ap is_some (counts.kept n e) ∙ node_in_is_there (result.inode n) e)
       by false e = refl
 
   few : (n : ℕ) → times_in n f_last.files.numbers ≤ 1

@@ -15,7 +15,7 @@ use Rattle.vt_letting_go.specs.OneByOne as LettingGo
 use Rattle.vt_letting_go.specs.TreeChanges.{with_tree}
 use Rattle.vt_letting_go.proofs.InUse.{UnusedAreEmpty, filesystems_stay, groups_stay, mounts_stay, named-left}
 use Rattle.vt_letting_go.proofs.Lists.{Among, all_from_among, all_pass, among-from_map, among-map, among_from_all, among_numbers, fails, is_among_numbers, map_alike, map_same, map_twice, none_passes, or_first, passes}
-use Rattle.vt_letting_go.proofs.PlacesLeft.{no_layers, no_layers_of, no_objects_of}
+use Rattle.vt_letting_go.proofs.PlacesLeft.{no_layers, no_layers_of}
 use Rattle.vt_one_text.specs.OneTree.{times_in}
 use Rattle.vt_one_text.proofs.OneTreeCounts as Counts
 use Rattle.vt_one_text.proofs.OneTreeEntries.{named_by, one_if}
@@ -23,7 +23,10 @@ use Rattle.vt_one_text.proofs.OneTreeSettled.{times_filter}
 use Rattle.vt_one_text.proofs.OneTreeTrees.{among_times, as_long, times_among, times_append}
 use Rattle.vt_count_laws.specs.Counted.{IsCounted, IsPlain}
 use Rattle.vt_count_laws.proofs.Listed.{no_repeats, once_or_none, times_is}
-use Rattle.vt_count_laws.proofs.TreeCounts.{IsStart, IsTallied, other_uses, own_one, uses_of}
+use Rattle.vt_count_laws.proofs.TreeCounts.{IsStart, IsTallied, other_uses, uses_of}
+use Rattle.vt_one_text.proofs.OneTreeCounts.{one_if-itself}
+use Rattle.vt_spec.proofs.Inodes.{is_some-node_in, node_in-none, node_in_is_there, uses_in-none}
+use Rattle.vt_letting_go.proofs.Inodes.{no_objects_of}
 
 pub plain_of : (world : World ℕ) → IsPlain world → LettingGo.IsPlain world
 plain_of world plain = none_passes is_overlay world.filesystems
@@ -195,7 +198,7 @@ there_if_some searched world number inodes counted =
         let none : uses_in (inodes.inode number) ≡ 0 = unused (inodes.inode number) (missing.node number) in
         let all : uses_in (inodes.inode number) ≡ times (nat_eq number)
         (used_in nat_eq world (no_filesystem number)) = missing.uses number in
-        let own = own_one number in
+        let own = one_if-itself number in
         let some : times (nat_eq number) (used_in nat_eq world (no_filesystem number))
         ≡ one_if number number + times (nat_eq number) others = refl in
         absurd (omega arith)
@@ -212,11 +215,6 @@ pub there_if_counted : (world : World ℕ) (number : ℕ) (inodes : Inodes ℕ)
     → IsCounted world (filesystem_numbered nat_eq world number) inodes
     → is_among nat_eq number (map (λ f. f.number) world.filesystems) ≡ true
 there_if_counted world number inodes counted = there_if_some world world number inodes counted
-
--- The counted inodes where all are in use
-there_in : (o : Option (Inode ℕ)) → is_some (node_in o) ≡ is_some o
-there_in None = refl
-there_in (Some inode) = refl
 
 pub start_counts : (world : World ℕ) (filesystem : Filesystem ℕ) (inodes : Inodes ℕ) → IsListedTree filesystem.files
     → list_all (is_inode_used world filesystem) filesystem.files.numbers ≡ true → IsCounted world filesystem inodes
@@ -241,7 +239,7 @@ start_counts world filesystem inodes tree used counted = record {
 }
   where
     same_there : (n : ℕ) → is_some (inodes.inode n) ≡ is_some (filesystem.files.tree.node n)
-    same_there n = sym (there_in (inodes.inode n)) ∙ ap is_some (counted.node n)
+    same_there n = sym (is_some-node_in (inodes.inode n)) ∙ ap is_some (counted.node n)
 
     no_targets : (o : Option (Inode ℕ)) → is_some o ≡ false → targets_in (node_in o) ≡ []
     no_targets None e = refl
@@ -451,17 +449,13 @@ module _ (world : World ℕ) (number : ℕ) (files : FileTree ℕ) (in_use : All
     pub used_there : (n : ℕ) → is_among nat_eq n used ≡ is_some (inodes.inode n)
     used_there n = by (is_some (inodes.inode n)) refl
       where
-        unused : (o : Option (Inode ℕ)) → is_some o ≡ false → uses_in o ≡ 0
-        unused None e = refl
-        unused (Some inode) e = cc
-
         none : (b : Bool) → is_among nat_eq n used ≡ b → times_in n used ≡ 0 → b ≡ false
         none true e zero_times = absurd (let some = among_times n used e in omega arith)
         none false e zero_times = refl
 
         by : (b : Bool) → is_some (inodes.inode n) ≡ b → is_among nat_eq n used ≡ b
         by true e = times_among n used (let some = tallied.counted.in_use n e in let same = used_times n in omega arith)
-        by false e = none (is_among nat_eq n used) refl (sym (used_times n) ∙ unused (inodes.inode n) e)
+        by false e = none (is_among nat_eq n used) refl (sym (used_times n) ∙ uses_in-none (inodes.inode n) e)
 
     unused_empty : UnusedAreEmpty used new
     unused_empty n e = tallied.counted.emptied n (sym (used_there n) ∙ e)
@@ -469,14 +463,10 @@ module _ (world : World ℕ) (number : ℕ) (files : FileTree ℕ) (in_use : All
     node_left : (n : ℕ) → node_in (inodes.inode n) ≡ cond (is_among nat_eq n used) (files.tree.node n) None
     node_left n = by (is_some (inodes.inode n)) refl ∙ sym (ap (λ b. cond b (files.tree.node n) None) (used_there n))
       where
-        missing : (o : Option (Inode ℕ)) → is_some o ≡ false → node_in o ≡ None
-        missing None e = refl
-        missing (Some inode) e = cc
-
         by : (b : Bool) → is_some (inodes.inode n) ≡ b
             → node_in (inodes.inode n) ≡ cond (is_some (inodes.inode n)) (files.tree.node n) None
         by true e = sym (tallied.counted.kept n e) ∙ sym (ap (λ b. cond b (files.tree.node n) None) e)
-        by false e = missing (inodes.inode n) e ∙ sym (ap (λ b. cond b (files.tree.node n) None) e)
+        by false e = node_in-none (inodes.inode n) e ∙ sym (ap (λ b. cond b (files.tree.node n) None) e)
 
     pub times_left : (n : ℕ) → times_in n swept.numbers ≡ cond (is_some (inodes.inode n)) 1 0
     times_left n =
@@ -484,13 +474,9 @@ module _ (world : World ℕ) (number : ℕ) (files : FileTree ℕ) (in_use : All
         ∙ ap (λ b. cond b (times_in n files.numbers) 0) (used_there n)
         ∙ by (is_some (inodes.inode n)) refl
       where
-        there_in : (o : Option (Inode ℕ)) → is_some o ≡ true → is_some (node_in o) ≡ true
-        there_in None e = e
-        there_in (Some inode) e = refl
-
         by : (b : Bool) → is_some (inodes.inode n) ≡ b → cond b (times_in n files.numbers) 0 ≡ cond b 1 0
         by true e = tallied.once n ∙ ap (λ b. cond b 1 0)
-            (ap is_some (tallied.counted.kept n e) ∙ there_in (inodes.inode n) e)
+            (ap is_some (tallied.counted.kept n e) ∙ node_in_is_there (inodes.inode n) e)
         by false e = refl
 
     few : (n : ℕ) → times_in n swept.numbers ≤ 1

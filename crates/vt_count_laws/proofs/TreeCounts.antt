@@ -1,5 +1,5 @@
 -- The counts of a tree's inodes after each change of the tree, before anything is swept.
-use Rattle.std.proofs.Common.{◌≡◌, ◌≢◌, refl, sym, ap, subst, ◌∙◌, ⊎_elim, ℕ, suc, ◌+◌, ◌-◌, ◌≤◌, nat_eq, eq-eqb, Bool, true, false, cond, List, [], ◌∷◌, ◌++◌, length, Option, Some, None, is_some, arith}
+use Rattle.std.proofs.Common.{◌≡◌, ◌≢◌, refl, sym, ap, subst, ◌∙◌, ⊎_elim, ℕ, suc, ◌+◌, ◌-◌, ◌≤◌, nat_eq, Bool, true, false, cond, List, [], ◌∷◌, ◌++◌, length, Option, Some, None, is_some, arith}
 use Rattle.std.specs.FinMap.Entries.{is_sorted}
 use Rattle.std.proofs.lemmas.Bool.Decides.{eqb_tells, leb_tells}
 use Rattle.vt_spec.specs.FileTree.{targets_in}
@@ -7,12 +7,13 @@ use Rattle.vt_spec.specs.Inodes.{Inode, Inodes, count_after, inode_with_node, no
 use Rattle.vt_spec.specs.Tree.{Node, entries_in, entry_named, is_directory_node, name_cmp, node_with_entry, with_entry}
 use Rattle.vt_one_text.specs.OneTree.{times_in}
 use Rattle.vt_one_text.proofs.OneTreeCounts as Counts
-use Rattle.vt_one_text.proofs.OneTreeCounts.{at_or, counted_changed, counted_new, counted_pinned, other_if, some_inode}
+use Rattle.vt_one_text.proofs.OneTreeCounts.{at_or, counted_changed, counted_new, counted_pinned, other_if, some_inode, one_if-itself}
 use Rattle.vt_one_text.proofs.OneTreeDescriptors.{counted_some}
 use Rattle.vt_one_text.proofs.OneTreeEntries.{named_by, named_changed, one_if, one_if_some, targets, times_put}
-use Rattle.vt_one_text.proofs.OneTreeMakes.{entries_with_entry}
-use Rattle.vt_one_text.proofs.OneTreeNames.{at_place, part_at, some_with}
+use Rattle.vt_one_text.proofs.OneTreeNames.{at_place, part_at}
 use Rattle.vt_one_text.proofs.OneTreeTrees.{length_removed, removed, times_removed}
+use Rattle.vt_spec.proofs.NodeChanges.{directory_is_there}
+use Rattle.vt_spec.proofs.Nodes.{entries-node_with_entry, is_some-node_with_entry}
 
 abbrev pub uses_of : (ℕ → ℕ) → (ℕ → Option (Node ℕ)) → List ℕ → ℕ → ℕ
 uses_of base node numbers n = base n + times_in n (named_by node numbers)
@@ -27,12 +28,6 @@ pub record IsStart (base : ℕ → ℕ) (node : ℕ → Option (Node ℕ)) (numb
   pub tallied : IsTallied base node numbers inodes
   pub same : (n : ℕ) → node_in (inodes.inode n) ≡ node n
   pub in_order : (n : ℕ) → is_sorted name_cmp (entries_in (node n)) ≡ true
-
-pub own_one : (n : ℕ) → one_if n n ≡ 1
-own_one n = ap (λ b. cond b 1 0) (eq-eqb n n refl)
-
-pub apart_one : (n m : ℕ) → one_if n m ≡ 0 → n ≢ m
-apart_one n m none same = let one : one_if n m ≡ 1 = ap (λ b. cond b 1 0) (eq-eqb n m same) in omega arith
 
 -- other uses, each as many
 pub other_uses : (uses now : ℕ → ℕ) (node : ℕ → Option (Node ℕ)) (inodes : Inodes ℕ) → ((n : ℕ) → uses n ≡ now n)
@@ -129,7 +124,7 @@ module _ (uses left : ℕ → ℕ) (node : ℕ → Option (Node ℕ)) (inodes : 
   here_listed = counted.listed place ∙ ap (λ o. cond (is_some o) 1 0) is
 
   left_here : suc (left place) ≡ inode.uses
-  left_here = let e = here_uses in let one = own_one place in let f = less place in omega arith
+  left_here = let e = here_uses in let one = one_if-itself place in let f = less place in omega arith
 
   left_there : (n : ℕ) → n ≢ place → uses_in (inodes.inode n) ≡ left n
   left_there n apart = let e = counted.uses_are n in let none : one_if n place ≡ 0 = other_if n place apart in let f =
@@ -157,7 +152,7 @@ module _ (uses left : ℕ → ℕ) (node : ℕ → Option (Node ℕ)) (inodes : 
     listed = at_or (λ n o. times_in n (removed place counted.list) ≡ cond (is_some o) 1 0) inodes.inode place None
         (let all : one_if place place + times_in place (removed place counted.list)
         ≡ times_in place counted.list = times_removed place place counted.list (let h = here_listed in omega arith) in
-        let one = own_one place in let h = here_listed in omega arith)
+        let one = one_if-itself place in let h = here_listed in omega arith)
         (λ n apart. (let all : one_if n place + times_in n (removed place counted.list)
         ≡ times_in n counted.list = times_removed place n counted.list (let h = here_listed in omega arith) in
         let none : one_if n place ≡ 0 = other_if n place apart in
@@ -201,7 +196,7 @@ pub unpinned_counts : (uses left : ℕ → ℕ) (node : ℕ → Option (Node ℕ
     → Counts.IsCounted left node (unpinned nat_eq inodes place)
 unpinned_counts uses left node inodes place counted less empty =
     let found = some_inode (inodes.inode place) (counted_some uses node inodes counted place
-    (let l = less place in let one = own_one place in omega arith)) in
+    (let l = less place in let one = one_if-itself place in omega arith)) in
     unpinned_here uses left node inodes place counted less empty found.0 found.1
 
 -- Changes that keep entries
@@ -238,11 +233,7 @@ module _ (base : ℕ → ℕ) (node : ℕ → Option (Node ℕ)) (numbers : List
       there (Some x) = ap is_some (some x).1
 
   pub there_directory : (d : ℕ) → is_directory_node (node d) ≡ true → is_some (node d) ≡ true
-  there_directory d is = by (node d) is
-    where
-      by : (o : Option (Node ℕ)) → is_directory_node o ≡ true → is_some o ≡ true
-      by None e = cc
-      by (Some x) e = refl
+  there_directory d is = directory_is_there (node d) is
 
   pub once_directory : (d : ℕ) → is_directory_node (node d) ≡ true → times_in d numbers ≡ 1
   once_directory d is = once d ∙ ap (λ b. cond b 1 0) (there_directory d is)
@@ -260,7 +251,7 @@ module _ (base : ℕ → ℕ) (node : ℕ → Option (Node ℕ)) (numbers : List
       let none : one_if_some n (entry_named name (entries_in (node directory))) ≡ 0 = ap (one_if_some n) free in
       let same : times_in n (targets_in (node_with_entry name object (node directory)))
       ≡ times_in n (targets (with_entry name object (entries_in (node directory)))) = ap (λ e. times_in n (targets e))
-      (entries_with_entry name object (node directory) is) in
+      (entries-node_with_entry name object (node directory) is) in
       omega arith
 
   -- Another name
@@ -277,7 +268,7 @@ module _ (base : ℕ → ℕ) (node : ℕ → Option (Node ℕ)) (numbers : List
         (with_name nat_eq inodes directory name object) more
         (counted_pinned uses node_on inodes_on counted_on object inode.0 inode.1);
     once = λ n. once n ∙ ap (λ b. cond b 1 0) (sym (part_at is_some node directory (node_with_entry name object)
-        (some_with name object (node directory)) n));
+        (is_some-node_with_entry name object (node directory)) n));
   }
     where
       node_on : ℕ → Option (Node ℕ)

@@ -17,6 +17,9 @@ use Rattle.vt_fs.specs.declared.filesystems.Filesystem.{Filesystem as Held}
 use Rattle.vt_fs.specs.FilesystemsValue.{FilesystemEntry, Filesystems, entry_at, entry_of, filesystems_seen, held, held_entry, held_with_tree, no_entry, with_changed, with_tree, without}
 use Rattle.vt_fs.specs.Lends.{with_tree_at}
 use Rattle.vt_location.proofs.NumberLemmas.{counted_test}
+use Rattle.vt_spec.proofs.Truths.{nat_eq_false_turned, or_false_left, or_false_right}
+pub use Rattle.vt_spec.proofs.Truths.{or_false_left as or_first}
+pub use Rattle.vt_spec.proofs.Truths.{or_false_right as or_second}
 
 -- the equality of numbers as the map compares them, and the test by which it finds one
 abbrev pub key_eq : FilesystemId → FilesystemId → Bool
@@ -29,23 +32,8 @@ is_key f id = nat_eq f id.count
 abbrev pub of_count : ℕ → Held → FilesystemEntry
 of_count f filesystem = record { count = f; tree = filesystem.tree; mounts = filesystem.mounts }
 
-pub or_first : (a b : Bool) → (a || b) ≡ false → a ≡ false
-or_first true b e = e
-or_first false b e = refl
-
-pub or_second : (a b : Bool) → (a || b) ≡ false → b ≡ false
-or_second true b e = absurd (true≢false e)
-or_second false b e = e
-
 same : (a b : ℕ) → nat_eq a b ≡ true → b ≡ a
 same a b e = sym (eqb-true a b e)
-
-turned : (a b : ℕ) → nat_eq a b ≡ false → nat_eq b a ≡ false
-turned a b e = by (nat_eq b a) refl
-  where
-    by : (t : Bool) → nat_eq b a ≡ t → t ≡ false
-    by true t = absurd (true≢false (sym (eq-eqb a b (sym (eqb-true b a t))) ∙ e))
-    by false t = refl
 
 -- the first filesystem is found under its count
 pub first_found : (id first : FilesystemId) (x : Held) (es : List (FilesystemId × Held))
@@ -91,7 +79,7 @@ module _ (f : ℕ) where
       → option_map (λ id. id.count) (slice_get (keys_of es) i) ≡ Some f
       → AllByRecursion (λ y. nat_eq k y.count ≡ false) (keys_of es) → nat_eq f k ≡ false
   not_before k i [] at apart = absurd cc
-  not_before k zero (e ∷ es) at apart = let is : e.0.count ≡ f = cc in turned k f (ap (nat_eq k) (sym is) ∙ apart.0)
+  not_before k zero (e ∷ es) at apart = let is : e.0.count ≡ f = cc in nat_eq_false_turned k f (ap (nat_eq k) (sym is) ∙ apart.0)
   not_before k (suc i) (e ∷ es) at apart = not_before k i es at apart.1
 
   pub at_place : (tree : TreeValue) (i : ℕ) (es : List (FilesystemId × Held)) → IsDistinct key_eq (keys_of es)
@@ -231,14 +219,14 @@ pub numbers_apart : (fs : Filesystems) → any_pair (λ (a b : FilesystemEntry).
     → any_pair (λ a b. nat_eq a.number b.number) (filesystems_seen fs) ≡ false
 numbers_apart [] apart = refl
 numbers_apart (x ∷ fs) apart =
-    λ i. none x.count fs (or_first (list_any (λ (other : FilesystemEntry). nat_eq x.count other.count) fs) _ apart) i
-    || numbers_apart fs (or_second (list_any (λ (other : FilesystemEntry). nat_eq x.count other.count) fs) _ apart) i
+    λ i. none x.count fs (or_false_left (list_any (λ (other : FilesystemEntry). nat_eq x.count other.count) fs) _ apart) i
+    || numbers_apart fs (or_false_right (list_any (λ (other : FilesystemEntry). nat_eq x.count other.count) fs) _ apart) i
   where
     none : (k : ℕ) (fs : Filesystems) → list_any (λ (other : FilesystemEntry). nat_eq k other.count) fs ≡ false
         → list_any (λ b. nat_eq (counted k) b.number) (filesystems_seen fs) ≡ false
     none k [] e = refl
-    none k (x ∷ fs) e = λ i. (counted_test k x.count ∙ or_first (nat_eq k x.count) _ e) i
-        || none k fs (or_second (nat_eq k x.count) _ e) i
+    none k (x ∷ fs) e = λ i. (counted_test k x.count ∙ or_false_left (nat_eq k x.count) _ e) i
+        || none k fs (or_false_right (nat_eq k x.count) _ e) i
 
 -- The filesystem at a place
 

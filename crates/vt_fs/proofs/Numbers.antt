@@ -1,5 +1,5 @@
 -- The numbers beside a tree.
-use Rattle.std.proofs.Common.{◌≡◌, refl, sym, ap, ◌∙◌, true≢false, ℕ, zero, suc, ◌+◌, ◌<◌, nat_eq, eq-eqb, ne_eqb, eqb-true, Bool, true, false, cond, ◌||◌, List, [], ◌∷◌, map, length, slice_index_or, count_by, Option, Some, None, is_some, option_map, unwrap_or, arith}
+use Rattle.std.proofs.Common.{◌≡◌, refl, sym, ap, ◌∙◌, ℕ, zero, suc, ◌+◌, ◌<◌, nat_eq, eq-eqb, ne_eqb, eqb-true, Bool, true, false, cond, ◌||◌, List, [], ◌∷◌, map, length, slice_index_or, count_by, Option, Some, None, is_some, option_map, unwrap_or, arith}
 use Rattle.std.specs.Prelude.{find}
 use Rattle.std.proofs.lemmas.List.Sums.{sum_by-cons}
 use Rattle.vt_spec.specs.Lists.{any_pair, is_among}
@@ -8,7 +8,8 @@ use Rattle.vt_spec.specs.Inodes.{Inode, node_in, renamed_inode}
 use Rattle.vt_location.specs.Numbers.{counted, exchanged}
 use Rattle.vt_fs.specs.FilesystemsValue.{Filesystems, entry_of, filesystem_seen, filesystems_seen, filled_from, no_entry}
 use Rattle.vt_fs.specs.Laws.{FilesystemsAreFound, NumbersAreApart, NumbersAreCounted, NumbersAreListed}
-use Rattle.vt_location.proofs.NumberLemmas.{counted_test, exchanged_back, one_test}
+use Rattle.vt_location.proofs.NumberLemmas.{counted_test, exchanged_back}
+use Rattle.vt_spec.proofs.Truths.{or_false_left, or_false_right, same_truth}
 
 abbrev Slots : Type 0
 Slots = List (Option (Inode ℕ))
@@ -58,7 +59,7 @@ among-filled slot (suc j) (Some inode ∷ rest) =
 module _ (f : ℕ) where
   same_test : (a b : ℕ) → nat_eq a (exchanged f b) ≡ nat_eq (exchanged f a) b
   same_test a b =
-      one_test _ _
+      same_truth _ _
       (λ e. eq-eqb (exchanged f a) b (ap (exchanged f) (eqb-true a (exchanged f b) e) ∙ exchanged_back f b))
       (λ e. eq-eqb a (exchanged f b) (sym (exchanged_back f a) ∙ ap (exchanged f) (eqb-true (exchanged f a) b e)))
 
@@ -71,16 +72,8 @@ module _ (f : ℕ) where
   apart-numbers [] e = refl
   apart-numbers (n ∷ rest) e =
       (λ i. (among-numbers (exchanged f n) rest ∙ ap (λ k. is_among nat_eq k rest) (exchanged_back f n)
-      ∙ first (is_among nat_eq n rest) _ e) i
-      || apart-numbers rest (second (is_among nat_eq n rest) _ e) i)
-    where
-      first : (a b : Bool) → (a || b) ≡ false → a ≡ false
-      first true b e = e
-      first false b e = refl
-
-      second : (a b : Bool) → (a || b) ≡ false → b ≡ false
-      second true b e = absurd (true≢false e)
-      second false b e = e
+      ∙ or_false_left (is_among nat_eq n rest) _ e) i
+      || apart-numbers rest (or_false_right (is_among nat_eq n rest) _ e) i)
 
 pub numbers_listed : NumbersAreListed
 numbers_listed entry number =

@@ -1,133 +1,26 @@
 -- In a tree of a world, a directory has a name in its parent or is its own parent.
-use Rattle.std.proofs.Common.{◌≡◌, ◌≢◌, refl, sym, ap, subst, ◌∙◌, true≢false, ℕ, zero, suc, nat_eq, eq-eqb, eqb-true, ne_eqb, Bool, true, false, cond, not, ◌||◌, ◌&&◌, List, [], ◌∷◌, map, length, Option, Some, None, is_some}
-use Rattle.std.specs.List.{find, list_any}
+use Rattle.std.proofs.Common.{◌≡◌, ◌≢◌, refl, sym, ap, ◌∙◌, true≢false, ℕ, zero, suc, nat_eq, eq-eqb, eqb-true, ne_eqb, Bool, true, false, not, ◌||◌, List, [], ◌∷◌, length, Option, Some, None, is_some}
 use Rattle.std.specs.Prelude.{if◌then◌else◌}
-use Rattle.std.specs.Cmp.{tied_itself}
-use Rattle.std.specs.Cmp.Lexicographic.{nat_list_cmp_total}
-use Rattle.std.specs.declared.cmp.Ordering.TheVariants.{Less, Equal, Greater}
-use Rattle.std.specs.FinMap.Entries.{below_all, is_sorted}
-use Rattle.std.specs.Ordering.{eq_by_cmp, is_eq, is_lt}
 use Rattle.vt_spec.specs.FileTree.{has_entry_to, is_directory_under, is_removed, named_parent, targets_in}
 use Rattle.vt_spec.specs.Lists.{chain, is_among, when}
 use Rattle.vt_spec.specs.Inodes.{Inodes, is_directory_under as is_under_in, parent_above, tree_of}
-use Rattle.vt_spec.specs.Tree.{Content, Entries, Node, Tree, entries_in, entry_named, is_directory_node, name_cmp, parent_in}
+use Rattle.vt_spec.specs.Tree.{Content, Node, Tree, is_directory_node, parent_in}
 use Rattle.vt_spec.specs.Tree.Content.{Directory, Regular, Symlink, Whiteout}
 use Rattle.vt_spec.specs.TreeLaws.{HasOwnParents, IsDirectory, IsTree, entry_at, led}
-use Rattle.vt_spec.proofs.Nodes.{same_name}
 use Rattle.vt_spec.proofs.Trees.{found}
 use Rattle.vt_fs.specs.Laws.{ParentsAreNamed, TreesNameParents}
-
-one : (a b : List ℕ × ℕ) → Some a ≡ Some b → a ≡ b
-one a b e = cc
-
-one_number : (a b : ℕ) → Some a ≡ Some b → a ≡ b
-one_number a b e = cc
+use Rattle.std.proofs.Math.Bool.{or-false}
+use Rattle.std.proofs.lemmas.Option.{same_Some}
+use Rattle.vt_spec.proofs.NodeChanges.{entry_from, entry_to}
 
 nothing : {P : Type 0} (a : ℕ) → None ≡ Some a → P
 nothing a e = absurd cc
-
--- A name that is found by what it leads to leads there.
-and_first : (a b : Bool) → (a && b) ≡ true → a ≡ true
-and_first true b e = refl
-and_first false b e = absurd (true≢false (sym e))
-
-and_second : (a b : Bool) → (a && b) ≡ true → b ≡ true
-and_second true b e = e
-and_second false b e = absurd (true≢false (sym e))
-
-below_none : (name : List ℕ) (entries : Entries ℕ) → below_all name_cmp name entries ≡ true
-    → entry_named name entries ≡ None
-below_none name [] e = refl
-below_none name (entry ∷ entries) e =
-    ap (λ b. cond b (Some entry.1) (entry_named name entries))
-    (apart (name_cmp name entry.0) (and_first (is_lt (name_cmp name entry.0)) _ e))
-    ∙ below_none name entries (and_second (is_lt (name_cmp name entry.0)) _ e)
-  where
-    apart : (o : Rattle.std.specs.declared.cmp.Ordering.Ordering) → is_lt o ≡ true → is_eq o ≡ false
-    apart Less e = refl
-    apart Equal e = absurd (true≢false (sym e))
-    apart Greater e = refl
-
-found_is_named : (object : ℕ) (entries : Entries ℕ) (entry : List ℕ × ℕ) → is_sorted name_cmp entries ≡ true
-    → find (λ entry. nat_eq object entry.1) entries ≡ Some entry
-    → (entry_named entry.0 entries ≡ Some entry.1) × (entry.1 ≡ object)
-found_is_named object [] entry sorted e = absurd (true≢false (sym (ap is_some e)))
-found_is_named object (first ∷ entries) entry sorted e =
-    by (nat_eq object first.1) refl e
-    (λ rest. found_is_named object entries entry (and_second (below_all name_cmp first.0 entries) _ sorted) rest)
-  where
-    later : (tied : Bool) → eq_by_cmp name_cmp entry.0 first.0 ≡ tied → entry_named entry.0 entries ≡ Some entry.1
-        → cond tied (Some first.1) (entry_named entry.0 entries) ≡ Some entry.1
-    later true t named =
-        nothing entry.1 (sym (ap (λ n. entry_named n entries) (same_name entry.0 first.0 t)
-        ∙ below_none first.0 entries (and_first (below_all name_cmp first.0 entries) _ sorted)) ∙ named)
-    later false t named = named
-
-    by : (b : Bool) → nat_eq object first.1 ≡ b
-        → cond b (Some first) (find (λ entry. nat_eq object entry.1) entries) ≡ Some entry
-        → (find (λ entry. nat_eq object entry.1) entries ≡ Some entry
-        → (entry_named entry.0 entries ≡ Some entry.1) × (entry.1 ≡ object))
-        → (entry_named entry.0 (first ∷ entries) ≡ Some entry.1) × (entry.1 ≡ object)
-    by true t e rest =
-        subst (λ found. (entry_named found.0 (first ∷ entries) ≡ Some found.1) × (found.1 ≡ object)) (one first entry e) (
-          ap (λ o. cond (is_eq o) (Some first.1) (entry_named first.0 entries))
-              (tied_itself nat_list_cmp_total first.0),
-          sym (eqb-true object first.1 t),
-        )
-    by false t e rest = let found = rest e in (later (eq_by_cmp name_cmp entry.0 first.0) refl found.0, found.1)
-
--- an object that an entry leads to is among those that entries lead to, and the other way round
-pub entry_to : (tree : Tree ℕ) (directory : ℕ) (name : List ℕ) (object : ℕ) → entry_at tree directory name ≡ Some object
-    → has_entry_to nat_eq tree directory object ≡ true
-entry_to tree directory name object e = searched (entries_in (tree.node directory)) e
-  where
-    searched : (entries : Entries ℕ) → entry_named name entries ≡ Some object
-        → list_any (nat_eq object) (map (λ entry. entry.1) entries) ≡ true
-    searched [] e = absurd (true≢false (sym (ap is_some e)))
-    searched (entry ∷ entries) e = by (eq_by_cmp name_cmp name entry.0) e (searched entries)
-      where
-        right : (a b : Bool) → b ≡ true → (a || b) ≡ true
-        right true b e = refl
-        right false b e = e
-
-        by : (b : Bool) → cond b (Some entry.1) (entry_named name entries) ≡ Some object
-            → (entry_named name entries ≡ Some object
-            → list_any (nat_eq object) (map (λ entry. entry.1) entries) ≡ true)
-            → (nat_eq object entry.1 || list_any (nat_eq object) (map (λ entry. entry.1) entries)) ≡ true
-        by true e rest = ap (λ b. b || list_any (nat_eq object) (map (λ entry. entry.1) entries))
-            (eq-eqb object entry.1 (sym (one_number entry.1 object e)))
-        by false e rest = right (nat_eq object entry.1) _ (rest e)
-
-pub entry_from : (tree : Tree ℕ) → IsTree tree → (directory object : ℕ)
-    → has_entry_to nat_eq tree directory object ≡ true → (name : List ℕ) × (entry_at tree directory name ≡ Some object)
-entry_from tree conditions directory object e =
-    by (find (λ entry. nat_eq object entry.1) (entries_in (tree.node directory))) refl
-    (searched (entries_in (tree.node directory)) e)
-  where
-    searched : (entries : Entries ℕ) → list_any (nat_eq object) (map (λ entry. entry.1) entries) ≡ true
-        → is_some (find (λ entry. nat_eq object entry.1) entries) ≡ true
-    searched [] e = absurd (true≢false (sym e))
-    searched (entry ∷ entries) e = by (nat_eq object entry.1) e (searched entries)
-      where
-        by : (b : Bool) → (b || list_any (nat_eq object) (map (λ entry. entry.1) entries)) ≡ true
-            → (list_any (nat_eq object) (map (λ entry. entry.1) entries) ≡ true
-            → is_some (find (λ entry. nat_eq object entry.1) entries) ≡ true)
-            → is_some (cond b (Some entry) (find (λ entry. nat_eq object entry.1) entries)) ≡ true
-        by true e rest = refl
-        by false e rest = rest e
-
-    by : (o : Option (List ℕ × ℕ)) → find (λ entry. nat_eq object entry.1) (entries_in (tree.node directory)) ≡ o
-        → is_some o ≡ true → (name : List ℕ) × (entry_at tree directory name ≡ Some object)
-    by None f e = absurd (true≢false (sym e))
-    by (Some entry) f e =
-        let named = found_is_named object (entries_in (tree.node directory)) entry (conditions.in_order directory) f in
-        (entry.0, named.0 ∙ ap Some named.1)
 
 -- names lead to what has a name nowhere but in itself from itself alone
 led_from : (tree : Tree ℕ) (number : ℕ)
     → ((directory : ℕ) (name : List ℕ) → entry_at tree directory name ≡ Some number → directory ≡ number)
     → (from : ℕ) (names : List (List ℕ)) → led tree from names ≡ Some number → from ≡ number
-led_from tree number only from [] e = one_number from number e
+led_from tree number only from [] e = same_Some from number e
 led_from tree number only from (name ∷ names) e =
     let step = found (λ next. led tree next names) (entry_at tree from name) number e in
     only from name (step.1 ∙ ap Some (led_from tree number only step.0 names step.2))
@@ -210,11 +103,7 @@ module _ (inodes : Inodes ℕ) (named : ParentsAreNamed (tree_of inodes)) where
   -- a directory that is its own parent is met again and again
   stays : (top directory n : ℕ) → up directory ≡ Some directory
       → is_among nat_eq top (chain n up directory) ≡ nat_eq top directory
-  stays top directory zero e = by (nat_eq top directory)
-    where
-      by : (b : Bool) → (b || false) ≡ b
-      by true = refl
-      by false = refl
+  stays top directory zero e = or-false (nat_eq top directory)
   stays top directory (suc n) e =
       ap (λ o. is_among nat_eq top (elim o [ None ↦ directory ∷ [] | Some b ↦ directory ∷ chain n up b ])) e
       ∙ by (nat_eq top directory) (is_among nat_eq top (chain n up directory)) (stays top directory n e)

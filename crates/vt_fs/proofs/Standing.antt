@@ -15,8 +15,8 @@ use Rattle.vt_tree.specs.Paths.{path_in}
 use Rattle.vt_tree.specs.TreeValue.{TreeValue, inodes_of, tree_of}
 use Rattle.vt_fs.specs.FilesystemsValue.{ChangesInodes, FilesystemEntry, Filesystems, entry_at, entry_of, files_at, files_seen, inodes_at, inodes_seen, no_entry, node_seen, seen_in, shown, shown_entry, shown_with, with_tree, without}
 use Rattle.vt_location.proofs.NumberLemmas.{exchanged_back}
-use Rattle.vt_fs.proofs.Entries.{or_first, or_second}
 use Rattle.vt_fs.proofs.Renamed.{by_numbers, changed_by_numbers, entry_by_numbers, node_by_numbers, own_by_numbers, path_by_numbers, pinned_by_numbers, plain_by_numbers, renamed_change, root_by_numbers, under_by_numbers, unpinned_by_numbers, uses_by_numbers}
+use Rattle.vt_spec.proofs.Truths.{or_false_left, or_false_right}
 
 -- the filesystem of this count is there, with this tree, and no two have one count
 pub record Standing (fs : Filesystems) (f : ℕ) (tree : TreeValue) : Type 0 where
@@ -109,17 +109,17 @@ module _ (f : ℕ) (change : Inodes ℕ → Inodes ℕ) where
       → shown_with f change (shown fs) ≡ shown fs
   none_shown k [] is none = refl
   none_shown k (x ∷ fs) is none =
-      let other = ap (λ n. nat_eq n x.count) (sym is) ∙ or_first _ _ none in
+      let other = ap (λ n. nat_eq n x.count) (sym is) ∙ or_false_left _ _ none in
       λ i. (ap (λ b. if b then record (shown_entry x) { inodes = change (inodes_seen x) } else shown_entry x) other) i
-      ∷ none_shown k fs is (or_second (nat_eq k x.count) _ none) i
+      ∷ none_shown k fs is (or_false_right (nat_eq k x.count) _ none) i
 
   none_with : (k : ℕ) (tree : TreeValue) (fs : Filesystems) → k ≡ f
       → list_any (λ other. nat_eq k other.count) fs ≡ false → with_tree f tree fs ≡ fs
   none_with k tree [] is none = refl
   none_with k tree (x ∷ fs) is none =
-      let other = ap (λ n. nat_eq n x.count) (sym is) ∙ or_first _ _ none in
+      let other = ap (λ n. nat_eq n x.count) (sym is) ∙ or_false_left _ _ none in
       λ i. (ap (λ b. if b then record x { tree = tree } else x) other) i
-      ∷ none_with k tree fs is (or_second (nat_eq k x.count) _ none) i
+      ∷ none_with k tree fs is (or_false_right (nat_eq k x.count) _ none) i
 
   shown_changed : (new old : TreeValue) (fs : Filesystems) → any_pair (λ a b. nat_eq a.count b.count) fs ≡ false
       → option_map (λ entry. entry.tree) (entry_of fs f) ≡ Some old → seen_in f new ≡ change (seen_in f old)
@@ -128,7 +128,7 @@ module _ (f : ℕ) (change : Inodes ℕ → Inodes ℕ) where
   shown_changed new old (x ∷ fs) apart found is =
       by (nat_eq f x.count) (eqb-true f x.count) found
       (λ there. shown_changed new old fs
-      (or_second (list_any (λ other. nat_eq x.count other.count) fs) _ apart) there is)
+      (or_false_right (list_any (λ other. nat_eq x.count other.count) fs) _ apart) there is)
     where
       by : (b : Bool) → (b ≡ true → f ≡ x.count)
           → option_map (λ entry. entry.tree) (cond b (Some x) (entry_of fs f)) ≡ Some old
@@ -140,7 +140,7 @@ module _ (f : ℕ) (change : Inodes ℕ → Inodes ℕ) where
       by true here e rest =
           let old_is : x.tree ≡ old = cc in
           let count_is : f ≡ x.count = here refl in
-          let none = or_first (list_any (λ (other : FilesystemEntry). nat_eq x.count other.count) fs) _ apart in
+          let none = or_false_left (list_any (λ (other : FilesystemEntry). nat_eq x.count other.count) fs) _ apart in
           let seen : seen_in x.count new ≡ change (seen_in x.count x.tree) =
           (λ i. seen_in (sym count_is i) new) ∙ is ∙ (λ i. change (seen_in (count_is i) (sym old_is i))) in
           λ i. record { count = x.count; inodes = seen i; mounts = x.mounts }
@@ -339,7 +339,7 @@ written_back : (fs : Filesystems) (f : ℕ) (tree : TreeValue) → any_pair (λ 
 written_back [] f tree apart found = refl
 written_back (x ∷ fs) f tree apart found =
     by (nat_eq f x.count) (eqb-true f x.count) found
-    (written_back fs f tree (or_second (list_any (λ other. nat_eq x.count other.count) fs) _ apart))
+    (written_back fs f tree (or_false_right (list_any (λ other. nat_eq x.count other.count) fs) _ apart))
   where
     by : (b : Bool) → (b ≡ true → f ≡ x.count)
         → option_map (λ (entry : FilesystemEntry). entry.tree) (cond b (Some x) (entry_of fs f)) ≡ Some tree
@@ -347,7 +347,7 @@ written_back (x ∷ fs) f tree apart found =
         → cond b (record x { tree = tree }) x ∷ with_tree f tree fs ≡ x ∷ fs
     by true here e rest =
         let is : x.tree ≡ tree = cc in
-        let none = or_first (list_any (λ (other : FilesystemEntry). nat_eq x.count other.count) fs) _ apart in
+        let none = or_false_left (list_any (λ (other : FilesystemEntry). nat_eq x.count other.count) fs) _ apart in
         λ i. record x { tree = sym is i } ∷ none_with f (λ inodes. inodes) x.count tree fs (sym (here refl)) none i
     by false here e rest = ap (λ l. x ∷ l) (rest e)
 

@@ -39,10 +39,9 @@ use Rattle.vt_permit_laws.proofs.SeesTasks.{given_permits_are_seen_to}
 use Rattle.vt_tree_laws.specs.Trees.{MayRemove}
 use Rattle.vt_tree_laws.specs.Trees.Calls.{mounts_overlay}
 use Rattle.vt_tree_laws.specs.Trees.Limits.{names_few_groups}
-use Rattle.vt_tree_laws.proofs.TreesOfWorlds.{taken_filesystems}
 use Rattle.vt_world_laws.specs.Worlds.Kept.{IsPlain}
 use Rattle.vt_world_laws.specs.Worlds.Permits.{IsReached}
-use Rattle.vt_world_laws.proofs.PermitsSeen.{taken_plain, taken_tasks}
+use Rattle.vt_world_laws.proofs.PermitsSeen.{taken_plain}
 use Rattle.vt_world_laws.proofs.Reached.{IsOn, is_reached}
 use Rattle.vt_world_laws.proofs.SeenTrees.{change_mounts, change_tasks}
 use Rattle.vt_later_laws.proofs.AfterChange.{as_spent, later_files, later_is}
@@ -56,6 +55,7 @@ use Rattle.vt_later_laws.proofs.WaysLeft.{MountsSeen, ObjectsStay}
 use Rattle.vt_later_laws.proofs.WaysMounts.{own_mount, top_same, topmost_same}
 use Rattle.vt_later_laws.proofs.WaysRemoved.{removed_entry, removed_kind, removed_link, removed_name, removed_parent, removed_rights}
 use Rattle.vt_later_laws.proofs.WaysStay.{mount_root, node_in, tree_in}
+use Rattle.vt_spec.proofs.Worlds.{filesystems-taken_away, tasks-taken_away}
 
 module _ (world : World ℕ) (fresh : Fresh ℕ) (name : TaskName) (call : Call) (answer : Answer)
     (is : IsWorld nat_eq world) (plain : IsPlain world) (serves : Serves nat_eq world fresh)
@@ -141,7 +141,7 @@ module _ (world : World ℕ) (fresh : Fresh ℕ) (name : TaskName) (call : Call)
       still_called world fresh name call answer is plain serves other few did name did.task
       (ap (λ w. task_called w name) does
       ∙ ap (find (λ (t : Task ℕ). same_name name t.name))
-      (change_tasks fresh middle middle_plain parent change ∙ taken_tasks world gone)
+      (change_tasks fresh middle middle_plain parent change ∙ tasks-taken_away world gone)
       ∙ did.called)
 
   pub mounts_seen : (reader : Task ℕ) → reader.root ≡ did.task.root
@@ -161,7 +161,7 @@ module _ (world : World ℕ) (fresh : Fresh ℕ) (name : TaskName) (call : Call)
   middle_numbered : (number : ℕ) → filesystem_numbered nat_eq middle number ≡ filesystem_numbered nat_eq world number
   middle_numbered number =
       ap (λ list. unwrap_or (find (λ (f : Filesystem ℕ). nat_eq number f.number) list)
-      (no_filesystem number)) (taken_filesystems world gone)
+      (no_filesystem number)) (filesystems-taken_away world gone)
 
   middle_files : files_at nat_eq middle parent ≡ files_at nat_eq world parent
   middle_files =

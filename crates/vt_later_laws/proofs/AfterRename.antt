@@ -37,7 +37,7 @@ use Rattle.vt_layer_laws.proofs.ViewsEntries.{is_entry, is_that_entry}
 use Rattle.vt_layer_laws.proofs.ViewsMoves.{move_told, no_way_up}
 use Rattle.vt_mount_laws.specs.Mounts.Attaching.{numbers_of}
 use Rattle.vt_mount_laws.proofs.Ending.{replaced_keeps_mounts}
-use Rattle.vt_mount_laws.proofs.MountsFound.{found_in, found_there, number_found}
+use Rattle.vt_mount_laws.proofs.MountsFound.{found_in, found_there}
 use Rattle.vt_mount_laws.proofs.MountsPlaces.{stands_there}
 use Rattle.vt_mount_laws.proofs.MountsReplaced.{found_itself}
 use Rattle.vt_mount_laws.proofs.Standing.{standing_is_computed}
@@ -50,9 +50,8 @@ use Rattle.vt_tree_laws.specs.Trees.{IsFileTree}
 use Rattle.vt_tree_laws.specs.Trees.Calls.{mounts_overlay}
 use Rattle.vt_tree_laws.specs.Trees.Limits.{names_few_groups}
 use Rattle.vt_tree_laws.proofs.TreesOfWorlds.{number_numbered}
-use Rattle.vt_tree_laws.proofs.TreesRearranged.{node_with_entries}
 use Rattle.vt_world_laws.specs.Worlds.Kept.{IsPlain}
-use Rattle.vt_world_laws.proofs.PermitsSeen.{replaced_filesystems, replaced_plain}
+use Rattle.vt_world_laws.proofs.PermitsSeen.{replaced_plain}
 use Rattle.vt_world_laws.proofs.SeenTrees.{change_mounts}
 use Rattle.vt_later_laws.proofs.AfterChange.{as_spent, later_is}
 use Rattle.vt_later_laws.proofs.Changed.{files_changed}
@@ -60,6 +59,8 @@ use Rattle.vt_later_laws.proofs.Granted.{IsPermitted}
 use Rattle.vt_later_laws.proofs.OpenedNew.{given_of}
 use Rattle.vt_later_laws.proofs.WaysMounts.{placed_before, stops}
 use Rattle.vt_later_laws.proofs.WaysStay.{node_in, tree_in}
+use Rattle.vt_spec.proofs.NodeChanges.{directory_from_entry}
+use Rattle.vt_spec.proofs.Worlds.{filesystems-without_replaced, number-mount_in}
 
 -- Mounts that stand on an object, as its filesystem shows it
 module _ (world : World ℕ) (is : IsWorld nat_eq world) (object : Location ℕ)
@@ -145,7 +146,7 @@ module _ (world : World ℕ) (fresh : Fresh ℕ) (name : TaskName) (call : Call)
       (given_of world fresh name call answer serves other few did))
 
   from_directory : is_directory_node ((files_at nat_eq world from).tree.node from.node) ≡ true
-  from_directory = node_with_entries old object.node ((files_at nat_eq world from).tree.node from.node) may.moves.named
+  from_directory = directory_from_entry old object.node ((files_at nat_eq world from).tree.node from.node) may.moves.named
 
   tree : IsFileTree (files_at nat_eq world from)
   tree = tree_here world is plain did.task from from_directory
@@ -174,7 +175,7 @@ module _ (world : World ℕ) (fresh : Fresh ℕ) (name : TaskName) (call : Call)
   middle_files =
       ap (λ n. (filesystem_numbered nat_eq middle n).files) (middle_mount from)
       ∙ ap (λ list. (unwrap_or (find (λ (f : Filesystem ℕ). nat_eq shown f.number) list) (no_filesystem shown)).files)
-      (replaced_filesystems world replaced)
+      (filesystems-without_replaced world replaced)
 
   does : spent ≡ with_change nat_eq fresh middle from change
   does = ap (λ p. (apply nat_eq fresh world did.task p).world) permit_is
@@ -276,7 +277,7 @@ module _ (world : World ℕ) (fresh : Fresh ℕ) (name : TaskName) (call : Call)
       → (mount_numbered nat_eq left number).filesystem ≡ (mount_numbered nat_eq world number).filesystem
   left_mount number listed =
       ap (λ (m : Mount ℕ). m.filesystem)
-      (sym (ap (mount_numbered nat_eq middle) (sym (number_found left.mounts number))
+      (sym (ap (mount_numbered nat_eq middle) (sym (number-mount_in left.mounts number))
       ∙ found_itself middle.mounts (replaced_keeps_mounts world replaced is.mounts).one_number
       (mount_numbered nat_eq left number)
       (in_middle (mount_numbered nat_eq left number) (found_there left.mounts number listed))))

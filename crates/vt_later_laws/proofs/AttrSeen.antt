@@ -50,11 +50,12 @@ use Rattle.vt_later_laws.proofs.MadeSeen.{Never}
 use Rattle.vt_later_laws.proofs.Opened.{walk_ended}
 use Rattle.vt_later_laws.proofs.Readers.{KnownToo, all_stands, caller, leads_all, leads_or_hides, own_name, raised_stands, seen_there}
 use Rattle.vt_later_laws.proofs.Stays.{called_own}
-use Rattle.vt_later_laws.proofs.Steps.{both_gave, passing, same_ok}
+use Rattle.vt_later_laws.proofs.Steps.{passing, same_ok}
 use Rattle.vt_later_laws.proofs.Ways.{Ends as EndsToo, LeadsToo}
 use Rattle.vt_later_laws.proofs.WaysChanges.{TreeStays, ways_with_attr}
 use Rattle.vt_later_laws.proofs.WaysPlaces.{object_too}
 use Rattle.vt_later_laws.proofs.WaysStay.{StandsAs}
+use Rattle.vt_spec.proofs.Options.{and_then-Ok}
 
 -- where something is, there is a tree
 pub tree_there : (world : World ℕ) → IsWorld nat_eq world → IsPlain world → (location : Location ℕ)
@@ -192,7 +193,7 @@ chmod_parts : (looks : Looks ℕ) (task : Task ℕ) (path : List ℕ) (mode : �
     (SetAttr here.location.node (attr_with_mode (attr_in (looks.node here.location)) mode)))
 unfolding chmod_permit
 chmod_parts looks task path mode permit e =
-    let steps = both_gave (walk_end (object_walk nat_eq looks task path)) _ permit e in (
+    let steps = and_then-Ok (walk_end (object_walk nat_eq looks task path)) _ permit e in (
       steps.0,
       walk_ended (object_walk nat_eq looks task path) steps.0 steps.1,
       sym (same_ok _ permit (passing
@@ -207,7 +208,7 @@ chown_parts : (looks : Looks ℕ) (task : Task ℕ) (path : List ℕ) (uid gid :
     (SetAttr here.location.node (attr_with_owner (attr_in (looks.node here.location)) uid gid)))
 unfolding chown_permit
 chown_parts looks task path uid gid permit e =
-    let steps = both_gave (walk_end (object_walk nat_eq looks task path)) _ permit e in (
+    let steps = and_then-Ok (walk_end (object_walk nat_eq looks task path)) _ permit e in (
       steps.0,
       walk_ended (object_walk nat_eq looks task path) steps.0 steps.1,
       sym (same_ok _ permit (passing (attr_rules looks steps.0.location

@@ -1,5 +1,5 @@
 -- What a change of a plain filesystem leaves of it, and of the others.
-use Rattle.std.proofs.Common.{◌≡◌, refl, sym, ap, ◌∙◌, true≢false, ⊎_elim, ℕ, nat_eq, eqb-true, Bool, true, false, cond, List, [], ◌∷◌, Some, find, map, is_some, arith}
+use Rattle.std.proofs.Common.{◌≡◌, refl, sym, ap, ◌∙◌, true≢false, ⊎_elim, ℕ, nat_eq, eqb-true, Bool, true, false, cond, List, [], ◌∷◌, Some, find, map, is_some}
 use Rattle.std.specs.Prelude.{unwrap_or}
 use Rattle.vt_spec.specs.Language.Changes.{Change, changed}
 use Rattle.vt_spec.specs.Lists.{Fresh}
@@ -9,6 +9,7 @@ use Rattle.vt_spec.specs.Machine.World.{Filesystem, World, files_at, filesystem_
 use Rattle.vt_tree_laws.proofs.TreesOfWorlds.{numbered}
 use Rattle.vt_world_laws.specs.Worlds.Kept.{IsPlain}
 use Rattle.vt_world_laws.proofs.SeenTrees.{change_of_plain, changed_one, found_new, old_number}
+use Rattle.vt_spec.proofs.Truths.{nat_eq_false_turned}
 
 -- a filesystem of another number than the one that is replaced
 abbrev found_among : ℕ → Bool → Filesystem ℕ → List (Filesystem ℕ) → Filesystem ℕ
@@ -29,14 +30,11 @@ found_other new (first ∷ rest) number other =
     inside true later = refl
     inside false later = later
 
-    flip : (a b : ℕ) → nat_eq a b ≡ false → nat_eq b a ≡ false
-    flip a b h = grind arith
-
     by : (b : Bool) → nat_eq new.number first.number ≡ b → numbered number (replaced_by new rest) ≡ numbered number rest
         → numbered number (cond b new first ∷ replaced_by new rest) ≡ numbered number (first ∷ rest)
     by false e later = inside (nat_eq number first.number) later
     by true e later =
-        let skips : nat_eq number new.number ≡ false = flip new.number number other in
+        let skips : nat_eq number new.number ≡ false = nat_eq_false_turned new.number number other in
         ap (λ b. found_among number b new (replaced_by new rest)) skips ∙ later
         ∙ sym (ap (λ b. found_among number b first rest)
         (ap (nat_eq number) (sym (eqb-true new.number first.number e)) ∙ skips))

@@ -50,24 +50,26 @@ use Rattle.vt_tree_laws.specs.Trees.{IsFileTree}
 use Rattle.vt_tree_laws.proofs.ChangesKeepTrees.{changes_keep_numbers, changes_keep_trees}
 use Rattle.vt_world_laws.specs.Worlds.Kept.{IsPlain}
 use Rattle.vt_world_laws.proofs.CallsKept.{name_found}
-use Rattle.vt_world_laws.proofs.PermitsPlaced.{found_among}
 use Rattle.vt_world_laws.proofs.Plain.{plain_numbered}
 use Rattle.vt_world_laws.proofs.SeenTrees.{change_mounts, change_tasks, unused_inode}
 use Rattle.vt_later_laws.specs.LaterPaths.{ExclusiveTwice}
 use Rattle.vt_later_laws.proofs.AfterChange.{later_files, later_is, listed, spent}
 use Rattle.vt_later_laws.proofs.Changed.{files_changed, files_other}
-use Rattle.vt_later_laws.proofs.Granted.{IsPermitted, answer_stays, permitted}
+use Rattle.vt_later_laws.proofs.Granted.{IsPermitted, permitted}
 use Rattle.vt_later_laws.proofs.Looked.{search_all}
 use Rattle.vt_later_laws.proofs.MadeSeen.{Never, new_parts}
 use Rattle.vt_later_laws.proofs.Opened.{called_replaced, walk_ended}
 use Rattle.vt_later_laws.proofs.OpenedNew.{given_of}
 use Rattle.vt_later_laws.proofs.Readers.{MayLook, all_stands, named_last, own_name, raised_credentials, raised_stands}
 use Rattle.vt_later_laws.proofs.Stays.{called_own, still_called}
-use Rattle.vt_later_laws.proofs.Steps.{AllPass, both_gave, passed, passing, same_ok}
+use Rattle.vt_later_laws.proofs.Steps.{AllPass, passed, passing, same_ok}
 use Rattle.vt_later_laws.proofs.Ways.{LeadsToo, Stops, at, search_too}
 use Rattle.vt_later_laws.proofs.WaysChanges.{RightsStay, TreeStays, made_entry, rights_made, ways_made}
 use Rattle.vt_later_laws.proofs.WaysPlaces.{NamedPlace, front_too, named_place, through}
 use Rattle.vt_later_laws.proofs.WaysStay.{Known, StandsAs, WorldStays, node_here, node_in, tree_in, world_leads}
+use Rattle.vt_spec.proofs.Found.{found_among}
+use Rattle.vt_spec.proofs.Options.{and_then-Ok}
+use Rattle.vt_spec.proofs.Worlds.{answer-finished_by}
 
 -- A world in which one filesystem shows another tree
 module _ (world later : World ℕ) (shown : ℕ) (files : FileTree ℕ) (mounts : later.mounts ≡ world.mounts)
@@ -250,7 +252,7 @@ exclusive_refused world fresh name task path access mode place called room walk 
     finished nat_eq world name (OpenFile path access (Exclusive mode))
     (filesystems_changed_by nat_eq world (judge_in nat_eq fresh world t (OpenFile path access (Exclusive mode))))
     (call_outcome nat_eq fresh world t (OpenFile path access (Exclusive mode))))).answer) called
-    ∙ answer_stays _ world name _ (call_outcome nat_eq fresh world task (OpenFile path access (Exclusive mode)))
+    ∙ answer-finished_by _ world name _ (call_outcome nat_eq fresh world task (OpenFile path access (Exclusive mode)))
     ∙ ap (λ b. (judged world ((b, S3) ∷ [])
     (Opening.open_by nat_eq fresh world task path access (Exclusive mode))).answer) room
     ∙ ap (λ r. (after world (walk_end r) (λ place. judged world (exclusive_word_rules place)
@@ -453,7 +455,7 @@ exclusive_facts : (looks : Looks ℕ) (task : Task ℕ) (path : List ℕ) (acces
     × (permit ≡ open_new_permit task place access mode)
 unfolding open_permit
 exclusive_facts looks task path access mode permit e =
-    let steps = both_gave (walk_end (new_walk nat_eq looks task path)) _ permit
+    let steps = and_then-Ok (walk_end (new_walk nat_eq looks task path)) _ permit
     (passing (descriptor_rules task) _ permit e).1 in
     let words_pass = passing (exclusive_word_rules steps.0) _ permit steps.2 in (
       steps.0,

@@ -16,6 +16,7 @@ use Rattle.vt_spec.specs.Machine.Policy.{filesystems_changed_by, finished, finis
 use Rattle.vt_spec.specs.Machine.Settled.{settled}
 use Rattle.vt_spec.specs.Machine.World.{Task, World, task_called}
 use Rattle.vt_laws.proofs.CallsJudged.{policy_judges_then_applies}
+use Rattle.vt_spec.proofs.Worlds.{answer-finished_by}
 
 -- what a call that was granted, and does not only look, was permitted, and what it left
 pub record IsPermitted (world : World ℕ) (fresh : Fresh ℕ) (name : TaskName) (call : Call)
@@ -28,12 +29,6 @@ pub record IsPermitted (world : World ℕ) (fresh : Fresh ℕ) (name : TaskName)
   pub left : (policy nat_eq fresh world name call).world
       ≡ numbers_raised nat_eq world name (filesystems_changed nat_eq world permit)
       (settled nat_eq (apply nat_eq fresh world task permit).world)
-
--- the last step leaves the answer
-pub answer_stays : (looks : Bool) (world : World ℕ) (name : TaskName) (changed : List ℕ) (outcome : Outcome ℕ)
-    → (finished_by nat_eq looks world name changed outcome).answer ≡ outcome.answer
-answer_stays true world name changed outcome = refl
-answer_stays false world name changed outcome = refl
 
 module _ (world : World ℕ) (fresh : Fresh ℕ) (name : TaskName) (call : Call) (answer : Answer)
     (changes : only_looks call ≡ false) where
@@ -51,7 +46,7 @@ module _ (world : World ℕ) (fresh : Fresh ℕ) (name : TaskName) (call : Call)
   same_answer : (task : Task ℕ) (judgement : Judgement ℕ) → (done_by task judgement).answer ≡ Ok answer
       → (spent task judgement).answer ≡ Ok answer
   same_answer task judgement e =
-      sym (answer_stays (only_looks call || not (is_ok (spent task judgement).answer)) world name
+      sym (answer-finished_by (only_looks call || not (is_ok (spent task judgement).answer)) world name
       (filesystems_changed_by nat_eq world judgement) (spent task judgement)) ∙ e
 
   of_judgement : (task : Task ℕ) → task_called world name ≡ Some task

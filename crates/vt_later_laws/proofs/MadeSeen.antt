@@ -52,11 +52,12 @@ use Rattle.vt_later_laws.proofs.Looked.{list_of, read_all, readlink_of}
 use Rattle.vt_later_laws.proofs.Opened.{walk_ended}
 use Rattle.vt_later_laws.proofs.OpenedNew.{given_of, made_node}
 use Rattle.vt_later_laws.proofs.Readers.{KnownToo, MayLook, all_stands, caller, leads, own_name, raised_credentials, raised_stands, seen_at, seen_there, stepped_by, uncovered}
-use Rattle.vt_later_laws.proofs.Steps.{both_gave, passing, same_ok}
+use Rattle.vt_later_laws.proofs.Steps.{passing, same_ok}
 use Rattle.vt_later_laws.proofs.Ways.{EndsAt, LeadsToo, both_walked, walk_passing}
 use Rattle.vt_later_laws.proofs.WaysChanges.{RightsStay, TreeStays, made_entry, rights_made, ways_made}
 use Rattle.vt_later_laws.proofs.WaysPlaces.{EndsThere, directory_named_too, named_place, symlink_named_too}
 use Rattle.vt_later_laws.proofs.WaysStay.{StandsAs}
+use Rattle.vt_spec.proofs.Options.{and_then-Ok}
 
 -- no refusal
 abbrev pub Never : Deny → Type 0
@@ -204,7 +205,7 @@ mkdir_parts : (looks : Looks ℕ) (task : Task ℕ) (path : List ℕ) (mode : Op
     }))
 unfolding mkdir_permit
 mkdir_parts looks task path mode permit e =
-    let steps = both_gave (walk_end (new_walk nat_eq looks task path)) _ permit e in
+    let steps = and_then-Ok (walk_end (new_walk nat_eq looks task path)) _ permit e in
     let node : Node ℕ = record {
       attr = new_attr task
           (unwrap_or mode directory_mode);
@@ -307,7 +308,7 @@ symlink_parts : (looks : Looks ℕ) (task : Task ℕ) (text path : List ℕ) (pe
     × (permit ≡ make_permit place (record { attr = exact_attr task symlink_mode; content = Symlink text }))
 unfolding symlink_permit
 symlink_parts looks task text path permit e =
-    let steps = both_gave (walk_end (new_leaf_walk nat_eq looks task path)) _ permit
+    let steps = and_then-Ok (walk_end (new_leaf_walk nat_eq looks task path)) _ permit
     (passing (symlink_text_rules text) _ permit e).1 in
     let node : Node ℕ = record { attr = exact_attr task symlink_mode; content = Symlink text } in
     let parts = passing (new_word_rules steps.0 ++ make_rules looks task steps.0 (unnumbered steps.0 node)) (Ok

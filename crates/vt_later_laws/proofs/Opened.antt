@@ -1,6 +1,6 @@
 -- What a granted open was permitted, and the descriptor that a task then has.
 use Rattle.std.proofs.Common.{◌≡◌, ◌≤◌, ◌<◌, refl, sym, ap, subst, ◌∙◌, ℕ, ◌+◌, nat_eq, eqb-true, eq-eqb, Bool, true, false, cond, ◌&&◌, List, [], ◌∷◌, Some, None, Ok, Err, Result, find, map, arith, nat_lt}
-use Rattle.std.proofs.lemmas.Bool.{and_parts}
+use Rattle.std.proofs.lemmas.Bool.{and_parts, le-ltb, lt-ltb}
 use Rattle.std.proofs.lemmas.Slice.Eq.{bytes_eq-Decides}
 use Rattle.std.specs.Prelude.{nat_le}
 use Rattle.vt_spec.specs.declared.errors.Deny.{Deny}
@@ -24,8 +24,10 @@ use Rattle.vt_spec.specs.Machine.World.{Descriptor, Task, World, mount_at, repla
 use Rattle.vt_spec.specs.Machine.Invariants.{are_ascending_from, is_within_limits}
 use Rattle.vt_world_laws.specs.Worlds.Kept.{IsPlain}
 use Rattle.vt_world_laws.proofs.Plain.{plain_numbered}
-use Rattle.vt_later_laws.proofs.Steps.{both_gave, passing, same_ok}
-use Rattle.vt_tree_laws.proofs.TreesTasks.{free_above}
+use Rattle.vt_later_laws.proofs.Steps.{passing, same_ok}
+use Rattle.std.proofs.Math.Bool.{and-false}
+use Rattle.vt_spec.proofs.Descriptors.{free_above}
+use Rattle.vt_spec.proofs.Options.{and_then-Ok}
 
 pub inserted_found : (number : ℕ) (descriptors : List (Descriptor ℕ)) (new : Descriptor ℕ)
     → are_ascending_from number descriptors ≡ true → new.number ≡ free_from number descriptors
@@ -41,12 +43,6 @@ inserted_found number (descriptor ∷ rest) new order free =
     is_free : (c : Bool) → nat_eq descriptor.number number ≡ c
         → new.number ≡ cond c (free_from (number + 1) rest) number
     is_free c e = free ∙ ap (λ b. cond b (free_from (number + 1) rest) number) e
-
-    below_false : (a b : ℕ) → b ≤ a → nat_lt a b ≡ false
-    below_false a b h = grind arith
-
-    below_true : (a b : ℕ) → a < b → nat_lt a b ≡ true
-    below_true a b h = grind arith
 
     less : (a b : ℕ) → nat_le a b ≡ true → nat_eq b a ≡ false → a < b
     less a b h e = grind arith
@@ -68,7 +64,7 @@ inserted_found number (descriptor ∷ rest) new order free =
         let next : descriptor.number + 1 ≡ number + 1 = omega arith in
         ap (λ b. find (λ (d : Descriptor ℕ). nat_eq new.number d.number)
         (cond b (new ∷ descriptor ∷ rest) (descriptor ∷ inserted new rest)))
-        (below_false new.number descriptor.number (omega arith))
+        (le-ltb new.number descriptor.number (omega arith))
         ∙ ap (λ b. cond b (Some descriptor)
         (find (λ (d : Descriptor ℕ). nat_eq new.number d.number) (inserted new rest)))
         (other new.number descriptor.number under)
@@ -78,7 +74,7 @@ inserted_found number (descriptor ∷ rest) new order free =
         let above : number < descriptor.number = less number descriptor.number parts.0 e in
         ap (λ b. find (λ (d : Descriptor ℕ). nat_eq new.number d.number)
         (cond b (new ∷ descriptor ∷ rest) (descriptor ∷ inserted new rest)))
-        (below_true new.number descriptor.number (omega arith))
+        (lt-ltb new.number descriptor.number (omega arith))
         ∙ ap (λ b. cond b (Some new) (find (λ (d : Descriptor ℕ). nat_eq new.number d.number) (descriptor ∷ rest)))
         (eq-eqb new.number new.number refl)
 
@@ -125,7 +121,7 @@ pub open_parts : (looks : Looks ℕ) (task : Task ℕ) (path : List ℕ) (access
     → (here : Here ℕ) × (object_walk nat_eq looks task path ≡ Ok here) × (permit ≡ ToOpen here.location access)
 unfolding open_permit
 open_parts looks task path access permit e =
-    let steps = both_gave (walk_end (object_walk nat_eq looks task path)) _ permit
+    let steps = and_then-Ok (walk_end (object_walk nat_eq looks task path)) _ permit
     (passing (descriptor_rules task) _ permit e).1 in (
       steps.0,
       walk_ended (object_walk nat_eq looks task path) steps.0 steps.1,
@@ -139,11 +135,7 @@ pub open_spent : (fresh : Fresh ℕ) (world : World ℕ) (plain : IsPlain world)
 open_spent fresh world plain task file access =
     ap (λ b. opened (with_copy nat_eq b fresh world file) task file access)
     (ap (λ o. access.writes && overlay_or false (λ overlay. lies_below overlay file.node) o)
-    (plain_numbered world plain (mount_at nat_eq world file).filesystem) ∙ nothing access.writes)
-  where
-    nothing : (b : Bool) → (b && false) ≡ false
-    nothing true = refl
-    nothing false = refl
+    (plain_numbered world plain (mount_at nat_eq world file).filesystem) ∙ and-false access.writes)
 
 pub opened_number : (a b : ℕ) → Path (Result Answer Deny) (Ok (Opened a)) (Ok (Opened b)) → b ≡ a
 opened_number a b e = sym (ap of_answer e)

@@ -34,7 +34,6 @@ use Rattle.vt_tree_laws.specs.Trees.Limits.{names_few_groups}
 use Rattle.vt_tree_laws.proofs.ChangesNodes.{elsewhere}
 use Rattle.vt_world_laws.specs.Worlds.Kept.{IsPlain}
 use Rattle.vt_world_laws.proofs.CallsKept.{name_found}
-use Rattle.vt_world_laws.proofs.PermitsPlaced.{found_among}
 use Rattle.vt_world_laws.proofs.SeenTrees.{change_mounts, change_tasks, unused_inode}
 use Rattle.vt_permit_laws.specs.Left.{IsGiven}
 use Rattle.vt_permit_laws.specs.Sees.{MayBeMade, SeesTo}
@@ -44,8 +43,10 @@ use Rattle.vt_later_laws.proofs.Changed.{files_changed}
 use Rattle.vt_later_laws.proofs.Granted.{IsPermitted, permitted}
 use Rattle.vt_later_laws.proofs.Opened.{called_replaced, descriptors_in_order, inserted_found, open_parts, open_spent, opened_number, walk_ended}
 use Rattle.vt_later_laws.proofs.Stays.{still_called, still_seen}
-use Rattle.vt_later_laws.proofs.Steps.{both_gave, passing, same_ok}
+use Rattle.vt_later_laws.proofs.Steps.{passing, same_ok}
 use Rattle.vt_later_laws.proofs.Through.{descriptor_located, pread_of, raised_descriptors}
+use Rattle.vt_spec.proofs.Found.{found_among}
+use Rattle.vt_spec.proofs.Options.{and_then-Ok}
 
 -- A call that leaves a descriptor on a file, in a world that has the tasks of the one before
 module _ (world : World ℕ) (fresh : Fresh ℕ) (name : TaskName) (task : Task ℕ) (path : List ℕ) (access : Access)
@@ -125,7 +126,7 @@ there_parts : (looks : Looks ℕ) (task : Task ℕ) (path : List ℕ) (access : 
     → open_permit nat_eq looks task path access (OrCreate mode) ≡ Ok permit → permit ≡ ToOpen file access
 unfolding open_permit
 there_parts looks task path access mode place file permit walk object e =
-    let steps = both_gave (walk_end (file_walk nat_eq looks task path)) _ permit
+    let steps = and_then-Ok (walk_end (file_walk nat_eq looks task path)) _ permit
     (passing (descriptor_rules task) _ permit e).1 in
     let same : steps.0 ≡ place = same_ok steps.0 place (sym steps.1 ∙ ap walk_end walk) in
     let rest = (passing (file_word_rules steps.0) _ permit steps.2).1 in
@@ -139,7 +140,7 @@ missing_parts : (looks : Looks ℕ) (task : Task ℕ) (path : List ℕ) (access 
     → permit ≡ open_new_permit task place access mode
 unfolding open_permit
 missing_parts looks task path access mode place permit walk object e =
-    let steps = both_gave (walk_end (file_walk nat_eq looks task path)) _ permit
+    let steps = and_then-Ok (walk_end (file_walk nat_eq looks task path)) _ permit
     (passing (descriptor_rules task) _ permit e).1 in
     let same : steps.0 ≡ place = same_ok steps.0 place (sym steps.1 ∙ ap walk_end walk) in
     let rest = (passing (file_word_rules steps.0) _ permit steps.2).1 in
@@ -155,7 +156,7 @@ pub exclusive_parts : (looks : Looks ℕ) (task : Task ℕ) (path : List ℕ) (a
     × (permit ≡ open_new_permit task place access mode)
 unfolding open_permit
 exclusive_parts looks task path access mode permit e =
-    let steps = both_gave (walk_end (new_walk nat_eq looks task path)) _ permit
+    let steps = and_then-Ok (walk_end (new_walk nat_eq looks task path)) _ permit
     (passing (descriptor_rules task) _ permit e).1 in
     let rest = (passing (exclusive_word_rules steps.0) _ permit steps.2).1 in (
       steps.0,

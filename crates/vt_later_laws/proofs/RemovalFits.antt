@@ -2,7 +2,7 @@
 use Rattle.std.proofs.Common.{◌≡◌, ◌≢◌, refl, sym, ap, subst, ◌∙◌, inl, inr, ◌⊎◌, ⊎_elim, true≢false, ℕ, nat_eq, eqb-true, eq-eqb, Bool, true, false, not, ◌&&◌, ◌||◌, List, [], length, Option, Some, None, is_some}
 use Rattle.std.specs.List.{list_all, list_any}
 use Rattle.std.specs.Prelude.{option_map, option_to_list}
-use Rattle.std.proofs.lemmas.Bool.{and_from, and_parts}
+use Rattle.std.proofs.lemmas.Bool.{and_from, and_parts, or_right}
 use Rattle.std.proofs.lemmas.Option.{same_Some}
 use Rattle.vt_spec.specs.declared.errors.Deny.{Deny}
 use Rattle.vt_spec.specs.declared.errors.Rule.TheVariants.{W8}
@@ -33,7 +33,6 @@ use Rattle.vt_tree_laws.specs.Trees.Calls.{mounts_overlay}
 use Rattle.vt_tree_laws.specs.Trees.Limits.{names_few_groups}
 use Rattle.vt_tree_laws.proofs.TreesEntered.{chain_ends}
 use Rattle.vt_tree_laws.proofs.TreesOfWorlds.{number_numbered}
-use Rattle.vt_tree_laws.proofs.TreesRearranged.{node_with_entries}
 use Rattle.vt_tree_laws.proofs.TreesReached.{not_removed_reached}
 use Rattle.vt_world_laws.specs.Worlds.Kept.{IsPlain}
 use Rattle.vt_world_laws.proofs.Reached.{IsFoundDirectory}
@@ -44,6 +43,8 @@ use Rattle.vt_later_laws.proofs.WaysMounts.{SeenAlike, hop_known, hop_place}
 use Rattle.vt_later_laws.proofs.WaysRemoved.{nothing_in_it, removed_alone, removed_name}
 use Rattle.vt_later_laws.proofs.WaysStay.{mount_root, node_in, tree_in}
 use Rattle.vt_later_laws.proofs.WaysTrees.{DirectoryNamesStay, KeepsAbove, present_later, under_later}
+use Rattle.vt_spec.proofs.NodeChanges.{directory_from_entry}
+use Rattle.vt_spec.proofs.Truths.{or_false_left}
 
 module _ (world : World ℕ) (fresh : Fresh ℕ) (name : TaskName) (call : Call) (answer : Answer)
     (is : IsWorld nat_eq world) (plain : IsPlain world) (serves : Serves nat_eq world fresh)
@@ -68,7 +69,7 @@ module _ (world : World ℕ) (fresh : Fresh ℕ) (name : TaskName) (call : Call)
 
   parent_directory : is_directory_node (tree.node parent.node) ≡ true
   parent_directory =
-      node_with_entries word object.node (tree.node parent.node)
+      directory_from_entry word object.node (tree.node parent.node)
       (may world fresh name call answer is plain serves other few did parent word object permit_is).named
 
   file_tree : IsFileTree (files_at nat_eq world parent)
@@ -231,11 +232,7 @@ module _ (world : World ℕ) (fresh : Fresh ℕ) (name : TaskName) (call : Call)
         (sym removed.1 ∙ tree_before.tree.one_parent named.0 named.1 here.node named.2 known.0.1)
         ∙ named.2))
         (reached_named (tree_in world number) here.node
-        (not_removed_reached (tree_in world number) tree_before.tree here.node known.0.1 (first _ _ found)))
-      where
-        first : (a b : Bool) → (a || b) ≡ false → a ≡ false
-        first true b f = absurd (true≢false f)
-        first false b f = refl
+        (not_removed_reached (tree_in world number) tree_before.tree here.node known.0.1 (or_false_left _ _ found)))
 
     -- its name leads there no longer
     name_outside : (any : List ℕ) → entry_named any (entries_in (node_at nat_eq world here)) ≡ Some object.node
@@ -275,10 +272,6 @@ module _ (world : World ℕ) (fresh : Fresh ℕ) (name : TaskName) (call : Call)
   root_outside : (a b : Location ℕ) → option_map root_of (child_at nat_eq world.mounts a) ≡ Some b → IsOutside b
   root_outside a b e removed = by (child_at nat_eq world.mounts a) refl e
     where
-      either : (p q : Bool) → q ≡ true → (p || q) ≡ true
-      either true q f = refl
-      either false q f = f
-
       by : (o : Option (Mount ℕ)) → child_at nat_eq world.mounts a ≡ o → option_map root_of o ≡ Some b
           → ends_at b ≡ true
       by None f h = none_is_not None b refl h
@@ -286,7 +279,7 @@ module _ (world : World ℕ) (fresh : Fresh ℕ) (name : TaskName) (call : Call)
           let found = found_in (stands_at nat_eq a) world.mounts mount f in
           let itself = found_itself world.mounts is.mounts.one_number mount found.0 in
           subst (λ (l : Location ℕ). ends_at l ≡ true) (same_Some (root_of mount) b h)
-          (either (same_location nat_eq (root_of mount) did.task.root) _
+          (or_right (same_location nat_eq (root_of mount) did.task.root) _
           (eq-eqb mount.root (mount_numbered nat_eq world mount.number).root
           (ap (λ (m : Mount ℕ). m.root) (sym itself))))
 

@@ -45,10 +45,9 @@ use Rattle.vt_permit_laws.proofs.SeesNames.{tree_here}
 use Rattle.vt_tree_laws.specs.Trees.{IsFileTree}
 use Rattle.vt_tree_laws.specs.Trees.Calls.{mounts_overlay}
 use Rattle.vt_tree_laws.specs.Trees.Limits.{names_few_groups}
-use Rattle.vt_tree_laws.proofs.ChangesNodes.{elsewhere, parent-node_without_entry, part_stays}
+use Rattle.vt_tree_laws.proofs.ChangesNodes.{elsewhere, part_stays}
 use Rattle.vt_tree_laws.proofs.TreesAbove.{under_seen}
 use Rattle.vt_tree_laws.proofs.TreesEntered.{chain_ends}
-use Rattle.vt_tree_laws.proofs.TreesRearranged.{node_with_entries}
 use Rattle.vt_world_laws.specs.Worlds.Kept.{IsPlain}
 use Rattle.vt_world_laws.proofs.Reached.{IsFoundDirectory}
 use Rattle.vt_world_laws.proofs.SeenTrees.{change_tasks}
@@ -62,6 +61,7 @@ use Rattle.vt_later_laws.proofs.WaysChanges.{RightsStay}
 use Rattle.vt_later_laws.proofs.WaysLeft.{ObjectsStay}
 use Rattle.vt_later_laws.proofs.WaysMounts.{hop_place}
 use Rattle.vt_later_laws.proofs.WaysStay.{node_in, tree_in}
+use Rattle.vt_spec.proofs.NodeChanges.{directory_from_entry, parent-node_without_entry}
 
 -- what is of one kind, owner, mode and text
 link_same : (was now : Option (Node ℕ)) → is_some now ≡ is_some was → kind_in now ≡ kind_in was
@@ -170,7 +170,7 @@ module _ (world : World ℕ) (fresh : Fresh ℕ) (name : TaskName) (call : Call)
   seen = may world fresh name call answer is plain serves other few did from old to new object None permit_is uncovered
 
   from_directory : is_directory_node ((files_at nat_eq world from).tree.node from.node) ≡ true
-  from_directory = node_with_entries old object.node ((files_at nat_eq world from).tree.node from.node) seen.moves.named
+  from_directory = directory_from_entry old object.node ((files_at nat_eq world from).tree.node from.node) seen.moves.named
 
   pub file_tree : IsFileTree (files_at nat_eq world from)
   file_tree = tree_here world is plain did.task from from_directory

@@ -1,7 +1,7 @@
 -- After a granted rename of a directory to a free name ways up stay, from wherever a walk that begins outside of it
 -- comes.
 use Rattle.std.proofs.Common.{◌≡◌, ◌≢◌, refl, sym, ap, subst, ◌∙◌, inl, inr, ◌⊎◌, ⊎_elim, true≢false, ℕ, nat_eq, eqb-true, eq-eqb, Bool, true, false, cond, not, ◌||◌, List, [], ◌∷◌, ◌++◌, length, Option, Some, None, is_some, option_and_then}
-use Rattle.std.proofs.lemmas.Bool.{or_parts}
+use Rattle.std.proofs.lemmas.Bool.{or_parts, not-false}
 use Rattle.vt_spec.specs.declared.errors.Deny.{Deny}
 use Rattle.vt_spec.specs.declared.errors.Rule.TheVariants.{W8}
 use Rattle.vt_spec.specs.Errors.{denial}
@@ -214,13 +214,9 @@ module _ (world : World ℕ) (fresh : Fresh ℕ) (name : TaskName) (call : Call)
       under_before : is_directory_under nat_eq (filesystem_numbered nat_eq world number).files
           (mount_at nat_eq world here).root here.node ≡ true
       under_before =
-          not_false (is_directory_under nat_eq (filesystem_numbered nat_eq world number).files
+          not-false (is_directory_under nat_eq (filesystem_numbered nat_eq world number).files
           (mount_at nat_eq world here).root here.node)
           (or_parts (is_removed nat_eq (tree_in world number) here.node) _ found_so).1
-        where
-          not_false : (b : Bool) → not b ≡ false → b ≡ true
-          not_false true f = refl
-          not_false false f = absurd (true≢false f)
 
       reached_before : IsReached (tree_in world number) here.node
       reached_before = not_removed_reached (tree_in world number) tree_before.tree here.node known.0.1 present_before

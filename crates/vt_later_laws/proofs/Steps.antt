@@ -1,8 +1,8 @@
 -- Steps that may be refused, and tables of rules that let pass.
-use Rattle.std.proofs.Common.{◌≡◌, refl, true≢false, true, false, [], ◌∷◌, Result, Ok, Err}
+use Rattle.std.proofs.Common.{◌≡◌, refl, true≢false, true, false, [], ◌∷◌, Result, Ok}
 use Rattle.std.specs.Prelude.{⊤}
 use Rattle.vt_spec.specs.declared.errors.Deny.{Deny}
-use Rattle.vt_spec.specs.Errors.{Rules, and_then, unless}
+use Rattle.vt_spec.specs.Errors.{Rules, unless}
 
 -- no rule of a table fails
 abbrev pub AllPass : Rules → Type 0
@@ -21,12 +21,6 @@ pub passing : {A : Type 0} (rows : Rules) (answer : Result A Deny) (a : A) → u
 passing [] answer a e = (tt, e)
 passing ((true, rule) ∷ rows) answer a e = cc
 passing ((false, rule) ∷ rows) answer a e = let rest = passing rows answer a e in ((refl, rest.0), rest.1)
-
--- what two steps gave, each of them gave
-pub both_gave : {A B : Type 0} (first : Result A Deny) (next : A → Result B Deny) (b : B) → and_then first next ≡ Ok b
-    → (a : A) × (first ≡ Ok a) × (next a ≡ Ok b)
-both_gave (Ok a) next b e = (a, refl, e)
-both_gave (Err deny) next b e = cc
 
 pub same_ok : {A : Type 0} (a b : A) → Path (Result A Deny) (Ok a) (Ok b) → a ≡ b
 same_ok a b e = cc

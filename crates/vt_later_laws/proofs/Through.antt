@@ -30,13 +30,14 @@ use Rattle.vt_spec.specs.Tree.{Content, Node, bytes_in, node_with_bytes}
 use Rattle.vt_spec.specs.Tree.Content.{Directory, Regular, Symlink, Whiteout}
 use Rattle.vt_letting_go.proofs.Lists.{Among, among-map, passes}
 use Rattle.vt_world_laws.specs.Worlds.Kept.{IsPlain}
-use Rattle.vt_world_laws.proofs.PermitsPlaced.{found_among}
 use Rattle.vt_world_laws.proofs.SeenTrees.{change_of_plain, change_tasks, changed_one, found_new, old_number}
 use Rattle.vt_tree_laws.proofs.TreesOfWorlds.{numbered}
 use Rattle.vt_later_laws.specs.Later.{IsOneInode, PwriteThenPread}
 use Rattle.vt_later_laws.proofs.Granted.{IsPermitted, permitted}
 use Rattle.vt_later_laws.proofs.Stays.{still_called, still_seen}
-use Rattle.vt_later_laws.proofs.Steps.{both_gave, passing, same_ok}
+use Rattle.vt_later_laws.proofs.Steps.{passing, same_ok}
+use Rattle.vt_spec.proofs.Found.{found_among}
+use Rattle.vt_spec.proofs.Options.{and_then-Ok}
 
 -- bytes with zeros after them, as long as they must be
 padded_long : (offset : ℕ) (old : List ℕ) → length (padded offset old) ≡ length old + (offset - length old)
@@ -105,7 +106,7 @@ pwrite_parts : (looks : Looks ℕ) (task : Task ℕ) (written : Descriptor ℕ) 
     → permit ≡ ToWritePart written.location offset bytes
 unfolding pwrite_permit
 pwrite_parts looks task written offset bytes permit is e =
-    let steps = both_gave (ok_or (find (λ (d : Descriptor ℕ). d.writes)
+    let steps = and_then-Ok (ok_or (find (λ (d : Descriptor ℕ). d.writes)
     (option_to_list (descriptor_numbered task written.number))) (denial S4)) _ permit e in
     let same = descriptor_is (descriptor_numbered task written.number) (λ d. d.writes) written steps.0 is steps.1 in
     sym (ap (λ (d : Descriptor ℕ). ToWritePart d.location offset bytes) same

@@ -1,5 +1,5 @@
 -- An unmount of a mount that was attached, where mounts stood at receivers: the others are as they were before.
-use Rattle.std.proofs.Common.{cond, eq-eqb, zero, ◌&&◌, ◌≡◌, refl, sym, ap, subst, ◌∙◌, true, false, nat_eq, ℕ, Bool, List, None, Option, Some, [], filter, flat_map, inl, inr, is_some, map, option_map, true≢false, unwrap_or, ⊎_elim, ◌++◌, ◌∷◌, ◌⊎◌, eqb-true}
+use Rattle.std.proofs.Common.{cond, eq-eqb, zero, ◌&&◌, ◌≡◌, refl, sym, ap, subst, ◌∙◌, true, false, nat_eq, ℕ, List, None, Option, Some, [], filter, flat_map, inl, inr, is_some, map, option_map, true≢false, unwrap_or, ⊎_elim, ◌++◌, ◌∷◌, ◌⊎◌, eqb-true}
 use Rattle.std.specs.Prelude.{Contains}
 use Rattle.std.proofs.lemmas.Bool.{false_from_ne_true, or_parts}
 use Rattle.std.proofs.lemmas.Option.{same_Some}
@@ -11,7 +11,7 @@ use Rattle.vt_spec.specs.Lists.{Fresh, any_pair, holds_of, is_among, last_or, re
 use Rattle.vt_spec.specs.Machine.Invariants.{share_a_mount_point}
 use Rattle.vt_spec.specs.Machine.Mounts.{Location, Mount, Propagation, child_at, detached, group_of, is_shared, root_of, same_location, source_of, stands_at, stands_on, topmost}
 use Rattle.vt_spec.specs.Machine.Mounts.Propagation.{Private, Shared, Slave, Unbindable}
-use Rattle.vt_spec.specs.Machine.Receives.{groups_up, has_members, is_member_of, receivers, receives, heir, lost_a_group, regrouped_by}
+use Rattle.vt_spec.specs.Machine.Receives.{groups_up, has_members, is_member_of, receivers, receives, lost_a_group}
 use Rattle.vt_spec.specs.Machine.World.{World, mount_at, mount_numbered}
 use Rattle.vt_mount_laws.specs.Mounts.Attaching.{KeepsAllButPlace, OneNumberAMount, is_mount, numbers_of}
 use Rattle.vt_mount_laws.specs.Mounts.Places.{OneMountAPlace}
@@ -26,7 +26,7 @@ use Rattle.vt_mount_laws.proofs.GroupsKept.{member_shared, shared_member}
 use Rattle.vt_mount_laws.proofs.GroupsUp.{live_members, lives_in}
 use Rattle.vt_mount_laws.proofs.GroupsUp.Up.{above, here}
 use Rattle.vt_mount_laws.proofs.MountsAttached.{found_attached, new_mounts_follow, push_keeps}
-use Rattle.vt_mount_laws.proofs.MountsFound.{found_in, found_there, number_found, unfound}
+use Rattle.vt_mount_laws.proofs.MountsFound.{found_in, found_there, unfound}
 use Rattle.vt_mount_laws.proofs.MountsNumbered.{attach_keeps_numbers, is_one_of}
 use Rattle.vt_mount_laws.proofs.MountsPlaces.{found_at_its_place, one_place_of_two, stands_at_its_place, stands_there}
 use Rattle.vt_mount_laws.proofs.MountsReplaced.{found_itself}
@@ -38,6 +38,7 @@ use Rattle.vt_mount_laws.proofs.PropagationUp.{heard, hears, lives_up}
 use Rattle.vt_mount_laws.proofs.Receivers.{receives_completely, receives_soundly, receives_from_source}
 use Rattle.vt_mount_laws.proofs.Unmounting.{root_mounts_stay, unmount_keeps_the_order, what_covered_falls, what_goes_is_detached, what_stays_keeps, what_stays_keeps_its_place, what_stays_keeps_its_type, groups_keep_their_masters, middle}
 use Rattle.vt_mount_laws.proofs.UnmountingGoes.{what_goes_is_named}
+use Rattle.vt_spec.proofs.Worlds.{master-regrouped_by, number-mount_in}
 
 -- the attachment of one mount, of which no copy goes onto another mount
 abbrev pub one_of : World ℕ → Fresh ℕ → Location ℕ → Mount ℕ → Attachment
@@ -181,7 +182,7 @@ module _ (world : World ℕ) (fresh : Fresh ℕ) (place : Location ℕ) (first :
           )
 
   copy_number : (part : Mount ℕ) → (copy part).number ≡ new part
-  copy_number part = number_found after.mounts (new part)
+  copy_number part = number-mount_in after.mounts (new part)
 
   copy_new : (part : Mount ℕ) → IsPart it part → is_mount world (new part) ≡ false
   copy_new part c = copies_are_new it part first can c of_first refl
@@ -486,7 +487,7 @@ module _ (world : World ℕ) (fresh : Fresh ℕ) (place : Location ℕ) (first :
           (λ same. absurd (true≢false
           (sym (stands_at_its_place place mount
           (up.2 ∙ ap (λ (x : Mount ℕ). Some (record { mount = x.number; node = place.node })) same
-          ∙ ap (λ n. Some (record { mount = n; node = place.node })) (number_found world.mounts place.mount)))
+          ∙ ap (λ n. Some (record { mount = n; node = place.node })) (number-mount_in world.mounts place.mount)))
           ∙ unfound (stands_at nat_eq place) world.mounts free mount m)))
           (λ rest. absurd (true≢false
           (sym (among-from_filter (takes_part nat_eq world place) (receivers_of nat_eq world destination) up.0 rest).1
@@ -751,19 +752,13 @@ module _ (world : World ℕ) (fresh : Fresh ℕ) (place : Location ℕ) (first :
         what_goes_is_detached after gone (new part)
         (ap (goes_with after gone) (sym (copy_number part)) ∙ goes part c)
 
-    -- Masters
-    none_inherits : (b : Bool) (any : World ℕ) (group : ℕ) → any.master group ≡ None
-        → (regrouped_by nat_eq b any).master group ≡ None
-    none_inherits true any group e = ap (heir nat_eq any) e
-    none_inherits false any group e = e
-
     pub masters_back : (group : ℕ) → has_members nat_eq world.mounts group ≡ true
         → undone.master group ≡ world.master group
     masters_back group has = by (world.master group) refl
       where
         by : (found : Option ℕ) → world.master group ≡ found → undone.master group ≡ world.master group
         by None e =
-            none_inherits (list_any (lost_a_group nat_eq (middle after (going nat_eq after
+            master-regrouped_by (list_any (lost_a_group nat_eq (middle after (going nat_eq after
             (mount_numbered nat_eq after gone))))
             (middle after (going nat_eq after (mount_numbered nat_eq after gone))).mounts)
             (middle after (going nat_eq after (mount_numbered nat_eq after gone))) group

@@ -2,7 +2,7 @@
 use Rattle.std.proofs.Common.{◌≡◌, refl, sym, ap, subst, ◌∙◌, ◌⊎◌, inl, inr, ⊎_elim, ℕ, nat_eq, eqb-true, eq-eqb, Bool, true, false, cond, not, ◌||◌, ◌&&◌, List, [], ◌∷◌, ◌++◌, filter, map, flat_map, Option, Some, None, is_some, option_map, true≢false}
 use Rattle.std.specs.List.{filter_map, list_all, list_any}
 use Rattle.std.specs.Cmp.Lexicographic.{bytes_decides}
-use Rattle.std.proofs.lemmas.Bool.{and_parts, false_from_ne_true, or_cases, or_parts}
+use Rattle.std.proofs.lemmas.Bool.{and_parts, false_from_ne_true, or_cases, or_parts, cases_Bool}
 use Rattle.std.proofs.lemmas.List.Folds.{list_any-append}
 use Rattle.vt_spec.specs.Language.Calls.{same_name}
 use Rattle.vt_spec.specs.Lists.{Fresh, any_pair, evens, holds_of, is_among, odds, then_some}
@@ -19,17 +19,18 @@ use Rattle.vt_spec.proofs.Lists.{none_among, pair-filter}
 use Rattle.vt_letting_go.specs.InUse.{FilesystemsInUse, InodesInUse, is_inode_used}
 use Rattle.vt_letting_go.specs.Mounting.{ended_mounts}
 use Rattle.vt_letting_go.proofs.InUse.{filesystems_stay, inodes_stay, used_at}
-use Rattle.vt_letting_go.proofs.Lists.{Among, all_from_among, all_pass, among-append, among-append_left, among-append_right, among-filter, among-filter_map, among-flat_map, among-from_filter, among-from_filter_map, among-from_flat_map, among-from_map, among-map, among_from_all, among_numbers, any_passes, decided, is_among_left, is_among_numbers, is_among_right, none_passes, one_passes, or_first, or_second, passes}
+use Rattle.vt_letting_go.proofs.Lists.{Among, all_from_among, all_pass, among-append, among-append_left, among-append_right, among-filter, among-filter_map, among-flat_map, among-from_filter, among-from_filter_map, among-from_flat_map, among-from_map, among-map, among_from_all, among_numbers, any_passes, is_among_numbers, none_passes, one_passes, or_first, or_second, passes}
 use Rattle.vt_letting_go.proofs.MountingLosers.{places_of, places_stand}
 use Rattle.vt_letting_go.proofs.MountingTaken
 use Rattle.vt_letting_go.proofs.OfWorlds.{all_in_use, locations_of_worlds_stand, mounts_of_worlds_stand}
 use Rattle.vt_mount_laws.specs.Mounts.Attaching.{OneNumberAMount}
-use Rattle.vt_mount_laws.proofs.MountsFound.{found_there, number_found, numbers-map}
+use Rattle.vt_mount_laws.proofs.MountsFound.{found_there, numbers-map}
 use Rattle.vt_mount_laws.proofs.MountsReplaced.{found_itself, one_number_by_numbers}
 use Rattle.vt_mount_laws.proofs.Unsharing.{Parent, parent_of, placed_inside, unshare_keeps_mounts}
 use Rattle.vt_world_laws.proofs.NamespacesListed.{AreNamespaces, are_namespaces}
 use Rattle.vt_world_laws.proofs.NamespacesTasks.{called_there}
-use Rattle.vt_world_laws.proofs.TasksNamed.{one_name}
+use Rattle.vt_spec.proofs.Found.{is_among_left, is_among_right}
+use Rattle.vt_spec.proofs.Worlds.{number-mount_in, same_task_name}
 
 -- where no two of a list pass a test, those that do are one
 only_one : {A : Type 0} (test : A → A → Bool) (xs : List A) → any_pair test xs ≡ false → (a b : A) → Among a xs
@@ -99,7 +100,7 @@ module _ (world : World ℕ) (fresh : Fresh ℕ) (task : Task ℕ) (is : IsWorld
   pub that_task : (other : Task ℕ) → Among other world.tasks → same_name task.name other.name ≡ true → other ≡ task
   that_task other m e =
       only_one (λ (a b : Task ℕ). same_name a.name b.name) world.tasks is.tasks.one_task other task m task_there
-      (ap (λ n. same_name other.name n) (one_name task.name other.name e)
+      (ap (λ n. same_name other.name n) (same_task_name task.name other.name e)
       ∙ (bytes_decides other.name other.name).1 refl)
       e
 
@@ -175,7 +176,7 @@ module _ (world : World ℕ) (fresh : Fresh ℕ) (task : Task ℕ) (is : IsWorld
     where
       inside : is_in_ended nat_eq base mount ≡ true
       inside = ⊎_elim (λ e. e) (λ e. absurd (true≢false (sym going ∙ stays_if mount m e)))
-          (decided (is_in_ended nat_eq base mount))
+          (cases_Bool (is_in_ended nat_eq base mount))
 
       by : Among mount world.mounts → (o : Option ℕ) → mount.namespace ≡ o → Among mount copied
       by old None e = absurd (true≢false (sym inside
@@ -192,7 +193,7 @@ module _ (world : World ℕ) (fresh : Fresh ℕ) (task : Task ℕ) (is : IsWorld
           (λ another. absurd (true≢false (sym inside
           ∙ not_ended at.0 live.0 mount (among-append_left world.namespaces (new ∷ []) at.0 at.1)
           (other_there live.0 live.1 another) live.2 mine)))
-          (decided (same_name task.name live.0.name))
+          (cases_Bool (same_name task.name live.0.name))
 
   -- The mounts after it
 
@@ -337,7 +338,7 @@ module _ (world : World ℕ) (fresh : Fresh ℕ) (task : Task ℕ) (is : IsWorld
       (λ same. mine (subst (λ t. Among location (locations_of t)) (that_task from.0 from.1 same) from.2))
       (λ another. inl (among-flat_map locations_of base.tasks from.0 location
       (other_there from.0 from.1 another) from.2))
-      (decided (same_name task.name from.0.name))
+      (cases_Bool (same_name task.name from.0.name))
     where
       Still : Location ℕ → Type 0
       Still at = Among at (all_locations base)
@@ -416,7 +417,7 @@ module _ (world : World ℕ) (fresh : Fresh ℕ) (task : Task ℕ) (is : IsWorld
       (still_located one.0 one.1))
       (or_cases (is_some mount.namespace) (is_located nat_eq world mount.number)
       (passes (mount_lives nat_eq world) world.mounts (all_in_use world is).mounts mount m)))
-      (decided (is_going nat_eq ended mount.number))
+      (cases_Bool (is_going nat_eq ended mount.number))
 
   still_mounted : (number : ℕ) → is_mounted nat_eq world number ≡ true → is_mounted nat_eq mounted number ≡ true
   still_mounted number was =
@@ -520,7 +521,7 @@ module _ (world : World ℕ) (fresh : Fresh ℕ) (task : Task ℕ) (is : IsWorld
       mount = mount_numbered nat_eq world location.mount
 
       number : mount.number ≡ location.mount
-      number = number_found world.mounts location.mount
+      number = number-mount_in world.mounts location.mount
 
       there : Among mount world.mounts
       there = found_there world.mounts location.mount

@@ -1,6 +1,6 @@
 -- What the list of mounts tells after an unshare.
 use Rattle.std.proofs.Common.{◌≡◌, refl, sym, ap, subst, ◌∙◌, inl, inr, ⊎_elim, ℕ, nat_eq, eq-eqb, eqb-true, Bool, true, false, cond, List, [], ◌∷◌, ◌++◌, Option, Some, None, Ok, Err, Result, filter, find, flat_map, is_some, map, ok_or, option_map, option_to_list, true≢false, unwrap_or}
-use Rattle.std.proofs.lemmas.Bool.{false_from_ne_true}
+use Rattle.std.proofs.lemmas.Bool.{false_from_ne_true, cases_Bool}
 use Rattle.std.proofs.lemmas.Option.{same_Some}
 use Rattle.std.specs.Cmp.Lexicographic.{bytes_decides}
 use Rattle.vt_spec.specs.declared.errors.Deny.{Deny}
@@ -30,7 +30,7 @@ use Rattle.vt_spec.specs.Machine.Receives.{is_member_of}
 use Rattle.vt_spec.specs.Machine.Run.{Serves, numbers_in_use, used_by_filesystem, used_by_mount}
 use Rattle.vt_spec.specs.Machine.Settled.{mount_lives, settled, without_dead_groups}
 use Rattle.vt_spec.specs.Machine.World.{Filesystem, Namespace, Task, World, is_overlay, mount_numbered, mounts_of, no_filesystem, replaced_if_called, task_called}
-use Rattle.vt_letting_go.proofs.Lists.{Among, among-append_left, among-append_right, among-from_filter, among-map, any_passes, decided, filter_here, filter_skip, flat_map_alike, map_alike}
+use Rattle.vt_letting_go.proofs.Lists.{Among, among-append_left, among-append_right, among-from_filter, among-map, any_passes, filter_here, filter_skip, flat_map_alike, map_alike}
 use Rattle.vt_spec.proofs.Lists.{is_among_numbers, map_same}
 use Rattle.vt_letting_go.proofs.MountingTaken
 use Rattle.vt_mount_laws.specs.Mounts.Propagation.{UnshareListsOthersTheSame, UnshareListsTheSame}
@@ -41,11 +41,11 @@ use Rattle.vt_mount_laws.proofs.UnsharingNamespaces.{new_namespace_is_empty}
 use Rattle.vt_world_laws.proofs.CallsKept.{name_found}
 use Rattle.vt_world_laws.proofs.NamespacesListed.{IsListedIn, listed_in, number_of}
 use Rattle.vt_world_laws.proofs.NamespacesTasks.{called_there}
-use Rattle.vt_world_laws.proofs.TasksNamed.{one_name}
 use Rattle.vt_later_laws.specs.Tables.{UnshareGivesANamespace, UnshareThenMounts}
 use Rattle.vt_later_laws.proofs.Granted.{IsPermitted, permitted}
 use Rattle.vt_later_laws.proofs.Steps.{passing, same_ok}
 use Rattle.vt_later_laws.proofs.UnsharedLeft
+use Rattle.vt_spec.proofs.Worlds.{same_task_name}
 
 -- a list that is changed and then shortened, of which those that pass a test stay as they are
 filter_left : {A : Type 0} (p q : A → Bool) (f : A → A) (xs : List A)
@@ -343,7 +343,7 @@ module _ (world : World ℕ) (fresh : Fresh ℕ) (task : Task ℕ) (is : IsWorld
       raised_name t false = refl
 
       moved_name : (t : Task ℕ) (b : Bool) → same_name task.name t.name ≡ b → (cond b moved t).name ≡ t.name
-      moved_name t true e = one_name task.name t.name e
+      moved_name t true e = same_task_name task.name t.name e
       moved_name t false e = refl
 
       twice : (o : Option (Task ℕ))
@@ -385,7 +385,7 @@ module _ (world : World ℕ) (fresh : Fresh ℕ) (task : Task ℕ) (is : IsWorld
         (UnsharedLeft.other_there world fresh task is serves called t m e) (sym at.2)
         ∙ ap (mount_lines nat_eq base) (sym at.2)
         ∙ lists_others world fresh task t.namespace serves is.mounts (new_is_unused t.namespace at))
-        (decided (same_name task.name t.name))
+        (cases_Bool (same_name task.name t.name))
 
     told_alike : (later : Fresh ℕ) (other : TaskName)
         → (policy nat_eq later last other ListMounts).answer ≡ (policy nat_eq later world other ListMounts).answer

@@ -10,8 +10,9 @@ use Rattle.vt_spec.specs.Machine.Walking.{Follow, Here, LastWord, Stop, follow_r
 use Rattle.vt_spec.specs.Machine.World.{Task}
 use Rattle.vt_spec.specs.PathText.{ends_in_slash, is_absolute, words}
 use Rattle.vt_spec.specs.Rights.{execute_right}
-use Rattle.vt_later_laws.proofs.Steps.{AllPass, both_gave, passed, passing, same_ok}
+use Rattle.vt_later_laws.proofs.Steps.{AllPass, passed, passing, same_ok}
 use Rattle.std.proofs.lemmas.Bool.{not-false}
+use Rattle.vt_spec.proofs.Options.{and_then-Ok}
 
 -- Walks that may be refused
 
@@ -84,7 +85,7 @@ pub word_gave : (looks : Looks ℕ) (task : Task ℕ) (here next : Here ℕ) (wo
     → AllPass (search_rules nat_eq looks task here.location)
     × (stepped nat_eq looks task here.location word ≡ Ok next.location) × (next.left ≡ here.left)
 word_gave looks task here next word e =
-    let both = both_gave (unless (search_rules nat_eq looks task here.location)
+    let both = and_then-Ok (unless (search_rules nat_eq looks task here.location)
     (stepped nat_eq looks task here.location word)) _ next
     (not_stopped (steps_with nat_eq looks task here word) _ next e) in
     let parts = passing (search_rules nat_eq looks task here.location)

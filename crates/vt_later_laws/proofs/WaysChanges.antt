@@ -11,7 +11,7 @@ use Rattle.vt_spec.specs.declared.errors.Deny.{Deny}
 use Rattle.vt_spec.specs.declared.errors.Rule.TheVariants.{W6}
 use Rattle.vt_spec.specs.Errors.{denial}
 use Rattle.vt_spec.specs.FileTree.{FileTree, symlink_text}
-use Rattle.vt_spec.specs.Language.Changes.{changed, changed_node, content_with_parent, node_with_attr, node_with_parent, node_without_entry, with_name, without_entry, without_name, without_parent}
+use Rattle.vt_spec.specs.Language.Changes.{changed, changed_node, node_with_attr, node_with_parent, node_without_entry, with_name, without_entry, without_name, without_parent}
 use Rattle.vt_spec.specs.Language.Changes.Change.{Make, Move, Remove}
 use Rattle.vt_spec.specs.Machine.Rightful.{node_allows}
 use Rattle.vt_spec.specs.Rights.{Credentials, allows}
@@ -19,8 +19,8 @@ use Rattle.vt_spec.specs.Tree.{Content, Node, Tree, entries_in, entries_of, entr
 use Rattle.vt_spec.specs.Tree.Content.{Directory, Regular, Symlink, Whiteout}
 use Rattle.vt_spec.specs.TreeLaws.{IsDirectory, entry_at}
 use Rattle.vt_spec.proofs.Nodes.{entries-node_with_bytes, entries-node_with_entry, entry_named-with_entry, entry_named-without_entry, is_directory-node_with_bytes, is_directory-node_with_entry, none_is_not, parent-node_with_bytes, parent-node_with_entry, same_name}
-use Rattle.vt_tree_laws.proofs.ChangesNodes.{attr_keeps_place, elsewhere, entries-node_without_entry, kind-node_without_entry, parent-node_without_entry, part_stays, there}
-use Rattle.vt_tree_laws.proofs.TreesRearranged.{node_with_entries}
+use Rattle.vt_tree_laws.proofs.ChangesNodes.{attr_keeps_place, elsewhere, part_stays, there}
+use Rattle.vt_spec.proofs.NodeChanges.{directory_from_entry, entries-node_without_entry, is_directory-node_without_entry, node_with_parent-no_directory, parent-node_without_entry}
 
 -- What was there is of its kind, and a directory has its parent, a symlink its text. A name leads where it led, or is
 -- missing, and then it was no directory's.
@@ -238,25 +238,10 @@ module _ (files : FileTree ℕ) (Refused : Deny → Type 0) where
               → is_some (files.tree.node here) ≡ true
           some_there here other next e =
               Rattle.vt_spec.proofs.Nodes.directory_used files.tree here
-              (node_with_entries other next (files.tree.node here) e)
+              (directory_from_entry other next (files.tree.node here) e)
 
       pub rights_made : RightsStay files.tree made.tree
       rights_made who wanted n is = ap (node_allows who wanted) (made_other n is) ∙ rights_named who wanted n is
-
-  -- An object that is no directory loses a name
-  no_parent : (parent : ℕ) (o : Option (Node ℕ)) → is_directory_node o ≡ false → node_with_parent parent o ≡ o
-  no_parent parent None is = refl
-  no_parent parent (Some node) is = by node.content refl is
-    where
-      by : (content : Content ℕ) → node.content ≡ content
-          → is_directory_node (Some (record { attr = node.attr; content = content })) ≡ false
-          → Some (record { attr = node.attr; content = content_with_parent parent node.content }) ≡ Some node
-      by (Directory old entries opaque) e f = absurd (true≢false f)
-      by (Regular bytes) e f = λ i. Some
-          (record { attr = node.attr; content = (ap (content_with_parent parent) e ∙ sym e) i })
-      by (Symlink text) e f = λ i. Some
-          (record { attr = node.attr; content = (ap (content_with_parent parent) e ∙ sym e) i })
-      by Whiteout e f = λ i. Some (record { attr = node.attr; content = (ap (content_with_parent parent) e ∙ sym e) i })
 
   module _ (directory : ℕ) (name : List ℕ) (object : ℕ) (named_so : entry_at files.tree directory name ≡ Some object)
       (no_directory : is_directory_node (files.tree.node object) ≡ false) where
@@ -272,11 +257,11 @@ module _ (files : FileTree ℕ) (Refused : Deny → Type 0) where
       where
         kept : is_directory_node (unnamed.tree.node object) ≡ false
         kept = part_stays files directory (node_without_entry name) is_directory_node
-            (kind-node_without_entry name) object ∙ no_directory
+            (is_directory-node_without_entry name) object ∙ no_directory
 
         by : (b : Bool) → nat_eq n object ≡ b
             → cond b (node_with_parent object (unnamed.tree.node object)) (unnamed.tree.node n) ≡ unnamed.tree.node n
-        by true e = no_parent object (unnamed.tree.node object) kept ∙ ap unnamed.tree.node (sym (eqb-true n object e))
+        by true e = node_with_parent-no_directory object (unnamed.tree.node object) kept ∙ ap unnamed.tree.node (sym (eqb-true n object e))
         by false e = refl
 
     entry_less : (other : List ℕ) → entry_at removed.tree directory other
@@ -301,7 +286,7 @@ module _ (files : FileTree ℕ) (Refused : Deny → Type 0) where
     pub ways_removed : Refused (denial W6) → TreeStays files.tree removed.tree Refused
     ways_removed missing = record {
       root = refl;
-      directory = λ n is. removed_part is_directory_node (kind-node_without_entry name) n;
+      directory = λ n is. removed_part is_directory_node (is_directory-node_without_entry name) n;
       parent = λ n is. removed_part (parent_in n) (parent-node_without_entry name n) n;
       link = λ n is. removed_part symlink_text (link_without name) n;
       entry = entry_or;
@@ -354,7 +339,7 @@ module _ (files : FileTree ℕ) (Refused : Deny → Type 0) (from : ℕ) (old : 
   less_removed n = sym (removed_node files Refused from old object named_so no_directory n)
 
   less_kind : (n : ℕ) → is_directory_node (less.tree.node n) ≡ is_directory_node (files.tree.node n)
-  less_kind n = part_stays files from (node_without_entry old) is_directory_node (kind-node_without_entry old) n
+  less_kind n = part_stays files from (node_without_entry old) is_directory_node (is_directory-node_without_entry old) n
 
   less_directory : IsDirectory less.tree to
   less_directory = less_kind to ∙ in_directory
@@ -390,7 +375,7 @@ module _ (files : FileTree ℕ) (Refused : Deny → Type 0) (from : ℕ) (old : 
 
       by : (b : Bool) → nat_eq n object ≡ b
           → cond b (node_with_parent to (renamed.tree.node object)) (renamed.tree.node n) ≡ renamed.tree.node n
-      by true e = no_parent files Refused to (renamed.tree.node object) kept
+      by true e = node_with_parent-no_directory to (renamed.tree.node object) kept
           ∙ ap renamed.tree.node (sym (eqb-true n object e))
       by false e = refl
 
@@ -435,7 +420,7 @@ module _ (files : FileTree ℕ) (Refused : Deny → Type 0) (from : ℕ) (old : 
     root = ap (λ o. (changed_node nat_eq
         (with_name nat_eq (without_name nat_eq (without_parent nat_eq files o) from old) to new object)
         object (node_with_parent to)).tree.root) free;
-    directory = λ n is. moved_part is_directory_node (kind-node_without_entry old)
+    directory = λ n is. moved_part is_directory_node (is_directory-node_without_entry old)
         (is_directory-node_with_entry new object) n;
     parent = λ n is. moved_part (parent_in n) (parent-node_without_entry old n) (parent-node_with_entry new object n) n;
     link = λ n is. moved_part symlink_text (link_without old) (link_with_entry new object) n;

@@ -15,7 +15,7 @@ use Rattle.vt_spec.proofs.Nodes.{none_is_not}
 use Rattle.vt_mount_laws.specs.Mounts.Attaching.{numbers_of}
 use Rattle.vt_mount_laws.specs.Mounts.Conditions.{OneNumberEach}
 use Rattle.vt_mount_laws.specs.Mounts.Unmounting.{KeepsAllButPlaceAndType}
-use Rattle.vt_mount_laws.proofs.MountsFound.{found_in, found_there, number_found, placed_among, unfound}
+use Rattle.vt_mount_laws.proofs.MountsFound.{found_in, found_there, placed_among, unfound}
 use Rattle.vt_mount_laws.proofs.MountsKept.{taking_away_keeps_numbers}
 use Rattle.vt_mount_laws.proofs.MountsNumbered.{is_one_of}
 use Rattle.vt_mount_laws.proofs.MountsPlaces.{found_at_its_place, stands_at_its_place, stands_there}
@@ -27,6 +27,7 @@ use Rattle.vt_mount_laws.proofs.UnmountingTrees.{AreClosed}
 use Rattle.vt_tree_laws.proofs.TreesEntered.{chain_ends as chain_ends_at}
 use Rattle.vt_letting_go.proofs.PlacesLeft.{nowhere_parts}
 use Rattle.vt_world_laws.proofs.Reached.{IsFoundDirectory, IsOn, namespace_below, place_found}
+use Rattle.vt_spec.proofs.Worlds.{number-mount_in}
 
 -- Chains that agree end at one place
 module _ {A : Type 0} where
@@ -138,7 +139,7 @@ module _ (world : World ℕ) (is : IsWorld nat_eq world) (gone : List ℕ) (clos
       on keeps before f true g =
           let there = placed_among world.mounts new.number before f in
           absurd (true≢false
-          (sym (ap (is_going nat_eq gone) (sym (number_found world.mounts new.number))
+          (sym (ap (is_going nat_eq gone) (sym (number-mount_in world.mounts new.number))
           ∙ closed (mount_numbered nat_eq world new.number) before there f g) ∙ keeps))
       on keeps before f false g = (
         mount_numbered nat_eq world new.number,
@@ -182,7 +183,7 @@ module _ (world later : World ℕ) (is : IsWorld nat_eq world) (is_later : IsWor
 
   later_mount : (number : ℕ) → IsListed number → mount_numbered nat_eq later number ≡ mount_numbered nat_eq taken number
   later_mount number listed =
-      sym (ap (mount_numbered nat_eq taken) (sym (number_found later.mounts number))
+      sym (ap (mount_numbered nat_eq taken) (sym (number-mount_in later.mounts number))
       ∙ found_itself taken.mounts one_taken (mount_numbered nat_eq later number)
       (from_taken (mount_numbered nat_eq later number) (found_there later.mounts number listed)))
 

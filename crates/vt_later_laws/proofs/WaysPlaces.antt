@@ -11,8 +11,9 @@ use Rattle.vt_spec.specs.Machine.Walking.{Here, LastWord, Place, Stop, directory
 use Rattle.vt_spec.specs.Machine.Walking.LastWord.{Dot, DotDot, Named, NoWord}
 use Rattle.vt_spec.specs.Machine.World.{Task}
 use Rattle.vt_spec.specs.PathText.{ends_in_slash, parsed_path, path_rules, words}
-use Rattle.vt_later_laws.proofs.Steps.{AllPass, both_gave, passed, passing, same_ok}
+use Rattle.vt_later_laws.proofs.Steps.{AllPass, passed, passing, same_ok}
 use Rattle.vt_later_laws.proofs.Ways.{EndsAt, Ends, LeadsToo, Stops, at, both_walked, not_stopped, same_end, search_too, slash_too, start_known, start_same, then_too, walk_passed, walk_passing, word_gave, word_too, words_lead}
+use Rattle.vt_spec.proofs.Options.{and_then-Ok}
 
 -- a text that may be walked is the path
 pub path_parsed : (path text : List ℕ) → path_text {N = ℕ} path ≡ Ok text → path ≡ text
@@ -52,17 +53,17 @@ pub placed_at : (looks : Looks ℕ) (task : Task ℕ) (here : Here ℕ) (last : 
 placed_at looks task here NoWord slash place e special =
     absurd (no_name NoWord place (ap (λ (p : Place ℕ). p.last) (same_end _ place e)) refl special)
 placed_at looks task here Dot slash place e special =
-    let both = both_gave (unless (search_rules nat_eq looks task here.location)
+    let both = and_then-Ok (unless (search_rules nat_eq looks task here.location)
     (object_named nat_eq looks task here.location Dot)) _ place
     (not_stopped (steps_at nat_eq looks task here Dot) _ place e) in
     absurd (no_name Dot place (ap (λ (p : Place ℕ). p.last) (same_ok _ place both.2)) refl special)
 placed_at looks task here DotDot slash place e special =
-    let both = both_gave (unless (search_rules nat_eq looks task here.location)
+    let both = and_then-Ok (unless (search_rules nat_eq looks task here.location)
     (object_named nat_eq looks task here.location DotDot)) _ place
     (not_stopped (steps_at nat_eq looks task here DotDot) _ place e) in
     absurd (no_name DotDot place (ap (λ (p : Place ℕ). p.last) (same_ok _ place both.2)) refl special)
 placed_at looks task here (Named name) slash place e special =
-    let both = both_gave (unless (search_rules nat_eq looks task here.location)
+    let both = and_then-Ok (unless (search_rules nat_eq looks task here.location)
     (object_named nat_eq looks task here.location
     (Named name))) _ place
     (not_stopped (steps_at nat_eq looks task here (Named name)) _ place e) in

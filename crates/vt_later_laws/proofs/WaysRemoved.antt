@@ -10,37 +10,14 @@ use Rattle.vt_spec.specs.Language.Changes.Change.{Remove}
 use Rattle.vt_spec.specs.Lists.{is_among, when}
 use Rattle.vt_spec.specs.Machine.Rightful.{node_allows}
 use Rattle.vt_spec.specs.Rights.{Credentials, allows}
-use Rattle.vt_spec.specs.Tree.{Content, Node, Tree, entries_in, entries_of, entry_named, is_directory_node, kind_of, parent_in}
+use Rattle.vt_spec.specs.Tree.{Content, Node, Tree, entries_in, entry_named, is_directory_node, kind_of, parent_in}
 use Rattle.vt_spec.specs.Tree.Content.{Directory, Regular, Symlink, Whiteout}
 use Rattle.vt_spec.specs.TreeLaws.{entry_at}
 use Rattle.vt_spec.proofs.Nodes.{entry_named-without_entry}
 use Rattle.vt_tree_laws.specs.Trees.{MayRemove}
-use Rattle.vt_tree_laws.proofs.ChangesNodes.{elsewhere, entries-node_without_entry, kind-node_without_entry, own_parent-node_with_parent, parent-node_without_entry, part_stays, there}
+use Rattle.vt_tree_laws.proofs.ChangesNodes.{elsewhere, own_parent-node_with_parent, part_stays, there}
 use Rattle.vt_later_laws.proofs.WaysChanges.{RightsStay, allows_without, link_without}
-
--- What another parent leaves of an inode
-kind_with_parent : (parent : ℕ) (o : Option (Node ℕ))
-    → is_directory_node (node_with_parent parent o) ≡ is_directory_node o
-kind_with_parent parent None = refl
-kind_with_parent parent (Some node) = by node.content
-  where
-    by : (content : Content ℕ) → is_directory_node
-        (Some (record { attr = node.attr; content = content_with_parent parent content }))
-        ≡ is_directory_node (Some (record { attr = node.attr; content = content }))
-    by (Directory old entries opaque) = refl
-    by (Regular bytes) = refl
-    by (Symlink text) = refl
-    by Whiteout = refl
-
-entries_with_parent : (parent : ℕ) (o : Option (Node ℕ)) → entries_in (node_with_parent parent o) ≡ entries_in o
-entries_with_parent parent None = refl
-entries_with_parent parent (Some node) = by node.content
-  where
-    by : (content : Content ℕ) → entries_of (content_with_parent parent content) ≡ entries_of content
-    by (Directory old entries opaque) = refl
-    by (Regular bytes) = refl
-    by (Symlink text) = refl
-    by Whiteout = refl
+use Rattle.vt_spec.proofs.NodeChanges.{entries-node_with_parent, entries-node_without_entry, is_directory-node_with_parent, is_directory-node_without_entry, parent-node_without_entry}
 
 link_with_parent : (parent : ℕ) (o : Option (Node ℕ)) → symlink_text (node_with_parent parent o) ≡ symlink_text o
 link_with_parent parent None = refl
@@ -83,7 +60,7 @@ module _ (files : FileTree ℕ) (directory : ℕ) (name : List ℕ) (object : �
       ∙ part_stays files directory (node_without_entry name) part entry n
 
   pub removed_kind : (n : ℕ) → is_directory_node (removed.tree.node n) ≡ is_directory_node (files.tree.node n)
-  removed_kind n = removed_part is_directory_node (kind_with_parent object) (kind-node_without_entry name) n
+  removed_kind n = removed_part is_directory_node (is_directory-node_with_parent object) (is_directory-node_without_entry name) n
 
   pub removed_link : (n : ℕ) → symlink_text (removed.tree.node n) ≡ symlink_text (files.tree.node n)
   removed_link n = removed_part symlink_text (link_with_parent object) (link_without name) n
@@ -99,7 +76,7 @@ module _ (files : FileTree ℕ) (directory : ℕ) (name : List ℕ) (object : �
 
   -- its names
   removed_entries : (n : ℕ) → entries_in (removed.tree.node n) ≡ entries_in (unnamed.tree.node n)
-  removed_entries n = part_stays unnamed object (node_with_parent object) entries_in (entries_with_parent object) n
+  removed_entries n = part_stays unnamed object (node_with_parent object) entries_in (entries-node_with_parent object) n
 
   entry_less : (other : List ℕ) → entry_at removed.tree directory other
       ≡ cond (not (bytes_eq other name)) (entry_at files.tree directory other) None

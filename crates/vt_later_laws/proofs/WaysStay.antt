@@ -1,6 +1,6 @@
 -- In a world that a call left, in which mounts stay and names stay or are missing, walks lead where they led.
 use Rattle.std.proofs.Common.{◌≡◌, refl, sym, ap, subst, ◌∙◌, inl, inr, ◌⊎◌, true≢false, ℕ, nat_eq, Bool, true, false, cond, not, ◌||◌, List, [], ◌∷◌, length, Option, Some, None, is_some, option_map, ok_or, Result, Ok, Err}
-use Rattle.std.proofs.lemmas.Bool.{and_parts}
+use Rattle.std.proofs.lemmas.Bool.{and_parts, not-false}
 use Rattle.std.specs.Prelude.{⊤}
 use Rattle.vt_spec.specs.declared.errors.Deny.{Deny}
 use Rattle.vt_spec.specs.declared.errors.Rule.TheVariants.{W4, W6, W8}
@@ -239,10 +239,6 @@ module _ (world later : World ℕ) (is : IsWorld nat_eq world) (plain : IsPlain 
       first true b f = cc
       first false b f = (refl, f)
 
-      not_false : (b : Bool) → not b ≡ false → b ≡ true
-      not_false true f = refl
-      not_false false f = cc
-
       parts : (is_removed nat_eq (tree_in world (mount_at nat_eq world here).filesystem) here.node ≡ false)
           × (not (is_directory_under nat_eq
           (filesystem_numbered nat_eq world (mount_at nat_eq world here).filesystem).files
@@ -284,14 +280,14 @@ module _ (world later : World ℕ) (is : IsWorld nat_eq world) (plain : IsPlain 
           present_later (λ n. ⊤) files_here files_later (tree_here world is plain task here known.0.1).tree tree_later
           (stay.root (mount_at nat_eq world here).filesystem) (λ directory name number entry keeps. tt) names
           (mount_at nat_eq world here).root here.node known.0.1 is_directory_later tt root_there parts.0
-          (not_false _ parts.1)
+          (not-false _ parts.1)
 
       under : is_directory_under nat_eq files_later point.root here.node ≡ true
       under =
           under_later (λ n. ⊤) files_here files_later (tree_here world is plain task here known.0.1).tree tree_later
           (stay.root (mount_at nat_eq world here).filesystem) (λ directory name number entry keeps. tt) names
           (mount_at nat_eq world here).root here.node known.0.1 is_directory_later tt root_there parts.0
-          (not_false _ parts.1)
+          (not-false _ parts.1)
 
   up_too : (here next : Location ℕ) → KnownDirectory here → stepped nat_eq world task here DotDot ≡ Ok next
       → stepped nat_eq later reader here DotDot ≡ Ok next

@@ -9,8 +9,8 @@ use Rattle.vt_spec.proofs.Trees.{found, led-append, parent_reached, reached_name
 use Rattle.vt_tree_laws.specs.Trees.{IsFileTree}
 use Rattle.vt_tree_laws.proofs.TreesAbove.{parent_named, under_seen}
 use Rattle.vt_tree_laws.proofs.TreesReached.{not_removed_reached}
-use Rattle.vt_tree_laws.proofs.TreesRearranged.{node_with_entries}
 use Rattle.std.proofs.lemmas.Option.{same_Some}
+use Rattle.vt_spec.proofs.NodeChanges.{directory_from_entry}
 
 -- The names that lead to a directory from what lies above it
 module _ (tree : Tree ℕ) (conditions : IsTree tree) where
@@ -26,7 +26,7 @@ module _ (tree : Tree ℕ) (conditions : IsTree tree) where
       (sym (parent_named tree conditions named.0 named.1 d named.2 is) ∙ e) in (
         named.1,
         ap (λ n. entry_at tree n named.1) (sym same) ∙ named.2,
-        subst (IsDirectory tree) same (node_with_entries named.1 d (tree.node named.0) named.2),
+        subst (IsDirectory tree) same (directory_from_entry named.1 d (tree.node named.0) named.2),
         subst (IsReached tree) (conditions.one_parent named.0 named.1 d named.2 is ∙ same)
             (parent_reached tree conditions d is reached),
       ))
@@ -87,7 +87,7 @@ module _ (tree : Tree ℕ) (conditions : IsTree tree) where
   led_through from [] to e is = subst (IsDirectory tree) (sym (same_Some from to e)) is
   led_through from (name ∷ names) to e is =
       let step = found (λ next. led tree next names) (entry_at tree from name) to e in
-      node_with_entries name step.0 (tree.node from) step.1
+      directory_from_entry name step.0 (tree.node from) step.1
 
 -- Names of these directories stay, where the directory that has them does
 abbrev pub DirectoryNamesStay : (ℕ → Type 0) → Tree ℕ → Tree ℕ → Type 0

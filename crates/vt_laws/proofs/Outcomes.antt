@@ -11,6 +11,7 @@ use Rattle.vt_spec.specs.Machine.Policy.{finished_by}
 use Rattle.vt_spec.specs.Machine.Walk.{Stop, stopped_by, then_walk, walk_end, walk_unless}
 use Rattle.vt_spec.specs.Language.Calls.{TaskName}
 use Rattle.vt_spec.specs.Machine.World.{World}
+use Rattle.vt_spec.proofs.Truths.{and_true_right}
 
 -- what is told of the error of a result is told of it in every form
 pub error_is : {A : Type 0} (P : Deny → Type 0) (result : Result A Deny) (deny : Deny) → result ≡ Err deny
@@ -61,16 +62,12 @@ module _ (rules : List Rule) where
   first_own true others e = refl
   first_own false others e = e
 
-  rest_own : (among others : Bool) → (among && others) ≡ true → others ≡ true
-  rest_own true others e = e
-  rest_own false others e = cc
-
   pub unless_own : {A : Type 0} (rows : Rules) (answer : Result A Deny) → are_own rows ≡ true → RefusesOwn answer
       → RefusesOwn (unless rows answer)
   unless_own [] answer own h = h
   unless_own ((true, rule) ∷ rows) answer own h = (refl, first_own (is_among rule rules) (are_own rows) own)
   unless_own ((false, rule) ∷ rows) answer own h =
-      unless_own rows answer (rest_own (is_among rule rules || true) (are_own rows) own) h
+      unless_own rows answer (and_true_right (is_among rule rules || true) (are_own rows) own) h
 
   pub and_then_own : {A B : Type 0} (first : Result A Deny) (next : A → Result B Deny) → RefusesOwn first
       → ((a : A) → RefusesOwn (next a))
@@ -113,7 +110,7 @@ module _ (rules : List Rule) where
     judged_own world ((true, rule) ∷ rows) outcome own h =
         (refl, (refl, first_own (is_among rule rules) (are_own rows) own))
     judged_own world ((false, rule) ∷ rows) outcome own h =
-        judged_own world rows outcome (rest_own (is_among rule rules || true) (are_own rows) own) h
+        judged_own world rows outcome (and_true_right (is_among rule rules || true) (are_own rows) own) h
 
     pub after_own : {A : Type 0} (world : World N) (first : Result A Deny) (next : A → Outcome N) → RefusesOwn first
         → ((a : A) → DeniesOwn world (next a)) → DeniesOwn world (after world first next)

@@ -13,14 +13,16 @@ use Rattle.vt_spec.proofs.Nodes.{node_set}
 use Rattle.vt_spec.proofs.Trees.{led-append}
 use Rattle.vt_layer_laws.specs.Layers.ChangesUpper.{IsLeft}
 use Rattle.vt_layer_laws.proofs.CopyingEach.{IsNew}
-use Rattle.vt_layer_laws.proofs.CopyingNames.{emptied_is_empty, LeftWith, emptied_other, emptied_part, freed_entries, is_left_by, left_elsewhere, left_part, left_stays, left_where, marked_entries, marked_itself, marked_other, moved_part, parent_entries}
-use Rattle.vt_layer_laws.proofs.CopyingParts.{kept_part}
+use Rattle.vt_layer_laws.proofs.CopyingNames.{emptied_is_empty, LeftWith, emptied_other, emptied_part, is_left_by, left_elsewhere, left_part, left_stays, left_where, marked_entries, marked_itself, marked_other, moved_part}
 use Rattle.vt_layer_laws.proofs.CopyingSound.{IsSound, State}
 use Rattle.vt_layer_laws.proofs.LowersKept.{kept_elsewhere}
-use Rattle.vt_layer_laws.proofs.ShownAtPath.{none_is_some, some_is_one}
 use Rattle.vt_layer_laws.proofs.UpperChain.{one_depth}
 use Rattle.vt_layer_laws.proofs.UpperLine.{has_entries, is_reached_in}
 use Rattle.vt_layer_laws.proofs.UpperShown.{way_to}
+use Rattle.std.proofs.Math.Bool.{or-false}
+use Rattle.std.proofs.lemmas.Option.{same_Some}
+use Rattle.vt_spec.proofs.NodeChanges.{entries-node_with_parent, entries-without_parent, part-changed_node}
+use Rattle.vt_spec.proofs.Options.{none_is_some}
 
 -- no directory has an entry for itself
 pub no_loop : (files : FileTree ℕ) → IsTree files.tree → (directory : ℕ) (name : List ℕ)
@@ -161,11 +163,7 @@ module _ (files : FileTree ℕ) (tree : IsTree files.tree) (first : ℕ → Opti
       ∙ ap (λ o. hides_directory nat_eq stack here directory name || is_opaque_in o) there
       ∙ ap (λ c. hides_directory nat_eq stack here directory name
       || Rattle.vt_spec.specs.FileTree.opaque_of c) made_directory
-      ∙ or_false (hides_directory nat_eq stack here directory name)
-    where
-      or_false : (b : Bool) → (b || false) ≡ b
-      or_false true = refl
-      or_false false = refl
+      ∙ or-false (hides_directory nat_eq stack here directory name)
 
   module _ (from : ℕ) (old : List ℕ) (to : ℕ) (name : List ℕ) (object : ℕ) (seen_from seen : ℕ)
       (e : entry_at files.tree from old ≡ Some object) (has_from : upper_object (real from) ≡ Some seen_from)
@@ -246,7 +244,7 @@ module _ (files : FileTree ℕ) (tree : IsTree files.tree) (first : ℕ → Opti
         → entries_in ((moved nat_eq fresh stack here from old to name object).upper.tree.node replaced) ≡ []
     moved_empty replaced number named empty is seen_to has_to =
         let found = directory_named here to name replaced is in
-        let same_number : number ≡ found.0 = some_is_one number found.0 (sym named ∙ found.1) in
+        let same_number : number ≡ found.0 = same_Some number found.0 (sym named ∙ found.1) in
         let not_from : replaced ≢ upper_of here from =
         λ same. none_is_some object
         (sym (ap (entry_named old) (ap (λ n. entries_in (files.tree.node n)) (sym same_number) ∙ empty))
@@ -263,12 +261,12 @@ module _ (files : FileTree ℕ) (tree : IsTree files.tree) (first : ℕ → Opti
         marked_entries (hides_directory nat_eq stack here to name) left (upper_of here object) replaced
         ∙ ap entries_in (left_elsewhere (is_some (shown_below nat_eq stack here from old)) fresh stack away
         (upper_of here from) old replaced not_from (old_differs found.0 replaced found.2))
-        ∙ kept_part entries_in (with_name nat_eq base (upper_of here to) name (upper_of here object))
-        (upper_of here object) (node_with_parent (upper_of here to)) (parent_entries (upper_of here to)) replaced
+        ∙ part-changed_node entries_in (with_name nat_eq base (upper_of here to) name (upper_of here object))
+        (upper_of here object) (node_with_parent (upper_of here to)) (entries-node_with_parent (upper_of here to)) replaced
         ∙ ap entries_in (kept_elsewhere base (upper_of here to) (node_with_entry name (upper_of here object)) replaced
         (ne_eqb replaced (upper_of here to) not_to))
         ∙ ap entries_in (kept_elsewhere
         (without_parent nat_eq freed (entry_named name (entries_in (freed.tree.node (upper_of here to)))))
         (upper_of here from) (node_without_entry old) replaced (ne_eqb replaced (upper_of here from) not_from))
-        ∙ freed_entries freed (entry_named name (entries_in (freed.tree.node (upper_of here to)))) replaced
+        ∙ entries-without_parent freed (entry_named name (entries_in (freed.tree.node (upper_of here to)))) replaced
         ∙ emptied_is_empty upper (upper_directory_named here to name) replaced is

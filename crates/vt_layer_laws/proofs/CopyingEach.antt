@@ -8,6 +8,8 @@ use Rattle.vt_spec.specs.Lists.{Fresh, is_among}
 use Rattle.vt_spec.specs.Machine.World.{Real, upper_object}
 use Rattle.vt_spec.specs.Tree.{Node}
 use Rattle.vt_layer_laws.proofs.CopyingSound.{IsSound, Soundly, State, soundly_copied}
+use Rattle.std.proofs.lemmas.Bool.{or_right}
+use Rattle.vt_spec.proofs.Worlds.{stands_still}
 
 abbrev pub IsNew : Fresh ℕ → ℕ → Type 0
 IsNew fresh number = (k : ℕ) × (number ≡ fresh k)
@@ -27,16 +29,6 @@ module _ (files : FileTree ℕ) (first : ℕ → Option (Real ℕ)) (spare : ℕ
     pub bound : (number seen : ℕ) → upper_object (soundly.real number) ≡ Some seen
         → (upper_object (before number) ≡ Some seen) ⊎ ((j : ℕ) × (j < k + length list) × (seen ≡ fresh j))
     pub others : (number : ℕ) → is_among nat_eq number list ≡ false → soundly.real number ≡ before number
-
-  stands_still : (real : ℕ → Option (Real ℕ)) (grown : ℕ → Option (Real ℕ))
-      → ((number object : ℕ) → upper_object (real number) ≡ Some object → upper_object (grown number) ≡ Some object)
-      → (number : ℕ) → is_some (upper_object (real number)) ≡ true → is_some (upper_object (grown number)) ≡ true
-  stands_still real grown grows number h = by (upper_object (real number)) refl h
-    where
-      by : (o : Option ℕ) → upper_object (real number) ≡ o → is_some o ≡ true
-          → is_some (upper_object (grown number)) ≡ true
-      by None e h = absurd (true≢false (sym h))
-      by (Some object) e h = ap is_some (grows number object e)
 
   -- one more at the front
   one_more : (k : ℕ) (before real : ℕ → Option (Real ℕ)) (object : ℕ) (rest : List ℕ) (merge : Merge ℕ)
@@ -149,15 +141,11 @@ module _ (files : FileTree ℕ) (first : ℕ → Option (Real ℕ)) (spare : ℕ
       itself : is_among nat_eq object (object ∷ []) ≡ true
       itself = ap (λ b. b || false) (eq-eqb object object refl)
 
-      right : (a b : Bool) → b ≡ true → (a || b) ≡ true
-      right true b e = refl
-      right false b e = e
-
       by : (named : Option (ℕ × List ℕ)) → is_among nat_eq object (line_by nat_eq files object named) ≡ true
       by None = itself
       by (Some name) =
           list_any-append (nat_eq object) (directories_to nat_eq files name.0) (object ∷ [])
-          ∙ right (list_any (nat_eq object) (directories_to nat_eq files name.0)) _ itself
+          ∙ or_right (list_any (nat_eq object) (directories_to nat_eq files name.0)) _ itself
 
   pub line_copied : (object : ℕ) (real : ℕ → Option (Real ℕ)) (upper : FileTree ℕ) → Sound real upper
       → ((j number : ℕ) → upper_object (real number) ≢ Some (fresh j))

@@ -8,8 +8,7 @@ use Rattle.vt_spec.specs.FileTree.{FileTree, a_name, ancestors, named_parent}
 use Rattle.vt_spec.specs.Lists.{Fresh, chain, is_among}
 use Rattle.vt_spec.specs.Machine.World.{Real, upper_object}
 use Rattle.vt_spec.specs.Machine.World.Real.{Upper}
-use Rattle.vt_spec.specs.Tree.{Content, Node, entries_in, entries_of, is_directory_node, node_with_entry}
-use Rattle.vt_spec.specs.Tree.Content.{Directory, Regular, Symlink, Whiteout}
+use Rattle.vt_spec.specs.Tree.{Node, entries_in, is_directory_node, node_with_entry}
 use Rattle.vt_spec.specs.TreeLaws.{IsTree, entry_at}
 use Rattle.vt_spec.proofs.Nodes.{directory_used, node_set}
 use Rattle.vt_layer_laws.specs.Layers.ChangesUpper.{IsCopyOf, IsFitToChange}
@@ -19,9 +18,10 @@ use Rattle.vt_layer_laws.proofs.CopyingNames.{name_put}
 use Rattle.vt_layer_laws.proofs.CopyingReady.{in_its_line, start}
 use Rattle.vt_layer_laws.proofs.CopyingSound.{IsSound, State, is_copy_of}
 use Rattle.vt_layer_laws.proofs.LowersKept.{kept_elsewhere}
-use Rattle.vt_layer_laws.proofs.ShownAtPath.{some_is_one}
 use Rattle.vt_layer_laws.proofs.UpperChain.{all_above, depth_bound, one_depth, up_at_root, up_from}
 use Rattle.vt_layer_laws.proofs.UpperLine.{ReachedIn, has_entries, is_reached_in, named_so, reached_directory}
+use Rattle.std.proofs.lemmas.Option.{same_Some}
+use Rattle.vt_spec.proofs.NodeChanges.{entries_of-copied_content}
 
 -- the line up to the root is as long as it is deep
 chain_enough : (files : FileTree ℕ) (tree : IsTree files.tree) (steps most directory : ℕ)
@@ -66,7 +66,7 @@ not_in_line files tree numbers directory name object e =
         let h = found.1 in
         let no : ⊥ = omega arith in absurd no
 
-copied_at : (fresh : Fresh ℕ) (k : ℕ) (merge : Merge ℕ) (list : List ℕ) (last : ℕ)
+pub copied_at : (fresh : Fresh ℕ) (k : ℕ) (merge : Merge ℕ) (list : List ℕ) (last : ℕ)
     → copied_each nat_eq fresh k merge (list ++ last ∷ [])
     ≡ copy_of nat_eq (copied_each nat_eq fresh k merge list) last (fresh (k + length list))
     ((copied_each nat_eq fresh k merge list).files.tree.node last)
@@ -79,12 +79,6 @@ copied_at fresh k merge (object ∷ list) last =
     ∙ ap (λ n. copy_of nat_eq (copied_each nat_eq fresh (k + 1) next list) last (fresh n)
     ((copied_each nat_eq fresh (k + 1) next list).files.tree.node last)
     (is_in_upper (copied_each nat_eq fresh (k + 1) next list) last)) (omega arith)
-
-copied_names : (parent : ℕ) (content : Content ℕ) → entries_of (copied_content parent content) ≡ []
-copied_names parent (Directory old entries opaque) = refl
-copied_names parent (Regular bytes) = refl
-copied_names parent (Symlink text) = refl
-copied_names parent Whiteout = refl
 
 module _ (fresh : Fresh ℕ) (before : Merge ℕ) (fit : IsFitToChange fresh before) (object : ℕ) (node : Node ℕ)
     (is_node : before.files.tree.node object ≡ Some node) (below : upper_object (before.real object) ≡ None) where
@@ -122,7 +116,7 @@ module _ (fresh : Fresh ℕ) (before : Merge ℕ) (fit : IsFitToChange fresh bef
         is = subst (IsCopyOf (files.tree.node object)) (sym there)
             (is_copy_of (copy_parent before (fresh 0) (a_name nat_eq files object))
             (files.tree.node object) node is_node);
-        empty = ap entries_in there ∙ copied_names
+        empty = ap entries_in there ∙ entries_of-copied_content
             (copy_parent before (fresh 0) (a_name nat_eq files object)) node.content;
         named = λ name is. absurd (true≢false (sym (ap is_some (sym e ∙ is))));
       }
@@ -184,10 +178,10 @@ module _ (fresh : Fresh ℕ) (before : Merge ℕ) (fit : IsFitToChange fresh bef
       real = ap (λ b. upper_object (cond b (Some (Upper copy)) (real object))) (eq-eqb object object refl);
       is = subst (IsCopyOf (files.tree.node object)) (sym there)
           (is_copy_of (copy_parent state copy (a_name nat_eq files object)) (files.tree.node object) node is_node);
-      empty = ap entries_in there ∙ copied_names (copy_parent state copy (a_name nat_eq files object)) node.content;
+      empty = ap entries_in there ∙ entries_of-copied_content (copy_parent state copy (a_name nat_eq files object)) node.content;
       named = λ other is.
           subst (λ n. entry_at later.upper.tree (upper_of later n.0) n.1 ≡ Some copy)
-          (some_is_one name other (sym e ∙ is)) has_name;
+          (same_Some name other (sym e ∙ is)) has_name;
     }
 
   named_stands : (name : ℕ × List ℕ) → a_name nat_eq files object ≡ Some name

@@ -15,8 +15,9 @@ use Rattle.vt_spec.specs.Tree.Content.{Directory, Regular, Symlink, Whiteout}
 use Rattle.vt_spec.specs.TreeLaws.{entry_at}
 use Rattle.vt_spec.proofs.Nodes.{entries-node_with_entry, entry_named-with_entry, entry_named-without_entry, node_set, same_name}
 use Rattle.vt_layer_laws.specs.Layers.ChangesUpper.{IsLeftBy}
-use Rattle.vt_layer_laws.proofs.CopyingParts.{KeepsButNames, entry_keeps, kept_part, parent_keeps, without_entries_keeps, without_entry_keeps}
+use Rattle.vt_layer_laws.proofs.CopyingParts.{KeepsButNames, entry_keeps, parent_keeps, without_entries_keeps, without_entry_keeps}
 use Rattle.vt_layer_laws.proofs.LowersKept.{kept_elsewhere}
+use Rattle.vt_spec.proofs.NodeChanges.{entries-node_with_mark, entries-node_with_parent, entries-node_without_entries, part-changed_node}
 
 -- a name that was taken out is not there
 name_gone : (name : List ℕ) (entries : Entries ℕ) → entry_named name (without_entry name entries) ≡ None
@@ -140,35 +141,6 @@ pub left_stays : (number : ℕ) (below : Option (Shown ℕ)) (stack : Stack ℕ)
 left_stays number None stack upper later directory name e f left = ap (entry_named name) e ∙ left
 left_stays number (Some seen) stack upper later directory name e f left = (ap (entry_named name) e ∙ left.0, f ∙ left.1)
 
--- a directory that is emptied has no entries, and every other inode is as it was
-emptied_has_none : (inode : Option (Node ℕ)) → entries_in (node_without_entries inode) ≡ []
-emptied_has_none None = refl
-emptied_has_none (Some node) = by node.content
-  where
-    by : (content : Content ℕ) → entries_of (with_entries content []) ≡ []
-    by (Directory parent entries opaque) = refl
-    by (Regular bytes) = refl
-    by (Symlink text) = refl
-    by Whiteout = refl
-
-pub parent_entries : (parent : ℕ) (inode : Option (Node ℕ))
-    → entries_in (node_with_parent parent inode) ≡ entries_in inode
-parent_entries parent None = refl
-parent_entries parent (Some node) = by node.content
-  where
-    by : (content : Content ℕ) → entries_of (Rattle.vt_spec.specs.Language.Changes.content_with_parent parent content)
-        ≡ entries_of content
-    by (Directory old entries opaque) = refl
-    by (Regular bytes) = refl
-    by (Symlink text) = refl
-    by Whiteout = refl
-
-pub freed_entries : (upper : FileTree ℕ) (object : Option ℕ) (inode : ℕ)
-    → entries_in ((without_parent nat_eq upper object).tree.node inode) ≡ entries_in (upper.tree.node inode)
-freed_entries upper None inode = refl
-freed_entries upper (Some object) inode =
-    kept_part entries_in upper object (node_with_parent object) (parent_entries object) inode
-
 -- where a name is left, every other inode is as it was
 pub left_elsewhere : (hidden : Bool) (fresh : Fresh ℕ) (stack : Stack ℕ) (upper : FileTree ℕ) (directory : ℕ)
     (name : List ℕ) (inode : ℕ)
@@ -185,10 +157,10 @@ pub emptied_is_empty : (upper : FileTree ℕ) (replaced : Option ℕ) (object : 
     → entries_in ((emptied nat_eq upper replaced).tree.node object) ≡ []
 emptied_is_empty upper replaced object e =
     subst (λ o. entries_in ((emptied nat_eq upper o).tree.node object) ≡ []) (sym e)
-    (kept_part entries_in (changed_node nat_eq upper object node_without_entries) object (node_with_parent object)
-    (parent_entries object) object
+    (part-changed_node entries_in (changed_node nat_eq upper object node_without_entries) object (node_with_parent object)
+    (entries-node_with_parent object) object
     ∙ ap entries_in (node_set upper.tree object (node_without_entries (upper.tree.node object)))
-    ∙ emptied_has_none (upper.tree.node object))
+    ∙ entries-node_without_entries (upper.tree.node object))
 
 pub emptied_other : (upper : FileTree ℕ) (replaced : Option ℕ) (inode : ℕ) → replaced ≢ Some inode
     → (emptied nat_eq upper replaced).tree.node inode ≡ upper.tree.node inode
@@ -198,21 +170,10 @@ emptied_other upper (Some object) inode differ =
     kept_elsewhere (changed_node nat_eq upper object node_without_entries) object (node_with_parent object) inode other
     ∙ kept_elsewhere upper object node_without_entries inode other
 
--- a mark changes no entries, and marks a directory
-pub mark_entries : (mark : Bool) (inode : Option (Node ℕ)) → entries_in (node_with_mark mark inode) ≡ entries_in inode
-mark_entries mark None = refl
-mark_entries mark (Some node) = by node.content
-  where
-    by : (content : Content ℕ) → entries_of (content_with_mark mark content) ≡ entries_of content
-    by (Directory old entries opaque) = refl
-    by (Regular bytes) = refl
-    by (Symlink text) = refl
-    by Whiteout = refl
-
 pub marked_entries : (mark : Bool) (upper : FileTree ℕ) (object inode : ℕ)
     → entries_in ((marked nat_eq mark upper object).tree.node inode) ≡ entries_in (upper.tree.node inode)
 marked_entries true upper object inode =
-    kept_part entries_in upper object (node_with_mark true) (mark_entries true) inode
+    part-changed_node entries_in upper object (node_with_mark true) (entries-node_with_mark true) inode
 marked_entries false upper object inode = refl
 
 pub marked_other : (mark : Bool) (upper : FileTree ℕ) (object inode : ℕ) → inode ≢ object
@@ -249,15 +210,15 @@ module _ {A : Type 0} (part : Option (Node ℕ) → A)
       → part ((emptied nat_eq upper replaced).tree.node inode) ≡ part (upper.tree.node inode)
   emptied_part upper None inode = refl
   emptied_part upper (Some object) inode =
-      kept_part part (changed_node nat_eq upper object node_without_entries) object (node_with_parent object)
+      part-changed_node part (changed_node nat_eq upper object node_without_entries) object (node_with_parent object)
       (keeps (node_with_parent object) (parent_keeps object)) inode
-      ∙ kept_part part upper object node_without_entries (keeps node_without_entries without_entries_keeps) inode
+      ∙ part-changed_node part upper object node_without_entries (keeps node_without_entries without_entries_keeps) inode
 
   pub freed_part : (upper : FileTree ℕ) (object : Option ℕ) (inode : ℕ)
       → part ((without_parent nat_eq upper object).tree.node inode) ≡ part (upper.tree.node inode)
   freed_part upper None inode = refl
   freed_part upper (Some object) inode =
-      kept_part part upper object (node_with_parent object)
+      part-changed_node part upper object (node_with_parent object)
       (keeps (node_with_parent object) (parent_keeps object)) inode
 
   pub moved_part : (upper : FileTree ℕ) (from : ℕ) (old : List ℕ) (to : ℕ) (name : List ℕ) (object inode : ℕ)
@@ -265,11 +226,11 @@ module _ {A : Type 0} (part : Option (Node ℕ) → A)
   moved_part upper from old to name object inode =
       let freed = without_parent nat_eq upper (entry_named name (entries_in (upper.tree.node to))) in
       let left = without_name nat_eq freed from old in
-      kept_part part (with_name nat_eq left to name object) object (node_with_parent to)
+      part-changed_node part (with_name nat_eq left to name object) object (node_with_parent to)
       (keeps (node_with_parent to) (parent_keeps to)) inode
-      ∙ kept_part part left to (node_with_entry name object)
+      ∙ part-changed_node part left to (node_with_entry name object)
       (keeps (node_with_entry name object) (entry_keeps name object)) inode
-      ∙ kept_part part freed from (node_without_entry old)
+      ∙ part-changed_node part freed from (node_without_entry old)
       (keeps (node_without_entry old) (without_entry_keeps old)) inode
       ∙ freed_part upper (entry_named name (entries_in (upper.tree.node to))) inode
 
@@ -278,10 +239,10 @@ module _ {A : Type 0} (part : Option (Node ℕ) → A)
       → part ((name_left_by nat_eq hidden fresh stack upper directory name).tree.node inode)
       ≡ part (upper.tree.node inode)
   left_part true fresh stack upper directory name inode differ =
-      kept_part part (with_inode nat_eq upper (fresh 0) (whiteout_of stack.mounter)) directory
+      part-changed_node part (with_inode nat_eq upper (fresh 0) (whiteout_of stack.mounter)) directory
       (node_with_entry name (fresh 0)) (keeps (node_with_entry name (fresh 0)) (entry_keeps name (fresh 0))) inode
       ∙ ap part (ap (λ b. cond b (Some (whiteout_of stack.mounter)) (upper.tree.node inode))
       (ne_eqb inode (fresh 0) differ))
   left_part false fresh stack upper directory name inode differ =
-      kept_part part upper directory (node_without_entry name)
+      part-changed_node part upper directory (node_without_entry name)
       (keeps (node_without_entry name) (without_entry_keeps name)) inode

@@ -1,12 +1,12 @@
 -- What an inode keeps when its names or its parent change.
-use Rattle.std.proofs.Common.{◌≡◌, refl, sym, ap, ◌∙◌, ℕ, nat_eq, cond, List, [], Option, Some, None, is_some, ⊎_elim}
-use Rattle.std.proofs.lemmas.Bool.Decides.{eqb_tells}
+use Rattle.std.proofs.Common.{◌≡◌, refl, ap, ◌∙◌, ℕ, nat_eq, List, [], Option, Some, None, is_some}
 use Rattle.vt_spec.specs.Language.Changes.{changed_node, content_with_parent, node_with_parent, node_without_entries, node_without_entry, without_entry}
 use Rattle.vt_spec.specs.FileTree.{FileTree, attr_in, is_opaque_in, kind_in, opaque_of}
 use Rattle.vt_spec.specs.Rights.{is_directory}
 use Rattle.vt_spec.specs.Tree.{Content, Entries, Node, bytes_in, bytes_of, entries_of, is_directory_node, kind_of, node_with_entry, with_entries, with_entry}
 use Rattle.vt_spec.specs.Tree.Content.{Directory, Regular, Symlink, Whiteout}
 use Rattle.vt_layer_laws.specs.Layers.ChangesUpper.{IsCopyOf}
+use Rattle.vt_spec.proofs.NodeChanges.{kind_of-content_with_parent, part-changed_node}
 
 -- a change of an inode that keeps all but names and parent
 pub record KeepsButNames (change : Option (Node ℕ) → Option (Node ℕ)) : Type 0 where
@@ -122,12 +122,6 @@ without_entries_keeps = record {
 
 -- another parent
 module _ (parent : ℕ) where
-  parent_kind : (content : Content ℕ) → kind_of (content_with_parent parent content) ≡ kind_of content
-  parent_kind (Directory old entries opaque) = refl
-  parent_kind (Regular bytes) = refl
-  parent_kind (Symlink text) = refl
-  parent_kind Whiteout = refl
-
   parent_bytes : (content : Content ℕ) → bytes_of (content_with_parent parent content) ≡ bytes_of content
   parent_bytes (Directory old entries opaque) = refl
   parent_bytes (Regular bytes) = refl
@@ -144,9 +138,9 @@ module _ (parent : ℕ) where
   parent_keeps = record {
     there = λ o. elim o as (λ o. is_some (node_with_parent parent o) ≡ is_some o) [ None ↦ refl | Some node ↦ refl ];
     kind = λ o. elim o as (λ o. kind_in (node_with_parent parent o)
-        ≡ kind_in o) [ None ↦ refl | Some node ↦ parent_kind node.content ];
+        ≡ kind_in o) [ None ↦ refl | Some node ↦ (kind_of-content_with_parent parent) node.content ];
     directory = λ o. elim o as (λ o. is_directory_node (node_with_parent parent o)
-        ≡ is_directory_node o) [ None ↦ refl | Some node ↦ ap is_directory (parent_kind node.content) ];
+        ≡ is_directory_node o) [ None ↦ refl | Some node ↦ ap is_directory (kind_of-content_with_parent parent node.content) ];
     attr = λ o. elim o as (λ o. attr_in (node_with_parent parent o) ≡ attr_in o) [ None ↦ refl | Some node ↦ refl ];
     bytes = λ o. elim o as (λ o. bytes_in (node_with_parent parent o)
         ≡ bytes_in o) [ None ↦ refl | Some node ↦ parent_bytes node.content ];
@@ -154,24 +148,13 @@ module _ (parent : ℕ) where
         ≡ is_opaque_in o) [ None ↦ refl | Some node ↦ parent_mark node.content ];
   }
 
--- what a change of one inode keeps of it is kept of every inode
-pub kept_part : {A : Type 0} (part : Option (Node ℕ) → A) (files : FileTree ℕ) (number : ℕ)
-    (change : Option (Node ℕ) → Option (Node ℕ)) → ((inode : Option (Node ℕ)) → part (change inode) ≡ part inode)
-    → (inode : ℕ) → part ((changed_node nat_eq files number change).tree.node inode) ≡ part (files.tree.node inode)
-kept_part part files number change keeps inode =
-    ⊎_elim
-    (λ t. ap (λ b. part (cond b (change (files.tree.node number)) (files.tree.node inode))) t.0
-    ∙ keeps (files.tree.node number) ∙ ap (λ n. part (files.tree.node n)) (sym t.1))
-    (λ t. ap (λ b. part (cond b (change (files.tree.node number)) (files.tree.node inode))) t.0)
-    (eqb_tells inode number)
-
 pub kept_copy : (seen : Option (Node ℕ)) (files : FileTree ℕ) (number : ℕ) (change : Option (Node ℕ) → Option (Node ℕ))
     → KeepsButNames change → (inode : ℕ) → IsCopyOf seen (files.tree.node inode)
     → IsCopyOf seen ((changed_node nat_eq files number change).tree.node inode)
 kept_copy seen files number change keeps inode copy = record {
-  there = kept_part (λ o. is_some o) files number change keeps.there inode ∙ copy.there;
-  kind = kept_part kind_in files number change keeps.kind inode ∙ copy.kind;
-  attr = kept_part attr_in files number change keeps.attr inode ∙ copy.attr;
-  bytes = kept_part bytes_in files number change keeps.bytes inode ∙ copy.bytes;
-  mark = kept_part is_opaque_in files number change keeps.mark inode ∙ copy.mark;
+  there = part-changed_node (λ o. is_some o) files number change keeps.there inode ∙ copy.there;
+  kind = part-changed_node kind_in files number change keeps.kind inode ∙ copy.kind;
+  attr = part-changed_node attr_in files number change keeps.attr inode ∙ copy.attr;
+  bytes = part-changed_node bytes_in files number change keeps.bytes inode ∙ copy.bytes;
+  mark = part-changed_node is_opaque_in files number change keeps.mark inode ∙ copy.mark;
 }

@@ -13,10 +13,11 @@ use Rattle.vt_spec.specs.TreeLaws.{entry_at}
 use Rattle.vt_spec.proofs.Nodes.{node_set}
 use Rattle.vt_layer_laws.specs.Layers.ChangesUpper.{IsMadeAs, IsReachedDirectory}
 use Rattle.vt_layer_laws.proofs.CopyingEach.{IsNew}
-use Rattle.vt_layer_laws.proofs.CopyingNames.{emptied_part, freed_part, mark_entries, marked_entries, name_put, name_stays_put, name_stays_without, parent_entries}
-use Rattle.vt_layer_laws.proofs.CopyingParts.{kept_part, parent_keeps, without_entry_keeps}
+use Rattle.vt_layer_laws.proofs.CopyingNames.{emptied_part, freed_part, marked_entries, name_put, name_stays_put, name_stays_without}
+use Rattle.vt_layer_laws.proofs.CopyingParts.{parent_keeps, without_entry_keeps}
 use Rattle.vt_layer_laws.proofs.CopyingSound.{IsSound, State}
 use Rattle.vt_layer_laws.proofs.LowersKept.{kept_elsewhere}
+use Rattle.vt_spec.proofs.NodeChanges.{entries-node_with_mark, entries-node_with_parent, part-changed_node}
 
 -- a mark changes nothing else of what was made
 mark_kind : (content : Content ℕ) → kind_of (content_with_mark true content) ≡ kind_of content
@@ -37,7 +38,7 @@ mark_made node (Some inode) is = record {
   there = is.there;
   kind = mark_kind inode.content ∙ is.kind;
   attr = is.attr;
-  names = mark_entries true (Some inode) ∙ is.names;
+  names = entries-node_with_mark true (Some inode) ∙ is.names;
   bytes = mark_bytes inode.content ∙ is.bytes;
 }
 
@@ -55,7 +56,7 @@ made_with_parent node parent = record {
   there = refl;
   kind = (parent_keeps parent).kind (Some node);
   attr = refl;
-  names = parent_entries parent (Some node);
+  names = entries-node_with_parent parent (Some node);
   bytes = (parent_keeps parent).bytes (Some node);
 }
 
@@ -180,7 +181,7 @@ module _ (files : FileTree ℕ) (first : ℕ → Option (Real ℕ)) (fresh : Fre
 
     base_directory : is_directory_node (base.tree.node (upper_of there to)) ≡ true
     base_directory =
-        kept_part is_directory_node (without_parent nat_eq freed replaced) (upper_of there from)
+        part-changed_node is_directory_node (without_parent nat_eq freed replaced) (upper_of there from)
         (node_without_entry old) (without_entry_keeps old).directory (upper_of there to)
         ∙ freed_part is_directory_node (λ change keeps. keeps.directory) freed replaced (upper_of there to)
         ∙ emptied_part is_directory_node (λ change keeps. keeps.directory) upper (upper_directory_named there to name)
@@ -190,8 +191,8 @@ module _ (files : FileTree ℕ) (first : ℕ → Option (Real ℕ)) (fresh : Fre
     away_named : entry_at away.tree (upper_of there to) name ≡ Some (upper_of there object)
     away_named =
         ap (entry_named name)
-        (kept_part entries_in (with_name nat_eq base (upper_of there to) name (upper_of there object))
-        (upper_of there object) (node_with_parent (upper_of there to)) (parent_entries (upper_of there to))
+        (part-changed_node entries_in (with_name nat_eq base (upper_of there to) name (upper_of there object))
+        (upper_of there object) (node_with_parent (upper_of there to)) (entries-node_with_parent (upper_of there to))
         (upper_of there to))
         ∙ ap (λ o. entry_named name (entries_in o))
         (node_set base.tree (upper_of there to)

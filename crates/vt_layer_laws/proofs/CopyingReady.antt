@@ -1,5 +1,5 @@
 -- What a change of an overlay finds when what it asks to be copied is copied.
-use Rattle.std.proofs.Common.{◌≡◌, ◌⊎◌, inl, inr, refl, sym, ap, subst, ◌∙◌, true≢false, ℕ, zero, suc, nat_eq, eq-eqb, Bool, true, false, ◌||◌, List, [], ◌∷◌, ◌++◌, reverse, Option, Some, None, is_some, ⊎_elim, length}
+use Rattle.std.proofs.Common.{◌≡◌, inl, inr, refl, sym, ap, subst, ◌∙◌, true≢false, ℕ, zero, suc, nat_eq, eq-eqb, Bool, true, false, ◌||◌, List, [], ◌∷◌, ◌++◌, reverse, Option, Some, None, is_some, ⊎_elim, length}
 use Rattle.std.specs.List.{list_any}
 use Rattle.std.proofs.lemmas.List.Folds.{list_any-append}
 use mathlib.Core.List.{reverse-cons}
@@ -10,21 +10,11 @@ use Rattle.vt_spec.specs.Machine.World.{Real, upper_object}
 use Rattle.vt_spec.specs.TreeLaws.{entry_at}
 use Rattle.vt_layer_laws.specs.Layers.ChangesUpper.{IsFitToChange, StandsNow}
 use Rattle.vt_layer_laws.proofs.CopyingEach.{IsNew, line_copied}
+use Rattle.vt_spec.proofs.Worlds.{stands_still}
 use Rattle.vt_layer_laws.proofs.CopyingSound.{IsSound, Soundly, State}
 use Rattle.vt_layer_laws.proofs.UpperLine.{named_so}
 use Rattle.vt_layer_laws.proofs.UpperShown.{has_a_name}
-
-or_right : (a b : Bool) → b ≡ true → (a || b) ≡ true
-or_right true b e = refl
-or_right false b e = e
-
-or_left : (a b : Bool) → a ≡ true → (a || b) ≡ true
-or_left true b e = refl
-or_left false b e = absurd (true≢false (sym e))
-
-or_cases : (a b : Bool) → (a || b) ≡ true → (a ≡ true) ⊎ (b ≡ true)
-or_cases true b e = inl refl
-or_cases false b e = inr e
+use Rattle.std.proofs.lemmas.Bool.{or_cases, or_left, or_right}
 
 -- a directory is in the line to itself, and so in the line to what it has a name of
 pub in_its_line : (files : FileTree ℕ) (directory : ℕ)
@@ -130,22 +120,12 @@ module _ (fresh : Fresh ℕ) (before : Merge ℕ) (fit : IsFitToChange fresh bef
         };
         all = λ number among there.
             ⊎_elim
-            (λ t. stands_on ready.soundly.real copies.soundly.real copies.soundly.grows number
+            (λ t. stands_still ready.soundly.real copies.soundly.real copies.soundly.grows number
             (ready.all number t there))
             (λ t. copies.all number t there)
             (or_cases (list_any (nat_eq number) list) _
             (sym (list_any-append (nat_eq number) list (line_to nat_eq files object)) ∙ among));
       })
-    where
-      stands_on : (real grown : ℕ → Option (Real ℕ))
-          → ((number seen : ℕ) → upper_object (real number) ≡ Some seen → upper_object (grown number) ≡ Some seen)
-          → (number : ℕ) → is_some (upper_object (real number)) ≡ true → is_some (upper_object (grown number)) ≡ true
-      stands_on real grown grows number h = by (upper_object (real number)) refl h
-        where
-          by : (o : Option ℕ) → upper_object (real number) ≡ o → is_some o ≡ true
-              → is_some (upper_object (grown number)) ≡ true
-          by None e h = absurd (true≢false (sym h))
-          by (Some seen) e h = ap is_some (grows number seen e)
 
   -- what is asked stands now
   pub stands_now : (spare : ℕ → Type 0) (list : List ℕ) (merge : Merge ℕ) → IsReady spare list merge → (number : ℕ)

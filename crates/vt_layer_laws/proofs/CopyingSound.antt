@@ -9,18 +9,13 @@ use Rattle.vt_spec.specs.Machine.World.{Real, upper_object}
 use Rattle.vt_spec.specs.Machine.World.Real.{Upper}
 use Rattle.vt_spec.specs.Machine.Invariants.{number_at_path}
 use Rattle.vt_spec.specs.Rights.{is_directory}
-use Rattle.vt_spec.specs.Tree.{Content, Node, bytes_of, is_directory_node, kind_of, node_with_entry}
+use Rattle.vt_spec.specs.Tree.{Content, Node, bytes_of, is_directory_node, node_with_entry}
 use Rattle.vt_spec.specs.Tree.Content.{Directory, Regular, Symlink, Whiteout}
 use Rattle.vt_layer_laws.specs.Layers.ChangesUpper.{IsCopyOf}
-use Rattle.vt_layer_laws.proofs.CopyingParts.{entry_keeps, kept_copy, kept_part}
-use Rattle.vt_layer_laws.proofs.ShownAtPath.{none_is_some, some_is_one}
-
--- the content of a copy
-copy_kind : (parent : ℕ) (content : Content ℕ) → kind_of (copied_content parent content) ≡ kind_of content
-copy_kind parent (Directory old entries opaque) = refl
-copy_kind parent (Regular bytes) = refl
-copy_kind parent (Symlink text) = refl
-copy_kind parent Whiteout = refl
+use Rattle.vt_layer_laws.proofs.CopyingParts.{entry_keeps, kept_copy}
+use Rattle.std.proofs.lemmas.Option.{same_Some}
+use Rattle.vt_spec.proofs.NodeChanges.{kind_of-copied_content, part-changed_node}
+use Rattle.vt_spec.proofs.Options.{none_is_some}
 
 copy_bytes : (parent : ℕ) (content : Content ℕ) → bytes_of (copied_content parent content) ≡ bytes_of content
 copy_bytes parent (Directory old entries opaque) = refl
@@ -41,7 +36,7 @@ is_copy_of parent seen node e =
     subst (λ o. IsCopyOf o (Some (record { attr = node.attr; content = copied_content parent node.content }))) (sym e)
     (record {
       there = refl;
-      kind = copy_kind parent node.content;
+      kind = kind_of-copied_content parent node.content;
       attr = refl;
       bytes = copy_bytes parent node.content;
       mark = copy_mark parent node.content;
@@ -99,7 +94,7 @@ module _ (files : FileTree ℕ) (first : ℕ → Option (Real ℕ)) (spare : ℕ
         ⊎_elim
         (λ t. inl (
           t.1,
-          sym (some_is_one copy seen
+          sym (same_Some copy seen
               (ap (λ b. upper_object (cond b (Some (Upper copy)) (real number))) (sym t.0) ∙ e)),
         ))
         (λ t. inr (ap (λ b. upper_object (cond b (Some (Upper copy)) (real number))) (sym t.0) ∙ e))
@@ -110,7 +105,7 @@ module _ (files : FileTree ℕ) (first : ℕ → Option (Real ℕ)) (spare : ℕ
         ≡ is_directory_node (with_copy.tree.node inode)
     directory_named None inode = refl
     directory_named (Some name) inode =
-        kept_part is_directory_node with_copy (upper_of (State real upper) name.0) (node_with_entry name.1 copy)
+        part-changed_node is_directory_node with_copy (upper_of (State real upper) name.0) (node_with_entry name.1 copy)
         (entry_keeps name.1 copy).directory inode
 
     copy_named_so : (seen : Option (Node ℕ)) (named : Option (ℕ × List ℕ)) (inode : ℕ)
@@ -147,7 +142,7 @@ module _ (files : FileTree ℕ) (first : ℕ → Option (Real ℕ)) (spare : ℕ
           ⊎_elim
           (λ t. directory_named (a_name nat_eq files object) seen
           ∙ ap (λ n. is_directory_node (with_copy.tree.node n)) t.1 ∙ ap is_directory_node at_copy
-          ∙ ap is_directory (copy_kind (copy_parent (State real upper) copy (a_name nat_eq files object)) node.content)
+          ∙ ap is_directory (kind_of-copied_content (copy_parent (State real upper) copy (a_name nat_eq files object)) node.content)
           ∙ sym (ap is_directory_node is_node) ∙ ap (λ n. is_directory_node (files.tree.node n)) (sym t.0))
           (λ t. directory_named (a_name nat_eq files object) seen
           ∙ ap is_directory_node (at_other seen (other_object number seen t)) ∙ sound.kinds path number seen way t)

@@ -15,22 +15,13 @@ use Rattle.vt_layer_laws.specs.Layers.NewOverlays.{ChangedStayApart, LowersStayA
 use Rattle.vt_layer_laws.proofs.DirectoriesLater.{IsOld, any_found, later, new, overlaps_same, plain_is_old}
 use Rattle.vt_layer_laws.proofs.DirectoriesOrder.{Pairwise, among_filtered, from_append, from_flat_map, pairwise_append}
 use Rattle.vt_layer_laws.proofs.ShownObjects.{Among, among_append_left, among_append_right, among_flat_map}
-use Rattle.vt_layer_laws.proofs.UpperLine.{and_first, and_second}
-
--- Tests of lists
-or_first : (a b : Bool) → (a || b) ≡ false → a ≡ false
-or_first true b e = e
-or_first false b e = refl
-
-or_second : (a b : Bool) → (a || b) ≡ false → b ≡ false
-or_second true b e = absurd (true≢false e)
-or_second false b e = e
+use Rattle.vt_spec.proofs.Truths.{and_true_left, and_true_right, or_false_left, or_false_right}
 
 module _ {A : Type 0} where
   none_passes : (test : A → Bool) (list : List A) → list_any test list ≡ false → (a : A) → Among list a → test a ≡ false
   none_passes test [] e a among = absurd among
-  none_passes test (first ∷ list) e a (inl same) = ap test (sym same) ∙ or_first (test first) _ e
-  none_passes test (first ∷ list) e a (inr among) = none_passes test list (or_second (test first) _ e) a among
+  none_passes test (first ∷ list) e a (inl same) = ap test (sym same) ∙ or_false_left (test first) _ e
+  none_passes test (first ∷ list) e a (inr among) = none_passes test list (or_false_right (test first) _ e) a among
 
   none_pass : (test : A → Bool) (list : List A) → ((a : A) → Among list a → test a ≡ false) → list_any test list ≡ false
   none_pass test [] h = refl
@@ -40,14 +31,14 @@ module _ {A : Type 0} where
   pub each_passes : (test : A → Bool) (list : List A) → list_all test list ≡ true → (a : A) → Among list a
       → test a ≡ true
   each_passes test [] e a among = absurd among
-  each_passes test (first ∷ list) e a (inl same) = ap test (sym same) ∙ and_first (test first) _ e
-  each_passes test (first ∷ list) e a (inr among) = each_passes test list (and_second (test first) _ e) a among
+  each_passes test (first ∷ list) e a (inl same) = ap test (sym same) ∙ and_true_left (test first) _ e
+  each_passes test (first ∷ list) e a (inr among) = each_passes test list (and_true_right (test first) _ e) a among
 
   pub no_pair : (test : A → A → Bool) (list : List A) → any_pair test list ≡ false
       → Pairwise (λ a b. test a b ≡ false) list
   no_pair test [] e = tt
   no_pair test (first ∷ list) e =
-      (none_passes (test first) list (or_first _ _ e), no_pair test list (or_second (list_any (test first) list) _ e))
+      (none_passes (test first) list (or_false_left _ _ e), no_pair test list (or_false_right (list_any (test first) list) _ e))
 
   pub from_no_pair : (test other : A → A → Bool) (list : List A) → Pairwise (λ a b. test a b ≡ false) list
       → ((a b : A) → Among list a → Among list b → other a b ≡ test a b) → any_pair other list ≡ false
@@ -74,10 +65,10 @@ module _ (world : World ℕ) where
       upper_in object_of None e = absurd (true≢false (sym e))
       upper_in object_of (Some upper) e =
           ap (λ n. nat_eq n layer.filesystem)
-          (eqb-true fs upper.filesystem (and_first _ _
-          (and_second (lies_in_layer nat_eq world upper.filesystem upper.directory layer) _ e)))
-          ∙ and_first (nat_eq upper.filesystem layer.filesystem) _
-          (and_first (lies_in_layer nat_eq world upper.filesystem upper.directory layer) _ e)
+          (eqb-true fs upper.filesystem (and_true_left _ _
+          (and_true_right (lies_in_layer nat_eq world upper.filesystem upper.directory layer) _ e)))
+          ∙ and_true_left (nat_eq upper.filesystem layer.filesystem) _
+          (and_true_left (lies_in_layer nat_eq world upper.filesystem upper.directory layer) _ e)
 
       counted : (merged : Filesystem ℕ) (o : Option (Overlay ℕ))
           → overlay_or false (λ ov. holds_of
@@ -89,7 +80,7 @@ module _ (world : World ℕ) where
       by : (b : Bool) → lies_in_layer nat_eq world fs object layer ≡ b
           → (b || list_any (counts_in_layer nat_eq world fs object layer) (overlays world)) ≡ true
           → nat_eq fs layer.filesystem ≡ true
-      by true l e = and_first (nat_eq fs layer.filesystem) _ l
+      by true l e = and_true_left (nat_eq fs layer.filesystem) _ l
       by false l e = let found = any_found (counts_in_layer nat_eq world fs object layer) (overlays world) e in
           counted found.0 found.0.overlay found.1
 
@@ -259,7 +250,7 @@ module _ (world : World ℕ) (conditions : IsWorld nat_eq world) (overlay : Over
   new_apart a b in_new in_live =
       apart_from world (live_layers world) a b
       (none_passes (overlaps_one_of nat_eq world (live_layers world)) (upper_and_work overlay)
-      (or_first _ _ not_in_use) a in_new) in_live
+      (or_false_left _ _ not_in_use) a in_new) in_live
 
   own_pairs : Pairwise (Apart world) (upper_and_work overlay)
   own_pairs = by overlay.upper overlay.work work_apart
@@ -272,7 +263,7 @@ module _ (world : World ℕ) (conditions : IsWorld nat_eq world) (overlay : Over
       by (Some up) None e = (λ b among. absurd among, tt)
       by (Some up) (Some work) e = (
         λ b among.
-            apart_from world (work ∷ []) up b (or_first _ _ e) among,
+            apart_from world (work ∷ []) up b (or_false_left _ _ e) among,
         (λ b among. absurd among, tt),
       )
 
@@ -313,7 +304,7 @@ module _ (world : World ℕ) (conditions : IsWorld nat_eq world) (overlay : Over
       both a b (inl old) (inr low) =
           apart_both world b a (apart_from world (live_upper_and_work world) b a
           (none_passes (overlaps_one_of nat_eq world (live_upper_and_work world)) overlay.lowers
-          (or_second (list_any (overlaps_one_of nat_eq world (live_layers world))
+          (or_false_right (list_any (overlaps_one_of nat_eq world (live_layers world))
           (upper_and_work overlay)) _ not_in_use) b low) old)
       both a b (inr own) (inl low) = new_apart a b own (live_lower b low)
       both a b (inr own) (inr low) =

@@ -7,23 +7,22 @@ use Rattle.vt_spec.specs.Machine.Invariants.{ListsNumbers}
 use Rattle.vt_spec.specs.Tree.{is_directory_node}
 use Rattle.vt_spec.specs.TreeLaws.{IsDirectory, IsTree, entry_at, led}
 use Rattle.vt_spec.proofs.Nodes.{directory_used}
-use Rattle.vt_layer_laws.proofs.ShownAtPath.{none_is_some, some_is_one}
 use Rattle.vt_layer_laws.proofs.UpperChain.{depth_below, up_at_root, up_from}
-use Rattle.vt_layer_laws.proofs.UpperLine.{ReachedIn, entry_to, has_entries, is_reached_in}
+use Rattle.vt_layer_laws.proofs.UpperLine.{ReachedIn, has_entries, is_reached_in}
+use Rattle.std.proofs.lemmas.Bool.{or_right}
+use Rattle.std.proofs.lemmas.Option.{same_Some}
+use Rattle.vt_spec.proofs.NodeChanges.{entry_to}
+use Rattle.vt_spec.proofs.Options.{none_is_some}
 
 passes_here : (test : ℕ → Bool) (list : List ℕ) (n : ℕ) → is_among nat_eq n list ≡ true → test n ≡ true
     → list_any test list ≡ true
 passes_here test [] n a t = absurd (true≢false (sym a))
 passes_here test (first ∷ list) n a t = by (nat_eq n first) refl a (λ later. passes_here test list n later t)
   where
-    right : (a b : Bool) → b ≡ true → (a || b) ≡ true
-    right true b e = refl
-    right false b e = e
-
     by : (b : Bool) → nat_eq n first ≡ b → (b || list_any (nat_eq n) list) ≡ true
         → (is_among nat_eq n list ≡ true → list_any test list ≡ true) → (test first || list_any test list) ≡ true
     by true e a rest = ap (λ b. b || list_any test list) (ap test (sym (eqb-true n first e)) ∙ t)
-    by false e a rest = right (test first) (list_any test list) (rest a)
+    by false e a rest = or_right (test first) (list_any test list) (rest a)
 
 module _ (files : FileTree ℕ) (tree : IsTree files.tree) (listed : ListsNumbers nat_eq files) where
   -- as many steps as lead there are enough
@@ -46,17 +45,13 @@ module _ (files : FileTree ℕ) (tree : IsTree files.tree) (listed : ListsNumber
       let here = enough reached.0 directory reached.1 (length files.numbers) (omega arith) in
       let there = enough (suc reached.0) below up (length files.numbers) (omega arith) in
       ap (list_any (nat_eq top)) (there ∙ up_from files tree reached.0 reached.0 below up)
-      ∙ right (nat_eq top below) _ (ap (list_any (nat_eq top)) (sym here) ∙ under)
-    where
-      right : (a b : Bool) → b ≡ true → (a || b) ≡ true
-      right true b e = refl
-      right false b e = e
+      ∙ or_right (nat_eq top below) _ (ap (list_any (nat_eq top)) (sym here) ∙ under)
 
   pub led_below : (top directory : ℕ) (path : List (List ℕ)) (object : ℕ)
       → is_directory_under nat_eq files top directory ≡ true → IsDirectory files.tree directory
       → led files.tree directory path ≡ Some object → is_under nat_eq files top object ≡ true
   led_below top directory [] object under d e =
-      subst (λ o. is_under nat_eq files top o ≡ true) (some_is_one directory object e)
+      subst (λ o. is_under nat_eq files top o ≡ true) (same_Some directory object e)
       (ap (λ b. cond b (is_directory_under nat_eq files top directory) (is_file_under nat_eq files top directory)) d
       ∙ under)
   led_below top directory (name ∷ rest) object under d e =
@@ -74,7 +69,7 @@ module _ (files : FileTree ℕ) (tree : IsTree files.tree) (listed : ListsNumber
 
       ends : (rest : List (List ℕ)) (next : ℕ) → is_directory_node (files.tree.node next) ≡ false
           → led files.tree next rest ≡ Some object → next ≡ object
-      ends [] next n e = some_is_one next object e
+      ends [] next n e = same_Some next object e
       ends (other ∷ rest) next n e = step (entry_at files.tree next other) refl e
         where
           step : (o : Option ℕ) → entry_at files.tree next other ≡ o

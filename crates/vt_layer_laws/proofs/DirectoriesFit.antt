@@ -21,15 +21,16 @@ use Rattle.vt_spec.proofs.Nodes.{same_name}
 use Rattle.vt_layer_laws.specs.Layers.Mounted.{AreLayers}
 use Rattle.vt_layer_laws.specs.Layers.NewOverlays.{NewOverlayHasOwnParents, NewOverlayIsFit, NewOverlayIsTree, NewOverlayListsNumbers}
 use Rattle.vt_layer_laws.proofs.DirectoriesMerged.{merged_is_tree, merged_lists_numbers, merged_own_parents}
-use Rattle.vt_layer_laws.proofs.ShownAtPath.{none_is_some, some_is_one}
 use Rattle.vt_layer_laws.proofs.ShownDirectories.{AreOpen}
 use Rattle.vt_layer_laws.proofs.ShownMerged.{entry_is_here, in_layer, inodes, node_of, objects}
 use Rattle.vt_layer_laws.proofs.ShownMounted.{are_open, bounded, is_open, odd_distinct, root_shown}
 use Rattle.vt_layer_laws.proofs.ShownNames.{last_name}
 use Rattle.vt_layer_laws.proofs.ShownObjects.{Among, from_filter_map, object_is}
 use Rattle.vt_layer_laws.proofs.ShownWhole.{is_of_object}
-use Rattle.vt_layer_laws.proofs.UpperLine.{and_first, and_second}
 use Rattle.vt_layer_laws.proofs.UpperWorld.{all_found}
+use Rattle.std.proofs.lemmas.Option.{same_Some}
+use Rattle.vt_spec.proofs.Options.{none_is_some}
+use Rattle.vt_spec.proofs.Truths.{and_true_left, and_true_right}
 
 -- The limits of one inode
 abbrev fit_name : List ℕ → Bool
@@ -48,22 +49,22 @@ fit_node node = no_larger node && list_all fit_name (names_in node) && fit_text 
 all_of_found : {A : Type 0} (p test : A → Bool) (list : List A) (a : A) → list_all p list ≡ true
     → find test list ≡ Some a → p a ≡ true
 all_of_found p test [] a all f = none_is_some a f
-all_of_found p test (first ∷ list) a all f = by (test first) f (all_of_found p test list a (and_second (p first) _ all))
+all_of_found p test (first ∷ list) a all f = by (test first) f (all_of_found p test list a (and_true_right (p first) _ all))
   where
     by : (b : Bool) → cond b (Some first) (find test list) ≡ Some a → (find test list ≡ Some a → p a ≡ true)
         → p a ≡ true
-    by true f rest = ap p (sym (some_is_one first a f)) ∙ and_first (p first) _ all
+    by true f rest = ap p (sym (same_Some first a f)) ∙ and_true_left (p first) _ all
     by false f rest = rest f
 
 all_of_among : (p : ℕ → Bool) (list : List ℕ) (number : ℕ) → list_all p list ≡ true
     → is_among nat_eq number list ≡ true → p number ≡ true
 all_of_among p [] number all a = absurd (true≢false (sym a))
 all_of_among p (first ∷ list) number all a =
-    by (nat_eq number first) refl a (all_of_among p list number (and_second (p first) _ all))
+    by (nat_eq number first) refl a (all_of_among p list number (and_true_right (p first) _ all))
   where
     by : (b : Bool) → nat_eq number first ≡ b → (b || list_any (nat_eq number) list) ≡ true
         → (is_among nat_eq number list ≡ true → p number ≡ true) → p number ≡ true
-    by true e a rest = ap p (eqb-true number first e) ∙ and_first (p first) _ all
+    by true e a rest = ap p (eqb-true number first e) ∙ and_true_left (p first) _ all
     by false e a rest = rest a
 
 all_pass : {A : Type 0} (p : A → Bool) (list : List A) → ((a : A) → Among list a → p a ≡ true) → list_all p list ≡ true
@@ -82,11 +83,11 @@ named_fits : (name : List ℕ) (entries : Entries ℕ) (n : ℕ) → list_all fi
     → entry_named name entries ≡ Some n → fit_name name ≡ true
 named_fits name [] n all e = none_is_some n e
 named_fits name (entry ∷ entries) n all e =
-    by (eq_by_cmp name_cmp name entry.0) refl e (named_fits name entries n (and_second (fit_name entry.0) _ all))
+    by (eq_by_cmp name_cmp name entry.0) refl e (named_fits name entries n (and_true_right (fit_name entry.0) _ all))
   where
     by : (b : Bool) → eq_by_cmp name_cmp name entry.0 ≡ b → cond b (Some entry.1) (entry_named name entries) ≡ Some n
         → (entry_named name entries ≡ Some n → fit_name name ≡ true) → fit_name name ≡ true
-    by true t e rest = ap fit_name (same_name name entry.0 t) ∙ and_first (fit_name entry.0) _ all
+    by true t e rest = ap fit_name (same_name name entry.0 t) ∙ and_true_left (fit_name entry.0) _ all
     by false t e rest = rest e
 
 module _ (layers : List (OpenLayer ℕ)) (are_open : AreOpen layers) (longest : ℕ)
@@ -112,8 +113,8 @@ module _ (layers : List (OpenLayer ℕ)) (are_open : AreOpen layers) (longest : 
       by layer fit None e = none_is_some object.seen.object e
       by layer fit (Some directory) e =
           named_fits name (entries_in (layer.tree.node directory)) object.seen.object
-          (and_second (no_larger (layer.tree.node directory)) _
-          (and_first (no_larger (layer.tree.node directory)
+          (and_true_right (no_larger (layer.tree.node directory)) _
+          (and_true_left (no_larger (layer.tree.node directory)
           && list_all fit_name (names_in (layer.tree.node directory))) _ (fit directory))) e
 
   merged_names_fit : (path : List (List ℕ))

@@ -10,20 +10,22 @@ use Rattle.vt_spec.specs.Lists.{Fresh, evens, holds_of, is_among, odds}
 use Rattle.vt_spec.specs.Machine.Locked.{counts_in_layer, is_object_of, is_real_upper, lies_in_layer, lies_or_counts_under, overlaps_one_of, overlays, overlay_or}
 use Rattle.vt_spec.specs.Machine.Merging.{Merged, real_object, real_of}
 use Rattle.vt_spec.specs.Machine.Outcome.Mounting.{inode_count, overlay_filesystem, with_new_filesystem}
-use Rattle.vt_spec.specs.Machine.World.{Filesystem, Layer, Overlay, Real, World, filesystem_numbered, is_overlay, no_filesystem, open_layer, shown_layers, upper_object}
+use Rattle.vt_spec.specs.Machine.World.{Filesystem, Layer, Overlay, Real, World, filesystem_numbered, is_overlay, no_filesystem, open_layer, shown_layers}
 use Rattle.vt_spec.specs.Machine.World.Real.{Below, Upper}
 use Rattle.vt_spec.specs.Machine.Invariants.{IsWorld, ListsNumbers, is_plain_layer}
 use Rattle.vt_spec.specs.Tree.{is_directory_node}
 use Rattle.vt_spec.specs.TreeLaws.{IsTree, led}
 use Rattle.vt_layer_laws.specs.Layers.Mounted.{AreLayers}
 use Rattle.vt_layer_laws.proofs.DirectoriesBelow.{led_below}
-use Rattle.vt_layer_laws.proofs.ShownAtPath.{none_is_some, some_is_one}
 use Rattle.vt_layer_laws.proofs.ShownMerged.{InLayer, inodes}
 use Rattle.vt_layer_laws.proofs.ShownMounted.{are_open, bounded, odd_distinct}
 use Rattle.vt_layer_laws.proofs.ShownObjects.{Among}
 use Rattle.vt_layer_laws.proofs.ShownWhole.{has_real}
-use Rattle.vt_layer_laws.proofs.UpperLine.{and_first, and_second}
 use Rattle.vt_layer_laws.proofs.UpperWorld.{all_found}
+use Rattle.std.proofs.lemmas.Option.{same_Some}
+use Rattle.vt_spec.proofs.Options.{none_is_some}
+use Rattle.vt_spec.proofs.Truths.{and_true_left, and_true_right}
+use Rattle.vt_spec.proofs.Worlds.{upper_real}
 
 find_skips : (test : Filesystem ℕ → Bool) (list : List (Filesystem ℕ)) (last : Filesystem ℕ) → test last ≡ false
     → find test (list ++ last ∷ []) ≡ find test list
@@ -84,7 +86,7 @@ module _ (world : World ℕ) (conditions : IsWorld nat_eq world) (overlay : Over
 
   is_there : (layer : Layer ℕ) → is_plain_layer nat_eq world layer ≡ true
       → is_directory_node ((filesystem_numbered nat_eq world layer.filesystem).files.tree.node layer.directory) ≡ true
-  is_there layer plain = and_second (not (is_overlay (filesystem_numbered nat_eq world layer.filesystem))) _ plain
+  is_there layer plain = and_true_right (not (is_overlay (filesystem_numbered nat_eq world layer.filesystem))) _ plain
 
   plain_found : (layer : Layer ℕ) → is_plain_layer nat_eq world layer ≡ true
       → find (λ f. nat_eq layer.filesystem f.number) world.filesystems
@@ -149,12 +151,6 @@ module _ (world : World ℕ) (conditions : IsWorld nat_eq world) (overlay : Over
         (odd_distinct world conditions overlay are_layers fresh distinct) (is_some overlay.upper));
   }
 
-  is_upper_real : (o : Option (Real ℕ)) (object : ℕ) → holds_of (nat_eq object) (upper_object o) ≡ true
-      → o ≡ Some (Upper object)
-  is_upper_real None object e = absurd (true≢false (sym e))
-  is_upper_real (Some (Upper other)) object e = ap (λ n. Some (Upper n)) (sym (eqb-true object other e))
-  is_upper_real (Some (Below layer path)) object e = absurd (true≢false (sym e))
-
   upper_in : Real ℕ → Option ℕ
   upper_in (Upper o) = Some o
   upper_in (Below layer path) = None
@@ -184,23 +180,23 @@ module _ (world : World ℕ) (conditions : IsWorld nat_eq world) (overlay : Over
           let top : slice_get (map (open_layer nat_eq world) (shown_layers overlay)) 0
           ≡ Some (open_layer nat_eq world upper) =
           ap (λ o. slice_get (map (open_layer nat_eq world) (option_to_list o ++ overlay.lowers)) 0) is in
-          let same = some_is_one (open_layer nat_eq world upper) found.layer
+          let same = same_Some (open_layer nat_eq world upper) found.layer
           (sym top ∙ ap (slice_get (map (open_layer nat_eq world) (shown_layers overlay))) (sym lm)
           ∙ found.there) in (
             m.path,
             ap (λ layer. at_path layer m.path) same ∙ found.at
-                ∙ ap Some (sym (some_is_one object m.seen.object (ap upper_in r))),
+                ∙ ap Some (sym (same_Some object m.seen.object (ap upper_in r))),
           )
       by m found (suc l) lm r = none_is_some object (sym (ap upper_in r))
 
   new_counts : (fs object : ℕ) (layer : Layer ℕ) → IsOld layer
       → counts_in_layer nat_eq later fs object layer new ≡ true → lies_in_layer nat_eq world fs object layer ≡ true
   new_counts fs object layer old e =
-      by overlay.upper refl (and_first _ _ e) (and_first _ _ (and_second _ _ e)) (and_second _ _ (and_second _ _ e))
+      by overlay.upper refl (and_true_left _ _ e) (and_true_left _ _ (and_true_right _ _ e)) (and_true_right _ _ (and_true_right _ _ e))
     where
       up_plain : (upper : Layer ℕ) → overlay.upper ≡ Some upper → is_plain_layer nat_eq world upper ≡ true
       up_plain upper is =
-          and_first (is_plain_layer nat_eq world upper) _
+          and_true_left (is_plain_layer nat_eq world upper) _
           (ap (λ o. list_all (is_plain_layer nat_eq world) (option_to_list o ++ overlay.lowers)) (sym is)
           ∙ are_layers.1)
 
@@ -213,7 +209,7 @@ module _ (world : World ℕ) (conditions : IsWorld nat_eq world) (overlay : Over
       by (Some upper) is lies one any =
           let plain = up_plain upper is in
           let found = any_found (is_real_upper nat_eq made object) new.files.numbers any in
-          let leads = upper_led upper is found.0 object (is_upper_real (made.real found.0) object found.1) in
+          let leads = upper_led upper is found.0 object (upper_real (made.real found.0) object found.1) in
           let filesystem = filesystem_numbered nat_eq world upper.filesystem in
           let tree = all_found (λ f. IsTree f.files.tree)
           (λ f. nat_eq upper.filesystem f.number) world.filesystems conditions.files.trees filesystem
@@ -222,14 +218,14 @@ module _ (world : World ℕ) (conditions : IsWorld nat_eq world) (overlay : Over
           (λ f. nat_eq upper.filesystem f.number) world.filesystems conditions.files.numbers filesystem
           (plain_found upper plain) in
           let before = sym (lies_same upper.filesystem upper.directory layer old) ∙ lies in
-          let under = and_second (nat_eq upper.filesystem layer.filesystem) _ before in
+          let under = and_true_right (nat_eq upper.filesystem layer.filesystem) _ before in
           let directory = is_there upper plain in
           let directory_under = sym (ap (λ b.
           cond b (is_directory_under nat_eq filesystem.files layer.directory upper.directory)
           (is_file_under nat_eq filesystem.files layer.directory upper.directory)) directory) ∙ under in
           ap (λ n. lies_in_layer nat_eq world n object layer) (eqb-true fs upper.filesystem one)
           ∙ ap (λ b. b && is_under nat_eq filesystem.files layer.directory object)
-          (and_first (nat_eq upper.filesystem layer.filesystem) _ before)
+          (and_true_left (nat_eq upper.filesystem layer.filesystem) _ before)
           ∙ led_below filesystem.files tree listed layer.directory upper.directory leads.0 object directory_under directory leads.1
 
   overlays_later : overlays later ≡ overlays world ++ new ∷ []

@@ -8,11 +8,10 @@ use Rattle.vt_spec.specs.Lists.{Fresh, each_once, front_of, is_among, last_or, p
 use Rattle.vt_spec.specs.Machine.Merging.{Merged, MergedInode, entry_below, inode_of, is_one_inode, merged_content, number_at, same_path, tree_of}
 use Rattle.vt_spec.specs.Machine.Invariants.{ListsNumbers}
 use Rattle.vt_spec.specs.Rights.{is_directory}
-use Rattle.vt_spec.specs.Tree.{Content, Node, Tree, entries_in, entries_of, entry_named, is_directory_node, kind_of, name_cmp, parent_in, parent_of}
+use Rattle.vt_spec.specs.Tree.{Content, Tree, entries_in, entries_of, entry_named, is_directory_node, kind_of, name_cmp, parent_in, parent_of}
 use Rattle.vt_spec.specs.Tree.Content.{Directory, Regular, Symlink, Whiteout}
 use Rattle.vt_spec.specs.TreeLaws.{HasName, HasOwnParents, IsDirectory, IsTree, entry_at, led}
 use Rattle.vt_layer_laws.proofs.DirectoriesOrder.{entries_in_order}
-use Rattle.vt_layer_laws.proofs.ShownAtPath.{none_is_some, some_is_one}
 use Rattle.vt_layer_laws.proofs.ShownDirectories.{AreOpen, last_of, longer_is_not_empty, shown_in_directory}
 use Rattle.vt_layer_laws.proofs.ShownMerged.{InLayer, LeadsTo, entry_leads, in_layer, inodes, layer_node_of, number, objects, one_number}
 use Rattle.vt_layer_laws.proofs.ShownNames.{last_name}
@@ -22,6 +21,10 @@ use Rattle.vt_layer_laws.proofs.ShownTree.{Arrives, arrives, directory_above, in
 use Rattle.vt_layer_laws.proofs.ShownWhole.{is_of_object}
 use Rattle.vt_layer_laws.proofs.UpperLine.{has_entries}
 use Rattle.vt_layer_laws.proofs.UpperShown.{front_of_longer}
+use Rattle.std.proofs.lemmas.Option.{same_Some}
+use Rattle.vt_spec.proofs.NodeChanges.{entries_in-no_directory}
+use Rattle.vt_spec.proofs.Options.{none_is_some}
+use Rattle.vt_spec.proofs.Truths.{same_truth}
 
 -- tests that agree on a list find one place
 same_place : {A : Type 0} (test other : A → Bool) (k : ℕ) (list : List A) → ((a : A) → Among list a → test a ≡ other a)
@@ -30,21 +33,6 @@ same_place test other k [] same = refl
 same_place test other k (first ∷ list) same =
     ap (λ b. cond b (Some k) (place_from test (k + 1) list)) (same first (inl refl))
     ∙ ap (cond (other first) (Some k)) (same_place test other (k + 1) list (λ a among. same a (inr among)))
-
-both_ways : (a b : Bool) → (a ≡ true → b ≡ true) → (b ≡ true → a ≡ true) → a ≡ b
-both_ways true b f g = sym (f refl)
-both_ways false true f g = g refl
-both_ways false false f g = refl
-
-no_directory_no_entries : (node : Option (Node ℕ)) → is_directory_node node ≡ false → entries_in node ≡ []
-no_directory_no_entries None d = refl
-no_directory_no_entries (Some node) d = by node.content d
-  where
-    by : (content : Content ℕ) → is_directory (kind_of content) ≡ false → entries_of content ≡ []
-    by (Directory parent entries opaque) d = absurd (true≢false d)
-    by (Regular bytes) d = refl
-    by (Symlink text) d = refl
-    by Whiteout d = refl
 
 -- a list without repetitions has what the list has
 still_among : (number : ℕ) (list : List ℕ)
@@ -117,7 +105,7 @@ module _ (layers : List (OpenLayer ℕ)) (are_open : AreOpen layers) (longest : 
       → a.seen ≡ b.seen → (found : Lies a) → is_directory (kind_of found.node.content) ≡ true → a.path ≡ b.path
   one_place a b s t same found d =
       let other = in_layer layers are_open longest bounded fresh distinct has_upper b t in
-      let layer = some_is_one other.layer found.layer
+      let layer = same_Some other.layer found.layer
       (sym other.there ∙ ap (λ seen. slice_get layers seen.layer) (sym same) ∙ found.there) in
       one_path found.layer.tree
       (are_open a.seen.layer found.layer found.there).0 found.layer.directory a.path b.path a.seen.object
@@ -141,10 +129,10 @@ module _ (layers : List (OpenLayer ℕ)) (are_open : AreOpen layers) (longest : 
     where
       agree : (other : Merged ℕ) → shown layers other.path ≡ Some other.seen
           → same_path path other.path ≡ is_one_inode nat_eq has_upper (at path seen) other
-      agree other t = both_ways _ _
+      agree other t = same_truth _ _
           (λ e.
           let paths = path_same path other.path e in
-          let seens = some_is_one seen other.seen (sym s ∙ ap (shown layers) paths ∙ t) in
+          let seens = same_Some seen other.seen (sym s ∙ ap (shown layers) paths ∙ t) in
           let whole : at path seen ≡ other = λ i. record { path = paths i; seen = seens i } in
           ap (is_one_inode nat_eq has_upper (at path seen)) (sym whole) ∙ one_itself has_upper (at path seen))
           (λ e.
@@ -218,7 +206,7 @@ module _ (layers : List (OpenLayer ℕ)) (are_open : AreOpen layers) (longest : 
       → IsDirectory tree (num (at path seen))
   shown_directory path seen s found d =
       let inode = inode_at layers are_open longest bounded fresh distinct has_upper top is_top path seen s in
-      let node = some_is_one inode.node found.node
+      let node = same_Some inode.node found.node
       (sym inode.seen ∙ layer_node_of layers are_open longest bounded fresh distinct has_upper
       (at path seen) found) in
       ap is_directory_node inode.is ∙ merged_kind inode.other.path inode.node.content
@@ -245,14 +233,14 @@ module _ (layers : List (OpenLayer ℕ)) (are_open : AreOpen layers) (longest : 
           → IsEntry directory name n
       by above None s leads e = none_is_some n (sym leads ∙ e)
       by above (Some seen) s leads e =
-          record { above = above; seen = seen; is_shown = s; numbered = some_is_one n _ (sym e ∙ leads) }
+          record { above = above; seen = seen; is_shown = s; numbered = same_Some n _ (sym e ∙ leads) }
 
   -- The root
   root_found : (found : Lies (at [] top)) → is_directory (kind_of found.node.content) ≡ true
   root_found found =
       ap is_directory_node (sym found.is)
       ∙ ap (λ o. is_directory_node (found.layer.tree.node o))
-      (sym (some_is_one found.layer.directory top.object found.at))
+      (sym (same_Some found.layer.directory top.object found.at))
       ∙ (are_open top.layer found.layer found.there).1
 
   root_lies : Lies (at [] top)
@@ -295,7 +283,7 @@ module _ (layers : List (OpenLayer ℕ)) (are_open : AreOpen layers) (longest : 
       named front name (Some d) e = (d, name, e)
 
       by : (path : List (List ℕ)) → led tree (fresh 0) path ≡ Some n → (n ≡ fresh 0) ⊎ HasName tree n
-      by [] e = inl (sym (some_is_one (fresh 0) n e))
+      by [] e = inl (sym (same_Some (fresh 0) n e))
       by (first ∷ rest) e =
           let last = last_of (first ∷ rest) (not_empty first rest) in
           inr (named last.0 last.1 (led tree (fresh 0) last.0)
@@ -313,7 +301,7 @@ module _ (layers : List (OpenLayer ℕ)) (are_open : AreOpen layers) (longest : 
           let over : Shown ℕ = record { layer = 0 + shows.place; object = shows.object } in
           let inode = inode_at layers are_open longest bounded fresh distinct has_upper top is_top front over shows.is in
           let found = in_layer layers are_open longest bounded fresh distinct has_upper (at front over) shows.is in
-          let node = some_is_one inode.node found.node
+          let node = same_Some inode.node found.node
           (sym inode.seen ∙ layer_node_of layers are_open longest bounded fresh distinct has_upper
           (at front over) found) in
           let d = ap (λ m. is_directory (kind_of m.content)) (sym node)
@@ -376,7 +364,7 @@ module _ (layers : List (OpenLayer ℕ)) (are_open : AreOpen layers) (longest : 
           let own = of_directory directory d in
           ap (is_sorted name_cmp) own.entries
           ∙ entries_in_order layers are_open longest bounded fresh distinct has_upper own.path
-      ordered directory false d = ap (is_sorted name_cmp) (no_directory_no_entries (tree.node directory) d)
+      ordered directory false d = ap (is_sorted name_cmp) (entries_in-no_directory (tree.node directory) d)
 
       neither : (n : ℕ) → (n ≡ fresh 0) ⊎ HasName tree n → n ≢ fresh 0 → ¬ (HasName tree n)
           → entries_in (tree.node n) ≡ []

@@ -1,5 +1,5 @@
 -- The names of a merged directory stand in their order.
-use Rattle.std.proofs.Common.{◌≡◌, ◌≤◌, ◌⊎◌, inl, inr, ⊎_elim, refl, sym, ap, subst, ◌∙◌, ℕ, zero, suc, nat_eq, Bool, true, false, cond, ◌&&◌, T, List, [], ◌∷◌, ◌++◌, filter, flat_map, length, map, Option, Some, None}
+use Rattle.std.proofs.Common.{◌≡◌, ◌≤◌, ◌⊎◌, inl, inr, ⊎_elim, refl, sym, ap, subst, ◌∙◌, ℕ, zero, suc, nat_eq, Bool, true, false, cond, T, List, [], ◌∷◌, ◌++◌, filter, flat_map, length, map, Option, Some, None}
 use Rattle.std.specs.List.{cons_option, filter_map}
 use Rattle.std.specs.Cmp.{tied_itself}
 use Rattle.std.specs.Cmp.Lexicographic.{nat_list_cmp_total}
@@ -11,10 +11,14 @@ use Rattle.vt_spec.specs.Lists.{Fresh, folded}
 use Rattle.vt_spec.specs.Machine.Merging.{Merged, entry_below, merged_at, merged_objects}
 use Rattle.vt_spec.specs.Machine.Views.{Shown, View, names_at, names_shown, node_led, paths_from}
 use Rattle.vt_spec.specs.Tree.{Entries, entries_in, name_cmp, with_entry}
-use Rattle.vt_layer_laws.proofs.ShownAtPath.{none_is_some, some_is_one}
 use Rattle.vt_layer_laws.proofs.ShownDirectories.{AreOpen, append_assoc}
 use Rattle.vt_layer_laws.proofs.ShownMerged.{entry_is_here}
 use Rattle.vt_layer_laws.proofs.ShownObjects.{Among, from_filter_map}
+use Rattle.std.proofs.lemmas.List.{append-nil}
+use Rattle.std.proofs.lemmas.Option.{same_Some}
+use Rattle.vt_spec.proofs.Nodes.{passes}
+use Rattle.vt_spec.proofs.Options.{none_is_some}
+use Rattle.vt_spec.proofs.Truths.{T_and, T_and_left, T_and_right}
 
 module _ {A : Type 0} where
   -- each stands so to all that come after it
@@ -87,48 +91,32 @@ NameBelow a b = T (is_lt (name_cmp a b))
 not_below_itself : {P : Type 0} (name : List ℕ) → NameBelow name name → P
 not_below_itself name h = absurd (subst T (ap is_lt (tied_itself nat_list_cmp_total name)) h)
 
-both_true : (a b : Bool) → T a → T b → T (a && b)
-both_true true b p q = q
-both_true false b p q = absurd p
-
-first_true : (a b : Bool) → T (a && b) → T a
-first_true true b p = tt
-first_true false b p = absurd p
-
-second_true : (a b : Bool) → T (a && b) → T b
-second_true true b p = p
-second_true false b p = absurd p
-
-is_true : (b : Bool) → T b → b ≡ true
-is_true true t = refl
-is_true false t = absurd t
-
 module _ {X : Type 0} where
   all_below : (name : List ℕ) (entries : Entries X) → T (below_all name_cmp name entries) → (other : List ℕ)
       → Among (map (λ e. e.0) entries) other → NameBelow name other
   all_below name [] h other among = absurd among
-  all_below name (entry ∷ entries) h other (inl e) = subst (NameBelow name) e (first_true _ _ h)
+  all_below name (entry ∷ entries) h other (inl e) = subst (NameBelow name) e (T_and_left _ _ h)
   all_below name (entry ∷ entries) h other (inr among) =
-      all_below name entries (second_true (is_lt (name_cmp name entry.0)) _ h) other among
+      all_below name entries (T_and_right (is_lt (name_cmp name entry.0)) _ h) other among
 
   pub names_rise : (entries : Entries X) → T (is_sorted name_cmp entries) → Pairwise NameBelow (map (λ e. e.0) entries)
   names_rise [] h = tt
   names_rise (entry ∷ entries) h = (
-    all_below entry.0 entries (first_true _ _ h),
+    all_below entry.0 entries (T_and_left _ _ h),
     names_rise entries
-        (second_true (below_all name_cmp entry.0 entries) _ h),
+        (T_and_right (below_all name_cmp entry.0 entries) _ h),
   )
 
   below_each : (name : List ℕ) (entries : Entries X)
       → ((entry : List ℕ × X) → Among entries entry → NameBelow name entry.0) → T (below_all name_cmp name entries)
   below_each name [] h = tt
   below_each name (entry ∷ entries) h =
-      both_true _ _ (h entry (inl refl)) (below_each name entries (λ e a. h e (inr a)))
+      T_and _ _ (h entry (inl refl)) (below_each name entries (λ e a. h e (inr a)))
 
   pub rising_sorted : (entries : Entries X) → Pairwise (λ a b. NameBelow a.0 b.0) entries
       → T (is_sorted name_cmp entries)
   rising_sorted [] p = tt
-  rising_sorted (entry ∷ entries) p = both_true _ _ (below_each entry.0 entries p.0) (rising_sorted entries p.1)
+  rising_sorted (entry ∷ entries) p = T_and _ _ (below_each entry.0 entries p.0) (rising_sorted entries p.1)
 
 put_each : (entries : Entries ℕ) (names : Entries (Unit {0})) → T (is_sorted name_cmp names)
     → T (is_sorted name_cmp (folded (λ names entry. with_entry entry.0 tt names) names entries))
@@ -167,15 +155,11 @@ module _ (views : List (View ℕ)) where
   abbrev Under : List (List ℕ) → List (List ℕ) → Type 0
   Under base path = (rest : List (List ℕ)) × (base ++ rest ≡ path)
 
-  append_nil : (p : List (List ℕ)) → p ++ [] ≡ p
-  append_nil [] = refl
-  append_nil (name ∷ p) = ap (λ q. name ∷ q) (append_nil p)
-
   -- the paths from one on are under it
   paths_under : (depth : ℕ) (base path : List (List ℕ)) → Among (paths_from depth views base) path → Under base path
-  paths_under zero base path (inl e) = ([], append_nil base ∙ e)
+  paths_under zero base path (inl e) = ([], append-nil base ∙ e)
   paths_under zero base path (inr a) = absurd a
-  paths_under (suc depth) base path (inl e) = ([], append_nil base ∙ e)
+  paths_under (suc depth) base path (inl e) = ([], append-nil base ∙ e)
   paths_under (suc depth) base path (inr a) =
       let found = from_flat_map (λ name. paths_from depth views (base ++ name ∷ [])) (names_shown views base) path a in
       let under = paths_under depth (base ++ found.0 ∷ []) path found.2 in
@@ -225,7 +209,7 @@ module _ (layers : List (OpenLayer ℕ)) (are_open : AreOpen layers) (longest : 
       → is_sorted name_cmp (filter_map (entry_below nat_eq fresh has_upper (merged_objects layers longest) path)
       (merged_objects layers longest)) ≡ true
   entries_in_order path =
-      is_true _ (rising_sorted (filter_map (entry_below nat_eq fresh has_upper (merged_objects layers longest) path)
+      passes _ (rising_sorted (filter_map (entry_below nat_eq fresh has_upper (merged_objects layers longest) path)
       (merged_objects layers longest))
       (pairwise_filter_map (λ a b. PathBelow a.path b.path) (λ a b. NameBelow a.0 b.0)
       (entry_below nat_eq fresh has_upper (merged_objects layers longest) path)
@@ -247,4 +231,4 @@ module _ (layers : List (OpenLayer ℕ)) (are_open : AreOpen layers) (longest : 
           by : (o : Option (Shown ℕ)) → option_map (λ seen. record { path = path; seen = seen }) o ≡ Some object
               → path ≡ object.path
           by None e = none_is_some object e
-          by (Some seen) e = ap (λ m. m.path) (some_is_one (record { path = path; seen = seen }) object e)
+          by (Some seen) e = ap (λ m. m.path) (same_Some (record { path = path; seen = seen }) object e)

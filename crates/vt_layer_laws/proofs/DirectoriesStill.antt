@@ -13,14 +13,15 @@ use Rattle.vt_layer_laws.specs.Layers.Mounted.{AreLayers}
 use Rattle.vt_layer_laws.specs.Layers.NewOverlays.{OverlaysStillMerge}
 use Rattle.vt_layer_laws.proofs.DirectoriesApart.{each_passes}
 use Rattle.vt_layer_laws.proofs.DirectoriesLater.{IsOld, later, not_found, plain_is_old, same_filesystem}
-use Rattle.vt_layer_laws.proofs.ShownAtPath.{none_is_some, some_is_one}
 use Rattle.vt_layer_laws.proofs.ShownMounted.{made, made_merged}
 use Rattle.vt_layer_laws.proofs.ShownObjects.{Among, among_append_left, among_append_right}
 use Rattle.vt_layer_laws.proofs.UpperWorld.{overlay_layers}
+use Rattle.std.proofs.lemmas.Option.{same_Some}
+use Rattle.vt_spec.proofs.Options.{none_is_some}
 
-among_slice : (list : List (Layer ℕ)) (k : ℕ) (layer : Layer ℕ) → slice_get list k ≡ Some layer → Among list layer
+pub among_slice : (list : List (Layer ℕ)) (k : ℕ) (layer : Layer ℕ) → slice_get list k ≡ Some layer → Among list layer
 among_slice [] k layer e = none_is_some layer e
-among_slice (first ∷ list) zero layer e = inl (some_is_one first layer e)
+among_slice (first ∷ list) zero layer e = inl (same_Some first layer e)
 among_slice (first ∷ list) (suc k) layer e = inr (among_slice list k layer e)
 
 pub find_new : (test : Filesystem ℕ → Bool) (list : List (Filesystem ℕ)) (last : Filesystem ℕ) → find test list ≡ None
@@ -153,7 +154,7 @@ module _ (world : World ℕ) (conditions : IsWorld nat_eq world) (overlay : Over
           ∙ unused)) t) in
           subst (λ f. IsMerged nat_eq after f some_overlay) (sym same)
           (subst (IsMerged nat_eq after (overlay_filesystem nat_eq fresh world overlay))
-          (some_is_one (made world conditions overlay are_layers fresh distinct) some_overlay
+          (same_Some (made world conditions overlay are_layers fresh distinct) some_overlay
           (sym (ap (λ f. f.overlay) same) ∙ e))
           (still_merged (overlay_filesystem nat_eq fresh world overlay)
           (made world conditions overlay are_layers fresh distinct) (old_layers overlay are_layers)

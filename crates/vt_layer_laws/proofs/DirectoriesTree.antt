@@ -3,52 +3,34 @@ use Rattle.std.proofs.Common.{◌≡◌, ◌≢◌, refl, sym, ap, subst, ◌∙
 use Rattle.std.specs.List.{All}
 use Rattle.std.specs.Prelude.{option_map, nat_eq}
 use Rattle.std.proofs.lemmas.List.Elements.{All-cons, All-head, All-nil, All-tail}
-use Rattle.std.proofs.lemmas.Option.{slice_get-map}
+use Rattle.std.proofs.lemmas.Option.{slice_get-map, same_Some}
 use Rattle.vt_spec.specs.FileTree.{opaque_of}
 use Rattle.vt_spec.specs.Machine.Layers.{OpenLayer, view_of}
 use Rattle.vt_spec.specs.Lists.{then_some, when}
 use Rattle.vt_spec.specs.Machine.Merging.{layer_node, real_object}
 use Rattle.vt_spec.specs.Machine.Views.{Shown, View, hides, node_led, shown, shown_over}
 use Rattle.vt_spec.specs.Machine.World.{open_layer, shown_layers}
-use Rattle.vt_spec.specs.Machine.Invariants.{SameObject, same_content}
+use Rattle.vt_spec.specs.Machine.Invariants.{SameObject}
 use Rattle.vt_spec.specs.Rights.{is_directory}
-use Rattle.vt_spec.specs.Tree.{Content, Node, Tree, is_directory_node, kind_of}
-use Rattle.vt_spec.specs.Tree.Content.{Directory, Regular, Symlink, Whiteout}
+use Rattle.vt_spec.specs.Tree.{Node, Tree, is_directory_node}
 use Rattle.vt_spec.specs.TreeLaws.{IsDirectory, entry_at, led}
 use Rattle.vt_layer_laws.specs.Layers.Directories.{AreViews, PlacedView, merged_under, placed, placed_from, shown_in, shown_node}
 use Rattle.vt_layer_laws.specs.Layers.DirectoryTrees.{IsMergedByDirectory, IsSaidByDirectory, ObjectsAreThoseShown, OneDirectoryIsEnough, OverlaysAreMergedByDirectory, RealObjectsAreThoseShown, node_shown_by, views_of_overlay}
 use Rattle.vt_layer_laws.proofs.DirectoriesUnder.{HasView, merged_are_views, placed_show_the_same, layers_are_views, shown_under_name}
-use Rattle.vt_layer_laws.proofs.ShownAtPath.{none_is_some, some_is_one}
-use Rattle.vt_layer_laws.proofs.ShownDirectories.{AreOpen, append_assoc, no_white_directory}
+use Rattle.vt_layer_laws.proofs.ShownDirectories.{AreOpen, append_assoc}
 use Rattle.vt_layer_laws.proofs.ShownMounted.{are_open}
 use Rattle.vt_layer_laws.proofs.ShownNames.{last_name}
 use Rattle.vt_layer_laws.proofs.ShownPaths.{not_empty}
 use Rattle.vt_layer_laws.proofs.UpperLine.{has_entries}
+use Rattle.vt_spec.proofs.NodeChanges.{directory_no_whiteout, same_content_kind}
+use Rattle.vt_spec.proofs.Options.{none_is_some}
 
 -- what is the same is a directory or is none
 same_directory : (a b : Option (Node ℕ)) → SameObject a b → is_directory_node a ≡ is_directory_node b
 same_directory None None same = refl
 same_directory None (Some b) same = absurd same
 same_directory (Some a) None same = absurd same
-same_directory (Some a) (Some b) same = by a.content b.content same.1
-  where
-    by : (a b : Content ℕ) → same_content a b ≡ true → is_directory (kind_of a) ≡ is_directory (kind_of b)
-    by (Directory p e o) (Directory q f m) s = refl
-    by (Directory p e o) (Regular y) s = absurd (true≢false (sym s))
-    by (Directory p e o) (Symlink y) s = absurd (true≢false (sym s))
-    by (Directory p e o) Whiteout s = absurd (true≢false (sym s))
-    by (Regular x) (Directory q f m) s = absurd (true≢false (sym s))
-    by (Regular x) (Regular y) s = refl
-    by (Regular x) (Symlink y) s = refl
-    by (Regular x) Whiteout s = refl
-    by (Symlink x) (Directory q f m) s = absurd (true≢false (sym s))
-    by (Symlink x) (Regular y) s = refl
-    by (Symlink x) (Symlink y) s = refl
-    by (Symlink x) Whiteout s = refl
-    by Whiteout (Directory q f m) s = absurd (true≢false (sym s))
-    by Whiteout (Regular y) s = refl
-    by Whiteout (Symlink y) s = refl
-    by Whiteout Whiteout s = refl
+same_directory (Some a) (Some b) same = same_content_kind a.content b.content same.1
 
 -- what is no directory has no names
 nothing_led : (tree : Tree ℕ) (from : ℕ) (name other : List ℕ) (rest : List (List ℕ))
@@ -128,7 +110,7 @@ module _ (views : List (View ℕ)) where
       hidden object true t (Some node) e h d =
           absurd (true≢false (sym (
           ap (λ w. is_directory_node (then_some (when (not w) (record { layer = top.layer; object = object }))
-          (shown_node views))) (no_white_directory (top.view.node object) t)
+          (shown_node views))) (directory_no_whiteout (top.view.node object) t)
           ∙ ap is_directory_node (All-head IsOfPlace top lower of object) ∙ t) ∙ d))
       hidden object false t (Some node) e h d =
           ap (λ b. cond b (own ∷ []) [] ++ cond (not b || opaque_of node.content) [] (merged_under lower name))
@@ -270,7 +252,7 @@ module _ (views : List (View ℕ)) where
           → said number ≡ option_map (of path) seen)
           (λ path number e. none_is_some number e)
           (λ front directory name l d number e. is_said.entries front directory name number l e)
-          (λ number e. ap said (sym (some_is_one tree.root number e)) ∙ is_said.root)
+          (λ number e. ap said (sym (same_Some tree.root number e)) ∙ is_said.root)
           path
 
 pub one_directory_is_enough : OneDirectoryIsEnough

@@ -10,10 +10,10 @@ use Rattle.vt_spec.specs.Rights.{is_directory}
 use Rattle.vt_spec.specs.Tree.{Node, Tree, is_directory_node, kind_of}
 use Rattle.vt_spec.specs.TreeLaws.{entry_at, led}
 use Rattle.vt_layer_laws.specs.Layers.Directories.{AreViews, DirectoriesAreMerged, IsView, LayersAreViews, MergedAreViews, PlacedShowTheSame, PlacedView, PlacesAreCountedBack, ShownUnderName, counted_back, directories_under, directory_over, merged_over, merged_under, placed_from, placed_view, shown_in, view_under}
-use Rattle.vt_layer_laws.proofs.ShownAtPath.{none_is_some}
 use Rattle.vt_layer_laws.proofs.ShownDirectories.{led_is_there}
 use Rattle.vt_layer_laws.proofs.ShownFronts.{front_found, list_any_of_map}
 use Rattle.vt_layer_laws.proofs.UpperLine.{has_entries}
+use Rattle.vt_spec.proofs.Options.{none_is_some}
 
 abbrev pub HasView : PlacedView ℕ → Type 0
 HasView top = IsView top.view

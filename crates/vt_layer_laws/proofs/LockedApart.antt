@@ -1,5 +1,5 @@
 -- Objects of an upper layer lie under no other layer of a live overlay.
-use Rattle.std.proofs.Common.{◌≡◌, ◌≢◌, refl, sym, ap, subst, ◌∙◌, true≢false, ℕ, nat_eq, eq-eqb, eqb-true, Bool, true, false, cond, not, ◌&&◌, ◌||◌, List, [], ◌∷◌, ◌++◌, Option, Some, None, is_some, unwrap_or, inl, inr, ◌⊎◌, ⊎_elim}
+use Rattle.std.proofs.Common.{◌≡◌, ◌≢◌, refl, sym, ap, subst, ◌∙◌, true≢false, ℕ, nat_eq, eq-eqb, eqb-true, Bool, true, false, cond, not, ◌&&◌, List, [], ◌∷◌, ◌++◌, Option, Some, None, is_some, unwrap_or, inl, inr, ◌⊎◌, ⊎_elim}
 use Rattle.std.specs.List.{find, list_any, list_all}
 use Rattle.std.specs.Prelude.{flat_map, option_to_list}
 use Rattle.vt_spec.specs.FileTree.{FileTree, is_under, named_parent}
@@ -9,32 +9,17 @@ use Rattle.vt_spec.specs.Machine.World.{Filesystem, Layer, Overlay, World, files
 use Rattle.vt_spec.specs.Machine.Invariants.{IsWorld, ListsNumbers, SameObject, is_plain_layer, is_there, live_lowers, overlap, real_node}
 use Rattle.vt_spec.specs.Tree.{Node, is_directory_node}
 use Rattle.vt_spec.proofs.Lists.{Among, among-append_right, among-filter, among-flat_map, among_from_list_all, among_numbers, any_among, any_from_among, none_among}
-use Rattle.vt_layer_laws.proofs.LowersKept.{first_fails, second_fails}
 use Rattle.vt_layer_laws.proofs.LowersWorld.{number_of_filesystem}
 use Rattle.vt_layer_laws.specs.Layers.Untouched.{inode_in}
 use Rattle.vt_layer_laws.specs.Layers.Upper.{IsUpperObject}
-use Rattle.vt_layer_laws.proofs.ShownAtPath.{none_is_some, some_is_one}
-use Rattle.vt_layer_laws.proofs.UpperLine.{and_first, and_second}
 use Rattle.vt_layer_laws.proofs.UpperWorld.{all_found, overlay_found, overlay_merges}
-
-or_cases : (a b : Bool) → (a || b) ≡ true → (a ≡ true) ⊎ (b ≡ true)
-or_cases true b e = inl refl
-or_cases false b e = inr e
-
-pub right_holds : (a b : Bool) → b ≡ true → (a || b) ≡ true
-right_holds true b e = refl
-right_holds false b e = e
-
-pub left_holds : (a b : Bool) → a ≡ true → (a || b) ≡ true
-left_holds true b e = refl
-left_holds false b e = absurd (true≢false (sym e))
-
-pub both_hold : (a b : Bool) → a ≡ true → b ≡ true → (a && b) ≡ true
-both_hold true b e f = f
-both_hold false b e f = e
+use Rattle.std.proofs.lemmas.Bool.{and_from, or_cases, or_left, or_right}
+use Rattle.std.proofs.lemmas.Option.{same_Some}
+use Rattle.vt_spec.proofs.Options.{none_is_some}
+use Rattle.vt_spec.proofs.Truths.{and_true_left, and_true_right, or_false_left, or_false_right}
 
 pub never_both : (a b : Bool) → (a && b) ≡ false → a ≡ true → b ≡ true → ⊥
-never_both a b e f g = true≢false (sym (both_hold a b f g) ∙ e)
+never_both a b e f g = true≢false (sym (and_from a b f g) ∙ e)
 
 -- a directory is under itself
 pub under_itself : (files : FileTree ℕ) (directory : ℕ) → is_directory_node (files.tree.node directory) ≡ true
@@ -47,11 +32,11 @@ under_itself files directory is =
   where
     started : (o : Option ℕ) (rest : ℕ → List ℕ)
         → is_among nat_eq directory (elim o [ None ↦ directory ∷ [] | Some b ↦ directory ∷ rest b ]) ≡ true
-    started None rest = left_holds (nat_eq directory directory) _ (eq-eqb directory directory refl)
-    started (Some b) rest = left_holds (nat_eq directory directory) _ (eq-eqb directory directory refl)
+    started None rest = or_left (nat_eq directory directory) _ (eq-eqb directory directory refl)
+    started (Some b) rest = or_left (nat_eq directory directory) _ (eq-eqb directory directory refl)
 
     first : (most : ℕ) → is_among nat_eq directory (chain most (named_parent nat_eq files.tree) directory) ≡ true
-    first Rattle.std.proofs.Common.zero = left_holds (nat_eq directory directory) _ (eq-eqb directory directory refl)
+    first Rattle.std.proofs.Common.zero = or_left (nat_eq directory directory) _ (eq-eqb directory directory refl)
     first (Rattle.std.proofs.Common.suc most) =
         started (named_parent nat_eq files.tree directory) (chain most (named_parent nat_eq files.tree))
 
@@ -62,7 +47,7 @@ found_among test (first ∷ list) a e = by (test first) e (found_among test list
   where
     by : (b : Bool) → cond b (Some first) (find test list) ≡ Some a → (find test list ≡ Some a → Among a list)
         → Among a (first ∷ list)
-    by true e rest = inl (sym (some_is_one first a e))
+    by true e rest = inl (sym (same_Some first a e))
     by false e rest = inr (rest e)
 
 -- of pairs of a list none of which passes
@@ -70,12 +55,12 @@ pair_append : {A : Type 0} (test : A → A → Bool) (xs bs : List A) → any_pa
     → (any_pair test bs ≡ false) × ((a b : A) → Among a xs → Among b bs → test a b ≡ false)
 pair_append test [] bs e = (e, λ a b m n. absurd m)
 pair_append test (x ∷ xs) bs e =
-    let rest = pair_append test xs bs (second_fails (list_any (test x) (xs ++ bs)) _ e) in (
+    let rest = pair_append test xs bs (or_false_right (list_any (test x) (xs ++ bs)) _ e) in (
       rest.0,
       λ a b m n.
           ⊎_elim
           (λ (same : a ≡ x). ap (λ y. test y b) same
-          ∙ none_among (test x) (xs ++ bs) (first_fails (list_any (test x) (xs ++ bs)) _ e) b
+          ∙ none_among (test x) (xs ++ bs) (or_false_left (list_any (test x) (xs ++ bs)) _ e) b
           (among-append_right xs bs b n))
           (λ later. rest.1 a b later n) m,
     )
@@ -109,7 +94,7 @@ lies_there world object filesystem layer e =
     (or_cases (lies_in_layer nat_eq world filesystem object layer) _ e)
   where
     in_it : (number inode : ℕ) → lies_in_layer nat_eq world number inode layer ≡ true → number ≡ layer.filesystem
-    in_it number inode lies = eqb-true number layer.filesystem (and_first (nat_eq number layer.filesystem) _ lies)
+    in_it number inode lies = eqb-true number layer.filesystem (and_true_left (nat_eq number layer.filesystem) _ lies)
 
     upper_by : (rest : Bool) (o : Option (Layer ℕ))
         → (holds_of (λ u. lies_in_layer nat_eq world u.filesystem u.directory layer) o
@@ -117,10 +102,10 @@ lies_there world object filesystem layer e =
     upper_by rest None h = absurd (true≢false (sym h))
     upper_by rest (Some upper) h =
         eqb-true filesystem upper.filesystem
-        (and_first (nat_eq filesystem upper.filesystem) rest
-        (and_second (lies_in_layer nat_eq world upper.filesystem upper.directory layer) _ h))
+        (and_true_left (nat_eq filesystem upper.filesystem) rest
+        (and_true_right (lies_in_layer nat_eq world upper.filesystem upper.directory layer) _ h))
         ∙ in_it upper.filesystem upper.directory
-        (and_first (lies_in_layer nat_eq world upper.filesystem upper.directory layer) _ h)
+        (and_true_left (lies_in_layer nat_eq world upper.filesystem upper.directory layer) _ h)
 
     by : (merged : Filesystem ℕ) (o : Option (Overlay ℕ))
         → overlay_or false (λ v. holds_of (λ u. lies_in_layer nat_eq world u.filesystem u.directory layer) v.upper
@@ -180,7 +165,7 @@ module _ (world : World ℕ) (conditions : IsWorld nat_eq world) where
       → (filesystem_numbered nat_eq world layer.filesystem).overlay ≡ None
   no_overlay_in layer plain =
       by (filesystem_numbered nat_eq world layer.filesystem).overlay
-      (and_first (not (is_overlay (filesystem_numbered nat_eq world layer.filesystem))) _ plain)
+      (and_true_left (not (is_overlay (filesystem_numbered nat_eq world layer.filesystem))) _ plain)
     where
       by : (o : Option (Overlay ℕ)) → not (is_some o) ≡ true → o ≡ None
       by None e = refl
@@ -219,7 +204,7 @@ module _ (world : World ℕ) (conditions : IsWorld nat_eq world) where
       -- an object of the upper layer counts under its directory
       is_of : is_object_of nat_eq upper.filesystem object (filesystem_numbered nat_eq world number) overlay ≡ true
       is_of =
-          both_hold _ _
+          and_from _ _
           (ap (holds_of (λ layer. nat_eq upper.filesystem layer.filesystem)) has
           ∙ eq-eqb upper.filesystem upper.filesystem refl)
           (any_from_among (is_real_upper nat_eq overlay object)
@@ -229,14 +214,14 @@ module _ (world : World ℕ) (conditions : IsWorld nat_eq world) where
 
       directory_lies : lies_in_layer nat_eq world upper.filesystem upper.directory upper ≡ true
       directory_lies =
-          both_hold _ _ (eq-eqb upper.filesystem upper.filesystem refl)
+          and_from _ _ (eq-eqb upper.filesystem upper.filesystem refl)
           (under_itself (filesystem_numbered nat_eq world upper.filesystem).files upper.directory
-          (and_second (not (is_overlay (filesystem_numbered nat_eq world upper.filesystem))) _
+          (and_true_right (not (is_overlay (filesystem_numbered nat_eq world upper.filesystem))) _
           (layer_plain number overlay is upper upper_in_layers)))
 
       pub object_counts : lies_or_counts_under nat_eq world upper.filesystem object upper ≡ true
       object_counts =
-          right_holds (lies_in_layer nat_eq world upper.filesystem object upper) _
+          or_right (lies_in_layer nat_eq world upper.filesystem object upper) _
           (any_from_among (counts_in_layer nat_eq world upper.filesystem object upper) (overlays world)
           (filesystem_numbered nat_eq world number)
           (merged_among number overlay is)
@@ -244,7 +229,7 @@ module _ (world : World ℕ) (conditions : IsWorld nat_eq world) where
           holds_of (λ u. lies_in_layer nat_eq world u.filesystem u.directory upper) v.upper
           && is_object_of nat_eq upper.filesystem object (filesystem_numbered nat_eq world number) v) o ≡ true)
           (sym is)
-          (both_hold _ _
+          (and_from _ _
           (ap (holds_of (λ u. lies_in_layer nat_eq world u.filesystem u.directory upper)) has ∙ directory_lies)
           is_of)))
 
@@ -303,4 +288,4 @@ module _ (world : World ℕ) (conditions : IsWorld nat_eq world) where
               && list_any (lies_or_counts_under nat_eq world n o) (b ∷ []))
               (filesystem_numbered nat_eq world n).files.numbers) same ∙ e)
               object object_listed)
-              f (left_holds _ false g)
+              f (or_left _ false g)

@@ -13,8 +13,9 @@ use Rattle.vt_layer_laws.specs.Layers.Upper.{IsUpperObject, SpeaksOfWhatIsThere}
 use Rattle.vt_layer_laws.proofs.LowersCalls.{Stays, same_filesystem, stays_itself}
 use Rattle.vt_layer_laws.proofs.LowersKept.{kept_same, others_stay}
 use Rattle.vt_layer_laws.proofs.LowersWorld.{changed_elsewhere, filesystem_there, number_of_filesystem}
-use Rattle.vt_layer_laws.proofs.ShownAtPath.{none_is_some, some_is_one}
 use Rattle.vt_layer_laws.proofs.UpperWorld.{change_keeps}
+use Rattle.std.proofs.lemmas.Option.{same_Some}
+use Rattle.vt_spec.proofs.Options.{none_is_some}
 
 -- a world with a change of the filesystem that has a number
 abbrev pub changed_in : Fresh ℕ → World ℕ → ℕ → Change ℕ → World ℕ
@@ -130,7 +131,7 @@ module _ (world : World ℕ) (fresh : Fresh ℕ) where
               → Stays world filesystem inode (changed_in supply world mounted change)
           layered overlay is None has =
               elsewhere away (λ other upper i h.
-              none_is_some upper (sym has ∙ ap (λ v. v.upper) (some_is_one overlay other (sym is ∙ i)) ∙ h))
+              none_is_some upper (sym has ∙ ap (λ v. v.upper) (same_Some overlay other (sym is ∙ i)) ∙ h))
           layered overlay is (Some upper) has =
               ⊎_elim
               (λ t.
@@ -140,7 +141,7 @@ module _ (world : World ℕ) (fresh : Fresh ℕ) where
               (λ t.
               elsewhere away (λ other on i h same.
               t.1 (same ∙ ap (λ l. l.filesystem)
-              (some_is_one on upper (sym h ∙ ap (λ v. v.upper) (some_is_one other overlay (sym i ∙ is)) ∙ has)))))
+              (same_Some on upper (sym h ∙ ap (λ v. v.upper) (same_Some other overlay (sym i ∙ is)) ∙ has)))))
               (eqb_tells filesystem upper.filesystem)
 
           by : (o : Option (Overlay ℕ)) → (filesystem_numbered nat_eq world mounted).overlay ≡ o

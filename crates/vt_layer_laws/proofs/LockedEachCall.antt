@@ -18,25 +18,18 @@ use Rattle.vt_spec.specs.Machine.Rightful.{node_allows}
 use Rattle.vt_spec.specs.Machine.Rows.{lacks, making}
 use Rattle.vt_spec.specs.Machine.Walk.{Place, directory_walk, file_walk, is_directory_there, is_special, symlink_walk, name_of, new_leaf_walk, new_walk, object_walk, old_leaf_walk, old_walk, walk_end}
 use Rattle.vt_spec.specs.Machine.World.{Descriptor, Overlay, Task, World, filesystem_at, mount_at, node_at}
-use Rattle.vt_spec.specs.Rights.{Credentials, cap_sys_admin}
+use Rattle.vt_spec.specs.Rights.{cap_sys_admin}
 use Rattle.vt_spec.specs.Tree.{Node, entries_in, entry_named}
 use Rattle.vt_spec.specs.TreeLaws.{entry_at}
 use Rattle.vt_tree_laws.proofs.TreesWalked.{Ends, IsOldPlace, after_ends, after_holds, ends_old_leaf_walk, place_named}
 use Rattle.vt_layer_laws.specs.Layers.Upper.{SpeaksOfWhatIsThere}
 use Rattle.vt_layer_laws.proofs.LockedChange.{IsNew, Leaves, leaves_change}
-use Rattle.vt_layer_laws.proofs.LowersCalls.{after_leads, both_fail, judged_leads, unlocked_differs}
-use Rattle.vt_layer_laws.proofs.LowersKept.{first_fails, second_fails}
+use Rattle.vt_layer_laws.proofs.LowersCalls.{after_leads, judged_leads, unlocked_differs}
 use Rattle.vt_layer_laws.proofs.LowersMounts.{same_filesystems_without, same_mounted_without}
-
-not_true : (b : Bool) → not b ≡ false → b ≡ true
-not_true true e = refl
-not_true false e = absurd (true≢false e)
-
--- who may do something to an inode may do it to one that is there
-allowed_there : (who : Credentials) (wanted : ℕ) (node : Option (Node ℕ)) → not (node_allows who wanted node) ≡ false
-    → is_some node ≡ true
-allowed_there who wanted None e = absurd (true≢false e)
-allowed_there who wanted (Some node) e = refl
+use Rattle.std.proofs.lemmas.Bool.{not-false, or_from}
+use Rattle.vt_spec.proofs.NodeChanges.{allowed_is_there}
+use Rattle.vt_spec.proofs.Truths.{or_false_left, or_false_right}
+use Rattle.vt_spec.proofs.Worlds.{filesystems-without_replaced, shown-without_replaced}
 
 -- an entry is the location of its object
 entry_is : (mount : ℕ) (o : Option ℕ) (at : Option (Location ℕ)) (parent : Location ℕ)
@@ -88,14 +81,14 @@ module _ (world : World ℕ) (fresh : Fresh ℕ) (task : Task ℕ) where
   new_left place node unlocked there =
       change_left (odds fresh) (λ inode new k. new (2 * k + 1)) place.parent (making place (evens fresh 0) node)
       (λ inode locked new.
-      both_fail (nat_eq inode (fresh 0)) _ (ne_eqb inode (fresh 0) (new 0))
-      (both_fail (nat_eq inode place.parent.node) false (differs place.parent unlocked inode locked) refl))
+      or_from (nat_eq inode (fresh 0)) _ (ne_eqb inode (fresh 0) (new 0))
+      (or_from (nat_eq inode place.parent.node) false (differs place.parent unlocked inode locked) refl))
       (λ overlay is. there)
 
   made_left : (place : Place ℕ) (node : Node ℕ) → Left (made_at nat_eq fresh world task place node).world
   made_left place node =
       judged_leads Left world same (new_rules nat_eq fresh world task place node) _
-      (λ passed. new_left place node passed.1.1.1.1.0 (allowed_there _ _ _ passed.1.1.1.1.1.0))
+      (λ passed. new_left place node passed.1.1.1.1.0 (allowed_is_there _ _ _ passed.1.1.1.1.1.0))
 
   pub mkdir_left : (path : List ℕ) (mode : Option ℕ) → Left (mkdir_outcome nat_eq fresh world task path mode).world
   unfolding mkdir_outcome
@@ -113,7 +106,7 @@ module _ (world : World ℕ) (fresh : Fresh ℕ) (task : Task ℕ) where
   whiteout_left path =
       after_leads Left world same (walk_end (new_leaf_walk nat_eq world task path)) _ (λ place.
       judged_leads Left world same (whiteout_rules nat_eq world task place) _ (λ passed.
-      new_left place _ passed.1.1.1.1.0 (allowed_there _ _ _ passed.1.1.1.1.1.0)))
+      new_left place _ passed.1.1.1.1.0 (allowed_is_there _ _ _ passed.1.1.1.1.1.0)))
 
   -- the object that gets a name is there
   pub link_left : (old name : List ℕ) → Ends (λ here. NodeThere here.location) (symlink_walk nat_eq world task old)
@@ -128,13 +121,13 @@ module _ (world : World ℕ) (fresh : Fresh ℕ) (task : Task ℕ) where
       (linking from.location place)) _ (λ passed.
       change_left fresh whole place.parent (linking from.location place)
       (λ inode locked new.
-      both_fail (nat_eq inode place.parent.node) false
-      (differs place.parent (second_fails
+      or_from (nat_eq inode place.parent.node) false
+      (differs place.parent (or_false_right
       (is_locked_at nat_eq world from.location) _ passed.1.1.1.1.0) inode locked) refl)
       (λ overlay is. (
-        allowed_there _ _ _ passed.1.1.1.1.1.1.0,
+        allowed_is_there _ _ _ passed.1.1.1.1.1.1.0,
         subst (λ m. NodeThere (record { mount = m; node = from.location.node }))
-            (eqb-true from.location.mount place.parent.mount (not_true _ passed.1.1.1.1.1.0)) there,
+            (eqb-true from.location.mount place.parent.mount (not-false _ passed.1.1.1.1.1.0)) there,
       ))))))
 
   written_left : (place : Place ℕ) (bytes : List ℕ) (there : Option (Location ℕ))
@@ -142,13 +135,13 @@ module _ (world : World ℕ) (fresh : Fresh ℕ) (task : Task ℕ) where
   written_left place bytes (Some file) =
       judged_leads Left world same (rewrite_rules nat_eq world task file bytes) _ (λ passed.
       change_left fresh whole file (SetBytes file.node bytes)
-      (λ inode locked new. both_fail (nat_eq inode file.node) false (differs file passed.1.1.1.1.1.0 inode locked) refl)
-      (λ overlay is. allowed_there _ _ _ passed.1.1.1.1.1.1.0))
+      (λ inode locked new. or_from (nat_eq inode file.node) false (differs file passed.1.1.1.1.1.0 inode locked) refl)
+      (λ overlay is. allowed_is_there _ _ _ passed.1.1.1.1.1.1.0))
   written_left place bytes None =
       judged_leads Left world same ((nat_lt largest_file (length bytes), E6) ∷ []) _ (λ size.
       judged_leads Left world same (make_rules nat_eq world task place
       (making place (evens fresh 0) (new_file task file_mode bytes))) _ (λ passed.
-      new_left place (new_file task file_mode bytes) passed.1.1.0 (allowed_there _ _ _ passed.1.1.1.0)))
+      new_left place (new_file task file_mode bytes) passed.1.1.0 (allowed_is_there _ _ _ passed.1.1.1.0)))
 
   pub write_left : (path bytes : List ℕ) → Left (write_outcome nat_eq fresh world task path bytes).world
   unfolding write_outcome
@@ -165,10 +158,10 @@ module _ (world : World ℕ) (fresh : Fresh ℕ) (task : Task ℕ) where
       judged_leads Left world same (unlink_rules nat_eq world task place (object_there place)) _ (λ passed.
       change_left fresh whole place.parent (removing place (object_there place))
       (λ inode locked new.
-      both_fail (nat_eq inode place.parent.node) false
-      (differs place.parent (second_fails
+      or_from (nat_eq inode place.parent.node) false
+      (differs place.parent (or_false_right
       (is_locked_at nat_eq world (object_there place)) _ passed.1.1.1.0) inode locked) refl)
-      (λ overlay is. allowed_there _ _ _ passed.1.1.1.1.0))))
+      (λ overlay is. allowed_is_there _ _ _ passed.1.1.1.1.0))))
 
   pub rmdir_left : (path : List ℕ) → Left (rmdir_outcome nat_eq fresh world task path).world
   unfolding rmdir_outcome
@@ -184,22 +177,11 @@ module _ (world : World ℕ) (fresh : Fresh ℕ) (task : Task ℕ) where
       (record {
         part = whole;
         unlocked = λ inode locked new.
-            both_fail (nat_eq inode place.parent.node) false
-            (differs place.parent (second_fails
+            or_from (nat_eq inode place.parent.node) false
+            (differs place.parent (or_false_right
             (is_locked_at nat_eq world (object_there place)) _ passed.1.1.1.1.0) inode locked) refl;
-        there = λ overlay is. allowed_there _ _ _ passed.1.1.1.1.1.1.0;
+        there = λ overlay is. allowed_is_there _ _ _ passed.1.1.1.1.1.1.0;
       }))))
-
-  same_filesystems_replaced : (object : Option (Location ℕ))
-      → (without_replaced nat_eq world object).filesystems ≡ world.filesystems
-  same_filesystems_replaced None = refl
-  same_filesystems_replaced (Some object) = same_filesystems_without world object
-
-  same_mounted_replaced : (object : Option (Location ℕ)) (location : Location ℕ)
-      → (mount_at nat_eq (without_replaced nat_eq world object) location).filesystem
-      ≡ (mount_at nat_eq world location).filesystem
-  same_mounted_replaced None location = refl
-  same_mounted_replaced (Some object) location = same_mounted_without world object location
 
   renamed_left : (one : Bool) (from to : Place ℕ) (old : Location ℕ)
       → entry_at (filesystem_at nat_eq world from.parent).files.tree from.parent.node (name_of from.last)
@@ -210,25 +192,25 @@ module _ (world : World ℕ) (fresh : Fresh ℕ) (task : Task ℕ) where
   renamed_left false from to old entry =
       judged_leads Left world same (rename_rules nat_eq world task from to old) _ (λ passed.
       let one_mount : from.parent.mount ≡ to.parent.mount =
-      eqb-true from.parent.mount to.parent.mount (not_true _ passed.1.1.1.1.1.1.1.1.0) in
+      eqb-true from.parent.mount to.parent.mount (not-false _ passed.1.1.1.1.1.1.1.1.0) in
       leaves_change world fresh fresh (without_replaced nat_eq world to.object) from.parent (moving from to old)
-      (same_filesystems_replaced to.object) (same_mounted_replaced to.object from.parent)
+      (filesystems-without_replaced world to.object) (shown-without_replaced world to.object from.parent)
       (record {
         part = whole;
         unlocked = λ inode locked new.
-            both_fail (nat_eq inode from.parent.node) _
-            (differs from.parent (first_fails
+            or_from (nat_eq inode from.parent.node) _
+            (differs from.parent (or_false_left
             (is_locked_at nat_eq world from.parent) _ passed.1.1.1.1.1.1.0) inode locked)
-            (both_fail (nat_eq inode to.parent.node) false
-            (differs to.parent (first_fails (is_locked_at nat_eq world to.parent) _
-            (second_fails (is_locked_at nat_eq world from.parent) _ passed.1.1.1.1.1.1.0)) inode
+            (or_from (nat_eq inode to.parent.node) false
+            (differs to.parent (or_false_left (is_locked_at nat_eq world to.parent) _
+            (or_false_right (is_locked_at nat_eq world from.parent) _ passed.1.1.1.1.1.1.0)) inode
             (subst (λ m. is_locked nat_eq world
             (mount_at nat_eq world (record { mount = m; node = from.parent.node })).filesystem inode
             ≡ true) one_mount locked)) refl);
         there = λ overlay is. (
           entry,
           subst (λ m. NodeThere (record { mount = m; node = to.parent.node })) (sym one_mount)
-              (allowed_there _ _ _ (second_fails
+              (allowed_is_there _ _ _ (or_false_right
               (not (node_allows task.credentials Rattle.vt_spec.specs.Rights.write_right
               (node_at nat_eq world from.parent))) _ passed.1.1.1.1.1.1.1.1.1.0)),
         );
@@ -255,7 +237,7 @@ module _ (world : World ℕ) (fresh : Fresh ℕ) (task : Task ℕ) where
   attr_left object allowed attr there =
       judged_leads Left world same (attr_rules nat_eq world object allowed attr) _ (λ passed.
       change_left fresh whole object (SetAttr object.node attr)
-      (λ inode locked new. both_fail (nat_eq inode object.node) false (differs object passed.1.1.0 inode locked) refl)
+      (λ inode locked new. or_from (nat_eq inode object.node) false (differs object passed.1.1.0 inode locked) refl)
       (λ overlay is. there))
 
   abbrev pub ObjectIsThere : List ℕ → Type 0
@@ -282,7 +264,7 @@ module _ (world : World ℕ) (fresh : Fresh ℕ) (task : Task ℕ) where
       after_leads Left world same (walk_end (directory_walk nat_eq world task path)) _ (λ here.
       judged_leads Left world same (opaque_rules nat_eq world here.location) _ (λ passed.
       change_left fresh whole here.location (SetMark here.location.node mark)
-      (λ inode locked new. both_fail (nat_eq inode here.location.node) false
+      (λ inode locked new. or_from (nat_eq inode here.location.node) false
       (differs here.location passed.1.1.0 inode locked) refl)
       (λ overlay is. absurd (true≢false (sym (ap is_some is) ∙ passed.1.1.1.0))))))
 
@@ -295,14 +277,14 @@ module _ (world : World ℕ) (fresh : Fresh ℕ) (task : Task ℕ) where
   open_file_left : (file : Location ℕ) (access : Access) → Left (open_file nat_eq fresh world task file access).world
   open_file_left file access =
       judged_leads Left world same (open_rules nat_eq world task file access) _ (λ passed.
-      copy_left (is_copied_up nat_eq world file access) file (allowed_there _ _ _ passed.1.1.1.1.1.0))
+      copy_left (is_copied_up nat_eq world file access) file (allowed_is_there _ _ _ passed.1.1.1.1.1.0))
 
   create_left : (place : Place ℕ) (access : Access) (mode : ℕ)
       → Left (create_file nat_eq fresh world task place access mode).world
   create_left place access mode =
       judged_leads Left world same (make_rules nat_eq world task place
       (making place (evens fresh 0) (new_file task mode []))) _ (λ passed.
-      new_left place (new_file task mode []) passed.1.1.0 (allowed_there _ _ _ passed.1.1.1.0))
+      new_left place (new_file task mode []) passed.1.1.0 (allowed_is_there _ _ _ passed.1.1.1.0))
 
   opened_or_created_left : (place : Place ℕ) (access : Access) (mode : ℕ) (there : Option (Location ℕ))
       → Left (opened_or_created nat_eq fresh world task place access mode there).world
@@ -334,7 +316,7 @@ module _ (world : World ℕ) (fresh : Fresh ℕ) (task : Task ℕ) where
   pwritten_left file offset [] unlocked there = same
   pwritten_left file offset (byte ∷ bytes) unlocked there =
       change_left fresh whole file _
-      (λ inode locked new. both_fail (nat_eq inode file.node) false (differs file unlocked inode locked) refl)
+      (λ inode locked new. or_from (nat_eq inode file.node) false (differs file unlocked inode locked) refl)
       (λ overlay is. there)
 
   pub pwrite_left : (number offset : ℕ) (bytes : List ℕ)

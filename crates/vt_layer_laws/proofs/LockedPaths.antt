@@ -18,9 +18,9 @@ use Rattle.vt_layer_laws.proofs.LockedApart.{layer_plain, under_itself}
 use Rattle.vt_layer_laws.proofs.LockedEveryCall.{lower_layers_stay_locked}
 use Rattle.vt_layer_laws.proofs.LowersKept.{kept_itself}
 use Rattle.vt_layer_laws.proofs.ShownDirectories.{led_is_there}
-use Rattle.vt_layer_laws.proofs.UpperLine.{and_second}
 use Rattle.vt_layer_laws.proofs.UpperWorld.{all_found}
 use Rattle.vt_layer_laws.proofs.ViewsStay.{led_where}
+use Rattle.vt_spec.proofs.Truths.{and_true_right}
 
 module _ (world : World ℕ) (conditions : IsWorld nat_eq world) (layer : Layer ℕ)
     (plain : is_plain_layer nat_eq world layer ≡ true) where
@@ -28,7 +28,7 @@ module _ (world : World ℕ) (conditions : IsWorld nat_eq world) (layer : Layer 
   filesystem = filesystem_numbered nat_eq world layer.filesystem
 
   top_directory : IsDirectory filesystem.files.tree layer.directory
-  top_directory = and_second (not (is_overlay filesystem)) _ plain
+  top_directory = and_true_right (not (is_overlay filesystem)) _ plain
 
   found : find (λ f. nat_eq layer.filesystem f.number) world.filesystems ≡ Some filesystem
   found = by (find (λ f. nat_eq layer.filesystem f.number) world.filesystems) refl top_directory

@@ -1,5 +1,5 @@
 -- Where a task's walk ends something is, and so where its descriptors are.
-use Rattle.std.proofs.Common.{◌≡◌, refl, sym, ap, subst, ◌∙◌, ℕ, zero, suc, nat_eq, Bool, true, false, cond, List, [], ◌∷◌, ◌+◌, ◌&&◌, map, reverse, Option, Some, None, is_some, Ok, Err, Result, ok_or, inl, inr}
+use Rattle.std.proofs.Common.{◌≡◌, refl, sym, ap, subst, ◌∙◌, ℕ, zero, suc, nat_eq, Bool, true, false, cond, List, [], ◌∷◌, ◌+◌, ◌&&◌, map, reverse, Option, Some, None, is_some, Ok, Err, Result, ok_or, inr}
 use Rattle.std.specs.List.{find}
 use Rattle.std.specs.Prelude.{option_to_list}
 use Rattle.vt_spec.specs.Errors.{denial}
@@ -19,17 +19,8 @@ use Rattle.vt_spec.proofs.Lists.{Among, among-flat_map, among-map, among_from_li
 use Rattle.vt_spec.proofs.Nodes.{directory_used}
 use Rattle.vt_tree_laws.proofs.TreesWalked.{Ends, ends_next, ends_then, ends_unless, ok_same}
 use Rattle.vt_layer_laws.proofs.LockedSteps.{word_there}
-use Rattle.vt_layer_laws.proofs.ShownAtPath.{none_is_some, some_is_one}
-use Rattle.vt_layer_laws.proofs.UpperLine.{and_first, and_second}
-
-found_among : {A : Type 0} (test : A → Bool) (list : List A) (a : A) → find test list ≡ Some a → Among a list
-found_among test [] a e = none_is_some a e
-found_among test (first ∷ list) a e = by (test first) e (found_among test list a)
-  where
-    by : (b : Bool) → cond b (Some first) (find test list) ≡ Some a → (find test list ≡ Some a → Among a list)
-        → Among a (first ∷ list)
-    by true e rest = inl (sym (some_is_one first a e))
-    by false e rest = inr (rest e)
+use Rattle.vt_spec.proofs.Found.{found_among}
+use Rattle.vt_spec.proofs.Truths.{and_true_left, and_true_right}
 
 module _ (world : World ℕ) (conditions : IsWorld nat_eq world) (task : Task ℕ)
     (called : task_called world task.name ≡ Some task) where
@@ -47,11 +38,11 @@ module _ (world : World ℕ) (conditions : IsWorld nat_eq world) (task : Task �
   directory_is location is = directory_used (files_at nat_eq world location).tree location.node is
 
   root_there : There task.root
-  root_there = directory_is task.root (and_first (is_directory_at nat_eq world task.root) _ (and_first _ _ stands))
+  root_there = directory_is task.root (and_true_left (is_directory_at nat_eq world task.root) _ (and_true_left _ _ stands))
 
   own_there : There task.directory
   own_there = directory_is task.directory
-      (and_first (is_directory_at nat_eq world task.directory) _ (and_second _ _ stands))
+      (and_true_left (is_directory_at nat_eq world task.directory) _ (and_true_right _ _ stands))
 
   start_there : (directory : Location ℕ) (path : List ℕ) → There directory → There (start_of task directory path)
   start_there directory path is = by (is_absolute path)
@@ -145,7 +136,7 @@ module _ (world : World ℕ) (conditions : IsWorld nat_eq world) (task : Task �
       → descriptor_at task number fits ≡ Ok descriptor
       → There descriptor.location
   descriptor_there number fits descriptor e =
-      and_second _ _
+      and_true_right _ _
       (among_from_list_all (is_located_well nat_eq world)
       (all_locations world) conditions.tasks.locations_live descriptor.location
       (among-flat_map locations_of world.tasks task descriptor.location task_among

@@ -1,5 +1,5 @@
 -- Calls leave what is locked as it was, in a filesystem that no overlay writes to.
-use Rattle.std.proofs.Common.{◌≡◌, ◌≢◌, refl, sym, ap, subst, ◌∙◌, true≢false, eqb-true, ℕ, nat_eq, Bool, true, false, ◌||◌, [], ◌∷◌, ⊎_elim, None, Result, Ok, Err, unwrap_or}
+use Rattle.std.proofs.Common.{◌≡◌, ◌≢◌, refl, sym, ap, subst, ◌∙◌, true≢false, eqb-true, ℕ, nat_eq, Bool, true, false, [], ◌∷◌, ⊎_elim, None, Result, Ok, Err, unwrap_or}
 use Rattle.std.proofs.lemmas.Bool.Decides.{eqb_tells}
 use Rattle.std.specs.List.{find}
 use Rattle.vt_spec.specs.declared.errors.Deny.{Deny}
@@ -103,8 +103,3 @@ module _ (world : World ℕ) (filesystem inode : ℕ) where
             absurd (true≢false (sym locked ∙ ap (λ f. is_locked nat_eq world f inode) at
             ∙ ap (is_locked nat_eq world (mount_at nat_eq world location).filesystem) (eqb-true inode location.node e)
             ∙ open_to_all))
-
--- two tests that fail
-pub both_fail : (a b : Bool) → a ≡ false → b ≡ false → (a || b) ≡ false
-both_fail true b e f = e
-both_fail false b e f = f

@@ -1,5 +1,5 @@
 -- Each call on files leaves what is locked as it was, in a filesystem that no overlay writes to.
-use Rattle.std.proofs.Common.{◌≡◌, ◌≢◌, refl, ap, ◌∙◌, true≢false, eqb-true, ℕ, nat_eq, ne_eqb, Bool, true, false, not, List, [], ◌∷◌, Option, Some, None}
+use Rattle.std.proofs.Common.{◌≡◌, ◌≢◌, refl, ap, ◌∙◌, eqb-true, ℕ, nat_eq, ne_eqb, Bool, true, false, List, [], ◌∷◌, Option, Some, None}
 use Rattle.std.proofs.Common.{length, nat_lt}
 use Rattle.vt_spec.specs.declared.errors.Rule.TheVariants.{E1, E2, E6, K1}
 use Rattle.vt_spec.specs.Language.Calls.{Access, Creation}
@@ -20,13 +20,10 @@ use Rattle.vt_spec.specs.Machine.World.{Task, World, mount_at}
 use Rattle.vt_spec.specs.Rights.{cap_sys_admin}
 use Rattle.vt_spec.specs.Tree.{Node}
 use Rattle.vt_layer_laws.specs.Layers.Untouched.{HasNoUpperLayer}
-use Rattle.vt_layer_laws.proofs.LowersCalls.{Stays, after_leads, both_fail, change_stays, judged_leads, stays_itself, unlocked_differs}
-use Rattle.vt_layer_laws.proofs.LowersKept.{first_fails, second_fails}
+use Rattle.vt_layer_laws.proofs.LowersCalls.{Stays, after_leads, change_stays, judged_leads, stays_itself, unlocked_differs}
 use Rattle.vt_layer_laws.proofs.LowersMounts.{same_filesystems_without, same_mounted_without}
-
-not_true : (b : Bool) → not b ≡ false → b ≡ true
-not_true true e = refl
-not_true false e = absurd (true≢false e)
+use Rattle.std.proofs.lemmas.Bool.{not-false, or_from}
+use Rattle.vt_spec.proofs.Truths.{or_false_left, or_false_right}
 
 module _ (world : World ℕ) (filesystem inode : ℕ) (own : HasNoUpperLayer world filesystem)
     (locked : is_locked nat_eq world filesystem inode ≡ true) (task : Task ℕ) where
@@ -45,8 +42,8 @@ module _ (world : World ℕ) (filesystem inode : ℕ) (own : HasNoUpperLayer wor
       → is_locked_at nat_eq world place.parent ≡ false → Kept (with_new nat_eq supply world place node)
   new_stays supply new place node unlocked =
       change_stays world filesystem inode own (odds supply) world refl place.parent (making place (evens supply 0) node)
-      (λ at. both_fail (nat_eq inode (supply 0)) _ (ne_eqb inode (supply 0) (new 0))
-      (both_fail (nat_eq inode place.parent.node) false (differs place.parent unlocked at) refl))
+      (λ at. or_from (nat_eq inode (supply 0)) _ (ne_eqb inode (supply 0) (new 0))
+      (or_from (nat_eq inode place.parent.node) false (differs place.parent unlocked at) refl))
 
   made_stays : (supply : Fresh ℕ) → ((k : ℕ) → inode ≢ supply k) → (place : Place ℕ) (node : Node ℕ)
       → Kept (made_at nat_eq supply world task place node).world
@@ -83,15 +80,15 @@ module _ (world : World ℕ) (filesystem inode : ℕ) (own : HasNoUpperLayer wor
         judged_leads Kept world kept (hard_link_rules nat_eq world task from.location place
         (linking from.location place)) _ (λ passed.
         change_stays world filesystem inode own fresh world refl place.parent (linking from.location place)
-        (λ at. both_fail (nat_eq inode place.parent.node) false
-        (differs place.parent (second_fails (is_locked_at nat_eq world from.location) _ passed.1.1.1.1.0) at) refl)))))
+        (λ at. or_from (nat_eq inode place.parent.node) false
+        (differs place.parent (or_false_right (is_locked_at nat_eq world from.location) _ passed.1.1.1.1.0) at) refl)))))
 
     written_stays : (place : Place ℕ) (bytes : List ℕ) (there : Option (Location ℕ))
         → Kept (written nat_eq fresh world task place bytes there).world
     written_stays place bytes (Some file) =
         judged_leads Kept world kept (rewrite_rules nat_eq world task file bytes) _ (λ passed.
         change_stays world filesystem inode own fresh world refl file (SetBytes file.node bytes)
-        (λ at. both_fail (nat_eq inode file.node) false (differs file passed.1.1.1.1.1.0 at) refl))
+        (λ at. or_from (nat_eq inode file.node) false (differs file passed.1.1.1.1.1.0 at) refl))
     written_stays place bytes None =
         judged_leads Kept world kept ((nat_lt largest_file (length bytes), E6) ∷ []) _ (λ size.
         judged_leads Kept world kept (make_rules nat_eq world task place
@@ -112,8 +109,8 @@ module _ (world : World ℕ) (filesystem inode : ℕ) (own : HasNoUpperLayer wor
         judged_leads Kept world kept ((is_special place.last, E2) ∷ []) _ (λ word.
         judged_leads Kept world kept (unlink_rules nat_eq world task place (object_there place)) _ (λ passed.
         change_stays world filesystem inode own fresh world refl place.parent (removing place (object_there place))
-        (λ at. both_fail (nat_eq inode place.parent.node) false
-        (differs place.parent (second_fails
+        (λ at. or_from (nat_eq inode place.parent.node) false
+        (differs place.parent (or_false_right
         (is_locked_at nat_eq world (object_there place)) _ passed.1.1.1.0) at) refl))))
 
     pub rmdir_stays : (path : List ℕ) → Kept (rmdir_outcome nat_eq fresh world task path).world
@@ -124,8 +121,8 @@ module _ (world : World ℕ) (filesystem inode : ℕ) (own : HasNoUpperLayer wor
         judged_leads Kept world kept (rmdir_rules nat_eq world task place (object_there place)) _ (λ passed.
         change_stays world filesystem inode own fresh (without_mounts_on nat_eq world (object_there place))
         (same_filesystems_without world (object_there place)) place.parent (removing place (object_there place))
-        (λ at. both_fail (nat_eq inode place.parent.node) false
-        (differs place.parent (second_fails (is_locked_at nat_eq world (object_there place)) _ passed.1.1.1.1.0)
+        (λ at. or_from (nat_eq inode place.parent.node) false
+        (differs place.parent (or_false_right (is_locked_at nat_eq world (object_there place)) _ passed.1.1.1.1.0)
         (at ∙ same_mounted_without world (object_there place) place.parent)) refl))))
 
     same_filesystems_replaced : (object : Option (Location ℕ))
@@ -149,13 +146,13 @@ module _ (world : World ℕ) (filesystem inode : ℕ) (own : HasNoUpperLayer wor
         (same_filesystems_replaced to.object)
         from.parent (moving from to old)
         (λ at. let there = at ∙ same_mounted_replaced to.object from.parent in
-        both_fail (nat_eq inode from.parent.node) _
-        (differs from.parent (first_fails (is_locked_at nat_eq world from.parent) _ passed.1.1.1.1.1.1.0) there)
-        (both_fail (nat_eq inode to.parent.node) false
-        (differs to.parent (first_fails (is_locked_at nat_eq world to.parent) _
-        (second_fails (is_locked_at nat_eq world from.parent) _ passed.1.1.1.1.1.1.0))
+        or_from (nat_eq inode from.parent.node) _
+        (differs from.parent (or_false_left (is_locked_at nat_eq world from.parent) _ passed.1.1.1.1.1.1.0) there)
+        (or_from (nat_eq inode to.parent.node) false
+        (differs to.parent (or_false_left (is_locked_at nat_eq world to.parent) _
+        (or_false_right (is_locked_at nat_eq world from.parent) _ passed.1.1.1.1.1.1.0))
         (there ∙ ap (λ m. (mount_at nat_eq world (record { mount = m; node = from.parent.node })).filesystem)
-        (eqb-true from.parent.mount to.parent.mount (not_true _ passed.1.1.1.1.1.1.1.1.0)))) refl)))
+        (eqb-true from.parent.mount to.parent.mount (not-false _ passed.1.1.1.1.1.1.1.1.0)))) refl)))
 
     pub rename_stays : (old name : List ℕ) → Kept (rename_outcome nat_eq fresh world task old name).world
     unfolding rename_outcome
@@ -173,7 +170,7 @@ module _ (world : World ℕ) (filesystem inode : ℕ) (own : HasNoUpperLayer wor
     attr_stays object allowed attr =
         judged_leads Kept world kept (attr_rules nat_eq world object allowed attr) _ (λ passed.
         change_stays world filesystem inode own fresh world refl object (SetAttr object.node attr)
-        (λ at. both_fail (nat_eq inode object.node) false (differs object passed.1.1.0 at) refl))
+        (λ at. or_from (nat_eq inode object.node) false (differs object passed.1.1.0 at) refl))
 
     pub chmod_stays : (path : List ℕ) (mode : ℕ) → Kept (chmod_outcome nat_eq fresh world task path mode).world
     unfolding chmod_outcome
@@ -195,7 +192,7 @@ module _ (world : World ℕ) (filesystem inode : ℕ) (own : HasNoUpperLayer wor
         after_leads Kept world kept (walk_end (directory_walk nat_eq world task path)) _ (λ here.
         judged_leads Kept world kept (opaque_rules nat_eq world here.location) _ (λ passed.
         change_stays world filesystem inode own fresh world refl here.location (SetMark here.location.node mark)
-        (λ at. both_fail (nat_eq inode here.location.node) false (differs here.location passed.1.1.0 at) refl))))
+        (λ at. or_from (nat_eq inode here.location.node) false (differs here.location passed.1.1.0 at) refl))))
 
     -- open files
     copy_stays : (copied : Bool) (file : Location ℕ) → Kept (with_copy nat_eq copied fresh world file)
@@ -243,7 +240,7 @@ module _ (world : World ℕ) (filesystem inode : ℕ) (own : HasNoUpperLayer wor
     pwritten_stays file offset [] unlocked = kept
     pwritten_stays file offset (byte ∷ bytes) unlocked =
         change_stays world filesystem inode own fresh world refl file _
-        (λ at. both_fail (nat_eq inode file.node) false (differs file unlocked at) refl)
+        (λ at. or_from (nat_eq inode file.node) false (differs file unlocked at) refl)
 
     pub pwrite_stays : (number offset : ℕ) (bytes : List ℕ)
         → Kept (pwrite_outcome nat_eq fresh world task number offset bytes).world

@@ -1,5 +1,5 @@
 -- What each change of a tree leaves as it was.
-use Rattle.std.proofs.Common.{◌≡◌, refl, sym, ap, subst, ◌∙◌, true≢false, ℕ, nat_eq, Bool, true, false, cond, ◌||◌, List, ⊎_elim, Option, Some, None, is_some}
+use Rattle.std.proofs.Common.{◌≡◌, refl, sym, ap, subst, ◌∙◌, ℕ, nat_eq, false, cond, List, ⊎_elim, Option, Some, None, is_some}
 use Rattle.std.proofs.lemmas.Bool.Decides.{eqb_tells}
 use Rattle.vt_spec.specs.Language.Changes.{Change, changed, changed_node, content_with_parent, node_with_attr, node_with_mark, node_with_parent, node_without_entry, with_inode, with_moved, with_name, without_name, without_parent}
 use Rattle.vt_spec.specs.Language.Changes.Change.{AddName, CopyUp, Make, Move, Remove, SetAttr, SetBytes, SetMark}
@@ -8,6 +8,7 @@ use Rattle.vt_spec.specs.Lists.{is_among}
 use Rattle.vt_spec.specs.Tree.{Content, Node, bytes_in, bytes_of, entries_in, entries_of, entry_named, kind_of, node_with_bytes, node_with_entry}
 use Rattle.vt_spec.specs.Tree.Content.{Directory, Regular, Symlink, Whiteout}
 use Rattle.vt_layer_laws.specs.Layers.Untouched.{IsKept, inodes_changed}
+use Rattle.vt_spec.proofs.Truths.{or_false_left, or_false_right}
 
 pub kept_itself : (inode : Option (Node ℕ)) → IsKept inode inode
 kept_itself inode = record { there = refl; kind = refl; attr = refl; names = refl; bytes = refl; mark = refl }
@@ -91,15 +92,6 @@ pub kept_without_parent : (files : FileTree ℕ) (object : Option ℕ) (inode : 
 kept_without_parent files None inode = kept_itself (files.tree.node inode)
 kept_without_parent files (Some object) inode = kept_by_parent files object object inode
 
--- the first of two tests, and the second
-pub first_fails : (a b : Bool) → (a || b) ≡ false → a ≡ false
-first_fails true b e = e
-first_fails false b e = refl
-
-pub second_fails : (a b : Bool) → (a || b) ≡ false → b ≡ false
-second_fails true b e = absurd (true≢false e)
-second_fails false b e = e
-
 pub kept_moved : (files : FileTree ℕ) (from : ℕ) (old : List ℕ) (to : ℕ) (new : List ℕ) (object inode : ℕ)
     → nat_eq inode from ≡ false → nat_eq inode to ≡ false
     → IsKept (files.tree.node inode) ((with_moved nat_eq files from old to new object).tree.node inode)
@@ -120,26 +112,26 @@ pub others_stay : (files : FileTree ℕ) (change : Change ℕ) (inode : ℕ)
 others_stay files (Make directory name number node) inode e =
     kept_same (files.tree.node inode) _
     (kept_elsewhere (with_inode nat_eq files number node) directory (node_with_entry name number) inode
-    (first_fails _ false (second_fails (nat_eq inode number) _ e))
-    ∙ ap (λ b. cond b (Some node) (files.tree.node inode)) (first_fails (nat_eq inode number) _ e))
+    (or_false_left _ false (or_false_right (nat_eq inode number) _ e))
+    ∙ ap (λ b. cond b (Some node) (files.tree.node inode)) (or_false_left (nat_eq inode number) _ e))
 others_stay files (AddName directory name object) inode e =
     kept_same (files.tree.node inode) _
-    (kept_elsewhere files directory (node_with_entry name object) inode (first_fails _ false e))
+    (kept_elsewhere files directory (node_with_entry name object) inode (or_false_left _ false e))
 others_stay files (Remove directory name object) inode e =
     kept_both (files.tree.node inode) ((without_name nat_eq files directory name).tree.node inode) _
     (kept_same (files.tree.node inode) _
-    (kept_elsewhere files directory (node_without_entry name) inode (first_fails _ false e)))
+    (kept_elsewhere files directory (node_without_entry name) inode (or_false_left _ false e)))
     (kept_by_parent (without_name nat_eq files directory name) object object inode)
 others_stay files (Move from old to new object) inode e =
-    kept_moved files from old to new object inode (first_fails (nat_eq inode from) _ e)
-    (first_fails _ false (second_fails (nat_eq inode from) _ e))
+    kept_moved files from old to new object inode (or_false_left (nat_eq inode from) _ e)
+    (or_false_left _ false (or_false_right (nat_eq inode from) _ e))
 others_stay files (SetBytes file bytes) inode e =
     kept_same (files.tree.node inode) _
-    (kept_elsewhere files file (node_with_bytes bytes) inode (first_fails _ false e))
+    (kept_elsewhere files file (node_with_bytes bytes) inode (or_false_left _ false e))
 others_stay files (SetAttr object attr) inode e =
     kept_same (files.tree.node inode) _
-    (kept_elsewhere files object (node_with_attr attr) inode (first_fails _ false e))
+    (kept_elsewhere files object (node_with_attr attr) inode (or_false_left _ false e))
 others_stay files (SetMark directory opaque) inode e =
     kept_same (files.tree.node inode) _
-    (kept_elsewhere files directory (node_with_mark opaque) inode (first_fails _ false e))
+    (kept_elsewhere files directory (node_with_mark opaque) inode (or_false_left _ false e))
 others_stay files (CopyUp object) inode e = kept_itself (files.tree.node inode)

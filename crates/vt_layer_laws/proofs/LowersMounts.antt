@@ -1,10 +1,11 @@
 -- Taking mounts away changes no filesystem, and no mount's filesystem.
 use Rattle.std.proofs.Common.{◌≡◌, refl, ap, ◌∙◌, ℕ, nat_eq, Bool, true, false, cond, List, [], ◌∷◌, map, Some, unwrap_or}
-use Rattle.std.specs.List.{find, list_any}
-use Rattle.vt_spec.specs.Machine.Detach.{after_going, mounts_on, taken_away, trees_taken_away, without_mounts_on}
+use Rattle.std.specs.List.{find}
+use Rattle.vt_spec.specs.Machine.Detach.{mounts_on, trees_taken_away, without_mounts_on}
 use Rattle.vt_spec.specs.Machine.Mounts.{Location, Mount, mount_in, no_mount}
-use Rattle.vt_spec.specs.Machine.Receives.{inheriting, lost_a_group, regrouped_by}
-use Rattle.vt_spec.specs.Machine.World.{World, mount_at, with_mounts}
+use Rattle.vt_spec.specs.Machine.Receives.{inheriting, regrouped_by}
+use Rattle.vt_spec.specs.Machine.World.{World, mount_at}
+use Rattle.vt_spec.proofs.Worlds.{filesystems-taken_away, shown-taken_away}
 
 -- mounts that are changed but keep number and filesystem
 same_mounted : (change : Mount ℕ → Mount ℕ) → ((mount : Mount ℕ) → (change mount).number ≡ mount.number)
@@ -36,41 +37,11 @@ regrouped_filesystems : (lost : Bool) (world : World ℕ)
 regrouped_filesystems false world = refl
 regrouped_filesystems true world = refl
 
-going_number : (world : World ℕ) (gone : List ℕ) (mount : Mount ℕ)
-    → (after_going nat_eq world gone mount).number ≡ mount.number
-going_number world gone mount = by (Rattle.vt_spec.specs.Machine.Detach.is_going nat_eq gone mount.number)
-  where
-    by : (b : Bool) → (cond b (Rattle.vt_spec.specs.Machine.Mounts.detached mount) (record mount { mount_point = Rattle.std.specs.Prelude.option_map (Rattle.vt_spec.specs.Machine.Detach.mount_point_left nat_eq world gone) mount.mount_point })).number ≡ mount.number
-    by true = refl
-    by false = refl
-
-going_filesystem : (world : World ℕ) (gone : List ℕ) (mount : Mount ℕ)
-    → (after_going nat_eq world gone mount).filesystem ≡ mount.filesystem
-going_filesystem world gone mount = by (Rattle.vt_spec.specs.Machine.Detach.is_going nat_eq gone mount.number)
-  where
-    by : (b : Bool) → (cond b (Rattle.vt_spec.specs.Machine.Mounts.detached mount) (record mount { mount_point = Rattle.std.specs.Prelude.option_map (Rattle.vt_spec.specs.Machine.Detach.mount_point_left nat_eq world gone) mount.mount_point })).filesystem ≡ mount.filesystem
-    by true = refl
-    by false = refl
-
-pub taken_filesystems : (world : World ℕ) (gone : List ℕ)
-    → (taken_away nat_eq world gone).filesystems ≡ world.filesystems
-taken_filesystems world gone = regrouped_filesystems (list_any (lost_a_group nat_eq left) left.mounts) left
-  where
-    left : World ℕ
-    left = with_mounts world (map (after_going nat_eq world gone) world.mounts)
-
-pub taken_mounted : (world : World ℕ) (gone : List ℕ) (location : Location ℕ)
-    → (mount_at nat_eq (taken_away nat_eq world gone) location).filesystem ≡ (mount_at nat_eq world location).filesystem
-taken_mounted world gone location =
-    regrouped_mounted _ (with_mounts world (map (after_going nat_eq world gone) world.mounts)) location
-    ∙ same_mounted (after_going nat_eq world gone) (going_number world gone)
-    (going_filesystem world gone) location.mount world.mounts
-
 pub same_filesystems_without : (world : World ℕ) (object : Location ℕ)
     → (without_mounts_on nat_eq world object).filesystems ≡ world.filesystems
-same_filesystems_without world object = taken_filesystems world _
+same_filesystems_without world object = filesystems-taken_away world _
 
 pub same_mounted_without : (world : World ℕ) (object location : Location ℕ)
     → (mount_at nat_eq (without_mounts_on nat_eq world object) location).filesystem
     ≡ (mount_at nat_eq world location).filesystem
-same_mounted_without world object location = taken_mounted world _ location
+same_mounted_without world object location = shown-taken_away world _ location

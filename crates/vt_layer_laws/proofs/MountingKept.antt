@@ -33,6 +33,7 @@ use Rattle.vt_layer_laws.proofs.LockedApart.{layer_plain, upper_in_layers}
 use Rattle.vt_layer_laws.proofs.MountingReached.{layers_are_reached}
 use Rattle.vt_layer_laws.proofs.MountingWalked.{AreWalked, all_plain, are_walked, fit_layers, has_layers, none_refuses, shown_plain}
 use Rattle.vt_layer_laws.proofs.ShownObjects.{Among}
+use Rattle.vt_spec.proofs.Truths.{nat_eq_itself}
 
 -- mounts and masters are not looked at
 abbrev WithMounts : World ℕ → List (Mount ℕ) → (ℕ → Option ℕ) → World ℕ
@@ -340,15 +341,12 @@ module _ (world : World ℕ) (fresh : Fresh ℕ) (are_new : AreNewNumbers fresh 
   Has later = filesystem_numbered nat_eq later (evens (evens fresh) 0)
       ≡ overlay_filesystem nat_eq (evens fresh) world (overlay_at nat_eq world task places)
 
-  itself : (n : ℕ) → nat_eq n n ≡ true
-  itself n = grind (arith, eqb_tells)
-
   has_mounted : (place : Location ℕ) → Has (overlay_mounted nat_eq fresh world task place places flags)
   has_mounted place =
       ap (λ o. unwrap_or o (no_filesystem (evens (evens fresh) 0)))
       (find_new (λ f. nat_eq (evens (evens fresh) 0) f.number) world.filesystems
       (overlay_filesystem nat_eq (evens fresh) world (overlay_at nat_eq world task places))
-      (not_found (evens (evens fresh) 0) world.filesystems (are_new.unused 0)) (itself (evens (evens fresh) 0)))
+      (not_found (evens (evens fresh) 0) world.filesystems (are_new.unused 0)) (nat_eq_itself (evens (evens fresh) 0)))
 
   granted_has : (path : List ℕ) → (mount_overlay_outcome nat_eq fresh world task path (Some words) flags).answer
       ≡ Ok Done → Has (mount_overlay_outcome nat_eq fresh world task path (Some words) flags).world

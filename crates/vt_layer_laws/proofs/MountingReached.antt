@@ -19,7 +19,7 @@ use Rattle.vt_spec.specs.Tree.{Tree, is_directory_node, parent_in}
 use Rattle.vt_spec.specs.TreeLaws.{IsDirectory, IsReached, IsTree}
 use Rattle.vt_tree_laws.proofs.TreesOfWorlds.{numbered_all}
 use Rattle.vt_tree_laws.proofs.TreesWalked.{Ends, ends_next, ends_then, ends_unless, not_true}
-use Rattle.vt_layer_laws.proofs.UpperLine.{entry_from}
+use Rattle.vt_spec.proofs.NodeChanges.{entry_from}
 
 -- a directory that is not removed is reached
 reached_tree : (tree : Tree ℕ) → IsTree tree → (directory : ℕ) → IsDirectory tree directory

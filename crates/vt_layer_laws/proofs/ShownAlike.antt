@@ -14,8 +14,9 @@ use Rattle.vt_spec.specs.Tree.Content.{Directory, Regular, Symlink, Whiteout}
 use Rattle.vt_spec.specs.TreeLaws.{IsTree, entry_at, led}
 use Rattle.vt_spec.proofs.Nodes.{directory_used}
 use Rattle.vt_layer_laws.specs.Layers.Mounted.{AreAsOthers, IsAlike}
-use Rattle.vt_layer_laws.proofs.ShownAtPath.{none_is_some, some_is_one}
 use Rattle.vt_layer_laws.proofs.ShownDirectories.{AreOpen}
+use Rattle.std.proofs.lemmas.Option.{same_Some}
+use Rattle.vt_spec.proofs.Options.{none_is_some}
 
 -- Inodes that are alike
 
@@ -59,7 +60,7 @@ same_object (Some here) (Some there) is seen =
 led_alive : (tree : Tree ℕ) → IsTree tree → (path : List (List ℕ)) (start object : ℕ)
     → is_some (tree.node start) ≡ true → led tree start path ≡ Some object
     → is_some (tree.node object) ≡ true
-led_alive tree is [] start object there e = subst (λ n. is_some (tree.node n) ≡ true) (some_is_one start object e) there
+led_alive tree is [] start object there e = subst (λ n. is_some (tree.node n) ≡ true) (same_Some start object e) there
 led_alive tree is (name ∷ path) start object there e =
     by (entry_at tree start name) refl e (λ next. led_alive tree is path next object)
   where

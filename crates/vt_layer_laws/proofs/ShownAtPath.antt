@@ -1,5 +1,5 @@
 -- What is computed to be shown at a path is what is shown there.
-use Rattle.std.proofs.Common.{◌≡◌, ◌≢◌, ◌<◌, ◌↔◌, refl, sym, ap, subst, ◌∙◌, true≢false, arith, ℕ, zero, suc, ◌+◌, Bool, true, false, not, List, [], ◌∷◌, Option, Some, None, is_some}
+use Rattle.std.proofs.Common.{◌≡◌, ◌≢◌, ◌<◌, ◌↔◌, refl, sym, ap, subst, ◌∙◌, true≢false, arith, ℕ, zero, suc, ◌+◌, Bool, true, false, not, List, [], ◌∷◌, Option, Some, None}
 use Rattle.vt_spec.specs.declared.attributes.Kind.TheVariants.{White}
 use Rattle.vt_spec.specs.FileTree.{is_kind, is_kind_in}
 use Rattle.vt_spec.specs.Machine.Layers.{OpenLayer, Shown, at_path, cuts, hides, node_at_path, shown, shown_from, shown_over}
@@ -8,13 +8,8 @@ use Rattle.vt_spec.specs.Tree.{Content, Node, kind_of}
 use Rattle.vt_spec.specs.Tree.Content.{Directory, Regular, Symlink, Whiteout}
 use Rattle.vt_layer_laws.specs.Layers.Shown.{HasAt, HasInodeAt, HasUncut, IsCut, IsShown}
 use Rattle.vt_layer_laws.proofs.ShownFronts.{cuts_by, front_found, hides_inode}
-
--- what a layer has is one thing
-pub some_is_one : {A : Type 0} (a b : A) → Some a ≡ Some b → a ≡ b
-some_is_one a b e = ap (λ o. elim o [ None ↦ a | Some c ↦ c ]) e
-
-pub none_is_some : {A P : Type 0} (a : A) → None ≡ Some a → P
-none_is_some a e = absurd (true≢false (sym (ap is_some e)))
+use Rattle.std.proofs.lemmas.Option.{same_Some}
+use Rattle.vt_spec.proofs.Options.{none_is_some}
 
 whiteout_kind : (content : Content ℕ) → is_kind White (kind_of content) ≡ true → content ≡ Whiteout
 whiteout_kind (Directory parent entries opaque) e = absurd (true≢false (sym e))
@@ -67,7 +62,7 @@ module _ (layer : OpenLayer ℕ) (lower : List (OpenLayer ℕ)) (path : List (Li
       by : (higher : ℕ) → higher < suc depth → HasInodeAt (layer ∷ lower) higher cut.front cut.inode → ⊥
       by zero h stands =
           true≢false (sym (cuts_by layer path cut.front cut.inode cut.is_front
-          (ap (λ l. node_at_path l cut.front) (some_is_one layer stands.0 stands.1) ∙ stands.2) cut.hides) ∙ e)
+          (ap (λ l. node_at_path l cut.front) (same_Some layer stands.0 stands.1) ∙ stands.2) cut.hides) ∙ e)
       by (suc higher) h stands =
           uncut (record {
             higher = higher;
@@ -87,7 +82,7 @@ module _ (layer : OpenLayer ℕ) (lower : List (OpenLayer ℕ)) (path : List (Li
     highest = λ higher other h. absurd (omega arith);
     no_whiteout = λ inode has is.
         true≢false (sym (ap (is_kind_in White)
-        (ap (λ o. then_some o layer.tree.node) (sym e) ∙ ap (λ l. node_at_path l path) (some_is_one layer has.0 has.1)
+        (ap (λ o. then_some o layer.tree.node) (sym e) ∙ ap (λ l. node_at_path l path) (same_Some layer has.0 has.1)
         ∙ has.2)
         ∙ ap (λ c. is_kind White (kind_of c)) is) ∙ white);
   }
@@ -103,13 +98,13 @@ module _ (layer : OpenLayer ℕ) (lower : List (OpenLayer ℕ)) (path : List (Li
     where
       by : (higher object : ℕ) → higher < suc seen.layer → ¬ (HasUncut (layer ∷ lower) higher path object)
       by zero object h has = none_is_some object
-          (sym e ∙ ap (λ l. at_path l path) (some_is_one layer has.0.0 has.0.1) ∙ has.0.2)
+          (sym e ∙ ap (λ l. at_path l path) (same_Some layer has.0.0 has.0.1) ∙ has.0.2)
       by (suc higher) object h has =
           is.highest higher object (omega arith) (has.0, λ cut. has.1 (cut_by_lower higher cut))
 
   -- What is shown is shown in the top layer or below it.
   has_top : (object : ℕ) → HasAt (layer ∷ lower) 0 path object → at_path layer path ≡ Some object
-  has_top object has = ap (λ l. at_path l path) (some_is_one layer has.0 has.1) ∙ has.2
+  has_top object has = ap (λ l. at_path l path) (same_Some layer has.0 has.1) ∙ has.2
 
   top_is_no_whiteout : (object : ℕ) → at_path layer path ≡ Some object
       → ((inode : Node ℕ) → HasInodeAt (layer ∷ lower) 0 path inode → inode.content ≢ Whiteout)
@@ -169,7 +164,7 @@ computed_is_shown depth (layer ∷ lower) path seen e =
       record { layer = 0; object = object },
       shown_on_top layer lower path object a w,
       (λ i. record { layer = (let h : depth + 0 ≡ depth = omega arith in h) i; object = object })
-          ∙ some_is_one (record { layer = depth; object = object }) seen e,
+          ∙ same_Some (record { layer = depth; object = object }) seen e,
     )
 
     over : (found : Option ℕ) → at_path layer path ≡ found → (cut : Bool) → cuts layer path ≡ cut
@@ -222,7 +217,7 @@ computed layers path seen = (
 pub one_is_shown : (layers : List (OpenLayer ℕ)) (path : List (List ℕ)) (one other : Shown ℕ) → IsShown layers path one
     → IsShown layers path other → one ≡ other
 one_is_shown layers path one other a b =
-    some_is_one one other (sym ((computed layers path one).1 a) ∙ (computed layers path other).1 b)
+    same_Some one other (sym ((computed layers path one).1 a) ∙ (computed layers path other).1 b)
 
 pub nothing_is_shown : (layers : List (OpenLayer ℕ)) (path : List (List ℕ))
     → (shown layers path ≡ None) ↔ ((seen : Shown ℕ) → ¬ (IsShown layers path seen))

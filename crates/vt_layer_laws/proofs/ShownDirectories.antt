@@ -1,17 +1,18 @@
 -- What is shown under a name is shown in a directory.
 use Rattle.std.proofs.Common.{◌≡◌, ◌≢◌, refl, sym, ap, subst, ◌∙◌, true≢false, arith, ℕ, suc, ◌+◌, Bool, true, false, not, ◌||◌, List, [], ◌∷◌, ◌++◌, Option, Some, None, is_some, option_and_then, slice_get}
-use Rattle.vt_spec.specs.declared.attributes.Kind.TheVariants.{White}
-use Rattle.vt_spec.specs.FileTree.{is_kind, is_kind_in, opaque_of}
+use Rattle.vt_spec.specs.FileTree.{opaque_of}
 use Rattle.vt_spec.specs.Machine.Layers.{OpenLayer, Shown, at_path, cuts, hides, node_at_path, shown_from, shown_over}
 use Rattle.vt_spec.specs.Lists.{then_some, when}
 use Rattle.vt_spec.specs.Rights.{is_directory}
 use Rattle.vt_spec.specs.Tree.{Content, Node, is_directory_node, kind_of}
 use Rattle.vt_spec.specs.Tree.Content.{Directory, Regular, Symlink, Whiteout}
 use Rattle.vt_spec.specs.TreeLaws.{IsDirectory, IsTree, entry_at, led}
-use Rattle.vt_layer_laws.proofs.ShownAtPath.{none_is_some, some_is_one}
 use Rattle.vt_layer_laws.proofs.ShownFronts.{front_found, front_passes}
 use Rattle.vt_layer_laws.proofs.ShownNames.{last_name}
 use Rattle.vt_layer_laws.proofs.UpperLine.{has_entries}
+use Rattle.std.proofs.lemmas.Option.{same_Some}
+use Rattle.vt_spec.proofs.NodeChanges.{directory_no_whiteout}
+use Rattle.vt_spec.proofs.Options.{none_is_some}
 
 -- layers are directories of trees
 abbrev pub AreOpen : List (OpenLayer ℕ) → Type 0
@@ -71,21 +72,11 @@ open_directory (Some node) s h = by node.content h
     by (Symlink text) h = absurd (true≢false h)
     by Whiteout h = absurd (true≢false h)
 
-pub no_white_directory : (node : Option (Node ℕ)) → is_directory_node node ≡ true → is_kind_in White node ≡ false
-no_white_directory None d = refl
-no_white_directory (Some node) d = by node.content d
-  where
-    by : (content : Content ℕ) → is_directory (kind_of content) ≡ true → is_kind White (kind_of content) ≡ false
-    by (Directory parent entries opaque) d = refl
-    by (Regular bytes) d = refl
-    by (Symlink text) d = refl
-    by Whiteout d = absurd (true≢false (sym d))
-
 -- what names lead to is there
 pub led_is_there : (layer : OpenLayer ℕ) → IsTree layer.tree → IsDirectory layer.tree layer.directory
     → (path : List (List ℕ)) (object : ℕ) → at_path layer path ≡ Some object → is_some (layer.tree.node object) ≡ true
 led_is_there layer tree d [] object e =
-    subst (λ o. is_some (layer.tree.node o) ≡ true) (some_is_one layer.directory object e)
+    subst (λ o. is_some (layer.tree.node o) ≡ true) (same_Some layer.directory object e)
     (Rattle.vt_spec.proofs.Nodes.directory_used layer.tree layer.directory d)
 led_is_there layer tree d (name ∷ rest) object e =
     let last = last_of (name ∷ rest)
@@ -118,7 +109,7 @@ own_directory depth layer lower path object e d = record {
   there = refl;
   is = ap (λ o. shown_over layer depth o (cuts layer path) (shown_from (depth + 1) lower path)) e
       ∙ ap (λ b. when (not b) (record { layer = depth; object = object }))
-      (no_white_directory (layer.tree.node object) d)
+      (directory_no_whiteout (layer.tree.node object) d)
       ∙ ap (λ l. Some (record { layer = l; object = object })) (omega arith);
   at = e;
   directory = d;
@@ -161,7 +152,7 @@ shown_in_directory (layer ∷ lower) are_open depth path name seen e =
       where
         is_open : (path : List (List ℕ)) (object : ℕ) → at_path layer path ≡ Some object
             → cuts layer (path ++ name ∷ []) ≡ false → IsDirectory layer.tree object
-        is_open [] object p c = subst (IsDirectory layer.tree) (some_is_one layer.directory object p) open_layer.1
+        is_open [] object p c = subst (IsDirectory layer.tree) (same_Some layer.directory object p) open_layer.1
         is_open (first ∷ rest) object p c =
             open_directory (layer.tree.node object)
             (led_is_there layer open_layer.0 open_layer.1 (first ∷ rest) object p)

@@ -9,6 +9,7 @@ use Rattle.vt_spec.specs.Tree.{Content, Node, kind_of}
 use Rattle.vt_spec.specs.Tree.Content.{Directory, Regular, Symlink, Whiteout}
 use Rattle.vt_layer_laws.specs.Layers.Shown.{HidesLower, IsFrontOf}
 use Rattle.vt_layer_laws.specs.Layers.Shown.HidesLower.{a_file, a_link, a_whiteout, an_opaque_directory}
+use Rattle.std.proofs.lemmas.Bool.{or_right}
 
 -- a test of a list is the test of what it was made of
 pub list_any_of_map : {A B : Type 0} (test : B → Bool) (f : A → B) (list : List A)
@@ -32,10 +33,6 @@ front_passes test path (name ∷ other ∷ front) rest e nonempty t =
     (list_any_of_map test (λ front. name ∷ front) (fronts (other ∷ front ++ rest))
     ∙ front_passes (λ front. test (name ∷ front)) (other ∷ front ++ rest) (other ∷ front) rest refl
     (cons_is_not_empty other front) t)
-  where
-    or_right : (a b : Bool) → b ≡ true → (a || b) ≡ true
-    or_right true b e = refl
-    or_right false b e = e
 
 -- and one that is found passes
 abbrev PassingFront : (List (List ℕ) → Bool) → List (List ℕ) → Type 0

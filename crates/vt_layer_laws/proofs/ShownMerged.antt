@@ -11,11 +11,13 @@ use Rattle.vt_spec.specs.Machine.Merging.{Merged, MergedInode, entry_below, inod
 use Rattle.vt_spec.specs.Rights.{is_directory}
 use Rattle.vt_spec.specs.Tree.{Node, entry_named, is_directory_node, kind_of, name_cmp}
 use Rattle.vt_spec.proofs.Nodes.{same_name}
-use Rattle.vt_layer_laws.proofs.ShownAtPath.{computed, none_is_some, some_is_one}
+use Rattle.vt_layer_laws.proofs.ShownAtPath.{computed}
 use Rattle.vt_layer_laws.proofs.ShownDirectories.{AreOpen, last_of, led_is_there}
 use Rattle.vt_layer_laws.proofs.ShownObjects.{Among, Found, IsOne, among_filter_map, found_among, from_filter_map, is_object, is_one, object_is, one_itself, path_itself, path_same, placed_among}
 use Rattle.vt_layer_laws.proofs.ShownPaths.{last_of_longer, not_empty, one_path, root_of_longer}
 use Rattle.vt_layer_laws.proofs.UpperShown.{front_of_longer}
+use Rattle.std.proofs.lemmas.Option.{same_Some}
+use Rattle.vt_spec.proofs.Options.{none_is_some}
 
 module _ (layers : List (OpenLayer ℕ)) (are_open : AreOpen layers) (longest : ℕ)
     (bounded : (path : List (List ℕ)) (seen : Shown ℕ) → shown layers path ≡ Some seen → length path ≤ longest)
@@ -69,7 +71,7 @@ module _ (layers : List (OpenLayer ℕ)) (are_open : AreOpen layers) (longest : 
       let places = distinct (0 + first.place) (0 + second.place)
       (sym (ap (λ o. fresh (unwrap_or o 0)) first.is) ∙ e ∙ ap (λ o. fresh (unwrap_or o 0)) second.is) in
       let same_place : first.place ≡ second.place = omega arith in
-      let same = some_is_one first.element second.element
+      let same = same_Some first.element second.element
       (sym first.there ∙ ap (slice_get objects) same_place ∙ second.there) in
       let one = is_one layers has_upper a first.element (is_shown a in_a)
       (is_shown first.element first.among) first.passes in
@@ -118,11 +120,11 @@ module _ (layers : List (OpenLayer ℕ)) (are_open : AreOpen layers) (longest : 
           → merged_inode nat_eq fresh has_upper layers objects other ≡ Some found.element → InLayer other
           → HasInode object
       by own own_node found other among_other made there =
-          let element = some_is_one (inode_made other there.node) found.element
+          let element = same_Some (inode_made other there.node) found.element
           (sym (ap (option_map (inode_made other)) (layer_node_of other there)) ∙ made) in
           let one = one_number object other among among_other
           (eqb-true (number object) found.element.number found.passes ∙ ap (λ inode. inode.number) (sym element)) in
-          let same_node = some_is_one there.node own.node
+          let same_node = same_Some there.node own.node
           (sym (layer_node_of other there) ∙ ap (layer_node layers) (sym one.seen) ∙ own_node) in
           record {
             other = other;
@@ -141,10 +143,10 @@ module _ (layers : List (OpenLayer ℕ)) (are_open : AreOpen layers) (longest : 
   one_directory object among inode d =
       let here = in_layer object (is_shown object among) in
       let there = in_layer inode.other (is_shown inode.other inode.among) in
-      let same_layer = some_is_one there.layer here.layer
+      let same_layer = same_Some there.layer here.layer
       (sym there.there ∙ ap (λ seen. slice_get layers seen.layer) (sym inode.one.seen) ∙ here.there) in
       let open_here = are_open object.seen.layer here.layer here.there in
-      let node = some_is_one here.node inode.node (sym (layer_node_of object here) ∙ inode.seen) in
+      let node = same_Some here.node inode.node (sym (layer_node_of object here) ∙ inode.seen) in
       one_path here.layer.tree open_here.0 here.layer.directory inode.other.path object.path object.seen.object
       (ap (λ l. at_path l inode.other.path) (sym same_layer) ∙ there.at
       ∙ ap (λ seen. Some seen.object) (sym inode.one.seen))
@@ -189,7 +191,7 @@ module _ (layers : List (OpenLayer ℕ)) (are_open : AreOpen layers) (longest : 
             → (object.path ≡ path ++ found.0 ∷ []) × (found.1 ≡ number object)
         by p is false t e = none_is_some found e
         by p is true t e =
-            let same = some_is_one (last_or [] object.path, number object) found e in
+            let same = same_Some (last_or [] object.path, number object) found e in
             (parted object.path t ∙ ap (λ f. path ++ f.0 ∷ []) same, ap (λ f. f.1) (sym same))
 
     abbrev is_name : List ℕ → List ℕ → Bool
@@ -209,7 +211,7 @@ module _ (layers : List (OpenLayer ℕ)) (are_open : AreOpen layers) (longest : 
         same_as found f n =
             let here = entry_is_here first found f in
             let paths = here.0 ∙ ap (λ m. path ++ m ∷ []) n ∙ sym e in
-            let seen = some_is_one first.seen target.seen
+            let seen = same_Some first.seen target.seen
             (sym (all first (inl refl)) ∙ ap (shown layers) paths ∙ all target among) in
             let whole : first ≡ target = λ i. record { path = paths i; seen = seen i } in
             here.1 ∙ ap number whole
@@ -221,7 +223,7 @@ module _ (layers : List (OpenLayer ℕ)) (are_open : AreOpen layers) (longest : 
         choose found f true t a rest = ap Some (same_as found f (sym (same_name name found.0 t)))
         choose found f false t (inl same) rest =
             absurd (true≢false (sym (ap is_eq (tied_itself nat_list_cmp_total name))
-            ∙ ap (λ n. is_name name n.0) (some_is_one (name, number target) found (sym (is_first same) ∙ f)) ∙ t))
+            ∙ ap (λ n. is_name name n.0) (same_Some (name, number target) found (sym (is_first same) ∙ f)) ∙ t))
         choose found f false t (inr later) rest = rest later
 
         by : (o : Option (List ℕ × ℕ)) → entry first ≡ o → (first ≡ target) ⊎ Among list target

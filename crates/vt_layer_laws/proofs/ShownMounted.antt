@@ -5,7 +5,7 @@ use Rattle.std.specs.Prelude.{option_map, option_to_list}
 use Rattle.std.specs.Str.{bytes_eq}
 use Rattle.std.specs.Cmp.Lexicographic.{bytes_decides}
 use Rattle.std.proofs.lemmas.List.Sums.{sum_by-cons}
-use Rattle.std.proofs.lemmas.Option.{slice_get-map}
+use Rattle.std.proofs.lemmas.Option.{slice_get-map, same_Some}
 use Rattle.vt_spec.specs.FileTree.{FileTree}
 use Rattle.vt_spec.specs.Machine.Layers.{OpenLayer, Shown, node_at_path, shown}
 use Rattle.vt_spec.specs.Lists.{Fresh, holds_of, odds, then_some, when}
@@ -19,15 +19,18 @@ use Rattle.vt_spec.specs.Tree.Content.{Directory, Regular, Symlink, Whiteout}
 use Rattle.vt_spec.specs.TreeLaws.{IsDirectory, IsTree, entry_at, led}
 use Rattle.vt_layer_laws.specs.Layers.Mounted.{AreLayers, RemountShowsTheSame}
 use Rattle.vt_layer_laws.proofs.ShownAlike.{shown_alike}
-use Rattle.vt_layer_laws.proofs.ShownAtPath.{computed, none_is_some, some_is_one}
-use Rattle.vt_layer_laws.proofs.ShownDirectories.{AreOpen, last_of, no_white_directory}
+use Rattle.vt_layer_laws.proofs.ShownAtPath.{computed}
+use Rattle.vt_layer_laws.proofs.ShownDirectories.{AreOpen, last_of}
 use Rattle.vt_layer_laws.proofs.ShownNames.{last_name}
 use Rattle.vt_layer_laws.proofs.ShownPaths.{depth_of_led, length_longer, not_empty}
 use Rattle.vt_layer_laws.proofs.ShownTree.{real_shown_there, shows_layers}
 use Rattle.vt_layer_laws.proofs.ShownWhole.{behind, merged_is_real, merged_no_mark, merged_no_whiteout, merged_one_to_one, merged_real_there, merged_upper}
 use Rattle.vt_layer_laws.proofs.UpperChain.{depth_below}
-use Rattle.vt_layer_laws.proofs.UpperLine.{and_first, and_second, has_entries, is_reached_in}
+use Rattle.vt_layer_laws.proofs.UpperLine.{has_entries, is_reached_in}
 use Rattle.vt_layer_laws.proofs.UpperWorld.{all_found, overlay_layers}
+use Rattle.vt_spec.proofs.NodeChanges.{directory_no_whiteout}
+use Rattle.vt_spec.proofs.Options.{none_is_some}
+use Rattle.vt_spec.proofs.Truths.{and_true_left, and_true_right}
 
 -- a part of a sum is no more than the sum
 in_sum : (test : Filesystem ℕ → Bool) (list : List (Filesystem ℕ)) (filesystem : Filesystem ℕ)
@@ -43,15 +46,15 @@ in_sum test (first ∷ list) filesystem e =
         → (find test list ≡ Some filesystem
         → length filesystem.files.numbers ≤ sum (map (λ f. length f.files.numbers) list))
         → length filesystem.files.numbers ≤ sum (map (λ f. length f.files.numbers) (first ∷ list))
-    by added true e rest = let same = ap (λ f. length f.files.numbers) (some_is_one first filesystem e) in omega arith
+    by added true e rest = let same = ap (λ f. length f.files.numbers) (same_Some first filesystem e) in omega arith
     by added false e rest = let more = rest e in omega arith
 
 -- each of a list that all pass passes
 all_pass_at : {A : Type 0} (test : A → Bool) (list : List A) → list_all test list ≡ true → (k : ℕ) (a : A)
     → slice_get list k ≡ Some a → test a ≡ true
 all_pass_at test [] all k a e = none_is_some a e
-all_pass_at test (first ∷ list) all zero a e = ap test (sym (some_is_one first a e)) ∙ and_first (test first) _ all
-all_pass_at test (first ∷ list) all (suc k) a e = all_pass_at test list (and_second (test first) _ all) k a e
+all_pass_at test (first ∷ list) all zero a e = ap test (sym (same_Some first a e)) ∙ and_true_left (test first) _ all
+all_pass_at test (first ∷ list) all (suc k) a e = all_pass_at test list (and_true_right (test first) _ all) k a e
 
 -- Layers of a world
 module _ (world : World ℕ) (conditions : IsWorld nat_eq world) (overlay : Overlay ℕ)
@@ -87,8 +90,8 @@ module _ (world : World ℕ) (conditions : IsWorld nat_eq world) (overlay : Over
       by None s m = none_is_some layer m
       by (Some plain) s m =
           let passes = all_pass_at (is_plain_layer nat_eq world) (shown_layers overlay) are_layers.1 depth plain s in
-          let directory = and_second (not (is_overlay (filesystem_numbered nat_eq world plain.filesystem))) _ passes in
-          subst IsOpen (some_is_one (open_layer nat_eq world plain) layer m) (record {
+          let directory = and_true_right (not (is_overlay (filesystem_numbered nat_eq world plain.filesystem))) _ passes in
+          subst IsOpen (same_Some (open_layer nat_eq world plain) layer m) (record {
             filesystem = filesystem_numbered nat_eq world plain.filesystem;
             test = λ filesystem. nat_eq plain.filesystem filesystem.number;
             found = there plain directory (find
@@ -159,11 +162,11 @@ module _ (world : World ℕ) (conditions : IsWorld nat_eq world) (overlay : Over
           → (top : Shown ℕ) × (shown (map (open_layer nat_eq world) list) [] ≡ Some top)
       by [] n all = absurd (n refl)
       by (layer ∷ list) n all =
-          let directory = and_second (not (is_overlay (filesystem_numbered nat_eq world layer.filesystem))) _
-          (and_first (is_plain_layer nat_eq world layer) _ all) in (
+          let directory = and_true_right (not (is_overlay (filesystem_numbered nat_eq world layer.filesystem))) _
+          (and_true_left (is_plain_layer nat_eq world layer) _ all) in (
             record { layer = 0; object = layer.directory },
             ap (λ b. when (not b) (record { layer = 0; object = layer.directory }))
-                (no_white_directory ((filesystem_numbered nat_eq world layer.filesystem).files.tree.node layer.directory) directory),
+                (directory_no_whiteout ((filesystem_numbered nat_eq world layer.filesystem).files.tree.node layer.directory) directory),
           )
 
   -- the inode behind a real object, by the layers that are shown, is the one that the overlay finds
@@ -241,7 +244,7 @@ pub new_overlay_is_merged : (fresh : Fresh ℕ) (world : World ℕ) (overlay mad
     → (overlay_filesystem nat_eq fresh world overlay).overlay ≡ Some made
     → IsMerged nat_eq world (overlay_filesystem nat_eq fresh world overlay) made
 new_overlay_is_merged fresh world overlay made conditions are_layers distinct e =
-    subst (IsMerged nat_eq world (overlay_filesystem nat_eq fresh world overlay)) (some_is_one _ made e)
+    subst (IsMerged nat_eq world (overlay_filesystem nat_eq fresh world overlay)) (same_Some _ made e)
     (made_merged world conditions overlay are_layers fresh distinct)
 
 -- what is the same as a third is the same

@@ -11,7 +11,10 @@ use Rattle.vt_spec.specs.Tree.{Entries, Tree, entries_in, entry_named, name_cmp,
 use Rattle.vt_spec.specs.TreeLaws.{entry_at, led}
 use Rattle.vt_spec.proofs.Nodes.{same_name}
 use Rattle.vt_layer_laws.specs.Layers.Shown.{IsShown}
-use Rattle.vt_layer_laws.proofs.ShownAtPath.{computed, none_is_some, some_is_one}
+use Rattle.vt_layer_laws.proofs.ShownAtPath.{computed}
+use Rattle.std.proofs.lemmas.Bool.{or_right}
+use Rattle.std.proofs.lemmas.Option.{same_Some}
+use Rattle.vt_spec.proofs.Options.{none_is_some, option_and_then-Some}
 
 abbrev pub is_name : List ℕ → List ℕ → Bool
 is_name name other = eq_by_cmp name_cmp name other
@@ -39,11 +42,7 @@ name_found name (other ∷ names) zero h e =
     ap (λ n. is_name name n || list_any (is_name name) names) e
     ∙ ap (λ b. b || list_any (is_name name) names) (is_itself name)
 name_found name (other ∷ names) (suc k) h e =
-    right (is_name name other) (list_any (is_name name) names) (name_found name names k (omega arith) e)
-  where
-    right : (a b : Bool) → b ≡ true → (a || b) ≡ true
-    right true b e = refl
-    right false b e = e
+    or_right (is_name name other) (list_any (is_name name) names) (name_found name names k (omega arith) e)
 
 -- of the names that pass a test, those that are there
 filtered : (test : List ℕ → Bool) (name : List ℕ) (names : List (List ℕ))
@@ -51,10 +50,6 @@ filtered : (test : List ℕ → Bool) (name : List ℕ) (names : List (List ℕ)
 filtered test name [] = refl
 filtered test name (other ∷ names) = by (is_name name other) refl (test other) refl (filtered test name names)
   where
-    right_true : (a b : Bool) → b ≡ true → (a || b) ≡ true
-    right_true true b e = refl
-    right_true false b e = e
-
     by : (b : Bool) → is_name name other ≡ b → (t : Bool) → test other ≡ t
         → list_any (is_name name) (filter test names) ≡ (list_any (is_name name) names && test name)
         → list_any (is_name name) (cond t (other ∷ filter test names) (filter test names))
@@ -98,26 +93,18 @@ name_of_layer [] path name depth layer e h = none_is_some layer e
 name_of_layer (top ∷ lower) path name zero layer e h =
     all_put name (entries_in (node_at_path top path)) (names_at lower path)
     ∙ ap (λ b. b || is_some (entry_named name (names_at lower path)))
-    (ap (λ l. is_some (entry_named name (entries_in (node_at_path l path)))) (some_is_one top layer e) ∙ h)
+    (ap (λ l. is_some (entry_named name (entries_in (node_at_path l path)))) (same_Some top layer e) ∙ h)
 name_of_layer (top ∷ lower) path name (suc depth) layer e h =
     all_put name (entries_in (node_at_path top path)) (names_at lower path)
-    ∙ right (is_some (entry_named name (entries_in (node_at_path top path))))
+    ∙ or_right (is_some (entry_named name (entries_in (node_at_path top path))))
     (is_some (entry_named name (names_at lower path)))
     (name_of_layer lower path name depth layer e h)
-  where
-    right : (a b : Bool) → b ≡ true → (a || b) ≡ true
-    right true b e = refl
-    right false b e = e
 
 -- names lead through the place that all but the last lead to
 pub last_name : (tree : Tree ℕ) (from : ℕ) (path : List (List ℕ)) (name : List ℕ)
     → led tree from (path ++ name ∷ [])
     ≡ option_and_then (λ directory. entry_at tree directory name) (led tree from path)
-last_name tree from [] name = by (entry_at tree from name)
-  where
-    by : (o : Option ℕ) → option_and_then (λ next. Some next) o ≡ o
-    by None = refl
-    by (Some next) = refl
+last_name tree from [] name = option_and_then-Some (entry_at tree from name)
 last_name tree from (first ∷ path) name = by (entry_at tree from first) (λ next. last_name tree next path name)
   where
     by : (o : Option ℕ) → ((next : ℕ)

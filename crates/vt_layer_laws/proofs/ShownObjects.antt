@@ -8,9 +8,12 @@ use Rattle.vt_spec.specs.Machine.Layers.{OpenLayer, Shown, names_shown, paths_fr
 use Rattle.vt_spec.specs.Lists.{place_from}
 use Rattle.vt_spec.specs.Machine.Merging.{Merged, is_one_inode, merged_at, merged_objects, real_object, same_path, same_real}
 use Rattle.vt_spec.specs.Machine.World.Real.{Upper}
-use Rattle.vt_layer_laws.proofs.ShownAtPath.{computed, none_is_some, some_is_one}
+use Rattle.vt_layer_laws.proofs.ShownAtPath.{computed}
 use Rattle.vt_layer_laws.proofs.ShownDirectories.{AreOpen, append_assoc, shown_in_directory}
 use Rattle.vt_layer_laws.proofs.ShownNames.{names_are_those_shown}
+use Rattle.std.proofs.lemmas.List.{append-nil}
+use Rattle.std.proofs.lemmas.Option.{same_Some}
+use Rattle.vt_spec.proofs.Options.{none_is_some}
 
 -- an element of a list
 abbrev pub Among : {A : Type 0} → List A → A → Type 0
@@ -22,7 +25,7 @@ module _ {B : Type 0} where
       → Among (cons_option o list) b
   among_cons_option None list b (inl e) = none_is_some b e
   among_cons_option None list b (inr a) = a
-  among_cons_option (Some c) list b (inl e) = inl (some_is_one c b e)
+  among_cons_option (Some c) list b (inl e) = inl (same_Some c b e)
   among_cons_option (Some c) list b (inr a) = inr a
 
   from_cons_option : (o : Option B) (list : List B) (b : B) → Among (cons_option o list) b → (o ≡ Some b) ⊎ Among list b
@@ -156,11 +159,7 @@ module _ (layers : List (OpenLayer ℕ)) (are_open : AreOpen layers) where
   -- at each front of a path at which something is shown, something is shown
   pub shown_before : (path rest : List (List ℕ)) (seen : Shown ℕ) → shown layers (path ++ rest) ≡ Some seen
       → is_some (shown layers path) ≡ true
-  shown_before path [] seen e = ap is_some (ap (shown layers) (sym (append_nil path)) ∙ e)
-    where
-      append_nil : (p : List (List ℕ)) → p ++ [] ≡ p
-      append_nil [] = refl
-      append_nil (name ∷ p) = ap (λ q. name ∷ q) (append_nil p)
+  shown_before path [] seen e = ap is_some (ap (shown layers) (sym (append-nil path)) ∙ e)
   shown_before path (name ∷ rest) seen e =
       by (shown layers (path ++ name ∷ [])) refl
       (shown_before (path ++ name ∷ []) rest seen (ap (shown layers) (append_assoc path (name ∷ []) rest) ∙ e))
@@ -221,7 +220,7 @@ module _ (layers : List (OpenLayer ℕ)) (are_open : AreOpen layers) where
             → shown layers object.path ≡ Some object.seen
         by path None s e = none_is_some object e
         by path (Some seen) s e = subst (λ m. shown layers m.path ≡ Some m.seen)
-            (some_is_one (record { path = path; seen = seen }) object e) s
+            (same_Some (record { path = path; seen = seen }) object e) s
 
 -- two objects that are one inode are the same in their layer, and have one real object
 pub record IsOne (has_upper : Bool) (a b : Merged ℕ) : Type 0 where
@@ -234,7 +233,7 @@ is_one layers has_upper a b s t e = by has_upper refl a.seen.layer refl b.seen.l
   where
     by_path : a.path ≡ b.path → IsOne has_upper a b
     by_path same =
-        let seen = some_is_one a.seen b.seen (sym s ∙ ap (shown layers) same ∙ t) in
+        let seen = same_Some a.seen b.seen (sym s ∙ ap (shown layers) same ∙ t) in
         let whole : a ≡ b = λ i. record { path = same i; seen = seen i } in
         record { seen = seen; real = ap (λ m. real_object has_upper m.seen.layer m) whole }
 

@@ -5,11 +5,12 @@ use Rattle.vt_spec.specs.Lists.{last_or}
 use Rattle.vt_spec.specs.Machine.Merging.{is_root_path}
 use Rattle.vt_spec.specs.Tree.{Tree}
 use Rattle.vt_spec.specs.TreeLaws.{IsDirectory, IsTree, entry_at, led}
-use Rattle.vt_layer_laws.proofs.ShownAtPath.{none_is_some, some_is_one}
 use Rattle.vt_layer_laws.proofs.ShownDirectories.{last_of}
 use Rattle.vt_layer_laws.proofs.ShownNames.{last_name}
 use Rattle.vt_layer_laws.proofs.UpperChain.{one_depth}
 use Rattle.vt_layer_laws.proofs.UpperLine.{ReachedIn, has_entries, is_reached_in}
+use Rattle.std.proofs.lemmas.Option.{same_Some}
+use Rattle.vt_spec.proofs.Options.{none_is_some}
 
 pub not_empty : (name : List ℕ) (path : List (List ℕ)) → name ∷ path ≢ []
 not_empty name path e = true≢false (ap (λ l. elim l as (λ _. Bool) [ [] ↦ false | a ∷ b ↦ true ]) e)
@@ -34,13 +35,13 @@ module _ (tree : Tree ℕ) (conditions : IsTree tree) (start : ℕ) where
   reached_by : (names : List (List ℕ)) (steps from to : ℕ) → ReachedIn tree steps from → led tree from names ≡ Some to
       → IsDirectory tree to → ReachedIn tree (steps + length names) to
   reached_by [] steps from to r e d =
-      subst (λ n. ReachedIn tree n to) (omega arith) (subst (ReachedIn tree steps) (some_is_one from to e) r)
+      subst (λ n. ReachedIn tree n to) (omega arith) (subst (ReachedIn tree steps) (same_Some from to e) r)
   reached_by (name ∷ names) steps from to r e d =
       subst (λ n. ReachedIn tree n to) (omega arith)
       (by (entry_at tree from name) refl e (λ next. reached_by names (suc steps) next to))
     where
       is_there : (names : List (List ℕ)) (next : ℕ) → led tree next names ≡ Some to → IsDirectory tree next
-      is_there [] next e = subst (IsDirectory tree) (sym (some_is_one next to e)) d
+      is_there [] next e = subst (IsDirectory tree) (sym (same_Some next to e)) d
       is_there (name ∷ names) next e = step (entry_at tree next name) refl e
         where
           step : (o : Option ℕ) → entry_at tree next name ≡ o → option_and_then (λ n. led tree n names) o ≡ Some to
@@ -73,12 +74,12 @@ module _ (tree : Tree ℕ) (conditions : IsTree tree) (start : ℕ) where
   one_length [] (name ∷ b) to e f d =
       let deep = depth_of_led (name ∷ b) to (not_empty name b) f d in
       let same = one_depth files conditions deep.0 (deep.0 + length (name ∷ b)) to
-      (subst (ReachedIn tree deep.0) (some_is_one start to e) deep.1) deep.2 in
+      (subst (ReachedIn tree deep.0) (same_Some start to e) deep.1) deep.2 in
       let no : ⊥ = omega arith in absurd no
   one_length (name ∷ a) [] to e f d =
       let deep = depth_of_led (name ∷ a) to (not_empty name a) e d in
       let same = one_depth files conditions deep.0 (deep.0 + length (name ∷ a)) to
-      (subst (ReachedIn tree deep.0) (some_is_one start to f) deep.1) deep.2 in
+      (subst (ReachedIn tree deep.0) (same_Some start to f) deep.1) deep.2 in
       let no : ⊥ = omega arith in absurd no
   one_length (name ∷ a) (other ∷ b) to e f d =
       let deep = depth_of_led (name ∷ a) to (not_empty name a) e d in

@@ -10,13 +10,15 @@ use Rattle.vt_spec.specs.Rights.{is_directory}
 use Rattle.vt_spec.specs.Tree.{Content, Entries, Node, Tree, entries_in, entries_of, entry_named, kind_of}
 use Rattle.vt_spec.specs.Tree.Content.{Directory, Regular, Symlink, Whiteout}
 use Rattle.vt_spec.specs.TreeLaws.{entry_at, led}
-use Rattle.vt_layer_laws.proofs.ShownAtPath.{computed, none_is_some, some_is_one}
+use Rattle.vt_layer_laws.proofs.ShownAtPath.{computed}
 use Rattle.vt_layer_laws.proofs.ShownDirectories.{AreOpen, last_of, shown_in_directory}
 use Rattle.vt_layer_laws.proofs.ShownMerged.{HasInode, LeadsTo, entry_leads, has_inode, in_layer, inodes, layer_node_of, node_of, number, objects, one_directory}
 use Rattle.vt_layer_laws.proofs.ShownNames.{last_name}
 use Rattle.vt_layer_laws.proofs.ShownObjects.{is_object, one_itself}
 use Rattle.vt_layer_laws.proofs.ShownPaths.{length_longer, not_empty}
 use Rattle.vt_layer_laws.proofs.ShownWhole.{same_merged}
+use Rattle.std.proofs.lemmas.Option.{same_Some}
+use Rattle.vt_spec.proofs.Options.{none_is_some}
 
 module _ (layers : List (OpenLayer ℕ)) (are_open : AreOpen layers) (longest : ℕ)
     (bounded : (path : List (List ℕ)) (seen : Shown ℕ) → shown layers path ≡ Some seen → length path ≤ longest)
@@ -82,7 +84,7 @@ module _ (layers : List (OpenLayer ℕ)) (are_open : AreOpen layers) (longest : 
       → is_directory (kind_of inode.node.content) ≡ true
   directory_above path name seen s inode below t =
       let shows = shown_in_directory layers are_open 0 path name below t in
-      let same = some_is_one seen (record { layer = 0 + shows.place; object = shows.object }) (sym s ∙ shows.is) in
+      let same = same_Some seen (record { layer = 0 + shows.place; object = shows.object }) (sym s ∙ shows.is) in
       let place : 0 + shows.place ≡ shows.place = omega arith in
       by shows.layer (shows.layer.tree.node shows.object) shows.directory
       (sym inode.seen ∙ ap (layer_node layers) same
@@ -170,7 +172,7 @@ module _ (layers : List (OpenLayer ℕ)) (are_open : AreOpen layers) (longest : 
   no_white path seen s inode =
       let shows = (computed layers path seen).0 s in
       let here = in_layer layers are_open longest bounded fresh distinct has_upper (object_at path seen) s in
-      let node = some_is_one here.node inode.node
+      let node = same_Some here.node inode.node
       (sym (layer_node_of layers are_open longest bounded fresh distinct has_upper (object_at path seen) here)
       ∙ inode.seen) in
       shows.no_whiteout inode.node (
@@ -208,5 +210,5 @@ module _ (layers : List (OpenLayer ℕ)) (are_open : AreOpen layers) (longest : 
       by None s found = none_is_some n (sym found ∙ e)
       by (Some seen) s found =
           let inode = inode_at path seen s in
-          ap (real_of nat_eq made) (some_is_one n (num (object_at path seen)) (sym e ∙ found))
+          ap (real_of nat_eq made) (same_Some n (num (object_at path seen)) (sym e ∙ found))
           ∙ inode.real ∙ ap Some (sym inode.one.real)

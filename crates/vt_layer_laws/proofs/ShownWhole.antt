@@ -1,9 +1,7 @@
 -- A merged tree has no whiteout and no mark, and two inodes of it have two real objects, which are there.
 use Rattle.std.proofs.Common.{◌≡◌, ◌≢◌, ◌≤◌, inl, inr, refl, sym, ap, subst, ◌∙◌, true≢false, ℕ, zero, suc, nat_eq, eqb-true, Bool, true, false, cond, List, [], ◌∷◌, length, Option, Some, None, is_some, slice_get, unwrap_or}
 use Rattle.std.specs.List.{find}
-use Rattle.std.specs.Cmp.Lexicographic.{bytes_decides}
 use Rattle.std.specs.Prelude.{option_map}
-use Rattle.std.specs.Str.{bytes_eq}
 use Rattle.vt_spec.specs.declared.attributes.Kind.TheVariants.{White}
 use Rattle.vt_spec.specs.FileTree.{is_kind, is_kind_in, is_opaque_in, opaque_of}
 use Rattle.vt_spec.specs.Machine.Layers.{OpenLayer, Shown, node_at_path, shown}
@@ -14,10 +12,13 @@ use Rattle.vt_spec.specs.Machine.Invariants.{SameObject, same_content}
 use Rattle.vt_spec.specs.Machine.World.Real.{Below, Upper}
 use Rattle.vt_spec.specs.Tree.{Content, Node, kind_of}
 use Rattle.vt_spec.specs.Tree.Content.{Directory, Regular, Symlink, Whiteout}
-use Rattle.vt_layer_laws.proofs.ShownAtPath.{computed, none_is_some, some_is_one}
+use Rattle.vt_layer_laws.proofs.ShownAtPath.{computed}
 use Rattle.vt_layer_laws.proofs.ShownDirectories.{AreOpen}
 use Rattle.vt_layer_laws.proofs.ShownMerged.{InLayer, in_layer, inodes, layer_node_of, node_of, number, objects}
 use Rattle.vt_layer_laws.proofs.ShownObjects.{Among, from_filter_map, object_is}
+use Rattle.std.proofs.lemmas.Option.{same_Some}
+use Rattle.vt_spec.proofs.Options.{none_is_some}
+use Rattle.vt_spec.proofs.Truths.{bytes_eq_itself}
 
 -- what is found is in the list, and passes
 pub found_in_list : {A : Type 0} (test : A → Bool) (list : List A) (a : A) → find test list ≡ Some a
@@ -27,7 +28,7 @@ found_in_list test (first ∷ list) a e = by (test first) refl e (found_in_list 
   where
     by : (b : Bool) → test first ≡ b → cond b (Some first) (find test list) ≡ Some a
         → (find test list ≡ Some a → Among list a × (test a ≡ true)) → Among (first ∷ list) a × (test a ≡ true)
-    by true t e rest = let same = some_is_one first a e in (inl same, ap test (sym same) ∙ t)
+    by true t e rest = let same = same_Some first a e in (inl same, ap test (sym same) ∙ t)
     by false t e rest = let later = rest e in (inr later.0, later.1)
 
 -- the inode behind a real object, in these layers
@@ -80,7 +81,7 @@ module _ (layers : List (OpenLayer ℕ)) (are_open : AreOpen layers) (longest : 
           → InLayer layers are_open longest bounded fresh distinct has_upper object → nat_eq n inode.number ≡ true
           → IsOfObject n inode
       by object among m layer passes =
-          let same = some_is_one (of object layer.node) inode
+          let same = same_Some (of object layer.node) inode
           (sym (ap (option_map (of object))
           (layer_node_of layers are_open longest bounded fresh distinct has_upper object layer)) ∙ m) in
           record {
@@ -120,14 +121,11 @@ module _ (layers : List (OpenLayer ℕ)) (are_open : AreOpen layers) (longest : 
   mark_merged path (Symlink text) = refl
   mark_merged path Whiteout = refl
 
-  same_bytes : (bytes : List ℕ) → bytes_eq bytes bytes ≡ true
-  same_bytes bytes = (bytes_decides bytes bytes).1 refl
-
   pub same_merged : (path : List (List ℕ)) (content : Content ℕ) → content ≢ Whiteout
       → same_content (merged_content nat_eq fresh has_upper all path content) content ≡ true
   same_merged path (Directory parent entries opaque) n = refl
-  same_merged path (Regular bytes) n = same_bytes bytes
-  same_merged path (Symlink text) n = same_bytes text
+  same_merged path (Regular bytes) n = bytes_eq_itself bytes
+  same_merged path (Symlink text) n = bytes_eq_itself text
   same_merged path Whiteout n = absurd (n refl)
 
   pub merged_no_whiteout : (n : ℕ) → is_kind_in White (nodes n) ≡ false
@@ -170,7 +168,7 @@ module _ (layers : List (OpenLayer ℕ)) (are_open : AreOpen layers) (longest : 
             object = is.object;
             layer = is.layer;
             numbered = is.numbered;
-            is = some_is_one real inode.real
+            is = same_Some real inode.real
                 (sym e) ∙ is.real;
           }
 
@@ -249,8 +247,8 @@ module _ (layers : List (OpenLayer ℕ)) (are_open : AreOpen layers) (longest : 
         hu,
         λ layer there.
             ap (λ l. is_some (l.tree.node object))
-            (some_is_one layer here.layer (sym there ∙ ap (slice_get layers) (sym lm) ∙ here.there))
-            ∙ ap (λ o. is_some (here.layer.tree.node o)) (some_is_one object m.seen.object (ap upper_in r))
+            (same_Some layer here.layer (sym there ∙ ap (slice_get layers) (sym lm) ∙ here.there))
+            ∙ ap (λ o. is_some (here.layer.tree.node o)) (same_Some object m.seen.object (ap upper_in r))
             ∙ ap is_some here.is,
       )
       by m here true hu (suc l) lm r = none_is_some object (sym (ap upper_in r))

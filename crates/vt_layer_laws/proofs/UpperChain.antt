@@ -7,7 +7,8 @@ use Rattle.vt_spec.specs.Machine.Invariants.{ListsNumbers}
 use Rattle.vt_spec.specs.Tree.{parent_in}
 use Rattle.vt_spec.specs.TreeLaws.{IsTree}
 use Rattle.vt_spec.proofs.Nodes.{directory_used}
-use Rattle.vt_layer_laws.proofs.UpperLine.{ReachedIn, entry_to, reached_directory}
+use Rattle.vt_layer_laws.proofs.UpperLine.{ReachedIn, reached_directory}
+use Rattle.vt_spec.proofs.NodeChanges.{entry_to}
 
 -- No more distinct numbers than a list that has them all.
 abbrev Distinct : List ℕ → Type 0

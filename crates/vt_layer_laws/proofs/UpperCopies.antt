@@ -13,9 +13,9 @@ use Rattle.vt_spec.specs.Tree.{Node, node_with_entry}
 use Rattle.vt_spec.specs.TreeLaws.{IsTree}
 use Rattle.vt_spec.proofs.Nodes.{directory_used}
 use Rattle.vt_layer_laws.proofs.LowersKept.{kept_elsewhere}
-use Rattle.vt_layer_laws.proofs.ShownAtPath.{some_is_one}
 use Rattle.vt_layer_laws.proofs.UpperChain.{depth_bound, up_at_root, up_from}
 use Rattle.vt_layer_laws.proofs.UpperLine.{ReachedIn, is_reached_in, named_so, reached_directory}
+use Rattle.std.proofs.lemmas.Option.{same_Some}
 
 -- an inode of the overlay has a real object in the upper layer
 abbrev pub HasUpper : (ℕ → Option (Real ℕ)) → ℕ → Type 0
@@ -77,7 +77,7 @@ module _ (files : FileTree ℕ) (tree : IsTree files.tree) (numbers : ListsNumbe
       with_copy u number n = with_inode nat_eq u number n
 
       real_new : (number : ℕ) (b : Bool) → upper_object (cond b (Some (Upper copy)) (real number)) ≢ Some inode
-      real_new number true e = new (sym (some_is_one copy inode e))
+      real_new number true e = new (sym (same_Some copy inode e))
       real_new number false e = fine.apart number e
 
       grown : (number : ℕ) (b : Bool) → HasUpper real number
@@ -208,10 +208,10 @@ module _ (files : FileTree ℕ) (tree : IsTree files.tree) (numbers : ListsNumbe
           (line_arrives fresh new 0 real upper fine reached.0 (length files.numbers) name.0 reached.1
           (depth_bound files tree numbers reached.0 name.0 reached.1))
           there
-          (λ other is. ap (λ n. n.0) (some_is_one other name (sym is ∙ e)))
+          (λ other is. ap (λ n. n.0) (same_Some other name (sym is ∙ e)))
           last.0 in
           subst (λ m. ArrivesWithParent real m object) (sym last.1) (record {
             arrives = both.arrives;
             parent = λ other is. subst (HasUpper both.arrives.real)
-                (ap (λ n. n.0) (some_is_one name other (sym e ∙ is))) both.first;
+                (ap (λ n. n.0) (same_Some name other (sym e ∙ is))) both.first;
           })

@@ -7,45 +7,26 @@ use Rattle.vt_spec.specs.Lists.{Fresh, holds_of, then_some}
 use Rattle.vt_spec.specs.Machine.Merging.{layer_node, real_object}
 use Rattle.vt_spec.specs.Machine.World.{Filesystem, Layer, Overlay, Real, World, filesystem_numbered, open_layer, upper_object}
 use Rattle.vt_spec.specs.Machine.World.Real.{Below, Upper}
-use Rattle.vt_spec.specs.Machine.Invariants.{IsWorld, SameObject, is_there, number_at_path, same_content}
-use Rattle.vt_spec.specs.Rights.{is_directory}
-use Rattle.vt_spec.specs.Tree.{Content, Node, is_directory_node, kind_of}
-use Rattle.vt_spec.specs.Tree.Content.{Directory, Regular, Symlink, Whiteout}
+use Rattle.vt_spec.specs.Machine.Invariants.{IsWorld, SameObject, is_there, number_at_path}
+use Rattle.vt_spec.specs.Tree.{Node, is_directory_node}
 use Rattle.vt_layer_laws.specs.Layers.ChangesUpper.{IsFitToChange}
 use Rattle.vt_layer_laws.specs.Layers.Untouched.{inode_in}
-use Rattle.vt_layer_laws.proofs.ShownAtPath.{none_is_some, some_is_one}
 use Rattle.vt_layer_laws.proofs.UpperWorld.{above_upper, one_below, overlay_merges, overlay_numbers, overlay_tree, real_named, root_is_upper}
+use Rattle.std.proofs.lemmas.Option.{same_Some}
+use Rattle.vt_spec.proofs.NodeChanges.{same_content_kind}
+use Rattle.vt_spec.proofs.Options.{none_is_some}
 
 -- an upper object is a real one
 upper_is : (real : Option (Real ℕ)) (object : ℕ) → upper_object real ≡ Some object → real ≡ Some (Upper object)
 upper_is None object e = none_is_some object e
-upper_is (Some (Upper other)) object e = ap (λ o. Some (Upper o)) (some_is_one other object e)
+upper_is (Some (Upper other)) object e = ap (λ o. Some (Upper o)) (same_Some other object e)
 upper_is (Some (Below layer path)) object e = none_is_some object e
-
--- inodes of one content are of one kind
-same_kind : (a b : Content ℕ) → same_content a b ≡ true → is_directory (kind_of a) ≡ is_directory (kind_of b)
-same_kind (Directory parent entries opaque) (Directory other_parent other_entries other_opaque) e = refl
-same_kind (Directory parent entries opaque) (Regular bytes) e = absurd (true≢false (sym e))
-same_kind (Directory parent entries opaque) (Symlink text) e = absurd (true≢false (sym e))
-same_kind (Directory parent entries opaque) Whiteout e = absurd (true≢false (sym e))
-same_kind (Regular bytes) (Directory parent entries opaque) e = absurd (true≢false (sym e))
-same_kind (Regular bytes) (Regular other) e = refl
-same_kind (Regular bytes) (Symlink text) e = refl
-same_kind (Regular bytes) Whiteout e = refl
-same_kind (Symlink text) (Directory parent entries opaque) e = absurd (true≢false (sym e))
-same_kind (Symlink text) (Regular bytes) e = refl
-same_kind (Symlink text) (Symlink other) e = refl
-same_kind (Symlink text) Whiteout e = refl
-same_kind Whiteout (Directory parent entries opaque) e = absurd (true≢false (sym e))
-same_kind Whiteout (Regular bytes) e = refl
-same_kind Whiteout (Symlink text) e = refl
-same_kind Whiteout Whiteout e = refl
 
 pub same_directory : (a b : Option (Node ℕ)) → SameObject a b → is_directory_node b ≡ is_directory_node a
 same_directory None None same = refl
 same_directory None (Some other) same = absurd same
 same_directory (Some node) None same = absurd same
-same_directory (Some node) (Some other) same = sym (same_kind node.content other.content same.1)
+same_directory (Some node) (Some other) same = sym (same_content_kind node.content other.content same.1)
 
 module _ (world : World ℕ) (conditions : IsWorld nat_eq world) (number : ℕ) (overlay : Overlay ℕ)
     (is : (filesystem_numbered nat_eq world number).overlay ≡ Some overlay) (upper : Layer ℕ)
@@ -79,7 +60,7 @@ module _ (world : World ℕ) (conditions : IsWorld nat_eq world) (number : ℕ) 
           ≡ Some object → SameObject (merged.files.tree.node inode)
           (layer_node (top ∷ lower) (record { layer = layer; object = found }))
           → is_directory_node (top.tree.node object) ≡ is_directory_node (merged.files.tree.node inode)
-      seen_so zero found u same = ap (λ o. is_directory_node (top.tree.node o)) (sym (some_is_one found object u))
+      seen_so zero found u same = ap (λ o. is_directory_node (top.tree.node o)) (sym (same_Some found object u))
           ∙ same_directory (merged.files.tree.node inode) (top.tree.node found) same
       seen_so (suc layer) found u same = none_is_some object u
 

@@ -3,24 +3,24 @@
 use Rattle.std.proofs.Common.{◌≡◌, refl, sym, ap, ◌∙◌, true≢false, ℕ, zero, suc, nat_eq, eqb-true, Bool, true, false, cond, not, ◌||◌, List, [], ◌∷◌, ◌++◌, map, Option, Some, None, is_some, option_and_then}
 use Rattle.std.specs.List.{cons_option, filter_map, find, list_any}
 use Rattle.std.specs.Prelude.{option_map}
-use Rattle.vt_spec.specs.declared.attributes.Kind.TheVariants.{White}
-use Rattle.vt_spec.specs.FileTree.{FileTree, a_name, is_kind, is_kind_in, name_in}
+use Rattle.vt_spec.specs.FileTree.{FileTree, a_name, name_in}
 use Rattle.vt_spec.specs.Machine.Layers.{OpenLayer, Shown, at_path, shown}
 use Rattle.vt_spec.specs.Lists.{first_of_list, front_of, then_some}
 use Rattle.vt_spec.specs.Machine.Merging.{merged_at, real_object}
 use Rattle.vt_spec.specs.Machine.World.{Real, upper_object}
 use Rattle.vt_spec.specs.Machine.World.Real.{Below, Upper}
 use Rattle.vt_spec.specs.Machine.Invariants.{ListsNumbers}
-use Rattle.vt_spec.specs.Rights.{is_directory}
-use Rattle.vt_spec.specs.Tree.{Content, Entries, Node, Tree, entries_in, is_directory_node, kind_of}
-use Rattle.vt_spec.specs.Tree.Content.{Directory, Regular, Symlink, Whiteout}
+use Rattle.vt_spec.specs.Tree.{Entries, Tree, entries_in}
 use Rattle.vt_spec.specs.TreeLaws.{IsDirectory, entry_at, led}
 use Rattle.vt_spec.proofs.Nodes.{directory_used}
 use Rattle.vt_spec.proofs.Trees.{led-append}
 use Rattle.vt_layer_laws.specs.Layers.Shown.{IsShown}
-use Rattle.vt_layer_laws.proofs.ShownAtPath.{computed, none_is_some, some_is_one}
+use Rattle.vt_layer_laws.proofs.ShownAtPath.{computed}
 use Rattle.vt_layer_laws.proofs.ShownNames.{last_name}
-use Rattle.vt_layer_laws.proofs.UpperLine.{ReachedIn, entry_to, has_entries}
+use Rattle.vt_layer_laws.proofs.UpperLine.{ReachedIn, has_entries}
+use Rattle.std.proofs.lemmas.Option.{same_Some}
+use Rattle.vt_spec.proofs.NodeChanges.{directory_no_whiteout, entry_to}
+use Rattle.vt_spec.proofs.Options.{none_is_some}
 
 -- names lead to what is reached
 pub way_to : (tree : Tree ℕ) (steps directory : ℕ) → ReachedIn tree steps directory
@@ -89,17 +89,6 @@ has_a_name files numbers directory name object e =
         by false t e rest = later (name_in nat_eq files object number) (filter_map (name_in nat_eq files object) list)
             (rest e)
 
--- a directory is no whiteout
-no_whiteout : (node : Option (Node ℕ)) → is_directory_node node ≡ true → is_kind_in White node ≡ false
-no_whiteout None d = refl
-no_whiteout (Some node) d = by node.content d
-  where
-    by : (content : Content ℕ) → is_directory (kind_of content) ≡ true → is_kind White (kind_of content) ≡ false
-    by (Directory parent entries opaque) d = refl
-    by (Regular bytes) d = refl
-    by (Symlink text) d = refl
-    by Whiteout d = absurd (true≢false (sym d))
-
 -- Layers with an upper one on top
 module _ (top : OpenLayer ℕ) (lower : List (OpenLayer ℕ)) where
   abbrev pub real_at : List (List ℕ) → Option (Real ℕ)
@@ -115,7 +104,7 @@ module _ (top : OpenLayer ℕ) (lower : List (OpenLayer ℕ)) where
       (Rattle.vt_spec.specs.Machine.Layers.cuts top path)
       (Rattle.vt_spec.specs.Machine.Layers.shown_from 1 lower path)) e
       ∙ ap (λ b. Rattle.vt_spec.specs.Lists.when (not b) (record { layer = 0; object = directory }))
-      (no_whiteout (top.tree.node directory) d))
+      (directory_no_whiteout (top.tree.node directory) d))
 
   -- what the upper layer shows at a path with one name more is in a directory of the upper layer
   pub real_is_upper : (path : List (List ℕ)) (name : List ℕ)
@@ -138,7 +127,7 @@ module _ (top : OpenLayer ℕ) (lower : List (OpenLayer ℕ)) where
       seen_by zero object is h =
           in_upper (at_path top path) refl object
           (sym (last_name top.tree top.directory path name)
-          ∙ ap (λ l. at_path l (path ++ name ∷ [])) (some_is_one top is.has_uncut.0.0 is.has_uncut.0.1)
+          ∙ ap (λ l. at_path l (path ++ name ∷ [])) (same_Some top is.has_uncut.0.0 is.has_uncut.0.1)
           ∙ is.has_uncut.0.2)
       seen_by (suc layer) object is h = absurd (true≢false (sym h))
 

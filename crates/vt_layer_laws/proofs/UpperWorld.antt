@@ -25,11 +25,13 @@ use Rattle.vt_layer_laws.specs.Layers.Untouched.{IsKept, inode_in}
 use Rattle.vt_layer_laws.specs.Layers.Upper.{IsUpperObject, SpeaksOfWhatIsThere}
 use Rattle.vt_layer_laws.proofs.LowersKept.{kept_same}
 use Rattle.vt_layer_laws.proofs.LowersWorld.{filesystem_elsewhere, filesystem_there, number_of_filesystem}
-use Rattle.vt_layer_laws.proofs.ShownAtPath.{none_is_some, some_is_one}
 use Rattle.vt_layer_laws.proofs.UpperChanges.{changes_keep}
 use Rattle.vt_layer_laws.proofs.UpperCopies.{HasUpper}
-use Rattle.vt_layer_laws.proofs.UpperLine.{and_first, and_second, is_reached_in, named_so}
+use Rattle.vt_layer_laws.proofs.UpperLine.{is_reached_in, named_so}
 use Rattle.vt_layer_laws.proofs.UpperShown.{below_is_at, front_of_longer, has_a_name, real_at, real_is_upper, upper_is_real, way_to}
+use Rattle.std.proofs.lemmas.Option.{same_Some}
+use Rattle.vt_spec.proofs.Options.{none_is_some}
+use Rattle.vt_spec.proofs.Truths.{and_true_left, and_true_right}
 
 -- What holds of each filesystem of a list holds of the one that is found.
 pub all_found : (P : Filesystem ℕ → Type 0) (test : Filesystem ℕ → Bool) (list : List (Filesystem ℕ)) → All P list
@@ -41,7 +43,7 @@ all_found P test (first ∷ list) all filesystem e =
   where
     by : (b : Bool) → cond b (Some first) (find test list) ≡ Some filesystem
         → (find test list ≡ Some filesystem → P filesystem) → P filesystem
-    by true e rest = subst P (some_is_one first filesystem e)
+    by true e rest = subst P (same_Some first filesystem e)
         (all 0 first (let l : 0 < suc (length list) = omega arith in l))
     by false e rest = rest e
 
@@ -49,12 +51,12 @@ all_pass_found : (passes test : Filesystem ℕ → Bool) (list : List (Filesyste
     → (filesystem : Filesystem ℕ) → find test list ≡ Some filesystem → passes filesystem ≡ true
 all_pass_found passes test [] all filesystem e = none_is_some filesystem e
 all_pass_found passes test (first ∷ list) all filesystem e =
-    by (test first) e (all_pass_found passes test list (and_second (passes first) _ all) filesystem)
+    by (test first) e (all_pass_found passes test list (and_true_right (passes first) _ all) filesystem)
   where
     by : (b : Bool) → cond b (Some first) (find test list) ≡ Some filesystem
         → (find test list ≡ Some filesystem → passes filesystem ≡ true) → passes filesystem ≡ true
-    by true e rest = ap passes (sym (some_is_one first filesystem e))
-        ∙ and_first (passes first) (list_all passes list) all
+    by true e rest = ap passes (sym (same_Some first filesystem e))
+        ∙ and_true_left (passes first) (list_all passes list) all
     by false e rest = rest e
 
 -- an overlay is there
@@ -108,8 +110,8 @@ module _ (world : World ℕ) (conditions : IsWorld nat_eq world) (number : ℕ) 
     where
       has_lowers : not (is_empty_list overlay.lowers) ≡ true
       has_lowers =
-          and_first (not (is_empty_list overlay.lowers)) (nat_le (length overlay.lowers) most_lowers)
-          (and_first (not (is_empty_list overlay.lowers) && nat_le (length overlay.lowers) most_lowers)
+          and_true_left (not (is_empty_list overlay.lowers)) (nat_le (length overlay.lowers) most_lowers)
+          (and_true_left (not (is_empty_list overlay.lowers) && nat_le (length overlay.lowers) most_lowers)
           (same_bool (is_some overlay.upper) (is_some overlay.work))
           (sym (ap (overlay_or true has_fit_layers) is)
           ∙ all_pass_found (of_overlay true has_fit_layers)
@@ -126,16 +128,16 @@ module _ (world : World ℕ) (conditions : IsWorld nat_eq world) (number : ℕ) 
           → list_all (is_plain_layer nat_eq world) (first ++ last) ≡ true
       without_middle [] [] last e = e
       without_middle [] (layer ∷ middle) last e =
-          without_middle [] middle last (and_second (is_plain_layer nat_eq world layer) _ e)
+          without_middle [] middle last (and_true_right (is_plain_layer nat_eq world layer) _ e)
       without_middle (layer ∷ first) middle last e =
-          let plain = and_first (is_plain_layer nat_eq world layer) _ e in
+          let plain = and_true_left (is_plain_layer nat_eq world layer) _ e in
           ap (λ b. b && list_all (is_plain_layer nat_eq world) (first ++ last)) plain
-          ∙ without_middle first middle last (and_second (is_plain_layer nat_eq world layer) _ e)
+          ∙ without_middle first middle last (and_true_right (is_plain_layer nat_eq world layer) _ e)
 
   module _ (upper : Layer ℕ) (has : overlay.upper ≡ Some upper) where
     plain_upper : is_plain_layer nat_eq world upper ≡ true
     plain_upper =
-        and_first (is_plain_layer nat_eq world upper) _
+        and_true_left (is_plain_layer nat_eq world upper) _
         (sym (ap (λ o. list_all (is_plain_layer nat_eq world)
         (option_to_list o ++ option_to_list overlay.work ++ overlay.lowers)) has) ∙ plain_layers)
 
@@ -144,7 +146,7 @@ module _ (world : World ℕ) (conditions : IsWorld nat_eq world) (number : ℕ) 
     upper_elsewhere e =
         no (is_overlay (filesystem_numbered nat_eq world upper.filesystem))
         (ap (λ n. is_some (filesystem_numbered nat_eq world n).overlay) e ∙ ap is_some is)
-        (and_first (not (is_overlay (filesystem_numbered nat_eq world upper.filesystem))) _ plain_upper)
+        (and_true_left (not (is_overlay (filesystem_numbered nat_eq world upper.filesystem))) _ plain_upper)
       where
         no : (a : Bool) → a ≡ true → not a ≡ true → ⊥
         no true e f = true≢false (sym f)
@@ -152,7 +154,7 @@ module _ (world : World ℕ) (conditions : IsWorld nat_eq world) (number : ℕ) 
 
     upper_directory : is_directory_node
         ((filesystem_numbered nat_eq world upper.filesystem).files.tree.node upper.directory) ≡ true
-    upper_directory = and_second (not (is_overlay (filesystem_numbered nat_eq world upper.filesystem))) _ plain_upper
+    upper_directory = and_true_right (not (is_overlay (filesystem_numbered nat_eq world upper.filesystem))) _ plain_upper
 
     abbrev top : OpenLayer ℕ
     top = open_layer nat_eq world upper
@@ -217,7 +219,7 @@ module _ (world : World ℕ) (conditions : IsWorld nat_eq world) (number : ℕ) 
         (shown_there (way.0 ++ old ∷ []) object here (overlay_tree.alive from old object e))
         (ap (λ o. is_some (upper_object o)) (sym (real_named (way.0 ++ old ∷ []) object here)) ∙ low)
         (sym (real_named (way.0 ++ old ∷ []) object here) ∙ real_named (way_other.0 ++ name ∷ []) object there) in
-        some_is_one from other
+        same_Some from other
         (sym way.1 ∙ ap (led files.tree files.tree.root)
         (sym (front_of_longer way.0 old) ∙ ap front_of same ∙ front_of_longer way_other.0 name) ∙ way_other.1)
 
@@ -251,7 +253,7 @@ module _ (world : World ℕ) (conditions : IsWorld nat_eq world) (number : ℕ) 
         where
           by : (o : Option (Real ℕ)) → overlay.real n ≡ o → upper_object o ≡ Some inode → ⊥
           by None r e = none_is_some inode e
-          by (Some (Upper object)) r e = not_object (n, r ∙ ap (λ o. Some (Upper o)) (some_is_one object inode e))
+          by (Some (Upper object)) r e = not_object (n, r ∙ ap (λ o. Some (Upper o)) (same_Some object inode e))
           by (Some (Below layer path)) r e = none_is_some inode e
 
       merge_keeps : IsKept before ((merge_changed nat_eq fresh (stack_of nat_eq world overlay upper)

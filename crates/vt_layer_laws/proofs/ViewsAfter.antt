@@ -17,7 +17,7 @@ use Rattle.vt_layer_laws.specs.Layers.Mounted.{IsAlike}
 use Rattle.vt_layer_laws.specs.Layers.Shown.{IsFrontOf}
 use Rattle.vt_layer_laws.specs.Layers.ShownAfter.{HidesAlike, IsOneKind, IsPlainChange, LeadAlikeTo, LinkIsShown, NewNameIsShown, ShownElsewhereStays, may_show}
 use Rattle.vt_layer_laws.specs.Layers.Views.{goes_through, names_entry, view_after, view_in}
-use Rattle.vt_layer_laws.proofs.LowersKept.{first_fails, kept_elsewhere, second_fails}
+use Rattle.vt_layer_laws.proofs.LowersKept.{kept_elsewhere}
 use Rattle.vt_layer_laws.proofs.ShownAlike.{white_alike}
 use Rattle.vt_layer_laws.proofs.ShownDirectories.{append_assoc}
 use Rattle.vt_layer_laws.proofs.ShownFronts.{cons_is_not_empty, front_found, front_passes}
@@ -25,6 +25,7 @@ use Rattle.vt_layer_laws.proofs.ViewsFronts.{hides_so, shown_below_alike}
 use Rattle.vt_layer_laws.proofs.ViewsMoves.{old_leads_nowhere}
 use Rattle.vt_layer_laws.proofs.ViewsNames.{add_name_adds_path, make_adds_inode, make_adds_path, make_is_seen, names_leave_inodes, remove_ends_paths}
 use Rattle.vt_layer_laws.proofs.ViewsStay.{attr_changes_one_inode, bytes_change_one_inode, mark_changes_one_inode}
+use Rattle.vt_spec.proofs.Truths.{or_false_left, or_false_right}
 
 -- Fronts of fronts
 
@@ -209,10 +210,10 @@ module _ (files : FileTree ℕ) (top : ℕ) where
         (fronts_fail (names_entry (view_in files top) from old) path front is no_old))
       where
         no_new : goes_through (view_in files top) to new path ≡ false
-        no_new = first_fails (goes_through (view_in files top) to new path) _ none
+        no_new = or_false_left (goes_through (view_in files top) to new path) _ none
 
         no_old : goes_through (view_in files top) from old path ≡ false
-        no_old = second_fails (goes_through (view_in files top) to new path) _ none
+        no_old = or_false_right (goes_through (view_in files top) to new path) _ none
 
         stays : (path : List (List ℕ)) → goes_through (view_in files top) to new path ≡ false
             → goes_through (view_in files top) from old path ≡ false

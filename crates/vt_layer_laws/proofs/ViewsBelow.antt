@@ -18,6 +18,7 @@ use Rattle.vt_layer_laws.proofs.ViewsFronts.{cuts_alike}
 use Rattle.vt_layer_laws.proofs.ViewsMoves.{led_parts, no_way_up, old_leads_nowhere, through_is_split}
 use Rattle.vt_layer_laws.proofs.ViewsNames.{remove_ends_paths}
 use Rattle.vt_layer_laws.proofs.ViewsWalks.{ends_in, names_it}
+use Rattle.std.proofs.Math.Bool.{or-false}
 
 -- the path of an entry is a way to its directory, and the name
 abbrev pub IsNamed : Tree ℕ → ℕ → ℕ → List ℕ → List (List ℕ) → Type 0
@@ -46,11 +47,7 @@ named_by tree directory name (word ∷ next ∷ rest) start e =
 -- the fronts of a path with a word more
 pub fronts_longer : (test : List (List ℕ) → Bool) (way : List (List ℕ)) (name : List ℕ)
     → list_any test (fronts (way ++ name ∷ [])) ≡ (list_any test (fronts way) || test (way ++ name ∷ []))
-fronts_longer test [] name = or_false (test (name ∷ []))
-  where
-    or_false : (b : Bool) → (b || false) ≡ b
-    or_false true = refl
-    or_false false = refl
+fronts_longer test [] name = or-false (test (name ∷ []))
 fronts_longer test (word ∷ way) name =
     ap (λ b. test (word ∷ []) || b) (list_any_of_map test (λ front. word ∷ front) (fronts (way ++ name ∷ []))
     ∙ fronts_longer (λ front. test (word ∷ front)) way name
@@ -75,15 +72,11 @@ shown_under before after lowers way name gone alike =
     by true lower = refl
     by false lower = refl
 
-    or_false : (b : Bool) → (b || false) ≡ b
-    or_false true = refl
-    or_false false = refl
-
     cut : cuts after (way ++ name ∷ []) ≡ cuts before (front_of (way ++ name ∷ []))
     cut =
         fronts_longer (λ front. hides (node_led after front)) way name
         ∙ ap (λ o. cuts after way || hides (then_some o after.node)) gone
-        ∙ or_false (cuts after way)
+        ∙ or-false (cuts after way)
         ∙ cuts_alike way before after alike
         ∙ ap (cuts before) (sym (front_of_longer way name))
 

@@ -3,13 +3,12 @@ use Rattle.std.proofs.Common.{◌≡◌, refl, sym, ap, ◌∙◌, true≢false,
 use Rattle.std.proofs.lemmas.Bool.Decides.{eqb_tells}
 use Rattle.std.specs.Cmp.Lexicographic.{bytes_decides, texts_ties}
 use Rattle.std.specs.Str.{bytes_eq}
-use Rattle.vt_spec.specs.Language.Changes.{changed_node, node_with_parent, node_without_entry, with_name, without_entry, without_name, without_parent}
+use Rattle.vt_spec.specs.Language.Changes.{changed_node, node_without_entry, with_name, without_name}
 use Rattle.vt_spec.specs.FileTree.{FileTree}
-use Rattle.vt_spec.specs.Tree.{Content, Node, entries_in, entries_of, entry_named, node_with_entry, with_entries}
-use Rattle.vt_spec.specs.Tree.Content.{Directory, Regular, Symlink, Whiteout}
+use Rattle.vt_spec.specs.Tree.{Node, entries_in, entry_named, node_with_entry}
 use Rattle.vt_spec.specs.TreeLaws.{IsDirectory, entry_at}
 use Rattle.vt_spec.proofs.Nodes.{entries-node_with_entry, entry_named-with_entry, entry_named-without_entry, part_kept}
-use Rattle.vt_layer_laws.proofs.CopyingNames.{parent_entries}
+use Rattle.vt_spec.proofs.NodeChanges.{entries-node_without_entry}
 
 -- the one entry
 abbrev pub is_entry : ℕ → List ℕ → ℕ → List ℕ → Bool
@@ -22,20 +21,6 @@ is_that_entry directory name other word e =
     (λ t. (t.1, (bytes_decides word name).0 (sym (ap (λ b. b && bytes_eq word name) t.0) ∙ e)))
     (λ t. absurd (true≢false (sym e ∙ ap (λ b. b && bytes_eq word name) t.0)))
     (eqb_tells other directory)
-
--- without an entry its directory has the others
-without_entries : (name : List ℕ) (o : Option (Node ℕ))
-    → entries_in (node_without_entry name o) ≡ without_entry name (entries_in o)
-without_entries name None = refl
-without_entries name (Some node) = by node.content
-  where
-    by : (content : Content ℕ)
-        → entries_of (with_entries content (without_entry name (entries_of content)))
-        ≡ without_entry name (entries_of content)
-    by (Directory parent entries opaque) = refl
-    by (Regular bytes) = refl
-    by (Symlink text) = refl
-    by Whiteout = refl
 
 module _ (files : FileTree ℕ) (directory : ℕ) (name : List ℕ) where
   -- a change of one inode that gives one of its names another meaning
@@ -84,7 +69,7 @@ module _ (files : FileTree ℕ) (directory : ℕ) (name : List ℕ) where
           → entry_named word (entries_in (node_without_entry name (files.tree.node directory)))
           ≡ cond (bytes_eq word name) None (entry_at files.tree directory word)
       told word =
-          ap (entry_named word) (without_entries name (files.tree.node directory))
+          ap (entry_named word) (entries-node_without_entry name (files.tree.node directory))
           ∙ entry_named-without_entry word name (entries_in (files.tree.node directory))
           ∙ turned (bytes_eq word name) (entry_at files.tree directory word)
 
@@ -95,9 +80,3 @@ pub entries_stay : (files : FileTree ℕ) (number : ℕ) (change : Option (Node 
     ≡ entries_in (files.tree.node other)
 entries_stay files number change same other =
     part_kept entries_in files.tree number (change (files.tree.node number)) (same (files.tree.node number)) other
-
-pub parents_aside : (files : FileTree ℕ) (object : Option ℕ) (other : ℕ)
-    → entries_in ((without_parent nat_eq files object).tree.node other) ≡ entries_in (files.tree.node other)
-parents_aside files None other = refl
-parents_aside files (Some object) other =
-    entries_stay files object (node_with_parent object) (parent_entries object) other

@@ -8,14 +8,15 @@ use Rattle.vt_spec.specs.Lists.{holds_of}
 use Rattle.vt_spec.specs.Tree.{Tree, entries_in, entry_named, is_directory_node}
 use Rattle.vt_spec.specs.TreeLaws.{IsDirectory, IsTree, entry_at, led}
 use Rattle.vt_layer_laws.specs.Layers.Views.{MovedLeadsOn, NewLeadsAsOld, OldLeadsNowhere, ThroughIsSplit}
-use Rattle.vt_layer_laws.proofs.CopyingNames.{parent_entries}
-use Rattle.vt_layer_laws.proofs.CopyingParts.{kept_part, parent_keeps, without_entry_keeps}
-use Rattle.vt_layer_laws.proofs.ShownAtPath.{none_is_some, some_is_one}
+use Rattle.vt_layer_laws.proofs.CopyingParts.{parent_keeps, without_entry_keeps}
 use Rattle.vt_layer_laws.proofs.UpperChain.{one_depth}
 use Rattle.vt_layer_laws.proofs.UpperLine.{ReachedIn, has_entries, is_reached_in}
-use Rattle.vt_layer_laws.proofs.ViewsEntries.{entries_stay, given, is_entry, parents_aside, taken}
+use Rattle.vt_layer_laws.proofs.ViewsEntries.{entries_stay, given, is_entry, taken}
 use Rattle.vt_layer_laws.proofs.ViewsNames.{no_entries}
 use Rattle.vt_layer_laws.proofs.ViewsWalks.{goes_through_it, passes, split}
+use Rattle.std.proofs.lemmas.Option.{same_Some}
+use Rattle.vt_spec.proofs.NodeChanges.{entries-node_with_parent, entries-without_parent, part-changed_node}
+use Rattle.vt_spec.proofs.Options.{none_is_some}
 
 pub through_is_split : ThroughIsSplit
 through_is_split files top directory name path e =
@@ -24,7 +25,7 @@ through_is_split files top directory name path e =
 -- a path in two parts
 pub led_parts : (tree : Tree ℕ) (way : List (List ℕ)) (rest : List (List ℕ)) (start middle : ℕ)
     → led tree start way ≡ Some middle → led tree start (way ++ rest) ≡ led tree middle rest
-led_parts tree [] rest start middle e = ap (λ d. led tree d rest) (some_is_one start middle e)
+led_parts tree [] rest start middle e = ap (λ d. led tree d rest) (same_Some start middle e)
 led_parts tree (word ∷ way) rest start middle e =
     by (entry_at tree start word) e (λ next. led_parts tree way rest next middle)
   where
@@ -47,7 +48,7 @@ more_steps (name ∷ names) steps = let h = more_steps names (suc steps) in omeg
 
 leads_to_directory : (tree : Tree ℕ) (names : List (List ℕ)) (next to : ℕ) → led tree next names ≡ Some to
     → IsDirectory tree to → IsDirectory tree next
-leads_to_directory tree [] next to e d = subst (IsDirectory tree) (sym (some_is_one next to e)) d
+leads_to_directory tree [] next to e d = subst (IsDirectory tree) (sym (same_Some next to e)) d
 leads_to_directory tree (name ∷ names) next to e d = step (entry_at tree next name) refl e
   where
     step : (o : Option ℕ) → entry_at tree next name ≡ o → option_and_then (λ n. led tree n names) o ≡ Some to
@@ -57,7 +58,7 @@ leads_to_directory tree (name ∷ names) next to e d = step (entry_at tree next 
 
 steps_on : (tree : Tree ℕ) (names : List (List ℕ)) (steps from to : ℕ) → ReachedIn tree steps from
     → led tree from names ≡ Some to → IsDirectory tree to → ReachedIn tree (after_steps names steps) to
-steps_on tree [] steps from to r e d = subst (ReachedIn tree steps) (some_is_one from to e) r
+steps_on tree [] steps from to r e d = subst (ReachedIn tree steps) (same_Some from to e) r
 steps_on tree (name ∷ names) steps from to r e d =
     by (entry_at tree from name) refl e (λ next. steps_on tree names (suc steps) next to)
   where
@@ -134,7 +135,7 @@ module _ (before after : Tree ℕ) (from : ℕ) (old : List ℕ) (to : ℕ) (new
     stops_there None e rest l = none_is_some to l
     stops_there (Some k) e [] l =
         none_is_some k (sym (no_entries before k (replaced k e) new)
-        ∙ ap (λ n. entry_at before n new) (some_is_one k to l) ∙ e)
+        ∙ ap (λ n. entry_at before n new) (same_Some k to l) ∙ e)
     stops_there (Some k) e (word ∷ rest) l =
         none_is_some to (sym
         (ap (option_and_then (λ next. led before next rest)) (no_entries before k (replaced k e) word)) ∙ l)
@@ -171,12 +172,12 @@ module _ (files : FileTree ℕ) (from : ℕ) (old : List ℕ) (to : ℕ) (new : 
   still : (replaced : Option ℕ)
       → IsDirectory (without_name nat_eq (without_parent nat_eq files replaced) from old).tree to
   still replaced =
-      kept_part is_directory_node (without_parent nat_eq files replaced) from (node_without_entry old)
+      part-changed_node is_directory_node (without_parent nat_eq files replaced) from (node_without_entry old)
       (without_entry_keeps old).directory to ∙ freed replaced
     where
       freed : (replaced : Option ℕ) → IsDirectory (without_parent nat_eq files replaced).tree to
       freed None = is
-      freed (Some k) = kept_part is_directory_node files k (node_with_parent k) (parent_keeps k).directory to ∙ is
+      freed (Some k) = part-changed_node is_directory_node files k (node_with_parent k) (parent_keeps k).directory to ∙ is
 
   pub move_told : (other : ℕ) (word : List ℕ)
       → entry_at (with_moved nat_eq files from old to new object).tree other word
@@ -187,12 +188,12 @@ module _ (files : FileTree ℕ) (from : ℕ) (old : List ℕ) (to : ℕ) (new : 
       let freed = without_parent nat_eq files replaced in
       let left = without_name nat_eq freed from old in
       ap (entry_named word)
-      (entries_stay (with_name nat_eq left to new object) object (node_with_parent to) (parent_entries to) other)
+      (entries_stay (with_name nat_eq left to new object) object (node_with_parent to) (entries-node_with_parent to) other)
       ∙ given left to new object (still replaced) other word
       ∙ ap (cond (is_entry to new other word) (Some object))
       (taken freed from old other word
       ∙ ap (λ entries. cond (is_entry from old other word) None (entry_named word entries))
-      (parents_aside files replaced other))
+      (entries-without_parent files replaced other))
 
 pub moved_leads_on : MovedLeadsOn
 moved_leads_on files top from to object old new tree can way rest e =

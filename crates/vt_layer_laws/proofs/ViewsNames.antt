@@ -5,9 +5,7 @@ use Rattle.vt_spec.specs.Language.Changes.{changed_node, node_without_entry, wit
 use Rattle.vt_spec.specs.Language.Changes.Change.{AddName, CopyUp, Make, Move, Remove, SetAttr, SetBytes, SetMark}
 use Rattle.vt_spec.specs.FileTree.{FileTree}
 use Rattle.vt_spec.specs.Lists.{then_some}
-use Rattle.vt_spec.specs.Rights.{is_directory}
-use Rattle.vt_spec.specs.Tree.{Content, Node, Tree, entries_in, entries_of, entry_named, is_directory_node, kind_of, node_with_entry}
-use Rattle.vt_spec.specs.Tree.Content.{Directory, Regular, Symlink, Whiteout}
+use Rattle.vt_spec.specs.Tree.{Node, Tree, entries_in, entries_of, entry_named, is_directory_node, node_with_entry}
 use Rattle.vt_spec.specs.TreeLaws.{IsDirectory, entry_at, led}
 use Rattle.vt_spec.proofs.Nodes.{node_other, node_set}
 use Rattle.vt_layer_laws.specs.Layers.Mounted.{IsAlike}
@@ -15,25 +13,17 @@ use Rattle.vt_layer_laws.specs.Layers.Untouched.{IsKept}
 use Rattle.vt_layer_laws.specs.Layers.Views.{AddNameAddsPath, AddNameIsSeen, MakeAddsInode, MakeAddsPath, MakeEndsPaths, MakeIsSeen, NamesLeaveInodes, RemoveEndsPaths, RemoveIsSeen, RemoveTakesPath, names_entry, view_in}
 use Rattle.vt_layer_laws.proofs.CopyingParts.{KeepsButNames, entry_keeps, without_entry_keeps}
 use Rattle.vt_layer_laws.proofs.LowersKept.{kept_by_parent, kept_elsewhere, kept_without_parent}
-use Rattle.vt_layer_laws.proofs.ShownAtPath.{none_is_some, some_is_one}
 use Rattle.vt_layer_laws.proofs.ShownDirectories.{led_is_there}
-use Rattle.vt_layer_laws.proofs.ViewsEntries.{given, is_entry, is_that_entry, parents_aside, taken}
+use Rattle.vt_layer_laws.proofs.ViewsEntries.{given, is_entry, is_that_entry, taken}
 use Rattle.vt_layer_laws.proofs.ViewsWalks.{entry_gone, entry_led, entry_over, goes_through_it, names_it}
+use Rattle.std.proofs.lemmas.Option.{same_Some}
+use Rattle.vt_spec.proofs.NodeChanges.{entries-without_parent, entries_in-no_directory}
+use Rattle.vt_spec.proofs.Options.{none_is_some}
 
 -- an inode that has no names in it
 pub no_entries : (tree : Tree ℕ) (object : ℕ) → entries_in (tree.node object) ≡ [] → (word : List ℕ)
     → entry_at tree object word ≡ None
 no_entries tree object empty word = ap (entry_named word) empty
-
-pub file_is_empty : (o : Option (Node ℕ)) → is_directory_node o ≡ false → entries_in o ≡ []
-file_is_empty None e = refl
-file_is_empty (Some node) e = by node.content e
-  where
-    by : (content : Content ℕ) → is_directory (kind_of content) ≡ false → entries_of content ≡ []
-    by (Directory parent entries opaque) e = absurd (true≢false e)
-    by (Regular bytes) e = refl
-    by (Symlink text) e = refl
-    by Whiteout e = refl
 
 -- A name given to what has no names in it
 module _ (before after : Tree ℕ) (directory : ℕ) (name : List ℕ) (object : ℕ)
@@ -57,7 +47,7 @@ module _ (before after : Tree ℕ) (directory : ℕ) (name : List ℕ) (object :
   given_led bare start path =
       entry_led before after directory name (Some object) told
       (λ k e. no_entries before k (bare k e))
-      (λ k e word. ap (λ n. entry_at after n word) (sym (some_is_one object k e)) ∙ stays_empty word)
+      (λ k e word. ap (λ n. entry_at after n word) (sym (same_Some object k e)) ∙ stays_empty word)
       path start
       ∙ ap (λ b. cond b (Some object) (led before start path)) (sym (names_it before directory name path start))
 
@@ -160,7 +150,7 @@ make_ends_paths files top directory number name node is vacant bare not_back pat
     let after = (made files directory number name node is vacant).tree in
     let told = made_told files directory number name node is vacant bare in
     entry_over files.tree after directory name (Some number) told (λ k e names. not_back k names e)
-    (λ k e word. ap (λ n. entry_at after n word) (sym (some_is_one number k e))
+    (λ k e word. ap (λ n. entry_at after n word) (sym (same_Some number k e))
     ∙ stays_empty files.tree after directory name number told
     (number_differs files directory number name node is vacant) (ap entries_in vacant) word)
     path top
@@ -172,7 +162,7 @@ add_name_adds_path files top directory object name is file path =
     given_led files.tree (with_name nat_eq files directory name object).tree directory name object
     (given files directory name object is.in_directory)
     (λ same. true≢false (sym is.in_directory ∙ ap (λ n. is_directory_node (files.tree.node n)) (sym same) ∙ file))
-    (file_is_empty (files.tree.node object) file) is.bare top path
+    (entries_in-no_directory (files.tree.node object) file) is.bare top path
 
 -- A name taken away
 module _ (files : FileTree ℕ) (directory object : ℕ) (name : List ℕ) where
@@ -183,7 +173,7 @@ module _ (files : FileTree ℕ) (directory object : ℕ) (name : List ℕ) where
       → entry_at left.tree other word
       ≡ cond (is_entry directory name other word) None (entry_at files.tree other word)
   left_told other word =
-      ap (entry_named word) (parents_aside (without_name nat_eq files directory name) (Some object) other)
+      ap (entry_named word) (entries-without_parent (without_name nat_eq files directory name) (Some object) other)
       ∙ taken files directory name other word
 
 pub remove_takes_path : RemoveTakesPath
@@ -191,7 +181,7 @@ remove_takes_path files top directory object name named empty path =
     entry_led files.tree (left files directory object name).tree directory name None
     (left_told files directory object name)
     (λ k e word. no_entries files.tree k
-    (ap (λ n. entries_in (files.tree.node n)) (some_is_one k object (sym e ∙ named)) ∙ empty) word)
+    (ap (λ n. entries_in (files.tree.node n)) (same_Some k object (sym e ∙ named)) ∙ empty) word)
     (λ k e. none_is_some k e)
     path top
     ∙ ap (λ b. cond b None (led files.tree top path)) (sym (names_it files.tree directory name path top))
@@ -230,7 +220,7 @@ names_leave_inodes files (SetMark directory opaque) top inode e = absurd (true�
 
 -- What is at a path
 
-make_seen : (one : Option (Node ℕ)) → IsAlike one one
+pub make_seen : (one : Option (Node ℕ)) → IsAlike one one
 make_seen one = alike_same one one refl
 
 module _ (before after : Tree ℕ) (top : ℕ) (path : List (List ℕ)) where

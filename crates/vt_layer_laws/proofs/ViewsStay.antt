@@ -1,12 +1,10 @@
 -- Changes that move no path of a layer: bytes, attributes and marks, and changes elsewhere in its tree.
-use Rattle.std.proofs.Common.{◌≡◌, refl, sym, ap, subst, ◌∙◌, true≢false, ne_eqb, ℕ, nat_eq, Bool, true, false, ◌||◌, List, [], ◌∷◌, Option, Some, None, is_some, option_and_then}
-use Rattle.vt_spec.specs.declared.attributes.Attr.{Attr}
-use Rattle.vt_spec.specs.Language.Changes.{Change, changed, changed_node, content_with_mark, node_with_attr, node_with_mark, with_inode}
+use Rattle.std.proofs.Common.{◌≡◌, refl, sym, ap, subst, ◌∙◌, true≢false, ne_eqb, ℕ, nat_eq, true, false, ◌||◌, List, [], ◌∷◌, Option, Some, None, is_some, option_and_then}
+use Rattle.vt_spec.specs.Language.Changes.{Change, changed, changed_node, node_with_attr, node_with_mark, with_inode}
 use Rattle.vt_spec.specs.Language.Changes.Change.{AddName, CopyUp, Make, Move, Remove, SetAttr, SetBytes, SetMark}
 use Rattle.vt_spec.specs.FileTree.{FileTree}
 use Rattle.vt_spec.specs.Lists.{is_among, then_some}
-use Rattle.vt_spec.specs.Tree.{Content, Node, Tree, entries_in, entries_of, entry_named, node_with_bytes}
-use Rattle.vt_spec.specs.Tree.Content.{Directory, Regular, Symlink, Whiteout}
+use Rattle.vt_spec.specs.Tree.{Node, Tree, entries_in, entries_of, entry_named, node_with_bytes}
 use Rattle.vt_spec.specs.TreeLaws.{entry_at, led}
 use Rattle.vt_spec.proofs.Nodes.{entries-node_with_bytes}
 use Rattle.vt_layer_laws.specs.Layers.Mounted.{IsAlike}
@@ -16,6 +14,7 @@ use Rattle.vt_layer_laws.proofs.LowersKept.{others_stay}
 use Rattle.vt_layer_laws.proofs.ShownDirectories.{led_is_there}
 use Rattle.vt_layer_laws.proofs.ViewsEntries.{entries_stay}
 use Rattle.vt_layer_laws.proofs.ViewsNames.{alike_kept, alike_same, inode_entries}
+use Rattle.vt_spec.proofs.NodeChanges.{entries-node_with_attr, entries-node_with_mark}
 
 -- where entries are as they were at all that a directory leads to, so are paths
 pub led_where : (before after : Tree ℕ) (path : List (List ℕ)) (start : ℕ)
@@ -52,31 +51,17 @@ inode_moves_no_path files number node vacant bare top path =
     led_where files.tree (with_inode nat_eq files number node).tree path top
     (λ way inode l word. ap (entry_named word) (inode_entries files number node vacant bare inode))
 
-attr_entries : (attr : Attr) (o : Option (Node ℕ)) → entries_in (node_with_attr attr o) ≡ entries_in o
-attr_entries attr None = refl
-attr_entries attr (Some node) = refl
-
-pub mark_entries : (opaque : Bool) (o : Option (Node ℕ)) → entries_in (node_with_mark opaque o) ≡ entries_in o
-mark_entries opaque None = refl
-mark_entries opaque (Some node) = by node.content
-  where
-    by : (content : Content ℕ) → entries_of (content_with_mark opaque content) ≡ entries_of content
-    by (Directory parent entries old) = refl
-    by (Regular bytes) = refl
-    by (Symlink text) = refl
-    by Whiteout = refl
-
 pub bytes_change_one_inode : BytesChangeOneInode
 bytes_change_one_inode files top file bytes =
     (stays_led files file (node_with_bytes bytes) (entries-node_with_bytes bytes) top, λ inode. refl)
 
 pub attr_changes_one_inode : AttrChangesOneInode
 attr_changes_one_inode files top object attr =
-    (stays_led files object (node_with_attr attr) (attr_entries attr) top, λ inode. refl)
+    (stays_led files object (node_with_attr attr) (entries-node_with_attr attr) top, λ inode. refl)
 
 pub mark_changes_one_inode : MarkChangesOneInode
 mark_changes_one_inode files top directory opaque =
-    (stays_led files directory (node_with_mark opaque) (mark_entries opaque) top, λ inode. refl)
+    (stays_led files directory (node_with_mark opaque) (entries-node_with_mark opaque) top, λ inode. refl)
 
 -- what is there and is not changed has no new number
 among_the_old : (files : FileTree ℕ) (change : Change ℕ) → MakesWithNewNumber files.tree change → (inode : ℕ)

@@ -7,9 +7,9 @@ use Rattle.vt_spec.specs.Machine.Views.{View}
 use Rattle.vt_spec.specs.Tree.{Tree}
 use Rattle.vt_spec.specs.TreeLaws.{entry_at, led}
 use Rattle.vt_layer_laws.specs.Layers.Views.{goes_through, names_entry}
-use Rattle.vt_layer_laws.proofs.ShownAtPath.{none_is_some}
 use Rattle.vt_layer_laws.proofs.ShownFronts.{list_any_of_map}
 use Rattle.vt_layer_laws.proofs.ViewsEntries.{is_entry, is_that_entry}
+use Rattle.vt_spec.proofs.Options.{none_is_some, option_and_then-Some}
 
 -- what starts at a directory of a tree
 abbrev pub view_from : Tree ℕ → ℕ → View ℕ
@@ -160,10 +160,6 @@ module _ (before after : Tree ℕ) (directory : ℕ) (name : List ℕ) (to : Opt
       ap (option_and_then (λ next. led after next rest)) (told start word)
       ∙ by (is_entry directory name start word) refl rest (entry_led rest)
     where
-      itself : (o : Option ℕ) → option_and_then (λ next. Some next) o ≡ o
-      itself None = refl
-      itself (Some next) = refl
-
       ends_at_leaf : (o : Option ℕ) → entry_at before directory name ≡ o → (path : List (List ℕ))
           → holds_of (λ inner. ends_in before directory name inner path) o ≡ false
       ends_at_leaf None e path = refl
@@ -201,7 +197,7 @@ module _ (before after : Tree ℕ) (directory : ℕ) (name : List ℕ) (to : Opt
           → option_and_then (λ next. led after next rest) (cond b to (entry_at before start word))
           ≡ cond (ends_in before directory name start (word ∷ rest)) to (led before start (word ∷ rest))
       by true is [] later =
-          itself to ∙ ap (λ b. cond b to (led before start (word ∷ []))) (sym is)
+          option_and_then-Some to ∙ ap (λ b. cond b to (led before start (word ∷ []))) (sym is)
       by true is (next ∷ rest) later = here (is_that_entry directory name start word is) next rest
       by false is [] later = ap (λ b. cond b to (led before start (word ∷ []))) (sym is)
       by false is (next ∷ rest) later = on (entry_at before start word) next rest later
@@ -279,10 +275,6 @@ module _ (before after : Tree ℕ) (directory : ℕ) (name : List ℕ) (to : Opt
       ap (option_and_then (λ next. led after next rest)) (told start word)
       ∙ by (is_entry directory name start word) refl rest (entry_over rest)
     where
-      itself : (o : Option ℕ) → option_and_then (λ next. Some next) o ≡ o
-      itself None = refl
-      itself (Some next) = refl
-
       alone : (o : Option ℕ) → o ≡ cond (holds_of (λ inner. false) o) None (option_and_then (λ next. Some next) o)
       alone None = refl
       alone (Some next) = refl
@@ -301,7 +293,7 @@ module _ (before after : Tree ℕ) (directory : ℕ) (name : List ℕ) (to : Opt
           → option_and_then (λ next. led after next rest) (cond b to (entry_at before start word))
           ≡ led_over start (word ∷ rest)
       by true is [] later =
-          itself to ∙ ap (λ b. cond b to
+          option_and_then-Some to ∙ ap (λ b. cond b to
           (cond (passes before directory name start (word ∷ [])) None (led before start (word ∷ [])))) (sym is)
       by true is (next ∷ rest) later =
           let same = is_that_entry directory name start word is in
@@ -317,7 +309,7 @@ module _ (before after : Tree ℕ) (directory : ℕ) (name : List ℕ) (to : Opt
           (sym (ap (holds_of (λ inner. ends_in before directory name inner (next ∷ rest))) entry
           ∙ over_ends (entry_at before directory name) refl (next ∷ rest)))
       by false is [] later =
-          itself (entry_at before start word) ∙ alone (entry_at before start word)
+          option_and_then-Some (entry_at before start word) ∙ alone (entry_at before start word)
           ∙ ap (λ b. cond b to
           (cond (b || holds_of (λ inner. false) (entry_at before start word)) None (led before start (word ∷ []))))
           (sym is)

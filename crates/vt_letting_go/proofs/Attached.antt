@@ -18,7 +18,8 @@ use Rattle.vt_letting_go.specs.Keeping.{LocationsStand}
 use Rattle.vt_letting_go.specs.Leaving.{MountsStand}
 use Rattle.vt_letting_go.proofs.Lists.{Among, all_pass, among-append, among-append_left, among-append_right, among-flat_map, among-from_filter, among-from_filter_map, among-from_flat_map, among-from_map, among-map, any_passes, found_in, map_twice, none_passes, or_first, passes}
 use Rattle.vt_letting_go.proofs.MountingLosers.{Loses, StillAPlace, places_of, places_stand}
-use Rattle.vt_letting_go.proofs.PlacesLeft.{found_itself, nowhere_parts, number_found, one_location}
+use Rattle.vt_letting_go.proofs.PlacesLeft.{found_itself, nowhere_parts}
+use Rattle.vt_spec.proofs.Worlds.{number-mount_in, same_location_is}
 
 -- Mounts that are replaced by those of their numbers
 abbrev swapped : List (Mount ℕ) → Mount ℕ → Mount ℕ
@@ -201,7 +202,7 @@ module _ (world : World ℕ) (filesystems : List (Filesystem ℕ)) (new : Copies
     moved : moves ≡ true → Among mount origins → went mount ≡ copy destination mount → Went mount
 
   at_its_number : is_destination nat_eq tree destination.number ≡ true
-  at_its_number = eq-eqb destination.number place.mount (number_found world.mounts place.mount)
+  at_its_number = eq-eqb destination.number place.mount (number-mount_in world.mounts place.mount)
 
   keeps_number : moves ≡ true → (origin : Mount ℕ) → (copy destination origin).number ≡ origin.number
   keeps_number e origin =
@@ -255,7 +256,7 @@ module _ (world : World ℕ) (filesystems : List (Filesystem ℕ)) (new : Copies
       stands part None e h = absurd (true≢false
           (sym h ∙ ap (holds_of (λ l. nat_eq part.number l.mount && nat_eq place.node l.node)) e))
       stands part (Some at) e h =
-          e ∙ ap Some (sym (one_location (record { mount = part.number; node = place.node }) at
+          e ∙ ap Some (sym (same_location_is (record { mount = part.number; node = place.node }) at
           (sym (ap (holds_of (λ l. nat_eq part.number l.mount && nat_eq place.node l.node)) e) ∙ h)))
 
       by : (below : Option (Mount ℕ)) → receiver_below nat_eq tree parts mount ≡ below

@@ -9,7 +9,7 @@ use Rattle.vt_spec.specs.Machine.Receives.{regrouped}
 use Rattle.vt_spec.specs.Machine.World.{World, mount_at, mount_numbered, with_mounts}
 use Rattle.vt_letting_go.specs.Detaching.{StandsUnshared, UnmountIsOfOne, detached_if, without_place}
 use Rattle.vt_letting_go.proofs.Lists.{Among, fails, map_alike}
-use Rattle.vt_letting_go.proofs.PlacesLeft.{number_found}
+use Rattle.vt_spec.proofs.Worlds.{number-mount_in}
 
 -- The unmount of one mount
 module _ (world : World ℕ) (number : ℕ) (alone : has_child nat_eq world number ≡ false) where
@@ -66,7 +66,7 @@ module _ (world : World ℕ) (number : ℕ) (alone : has_child nat_eq world numb
       mount = mount_numbered nat_eq world number
 
       its_number : mount.number ∷ [] ≡ number ∷ []
-      its_number = ap (λ n. n ∷ []) (number_found world.mounts number)
+      its_number = ap (λ n. n ∷ []) (number-mount_in world.mounts number)
 
       by : (o : Option (Location ℕ))
           → list_all (λ place. not (is_shared (mount_at nat_eq world place).propagation)) (option_to_list o)

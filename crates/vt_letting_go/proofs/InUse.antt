@@ -10,10 +10,11 @@ use Rattle.vt_spec.specs.Machine.Receives.{has_members}
 use Rattle.vt_spec.specs.Machine.Settled.{filesystem_lives, has_layer_on, is_mounted, layers_in, located_in, mount_lives, named_in, objects_of_overlay, only_used, only_used_by, real_among, settled, used_in, without_dead_filesystems, without_dead_groups, without_dead_in, without_dead_inodes, without_dead_mounts}
 use Rattle.vt_spec.specs.Machine.World.{Filesystem, Layer, Overlay, World, all_locations, is_overlay, layers_of, mount_at, upper_object, with_mounts}
 use Rattle.vt_letting_go.specs.InUse.{AllInUse, FilesystemsInUse, GroupsInUse, HasTrees, InodesInUse, IsListedTree, MountsInUse, NothingGoes, OneSweepIsEnough, UppersArePlain, WhatIsLeftIsInUse, has_upper_in, is_inode_used}
-use Rattle.vt_letting_go.proofs.Lists.{Among, all_from_among, all_pass, among-filter, among-flat_map, among-from_flat_map, among-from_map, among-map, among_from_all, any_passes, flat_map_none, one_passes, or_first, decided, among-from_filter, filter_all, flat_map-filter, flat_map-map, flat_map_alike, is_among_left, is_among_numbers, is_among_right, map_same, or_second, passes}
+use Rattle.vt_letting_go.proofs.Lists.{Among, all_from_among, all_pass, among-filter, among-flat_map, among-from_flat_map, among-from_map, among-map, among_from_all, any_passes, flat_map_none, one_passes, or_first, among-from_filter, filter_all, flat_map-filter, flat_map-map, flat_map_alike, is_among_numbers, map_same, or_second, passes}
 use Rattle.vt_letting_go.proofs.Trees.{unnamed_is_empty}
-use Rattle.std.proofs.lemmas.Bool.{and_parts, or_cases, or_parts}
+use Rattle.std.proofs.lemmas.Bool.{and_parts, or_cases, or_parts, cases_Bool}
 use Rattle.std.proofs.lemmas.List.Folds.{list_any-append}
+use Rattle.vt_spec.proofs.Found.{is_among_left, is_among_right}
 
 -- Where all is in use
 
@@ -154,7 +155,7 @@ unused_are_empty world filesystem conditions number unused =
     (layers_in nat_eq world filesystem.number)
     (is_among_left number (named_in filesystem.files) (located_in nat_eq world filesystem.number) named)))) ∙ unused)))
     (λ unnamed. unnamed)
-    (decided (is_among nat_eq number (named_in filesystem.files))))
+    (cases_Bool (is_among nat_eq number (named_in filesystem.files))))
 
 -- a place that is there is in use
 pub used_at : (world : World ℕ) (filesystem : Filesystem ℕ) (location : Location ℕ)
@@ -289,7 +290,7 @@ module _ (world : World ℕ) where
       (ap (λ b. is_overlay (only_used nat_eq first (not b) filesystem)) e
       ∙ overlay-left (used_in nat_eq first filesystem) filesystem _ ∙ e)
       ∙ sym (no_objects number filesystem e))
-      (decided (is_overlay filesystem))
+      (cases_Bool (is_overlay filesystem))
 
   same_objects : (number : ℕ)
       → flat_map (objects_of_overlay nat_eq number) (settled nat_eq world).filesystems
@@ -474,7 +475,7 @@ module _ (world : World ℕ) where
         ≡ false) world.filesystems) world.filesystems plain was.0 was.1 e)
         merged (among-from_filter (filesystem_lives nat_eq mounted) world.filesystems merged n).0))))
         (λ e. plain_used was.0 tree e)
-        (decided (is_overlay was.0)));
+        (cases_Bool (is_overlay was.0)));
     groups = λ group none. ap (λ b. cond b (world.master group) None) none;
   }
 

@@ -1,5 +1,5 @@
 -- Inodes of plain trees go one by one.
-use Rattle.std.proofs.Common.{◌≡◌, refl, sym, ap, subst, ◌∙◌, ℕ, nat_eq, eqb-true, Bool, true, false, cond, not, ◌||◌, ◌&&◌, List, [], ◌∷◌, filter, map, true≢false, flat_map, ◌++◌, Option, Some, None, is_some, option_map}
+use Rattle.std.proofs.Common.{flat_map, ◌≡◌, refl, sym, ap, subst, ◌∙◌, ℕ, nat_eq, eqb-true, Bool, true, false, cond, not, ◌||◌, ◌&&◌, List, [], ◌∷◌, filter, map, true≢false, ◌++◌, Option, Some, None, is_some, option_map}
 use Rattle.std.specs.List.{list_all}
 use Rattle.std.proofs.lemmas.Bool.{and_parts, not-true}
 use Rattle.std.proofs.lemmas.List.Elements.{All-filter}
@@ -8,15 +8,18 @@ use Rattle.vt_spec.specs.FileTree.{FileTree, targets_in}
 use Rattle.vt_spec.specs.Lists.{is_among}
 use Rattle.vt_spec.specs.Machine.Locked.{of_overlay, overlay_or}
 use Rattle.vt_spec.specs.Machine.Receives.{has_members}
-use Rattle.vt_spec.specs.Machine.Settled.{filesystem_lives, layers_in, located_in, named_in, objects_of_overlay, only_used, only_used_by, only_used_of, real_among, used_in, without_dead_filesystems, without_dead_groups, without_dead_in, without_dead_inodes, without_dead_mounts}
+use Rattle.vt_spec.specs.Machine.Settled.{filesystem_lives, layers_in, located_in, named_in, only_used, only_used_by, only_used_of, real_among, used_in, without_dead_filesystems, without_dead_groups, without_dead_in, without_dead_inodes, without_dead_mounts}
 use Rattle.vt_spec.specs.Machine.World.{Filesystem, Overlay, World, is_overlay, layers_of}
 use Rattle.vt_spec.specs.Machine.Invariants.{ListsNumbers}
 use Rattle.vt_letting_go.specs.InUse.{HasTrees, IsListedTree, is_inode_used}
 use Rattle.vt_letting_go.specs.OneByOne.{AllGoesOneByOne, Inode, InodesGoOneByOne, IsPlain, is_inode_among, is_used_or_among, let_go_filesystems, let_go_inode, let_go_inode_of, let_go_inodes, let_go_groups}
-use Rattle.vt_letting_go.proofs.InUse.{UnusedAreEmpty, no_objects, unused_are_empty}
+use Rattle.vt_letting_go.proofs.InUse.{UnusedAreEmpty, unused_are_empty}
 use Rattle.vt_letting_go.proofs.Merged.{named_without}
-use Rattle.vt_letting_go.proofs.Lists.{Among, any-filter, among-from_filter, among-from_map, among_from_all, among_numbers, fails, filter_alike, filter_all, filter_twice, flat_map-map, flat_map_none, map_alike, map_same, map_twice, none_passes, passes}
+use Rattle.vt_spec.specs.Machine.Settled.{objects_of_overlay}
+use Rattle.vt_letting_go.proofs.InUse.{no_objects}
+use Rattle.vt_letting_go.proofs.Lists.{Among, flat_map_none, any-filter, among-from_filter, among-from_map, among_from_all, among_numbers, fails, filter_alike, filter_all, filter_twice, flat_map-map, map_alike, map_same, map_twice, none_passes, passes}
 use Rattle.vt_letting_go.proofs.OneByOne.{filesystems_go_one_by_one, groups_go_one_by_one, mounts_go_one_by_one}
+use Rattle.vt_spec.proofs.Options.{none_from_not_some}
 
 -- a filesystem without the inodes that a test names
 abbrev pub without_those : (ℕ → Bool) → Filesystem ℕ → Filesystem ℕ
@@ -36,6 +39,13 @@ without_none : (filesystem : Filesystem ℕ) → without_those (λ number. false
 without_none filesystem =
     ap (λ numbers. record filesystem { files = record filesystem.files { numbers = numbers } })
     (filter_all (λ number. true) filesystem.files.numbers (λ number m. refl))
+
+-- a world without overlays has no objects of overlays
+pub no_objects_of : (world : World ℕ) → IsPlain world → (number : ℕ)
+    → flat_map (objects_of_overlay nat_eq number) world.filesystems ≡ []
+no_objects_of world plain number =
+    flat_map_none (objects_of_overlay nat_eq number) world.filesystems
+    (λ f m. no_objects world number f (fails is_overlay world.filesystems plain f m))
 
 -- one inode is looked at
 abbrev goes_here : World ℕ → Inode → Filesystem ℕ → ℕ → Bool
@@ -176,18 +186,12 @@ module _ (world : World ℕ) (inode : Inode) (plain : IsPlain world) where
       (flat_map-map step (of_overlay [] layers_of) world.filesystems
       (λ filesystem. ap (overlay_or [] layers_of) (overlay-step filesystem)))
 
-  no_objects_in : (other : World ℕ) → IsPlain other → (number : ℕ)
-      → flat_map (objects_of_overlay nat_eq number) other.filesystems ≡ []
-  no_objects_in other is number =
-      flat_map_none (objects_of_overlay nat_eq number) other.filesystems
-      (λ filesystem m. no_objects other number filesystem (fails is_overlay other.filesystems is filesystem m))
-
   used-step : (filesystem : Filesystem ℕ) → UnusedAreEmpty (used_in nat_eq world filesystem) filesystem
       → used_in nat_eq next (step filesystem) ≡ used_in nat_eq world filesystem
   used-step filesystem empty =
       λ i. (root i) ∷ (named-step filesystem empty i ++ located_in nat_eq world (number-step filesystem i)
       ++ (layers-step (step filesystem).number ∙ ap (layers_in nat_eq world) (number-step filesystem)) i
-      ++ (no_objects_in next plain-step (step filesystem).number ∙ sym (no_objects_in world plain filesystem.number)) i)
+      ++ (no_objects_of next plain-step (step filesystem).number ∙ sym (no_objects_of world plain filesystem.number)) i)
     where
       root : (step filesystem).files.tree.root ≡ filesystem.files.tree.root
       root = ap (λ f. f.files.tree.root) (one_step world inode filesystem)
@@ -362,13 +366,9 @@ module _ (used : List ℕ) (losers : List Inode) (filesystem : Filesystem ℕ)
   not_there : (number : ℕ) → is_among nat_eq number used ≡ false
       → is_inode_among filesystem.number number losers ≡ false
       → filesystem.files.tree.node number ≡ None
-  not_there number unused other = none (filesystem.files.tree.node number)
+  not_there number unused other = none_from_not_some (filesystem.files.tree.node number)
       (sym (numbers number) ∙ missing (is_among nat_eq number filesystem.files.numbers) refl)
     where
-      none : (o : Option (Node ℕ)) → is_some o ≡ false → o ≡ None
-      none None e = refl
-      none (Some node) e = absurd (true≢false e)
-
       missing : (b : Bool) → is_among nat_eq number filesystem.files.numbers ≡ b
           → is_among nat_eq number filesystem.files.numbers ≡ false
       missing false e = e

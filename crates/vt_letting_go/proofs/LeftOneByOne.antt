@@ -2,7 +2,7 @@
 use Rattle.std.proofs.Common.{◌≡◌, refl, sym, ap, subst, ◌∙◌, ⊎_elim, ℕ, nat_eq, eqb-true, eq-eqb, Bool, true, false, cond, not, ◌||◌, ◌&&◌, List, [], ◌∷◌, filter, map, true≢false, flat_map, ◌++◌, Option, Some, None, is_some, option_map}
 use Rattle.std.specs.Prelude.{All, filter_map}
 use Rattle.std.specs.List.{list_all, list_any}
-use Rattle.std.proofs.lemmas.Bool.{and_parts, not-true, or_cases}
+use Rattle.std.proofs.lemmas.Bool.{and_parts, not-true, or_cases, cases_Bool}
 use Rattle.vt_spec.specs.Lists.{holds_of, is_among}
 use Rattle.vt_spec.specs.Machine.Locked.{of_overlay, overlay_or}
 use Rattle.vt_spec.specs.Machine.Mounts.{Location, Mount, mount_in, root_of}
@@ -16,10 +16,11 @@ use Rattle.vt_letting_go.specs.LeavingOverlays.{OneSweepForSeveralWithOverlays}
 use Rattle.vt_letting_go.specs.Overlays.{RealsAreThere}
 use Rattle.vt_letting_go.proofs.InUse.{layers_stay, UnusedAreEmpty, after_first, after_second, first_layers, layers-first, layers-second, layers_on, left_by, named-left, no_objects, no_upper_objects, number-first, number-left, number-second, overlay-left, root-left, second_leaves, unused_are_empty, upper-left}
 use Rattle.vt_letting_go.proofs.Inodes.{numbers_without}
-use Rattle.vt_letting_go.proofs.Lists.{Among, all_from_among, among-append, among-append_left, among-append_right, among-filter, among-filter_map, among-flat_map, among-from_filter, among-from_filter_map, among-from_flat_map, among-from_map, among-map, among_from_all, among_numbers, any-filter, any-map, any_passes, decided, fails, filter-map, filter_twice, flat_map-map, flat_map-of_map, flat_map_alike, flat_map_none, is_among_numbers, map_alike, map_twice, one_passes, or_first, or_second, passes}
+use Rattle.vt_letting_go.proofs.Lists.{Among, all_from_among, among-append, among-append_left, among-append_right, among-filter, among-filter_map, among-flat_map, among-from_filter, among-from_filter_map, among-from_flat_map, among-from_map, among-map, among_from_all, among_numbers, any-filter, any-map, any_passes, fails, filter-map, filter_twice, flat_map-map, flat_map-of_map, flat_map_alike, flat_map_none, is_among_numbers, map_alike, map_twice, one_passes, or_first, or_second, passes}
 use Rattle.vt_letting_go.proofs.Merged.{HasReals, left_of, reals_without, without_all, without_both}
-use Rattle.vt_letting_go.proofs.PlacesLeft.{found_in_filter, found_is_there, found_itself, is_it, number_found, place_attached}
+use Rattle.vt_letting_go.proofs.PlacesLeft.{found_in_filter, found_is_there, found_itself, is_it, place_attached}
 use Rattle.vt_letting_go.proofs.TreesWithOverlays.{no_real}
+use Rattle.vt_spec.proofs.Worlds.{number-mount_in}
 
 -- one of two tests that follows from the other
 pub follows : (a b : Bool) → (a ≡ true → b ≡ true) → a ≡ (b && a)
@@ -320,7 +321,7 @@ module _ (world : World ℕ) (tasks : List (Task ℕ)) (trees : HasTrees world) 
       the_only (mount_at nat_eq world from.0) (found_is_there world.mounts from.0.mount attached)
       (or_first (is_some (mount_at nat_eq world from.0).namespace)
       (is_located nat_eq once (mount_at nat_eq world from.0).number) attached)
-      other n (same ∙ sym (number_found world.mounts from.0.mount))))))
+      other n (same ∙ sym (number-mount_in world.mounts from.0.mount))))))
       (among-append (all_locations once ++ map root_of last_mounts) (filter_map (λ mount. mount.mount_point) last_mounts) from.0 here.0))
 
   was_layer : (filesystem number : ℕ) → Among number (layers_in nat_eq once_living filesystem)
@@ -512,7 +513,7 @@ module _ (world : World ℕ) (tasks : List (Task ℕ)) (trees : HasTrees world) 
       ∙ no_objects world number (swept g) left
       ∙ sym (ap (λ b. objects_of_overlay nat_eq number (only_used nat_eq once_living b g)) isnt
       ∙ no_objects world number g isnt))
-      (decided (is_overlay g))
+      (cases_Bool (is_overlay g))
 
   same_objects_in : (number : ℕ)
       → flat_map (objects_of_overlay nat_eq number) (without_dead_in nat_eq is_overlay again_living).filesystems
@@ -542,7 +543,7 @@ module _ (world : World ℕ) (tasks : List (Task ℕ)) (trees : HasTrees world) 
       (λ isnt. absurd (subst (Among object)
       (ap (λ b. objects_of_overlay nat_eq number (only_used nat_eq once_living b g)) isnt
       ∙ no_objects world number g isnt) n))
-      (decided (is_overlay g))
+      (cases_Bool (is_overlay g))
     where
       numbers : ListsNumbers nat_eq g.files
       numbers = (tree_of g m).numbers
@@ -618,7 +619,7 @@ module _ (world : World ℕ) (tasks : List (Task ℕ)) (trees : HasTrees world) 
       ∙ map_twice (after_second again) (λ f. after_first again (swept f)) once_living.filesystems
       ∙ map_alike (λ f. after_second again (after_first again (swept f)))
       (λ f. after_second once (after_first once f)) once_living.filesystems
-      (λ f m. ⊎_elim (overlay_left_so f m) (plain_alike f m) (decided (is_overlay f)))
+      (λ f m. ⊎_elim (overlay_left_so f m) (plain_alike f m) (cases_Bool (is_overlay f)))
       ∙ sym (map_twice (after_second once) (after_first once) once_living.filesystems)
 
 pub one_sweep_with_overlays : OneSweepForSeveralWithOverlays

@@ -1,7 +1,7 @@
 -- What tasks leave goes, in worlds with overlays.
 use Rattle.std.proofs.Common.{◌≡◌, sym, ap, subst, ◌∙◌, ⊎_elim, inl, inr, ◌⊎◌, ℕ, nat_eq, eqb-true, eq-eqb, true, cond, ◌||◌, ◌&&◌, List, [], ◌∷◌, map, flat_map, ◌++◌}
 use Rattle.std.specs.List.{list_all}
-use Rattle.std.proofs.lemmas.Bool.{and_parts, or_cases}
+use Rattle.std.proofs.lemmas.Bool.{and_parts, or_cases, cases_Bool}
 use Rattle.std.proofs.lemmas.List.Folds.{list_any-append}
 use Rattle.vt_spec.specs.Lists.{is_among}
 use Rattle.vt_spec.specs.Machine.Locked.{of_overlay}
@@ -13,10 +13,11 @@ use Rattle.vt_letting_go.specs.Leaving.{MountsStand, inodes_of_location, only_th
 use Rattle.vt_letting_go.specs.LeavingOverlays.{LeavingOverlaysLetsGo, StayingKeepsOverlays, filesystems_of_layers, filesystems_of_location, used_with_layers}
 use Rattle.vt_letting_go.specs.OneByOne.{AllInUseBut, FilesystemsInUseBut, Inode, InodesInUseBut, is_inode_among, is_used_or_among}
 use Rattle.vt_letting_go.proofs.InUse.{layers_on}
-use Rattle.vt_letting_go.proofs.Lists.{Among, all_from_among, all_pass, among-filter, among-flat_map, among-map, among_from_all, among_numbers, any_passes, decided, is_among_left, is_among_numbers, is_among_right, one_passes, or_first, or_second, passes}
+use Rattle.vt_letting_go.proofs.Lists.{Among, all_from_among, all_pass, among-filter, among-flat_map, among-map, among_from_all, among_numbers, any_passes, is_among_numbers, one_passes, or_first, or_second, passes}
 use Rattle.vt_letting_go.proofs.OverlaysGone.{filesystems_take_their_uses}
 use Rattle.vt_letting_go.proofs.PlacesLeft.{after, by_located, dead_was_left, filesystem_left, groups_but, mounted, mounts_but}
 use Rattle.vt_letting_go.proofs.WithOverlays.{with_overlays_all_goes}
+use Rattle.vt_spec.proofs.Found.{is_among_left, is_among_right}
 
 -- the filesystem of a layer is among those of its overlay
 pub in_layers : (world : World ℕ) (number : ℕ) (merged : Filesystem ℕ) → Among merged world.filesystems
@@ -69,7 +70,7 @@ module _ (world : World ℕ) (tasks : List (Task ℕ)) (left : List (Location �
             ∙ ap (λ x. x.filesystem)
             (sym (filesystem_left world tasks left in_use stand only t.0 t.1 gone.0 gone.1 gone.2)),
       ))
-      (decided (mount_lives nat_eq now t.0))
+      (cases_Bool (mount_lives nat_eq now t.0))
 
   all_filesystems_but : FilesystemsInUseBut losing swept
   all_filesystems_but =

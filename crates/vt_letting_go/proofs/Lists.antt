@@ -1,18 +1,14 @@
 -- What stands in a list: tests over lists that are shortened or changed.
-use Rattle.std.proofs.Common.{◌≡◌, refl, sym, ap, subst, ◌∙◌, ◌⊎◌, inl, inr, ⊎_elim, ℕ, nat_eq, eqb-true, eq-eqb, Bool, true, false, cond, ◌||◌, ◌&&◌, List, [], ◌∷◌, filter, find, map, true≢false, flat_map, ◌++◌, is_some, unwrap_or}
+use Rattle.std.proofs.Common.{◌≡◌, refl, sym, ap, subst, ◌∙◌, inl, inr, ⊎_elim, ℕ, nat_eq, eqb-true, eq-eqb, Bool, true, false, cond, ◌||◌, ◌&&◌, List, [], ◌∷◌, filter, find, map, true≢false, flat_map, ◌++◌, is_some, unwrap_or}
 use Rattle.std.specs.Prelude.{Some}
 use Rattle.std.specs.List.{list_any}
 use Rattle.std.proofs.lemmas.Bool.{or_parts}
-use Rattle.std.proofs.lemmas.List.Folds.{list_any-append}
 use Rattle.std.proofs.lemmas.Option.{same_Some}
 use Rattle.vt_spec.specs.Lists.{any_pair, is_among}
 pub use Rattle.std.proofs.lemmas.Bool.{or_left as or_first, or_right as or_second}
 pub use Rattle.vt_spec.proofs.Lists.{Among, all_from_among, among-append, among-append_left, among-append_right, among-filter, among-filter_map, among-flat_map, among-from_filter, among-from_filter_map, among-from_flat_map, among-from_map, among-map, among_from_all, any_among as one_passes, any_from_among as any_passes, among_from_list_all as passes, filter_here, filter_skip, list_all_from_among as all_pass, map_same, none_among as fails, none_from_among as none_passes}
-
--- a test is passed or not
-pub decided : (b : Bool) → (b ≡ true) ⊎ (b ≡ false)
-decided true = inl refl
-decided false = inr refl
+pub use Rattle.vt_spec.proofs.Found.{is_among_left}
+pub use Rattle.vt_spec.proofs.Found.{is_among_right}
 
 module _ {A : Type 0} where
   -- what is found is there and passes
@@ -167,11 +163,3 @@ among_numbers number numbers h =
 
 pub is_among_numbers : (number : ℕ) (numbers : List ℕ) → Among number numbers → is_among nat_eq number numbers ≡ true
 is_among_numbers number numbers m = any_passes (nat_eq number) numbers number m (eq-eqb number number refl)
-
-pub is_among_left : (x : ℕ) (xs ys : List ℕ) → is_among nat_eq x xs ≡ true → is_among nat_eq x (xs ++ ys) ≡ true
-is_among_left x xs ys h = list_any-append (nat_eq x) xs ys
-    ∙ or_first (list_any (nat_eq x) xs) (list_any (nat_eq x) ys) h
-
-pub is_among_right : (x : ℕ) (xs ys : List ℕ) → is_among nat_eq x ys ≡ true → is_among nat_eq x (xs ++ ys) ≡ true
-is_among_right x xs ys h = list_any-append (nat_eq x) xs ys
-    ∙ or_second (list_any (nat_eq x) xs) (list_any (nat_eq x) ys) h

@@ -9,7 +9,8 @@ use Rattle.vt_spec.specs.Machine.Settled.{named_in, only_used_by, only_used_of, 
 use Rattle.vt_spec.specs.Machine.World.{Filesystem, Overlay}
 use Rattle.vt_spec.specs.Machine.Invariants.{ListsNumbers}
 use Rattle.vt_letting_go.specs.Overlays.{real_in}
-use Rattle.vt_letting_go.proofs.Lists.{Among, decided, filter_alike, filter_all, filter_twice, flat_map-filter, flat_map_alike, among_numbers, is_among_numbers, passes}
+use Rattle.vt_letting_go.proofs.Lists.{Among, filter_alike, filter_all, filter_twice, flat_map-filter, flat_map_alike, among_numbers, is_among_numbers, passes}
+use Rattle.std.proofs.lemmas.Bool.{cases_Bool}
 
 -- without the real objects of the inodes that a test names
 abbrev pub reals_without : (ℕ → Bool) → Overlay ℕ → Overlay ℕ
@@ -115,7 +116,7 @@ same_without a b filesystem numbers has h = λ i. record filesystem {
     tree = record {
       root = filesystem.files.tree.root;
       node = λ number. node number
-          (decided (is_among nat_eq number filesystem.files.numbers)) i;
+          (cases_Bool (is_among nat_eq number filesystem.files.numbers)) i;
     };
     numbers = filter_alike (λ number. not (a number)) (λ number. not (b number)) filesystem.files.numbers
         (λ number m. ap not (h number (is_among_numbers number filesystem.files.numbers m))) i;
@@ -156,7 +157,7 @@ same_without a b filesystem numbers has h = λ i. record filesystem {
     reals None each = refl
     reals (Some overlay) each = λ i. Some (record overlay {
       real = λ number. both (overlay.real number) number (λ absent. each number (no_node number absent))
-          (decided (is_among nat_eq number filesystem.files.numbers)) i;
+          (cases_Bool (is_among nat_eq number filesystem.files.numbers)) i;
     })
 
 -- What the sweep leaves is what is used.

@@ -1,7 +1,7 @@
 -- Inodes of one kind of filesystem go one by one, overlays among them.
 use Rattle.std.proofs.Common.{◌≡◌, refl, sym, ap, subst, ◌∙◌, ⊎_elim, ℕ, nat_eq, eqb-true, Bool, true, false, cond, not, ◌||◌, ◌&&◌, List, [], ◌∷◌, filter, map, true≢false, flat_map, ◌++◌, Option, Some, None, option_map}
 use Rattle.std.specs.List.{list_all}
-use Rattle.std.proofs.lemmas.Bool.{and_parts, not-true}
+use Rattle.std.proofs.lemmas.Bool.{and_parts, not-true, cases_Bool}
 use Rattle.vt_spec.specs.FileTree.{targets_in}
 use Rattle.vt_spec.specs.Lists.{folded, is_among}
 use Rattle.vt_spec.specs.Machine.Locked.{of_overlay, overlay_or}
@@ -12,7 +12,7 @@ use Rattle.vt_letting_go.specs.OneByOne.{Inode, is_inode_among, is_used_or_among
 use Rattle.vt_letting_go.specs.Overlays.{let_go_in, let_go_in_of, without_inode_of}
 use Rattle.vt_letting_go.proofs.InUse.{UnusedAreEmpty}
 use Rattle.vt_letting_go.proofs.Inodes.{goes_of, goes_on}
-use Rattle.vt_letting_go.proofs.Lists.{Among, among-from_map, among_numbers, decided, flat_map-step, map_alike, map_same, map_twice, passes}
+use Rattle.vt_letting_go.proofs.Lists.{Among, among-from_map, among_numbers, flat_map-step, map_alike, map_same, map_twice, passes}
 use Rattle.vt_letting_go.proofs.Merged.{HasReals, left_of, named_without, reals_without, same_without, without_all, without_both, without_nothing}
 
 pub layers_without : (gone : ℕ → Bool) (filesystem : Filesystem ℕ)
@@ -113,7 +113,7 @@ module _ (chosen : Filesystem ℕ → Bool)
         (λ e. ap (objects_of_overlay nat_eq filesystem.number) (one_step other)
         ∙ apart filesystem other m is n e (here other))
         (λ e. ap (objects_of_overlay nat_eq filesystem.number) (other_stays other e))
-        (decided (chosen other)))
+        (cases_Bool (chosen other)))
 
     used_step : Apart world → (filesystem : Filesystem ℕ) → Among filesystem world.filesystems
         → chosen filesystem ≡ true
@@ -194,7 +194,7 @@ module _ (chosen : Filesystem ℕ → Bool)
       (used_in nat_eq (let_go_in chosen world inode) (step world inode f)) rest (step world inode f))
       (step world inode f))
       (λ f. without_all (goes_in (chosen f) (used_in nat_eq world f) (inode ∷ rest) f) f) world.filesystems
-      (λ f m. ⊎_elim (by_chosen f m) (by_other f) (decided (chosen f))))
+      (λ f m. ⊎_elim (by_chosen f m) (by_other f) (cases_Bool (chosen f))))
     where
       goes_by : Bool → List ℕ → ℕ → ℕ → Bool
       goes_by kind used filesystem number =

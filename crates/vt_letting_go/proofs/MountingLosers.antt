@@ -2,7 +2,7 @@
 use Rattle.std.proofs.Common.{◌≡◌, refl, sym, ap, subst, ◌∙◌, ◌⊎◌, inl, inr, ⊎_elim, ℕ, nat_eq, eqb-true, eq-eqb, Bool, true, false, ◌||◌, ◌&&◌, List, filter, map, true≢false, flat_map, ◌++◌, Option, Some, is_some}
 use Rattle.std.specs.Prelude.{filter_map}
 use Rattle.std.specs.List.{list_all}
-use Rattle.std.proofs.lemmas.Bool.{or_cases, or_parts}
+use Rattle.std.proofs.lemmas.Bool.{or_cases, or_parts, cases_Bool}
 use Rattle.vt_spec.specs.Lists.{is_among}
 use Rattle.vt_spec.specs.Machine.Mounts.{Location, Mount, mount_in, root_of}
 use Rattle.vt_spec.specs.Machine.Receives.{is_member_of}
@@ -16,8 +16,10 @@ use Rattle.vt_letting_go.specs.Mounting.{inode_at, root_inode, used_by_mounts}
 use Rattle.vt_letting_go.specs.OneByOne.{AllInUseBut, FilesystemsInUseBut, GroupsInUseBut, Inode, InodesInUseBut, IsPlain, Losers, MountsInUseBut, is_inode_among, is_used_or_among, let_go}
 use Rattle.vt_letting_go.proofs.Inodes.{all_goes_one_by_one}
 use Rattle.vt_letting_go.proofs.InUse.{used_at}
-use Rattle.vt_letting_go.proofs.Lists.{Among, all_from_among, all_pass, among-append, among-append_left, among-append_right, among-filter, among-filter_map, among-from_filter, among-from_filter_map, among-from_map, among-map, among_from_all, among_numbers, any-filter, any_passes, decided, is_among_left, is_among_numbers, one_passes, or_first, or_second, passes}
-use Rattle.vt_letting_go.proofs.PlacesLeft.{found_in_filter, found_is_there, found_itself, no_layers, nowhere_parts, number_found, plain_uses, private_is_no_member, place_attached}
+use Rattle.vt_letting_go.proofs.Lists.{Among, all_from_among, all_pass, among-append, among-append_left, among-append_right, among-filter, among-filter_map, among-from_filter, among-from_filter_map, among-from_map, among-map, among_from_all, among_numbers, any-filter, any_passes, is_among_numbers, one_passes, or_first, or_second, passes}
+use Rattle.vt_letting_go.proofs.PlacesLeft.{found_in_filter, found_is_there, found_itself, no_layers, nowhere_parts, plain_uses, private_is_no_member, place_attached}
+use Rattle.vt_spec.proofs.Found.{is_among_left}
+use Rattle.vt_spec.proofs.Worlds.{number-mount_in}
 
 -- the roots, working directories and descriptors, the roots of mounts and the places of a world
 abbrev pub places_of : World ℕ → List (Location ℕ)
@@ -37,7 +39,7 @@ places_stand world stand located_well location m =
     (λ at.
     let t = among-from_filter_map (λ x. x.mount_point) world.mounts location at in
     let on = place_attached world stand t.0 t.1 location t.2 in
-    ap (λ n. is_among nat_eq n numbers) (sym (number_found world.mounts location.mount))
+    ap (λ n. is_among nat_eq n numbers) (sym (number-mount_in world.mounts location.mount))
     ∙ numbered (mount_at nat_eq world location) (found_is_there world.mounts location.mount on))
     (among-append (all_locations world ++ map root_of world.mounts) (filter_map (λ mount. mount.mount_point) world.mounts) location m)
   where
@@ -136,7 +138,7 @@ module _ (world : World ℕ) (mounts : List (Mount ℕ)) (master : ℕ → Optio
       all_pass (λ mount. is_among nat_eq mount.number gone || mount_lives nat_eq after mount) mounts
       (λ mount m. ⊎_elim (λ is. or_first (is_among nat_eq mount.number gone) (mount_lives nat_eq after mount) is)
       (λ isnt. or_second (is_among nat_eq mount.number gone) (mount_lives nat_eq after mount) (loses.live mount m isnt))
-      (decided (is_among nat_eq mount.number gone)))
+      (cases_Bool (is_among nat_eq mount.number gone)))
 
   -- a mount that is none of those that may go has an image that lives
   image_lives : (mount : Mount ℕ) → is_among nat_eq mount.number gone ≡ false → (image : Image mounts mount)
@@ -166,7 +168,7 @@ module _ (world : World ℕ) (mounts : List (Mount ℕ)) (master : ℕ → Optio
       (λ isnt. let image = loses.images t.0 t.1 in
       inl (shown_is_mounted number image.0 image.1.0 (image_lives t.0 isnt image)
       (ap (nat_eq number) image.1.1.1 ∙ t.2)))
-      (decided (is_among nat_eq t.0.number gone))
+      (cases_Bool (is_among nat_eq t.0.number gone))
 
   pub groups_but : GroupsInUseBut groups mounted
   groups_but group among none =
@@ -287,7 +289,7 @@ module _ (world : World ℕ) (mounts : List (Mount ℕ)) (master : ℕ → Optio
         (among-append_right (all_locations world) (map root_of world.mounts) (root_of mount)
         (among-map root_of world.mounts mount m)))
         (stays_there mount.number isnt)))))
-        (decided (is_among nat_eq mount.number gone))
+        (cases_Bool (is_among nat_eq mount.number gone))
 
     by_place : (mount : Mount ℕ) → Among mount world.mounts → (place : Location ℕ) → mount.mount_point ≡ Some place
         → filesystem.number ≡ (mount_at nat_eq world place).filesystem

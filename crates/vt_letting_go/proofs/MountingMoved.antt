@@ -1,6 +1,6 @@
 -- What goes when mounts get other places.
 use Rattle.std.proofs.Common.{◌≡◌, refl, sym, ap, subst, ◌∙◌, inl, inr, ⊎_elim, ℕ, nat_eq, eqb-true, eq-eqb, true, false, true≢false, List, [], ◌∷◌, filter, map, Option, Some, is_some, option_to_list, ◌||◌}
-use Rattle.std.proofs.lemmas.Bool.{false_from_ne_true, or_parts}
+use Rattle.std.proofs.lemmas.Bool.{false_from_ne_true, or_parts, cases_Bool}
 use Rattle.std.specs.List.{list_all}
 use Rattle.vt_spec.specs.Lists.{any_pair, holds_of, is_among}
 use Rattle.vt_spec.specs.Machine.Detach.{has_child}
@@ -12,7 +12,7 @@ use Rattle.vt_letting_go.specs.Detaching.{DetachingLetsGo, MovesOne, with_change
 use Rattle.vt_letting_go.specs.InUse.{AllInUse}
 use Rattle.vt_letting_go.specs.Mounting.{MovesSome, MovingLetsGo, places_moved}
 use Rattle.vt_letting_go.proofs.Detached.{found-map, not_found-map}
-use Rattle.vt_letting_go.proofs.Lists.{Among, fails, among-filter, among-filter_map, among-from_map, among-map, decided, passes}
+use Rattle.vt_letting_go.proofs.Lists.{Among, fails, among-filter, among-filter_map, among-from_map, among-map, passes}
 use Rattle.vt_letting_go.proofs.PlacesLeft.{found_itself}
 use Rattle.vt_letting_go.proofs.MountingLosers.{Loses, losers_go}
 
@@ -49,7 +49,7 @@ loses world moved change master in_use moves nowhere = record {
           (moves.mount_point mount isnt ∙ p, inl refl),
         ),
       ))
-      (decided (is_among nat_eq mount.number moved));
+      (cases_Bool (is_among nat_eq mount.number moved));
   nowhere = nowhere;
 }
 
@@ -100,7 +100,7 @@ one_loses world number change master in_use moves alone one nowhere = record {
           (moves.mount_point mount isnt ∙ p, inl (not_on mount m place p)),
         ),
       ))
-      (decided (nat_eq mount.number number));
+      (cases_Bool (nat_eq mount.number number));
   nowhere = nowhere;
 }
   where

@@ -16,10 +16,11 @@ use Rattle.vt_letting_go.specs.Overlays.{let_go_all, used_by_filesystems}
 use Rattle.vt_letting_go.proofs.InUse.{layers_stay, filesystems_stay, inodes_stay, mounts_stay}
 use Rattle.vt_letting_go.proofs.OneByOne.{groups_go_one_by_one}
 use Rattle.vt_letting_go.proofs.LeftWithOverlays.{in_layers}
-use Rattle.vt_letting_go.proofs.Lists.{Among, all_from_among, all_pass, among-flat_map, among-from_flat_map, among_from_all, among_numbers, any_passes, is_among_left, is_among_numbers, is_among_right, one_passes, or_first, or_second, passes}
+use Rattle.vt_letting_go.proofs.Lists.{Among, all_from_among, all_pass, among-flat_map, among-from_flat_map, among_from_all, among_numbers, any_passes, is_among_numbers, one_passes, or_first, or_second, passes}
 use Rattle.vt_letting_go.proofs.MountingLosers.{Comes, Loses, by_a_name, by_located, changed, changed_with, groups_but, inodes, mounts_but, shown_is_mounted, still_mounted}
 use Rattle.vt_letting_go.proofs.OverlaysGone.{filesystems_take_their_uses}
 use Rattle.vt_letting_go.proofs.WithOverlays.{with_overlays_all_goes}
+use Rattle.vt_spec.proofs.Found.{is_among_left, is_among_right}
 
 module _ (world : World ℕ) (mounts : List (Mount ℕ)) (master : ℕ → Option ℕ) (filesystems : List (Filesystem ℕ))
     (namespaces : List (Namespace ℕ)) (tasks : List (Task ℕ)) (gone : List ℕ) (left : List (Location ℕ))

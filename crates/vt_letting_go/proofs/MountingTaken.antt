@@ -1,7 +1,7 @@
 -- What goes when mounts are taken away.
 use Rattle.std.proofs.Common.{◌≡◌, refl, sym, ap, subst, ◌∙◌, inl, inr, ⊎_elim, ℕ, zero, suc, nat_eq, Bool, true, false, cond, not, ◌||◌, ◌&&◌, List, [], ◌∷◌, filter, length, map, Option, Some, None, is_some, option_map, true≢false}
 use Rattle.std.specs.List.{list_any}
-use Rattle.std.proofs.lemmas.Bool.{or_parts}
+use Rattle.std.proofs.lemmas.Bool.{or_parts, cases_Bool}
 use Rattle.vt_spec.specs.Machine.Detach.{after_going, is_going, mount_point_of_parent, mount_point_left, taken_away}
 use Rattle.vt_spec.specs.Lists.{chain, holds_of, is_among, last_or}
 use Rattle.vt_spec.specs.Machine.Mounts.{Location, Mount, Propagation, detached, mount_in, root_of}
@@ -16,7 +16,7 @@ use Rattle.vt_letting_go.specs.Leaving.{IsSettledPlain, MountsStand}
 use Rattle.vt_letting_go.specs.Mounting.{EndingLetsGo, TakingAwayLetsGo, ended_mounts, loses_its_place, places_lost, used_by_mounts}
 use Rattle.vt_letting_go.specs.OneByOne.{GroupsInUseBut, let_go}
 use Rattle.vt_letting_go.proofs.Detached.{found-map, not_found-map}
-use Rattle.vt_letting_go.proofs.Lists.{all_pass, among-filter, among-filter_map, among-from_map, among-map, decided, map_twice, passes}
+use Rattle.vt_letting_go.proofs.Lists.{all_pass, among-filter, among-filter_map, among-from_map, among-map, map_twice, passes}
 use Rattle.vt_letting_go.proofs.MountingLosers.{Loses, changed, losers_go}
 use Rattle.vt_letting_go.proofs.PlacesLeft.{nowhere_parts}
 
@@ -178,7 +178,7 @@ module _ (world : World ℕ) (gone : List ℕ) (namespaces : List (Namespace ℕ
               (same_place b mount place p parts.0 on, inl on),
             ),
           ))
-          (decided (loses_its_place gone mount));
+          (cases_Bool (loses_its_place gone mount));
       nowhere = all_pass is_nowhere_or_attached (map (change b) world.mounts) (λ last m.
           let from = among-from_map (change b) world.mounts last m in
           ap is_nowhere_or_attached from.2

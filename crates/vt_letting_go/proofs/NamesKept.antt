@@ -1,7 +1,7 @@
 -- What changes of a tree do to names.
 use Rattle.std.proofs.Common.{◌≡◌, refl, sym, ap, subst, ◌∙◌, ◌⊎◌, inl, inr, ⊎_elim, ℕ, nat_eq, Bool, true, false, cond, not, ◌||◌, List, [], ◌∷◌, true≢false, Option, Some, None, is_some, option_to_list}
 use Rattle.std.specs.List.{list_all}
-use Rattle.std.proofs.lemmas.Bool.{and_parts, false_from_ne_true}
+use Rattle.std.proofs.lemmas.Bool.{and_parts, false_from_ne_true, cases_Bool}
 use Rattle.std.proofs.lemmas.Bool.Decides.{eqb_tells}
 use Rattle.std.specs.Cmp.{tied_itself}
 use Rattle.std.specs.Cmp.Lexicographic.{bytes_decides, nat_list_cmp_total}
@@ -10,10 +10,9 @@ use Rattle.std.specs.declared.cmp.Ordering.TheVariants.{Equal, Greater, Less}
 use Rattle.std.specs.FinMap.Entries.{below_all, by_order, is_sorted, is_sorted-where_key}
 use Rattle.std.specs.Ordering.{eq_by_cmp, is_eq, is_lt}
 use Rattle.std.specs.Str.{bytes_eq}
-use Rattle.vt_spec.proofs.Nodes.{directory_used, entry_named-without_entry, none_is_not, node_other, node_set, part_kept, passes, same_name}
+use Rattle.vt_spec.proofs.Nodes.{directory_used, entry_named-without_entry, none_is_not, node_other, node_set, part_kept, passes, same_name, entries-node_with_bytes}
 use Rattle.std.proofs.lemmas.Float.{T_from_true}
 use Rattle.std.proofs.lemmas.Option.{same_Some}
-use Rattle.vt_spec.specs.declared.attributes.Attr.{Attr}
 use Rattle.vt_spec.specs.FileTree.{FileTree, targets_in}
 use Rattle.vt_spec.specs.Language.Changes.{changed, changed_node, node_with_attr, node_with_mark, node_with_parent, node_without_entry, with_inode, with_name, without_entry, without_name, without_parent}
 use Rattle.vt_spec.specs.Language.Changes.Change.{AddName, CopyUp, Make, Move, Remove, SetAttr, SetBytes, SetMark}
@@ -25,7 +24,8 @@ use Rattle.vt_spec.specs.TreeLaws.{entry_at}
 use Rattle.vt_letting_go.specs.FileChanges.{ChangesKeepNames, IsMade, IsMoved}
 use Rattle.vt_letting_go.specs.InUse.{IsListedTree}
 use Rattle.vt_letting_go.specs.TreeChanges.{ChangesTree}
-use Rattle.vt_letting_go.proofs.Lists.{Among, all_pass, among-filter, among-flat_map, among-from_flat_map, among-from_map, among-map, among_numbers, decided, is_among_numbers, or_first, or_second}
+use Rattle.vt_letting_go.proofs.Lists.{Among, all_pass, among-filter, among-flat_map, among-from_flat_map, among-from_map, among-map, among_numbers, is_among_numbers, or_first, or_second}
+use Rattle.vt_spec.proofs.NodeChanges.{entries-node_with_attr, entries-node_with_mark, entries-node_with_parent, is_directory-node_with_parent, is_directory-node_without_entry}
 
 abbrev Entry : Type 0
 Entry = List ℕ × ℕ
@@ -94,7 +94,7 @@ filter_keeps name entries e m =
     ⊎_elim
     (λ same. inr ((bytes_decides e.0 name).0 same))
     (λ differ. inl (among-filter (λ (y : Entry). not (bytes_eq y.0 name)) entries e m (ap not differ)))
-    (decided (bytes_eq e.0 name))
+    (cases_Bool (bytes_eq e.0 name))
 
 -- Nodes
 
@@ -138,32 +138,6 @@ node_has name number (Some node) is = by node.content is
     by (Symlink text) n = absurd (true≢false (sym n))
     by Whiteout n = absurd (true≢false (sym n))
 
-kind_with_parent : (parent : ℕ) (o : Option (Node ℕ))
-    → is_directory_node (node_with_parent parent o) ≡ is_directory_node o
-kind_with_parent parent None = refl
-kind_with_parent parent (Some node) = by node.content
-  where
-    by : (content : Content ℕ) → is_directory_node
-        (node_with_parent parent (Some (record { attr = node.attr; content = content })))
-        ≡ is_directory_node (Some (record { attr = node.attr; content = content }))
-    by (Directory old entries opaque) = refl
-    by (Regular bytes) = refl
-    by (Symlink text) = refl
-    by Whiteout = refl
-
-kind_without : (name : List ℕ) (o : Option (Node ℕ))
-    → is_directory_node (node_without_entry name o) ≡ is_directory_node o
-kind_without name None = refl
-kind_without name (Some node) = by node.content
-  where
-    by : (content : Content ℕ) → is_directory_node
-        (node_without_entry name (Some (record { attr = node.attr; content = content })))
-        ≡ is_directory_node (Some (record { attr = node.attr; content = content }))
-    by (Directory old entries opaque) = refl
-    by (Regular bytes) = refl
-    by (Symlink text) = refl
-    by Whiteout = refl
-
 sorted_without : (name : List ℕ) (o : Option (Node ℕ)) → is_sorted name_cmp (entries_in o) ≡ true
     → is_sorted name_cmp (entries_in (node_without_entry name o)) ≡ true
 sorted_without name None e = e
@@ -200,46 +174,6 @@ named_before old name (Some node) number e = by node.content e
     by (Symlink text) h = h
     by Whiteout h = h
 
-pub same_entries_parent : (parent : ℕ) (o : Option (Node ℕ)) → entries_in (node_with_parent parent o) ≡ entries_in o
-same_entries_parent parent None = refl
-same_entries_parent parent (Some node) = by node.content
-  where
-    by : (content : Content ℕ) → entries_in
-        (node_with_parent parent (Some (record { attr = node.attr; content = content })))
-        ≡ entries_in (Some (record { attr = node.attr; content = content }))
-    by (Directory old entries opaque) = refl
-    by (Regular bytes) = refl
-    by (Symlink text) = refl
-    by Whiteout = refl
-
-pub same_entries_bytes : (bytes : List ℕ) (o : Option (Node ℕ)) → entries_in (node_with_bytes bytes o) ≡ entries_in o
-same_entries_bytes bytes None = refl
-same_entries_bytes bytes (Some node) = by node.content
-  where
-    by : (content : Content ℕ) → entries_in
-        (node_with_bytes bytes (Some (record { attr = node.attr; content = content })))
-        ≡ entries_in (Some (record { attr = node.attr; content = content }))
-    by (Directory old entries opaque) = refl
-    by (Regular old) = refl
-    by (Symlink text) = refl
-    by Whiteout = refl
-
-pub same_entries_mark : (opaque : Bool) (o : Option (Node ℕ)) → entries_in (node_with_mark opaque o) ≡ entries_in o
-same_entries_mark opaque None = refl
-same_entries_mark opaque (Some node) = by node.content
-  where
-    by : (content : Content ℕ) → entries_in
-        (node_with_mark opaque (Some (record { attr = node.attr; content = content })))
-        ≡ entries_in (Some (record { attr = node.attr; content = content }))
-    by (Directory old entries was) = refl
-    by (Regular bytes) = refl
-    by (Symlink text) = refl
-    by Whiteout = refl
-
-pub same_entries_attr : (attr : Attr) (o : Option (Node ℕ)) → entries_in (node_with_attr attr o) ≡ entries_in o
-same_entries_attr attr None = refl
-same_entries_attr attr (Some node) = refl
-
 -- Trees: what a change of one node keeps
 
 abbrev entries_at : FileTree ℕ → ℕ → Entries ℕ
@@ -255,7 +189,7 @@ same_entries_unparented : (files : FileTree ℕ) (object : Option ℕ) (director
     → entries_at (without_parent nat_eq files object) directory ≡ entries_at files directory
 same_entries_unparented files None directory = refl
 same_entries_unparented files (Some object) directory = same_entries files object (node_with_parent object)
-    (same_entries_parent object) directory
+    (entries-node_with_parent object) directory
 
 -- an entry stays, or it was the one of the name
 one_changed : (files : FileTree ℕ) (directory : ℕ) (name : List ℕ) (change : Option (Node ℕ) → Option (Node ℕ))
@@ -469,7 +403,7 @@ module _ (files : FileTree ℕ) (listed : IsListedTree files) where
     same_apart = same_entries_unparented files replaced
 
     same_last : (d : ℕ) → entries_at last d ≡ entries_at placed d
-    same_last = same_entries placed object (node_with_parent to) (same_entries_parent to)
+    same_last = same_entries placed object (node_with_parent to) (entries-node_with_parent to)
 
     numbers_last : last.numbers ≡ files.numbers
     numbers_last = numbers_apart replaced
@@ -501,7 +435,7 @@ module _ (files : FileTree ℕ) (listed : IsListedTree files) where
     directory_left : is_directory_node (left.tree.node to) ≡ true
     directory_left =
         part_kept is_directory_node apart.tree from (node_without_entry old (apart.tree.node from))
-        (kind_without old (apart.tree.node from)) to
+        (is_directory-node_without_entry old (apart.tree.node from)) to
         ∙ kind_apart replaced ∙ moves.in_directory
       where
         kind_apart : (o : Option ℕ) → is_directory_node ((without_parent nat_eq files o).tree.node to)
@@ -509,7 +443,7 @@ module _ (files : FileTree ℕ) (listed : IsListedTree files) where
         kind_apart None = refl
         kind_apart (Some one) =
             part_kept is_directory_node files.tree one (node_with_parent one (files.tree.node one))
-            (kind_with_parent one (files.tree.node one)) to
+            (is_directory-node_with_parent one (files.tree.node one)) to
 
     to_last : (d : ℕ) (e : Entry) → Among e (entries_at placed d) → Among e (entries_at last d)
     to_last d e m = subst (Among e) (sym (same_last d)) m
@@ -559,11 +493,11 @@ changes_keep_names files (Move from old to new object) listed after may =
     moves_so files listed from old to new object may after
 changes_keep_names files (SetBytes file bytes) listed after may =
     all_stay files (changed nat_eq files (SetBytes file bytes)) after refl refl
-    (same_entries files file (node_with_bytes bytes) (same_entries_bytes bytes))
+    (same_entries files file (node_with_bytes bytes) (entries-node_with_bytes bytes))
 changes_keep_names files (SetAttr object attr) listed after may =
     all_stay files (changed nat_eq files (SetAttr object attr)) after refl refl
-    (same_entries files object (node_with_attr attr) (same_entries_attr attr))
+    (same_entries files object (node_with_attr attr) (entries-node_with_attr attr))
 changes_keep_names files (SetMark directory opaque) listed after may =
     all_stay files (changed nat_eq files (SetMark directory opaque)) after refl refl
-    (same_entries files directory (node_with_mark opaque) (same_entries_mark opaque))
+    (same_entries files directory (node_with_mark opaque) (entries-node_with_mark opaque))
 changes_keep_names files (CopyUp object) listed after may = all_stay files files after refl refl (λ d. refl)

@@ -2,7 +2,7 @@
 use Rattle.std.proofs.Common.{◌≡◌, refl, sym, ap, ◌∙◌, ⊎_elim, ℕ, zero, suc, nat_eq, eqb-true, eq-eqb, Bool, true, false, cond, not, ◌||◌, ◌&&◌, ◌+◌, ◌++◌, ◌≤◌, List, [], ◌∷◌, filter, length, map, Option, Some, None, option_map, option_to_list, arith}
 use Rattle.std.specs.Prelude.{nat_lt}
 use Rattle.std.specs.List.{list_all, list_any}
-use Rattle.std.proofs.lemmas.Bool.{and_parts}
+use Rattle.std.proofs.lemmas.Bool.{and_parts, cases_Bool}
 use Rattle.std.proofs.lemmas.Bool.Decides.{nat_tests}
 use Rattle.vt_spec.specs.Language.Limits.{most_mounts}
 use Rattle.vt_spec.specs.Machine.Detach.{after_going, mount_point_of_parent, mount_point_left, taken_away}
@@ -13,7 +13,7 @@ use Rattle.vt_spec.specs.Machine.Receives.{lost_a_group, regrouped, regrouped_by
 use Rattle.vt_spec.specs.Machine.World.{Namespace, World, mounts_of, with_mounts}
 use Rattle.vt_spec.specs.Machine.Invariants.{is_listed}
 use Rattle.vt_letting_go.specs.Ends.{AddedMountsCount, MountsAreListed, NoNamespaceEnds, OneNamespaceEnds, TooManyIsOfOne, mount_count}
-use Rattle.vt_letting_go.proofs.Lists.{Among, among-from_map, among_numbers, any_passes, decided, fails, filter_alike, filter_all, map_same, none_passes, nothing_passes, passes}
+use Rattle.vt_letting_go.proofs.Lists.{Among, among-from_map, among_numbers, any_passes, fails, filter_alike, filter_all, map_same, none_passes, nothing_passes, passes}
 
 -- Where nothing is taken away, places stay.
 module _ (world : World ℕ) where
@@ -174,4 +174,4 @@ too_many_is_of_one world after namespace few same listed others =
         (λ is. ap (λ k. nat_lt most_mounts (mount_count after k)) (eqb-true n.number namespace is) ∙ e)
         (λ isnt. no_more most_mounts (mount_count world n.number) (mount_count after n.number)
         (fails (λ k. nat_lt most_mounts (mount_count world k.number)) world.namespaces few n m) (others n.number isnt))
-        (decided (nat_eq n.number namespace)))
+        (cases_Bool (nat_eq n.number namespace)))

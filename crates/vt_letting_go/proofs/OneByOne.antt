@@ -7,6 +7,7 @@ use Rattle.vt_spec.specs.Machine.Settled.{filesystem_lives, has_layer_on, is_mou
 use Rattle.vt_spec.specs.Machine.World.{Filesystem, World, with_mounts}
 use Rattle.vt_letting_go.specs.OneByOne.{FilesystemsGoOneByOne, GroupsGoOneByOne, MountsGoOneByOne, let_go_filesystem, let_go_filesystems, let_go_group, let_go_groups, let_go_mount, let_go_mounts}
 use Rattle.vt_letting_go.proofs.Lists.{any-filter, filter_alike, filter_all, filter_twice, passes}
+use Rattle.std.proofs.Math.Bool.{and-false}
 
 -- one after the other: looked at here, or looked at later
 pub looked_at : (here later lives : Bool)
@@ -61,11 +62,7 @@ filesystem_by_others world number filesystem =
     (λ other m gone. ap (λ b. has_layer_on nat_eq filesystem.number other && b)
     (or_parts (is_mounted nat_eq world other.number) _
     (or_parts (not (nat_eq other.number number)) (filesystem_lives nat_eq world other) gone).1).0
-    ∙ never (has_layer_on nat_eq filesystem.number other)))
-  where
-    never : (b : Bool) → (b && false) ≡ false
-    never true = refl
-    never false = refl
+    ∙ and-false (has_layer_on nat_eq filesystem.number other)))
 
 filesystems_folded : (world : World ℕ) (losers : List ℕ)
     → let_go_filesystems world losers

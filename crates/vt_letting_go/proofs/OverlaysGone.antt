@@ -10,8 +10,9 @@ use Rattle.vt_spec.specs.Machine.World.{Filesystem, Layer, World, layers_of}
 use Rattle.vt_letting_go.specs.InUse.{is_inode_used}
 use Rattle.vt_letting_go.specs.OneByOne.{FilesystemsInUseBut, Inode, is_inode_among, is_used_or_among}
 use Rattle.vt_letting_go.specs.Overlays.{FilesystemsTakeTheirUses, used_by_filesystem, used_by_filesystems, used_by_numbered, uppers_in}
-use Rattle.vt_letting_go.proofs.Lists.{Among, all_from_among, all_pass, among-append_left, among-append_right, among-filter, among-flat_map, among-from_filter, among-from_flat_map, among-from_map, among-map, among_from_all, among_numbers, any_passes, is_among_left, is_among_numbers, is_among_right, one_passes, or_first, or_second, passes}
+use Rattle.vt_letting_go.proofs.Lists.{Among, all_from_among, all_pass, among-append_left, among-append_right, among-filter, among-flat_map, among-from_filter, among-from_flat_map, among-from_map, among-map, among_from_all, among_numbers, any_passes, is_among_numbers, one_passes, or_first, or_second, passes}
 use Rattle.vt_letting_go.proofs.WithOverlays.{object_parts}
+use Rattle.vt_spec.proofs.Found.{is_among_left, is_among_right}
 
 module _ (world : World ℕ) (losers : List ℕ) (others : FilesystemsInUseBut losers world) where
   abbrev living : World ℕ

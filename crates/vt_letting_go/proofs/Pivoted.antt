@@ -14,7 +14,8 @@ use Rattle.vt_letting_go.specs.Pivoting.{PivotedLetsGo, PivotsLetGo}
 use Rattle.vt_letting_go.proofs.Detached.{found-map, not_found-map}
 use Rattle.vt_letting_go.proofs.Lists.{Among, all_pass, among-flat_map, among-from_flat_map, among-from_map, among-map, any-map, any_passes, one_passes, or_first, or_second, passes}
 use Rattle.vt_letting_go.proofs.MountingLosers.{Loses, StillALocation, StillAPlace, losers_go}
-use Rattle.vt_letting_go.proofs.PlacesLeft.{found_is_there, found_itself, one_location}
+use Rattle.vt_letting_go.proofs.PlacesLeft.{found_is_there, found_itself}
+use Rattle.vt_spec.proofs.Worlds.{same_location_is}
 
 module _ (world : World ℕ) (namespace old new : ℕ) (put : Location ℕ) (in_use : AllInUse world)
     (stand : MountsStand world)
@@ -92,7 +93,7 @@ module _ (world : World ℕ) (namespace old new : ℕ) (put : Location ℕ) (in_
       by : (b : Bool) → same_location nat_eq location (root_of root) ≡ b
           → (location ≡ cond (same_location nat_eq location (root_of root)) (root_of target) location)
           ⊎ (location ≡ root_of root)
-      by true e = inr (one_location location (root_of root) e)
+      by true e = inr (same_location_is location (root_of root) e)
       by false e = inl (ap (λ b. cond b (root_of target) location) (sym e))
 
   of_task : (task : Task ℕ) (location : Location ℕ) → Among location (locations_of task)

@@ -2,7 +2,7 @@
 use Rattle.std.proofs.Common.{◌≡◌, refl, sym, ap, subst, ◌∙◌, ◌⊎◌, inl, inr, ⊎_elim, ℕ, nat_eq, eqb-true, eq-eqb, Bool, true, false, cond, not, ◌||◌, ◌&&◌, List, [], ◌∷◌, filter, find, map, true≢false, flat_map, ◌++◌, Option, Some, None, is_some, unwrap_or, option_to_list}
 use Rattle.std.specs.Prelude.{filter_map}
 use Rattle.std.specs.List.{list_all, list_any}
-use Rattle.std.proofs.lemmas.Bool.{and_parts, or_cases, or_parts}
+use Rattle.std.proofs.lemmas.Bool.{and_parts, or_cases, or_parts, cases_Bool}
 use Rattle.vt_spec.specs.Lists.{any_pair, holds_of, is_among}
 use Rattle.vt_spec.specs.Machine.Mounts.{Location, Mount, Propagation, group_of, mount_in, no_mount, root_of, same_location}
 use Rattle.vt_spec.specs.Machine.Mounts.Propagation.{Private, Shared, Slave, Unbindable}
@@ -16,7 +16,11 @@ use Rattle.vt_letting_go.specs.Leaving.{LeavingLetsGo, MountsStand, StayingKeeps
 use Rattle.vt_letting_go.specs.OneByOne.{FilesystemsInUseBut, GroupsInUseBut, InodesInUseBut, IsPlain, Losers, MountsInUseBut, is_inode_among, is_used_or_among}
 use Rattle.vt_letting_go.proofs.InUse.{no_objects, used_at}
 use Rattle.vt_letting_go.proofs.Inodes.{all_goes_one_by_one}
-use Rattle.vt_letting_go.proofs.Lists.{Among, all_from_among, all_pass, among-append, among-append_left, among-append_right, among-filter, among-filter_map, among-flat_map, among-from_filter, among-from_filter_map, among-from_map, among-map, among_from_all, among_numbers, any-filter, any_passes, decided, fails, flat_map_none, found_by, is_among_left, is_among_numbers, none_passes, one_passes, or_first, or_second, passes}
+use Rattle.vt_letting_go.proofs.Lists.{Among, all_from_among, all_pass, among-append, among-append_left, among-append_right, among-filter, among-filter_map, among-flat_map, among-from_filter, among-from_filter_map, among-from_map, among-map, among_from_all, among_numbers, any-filter, any_passes, fails, flat_map_none, found_by, is_among_numbers, none_passes, one_passes, or_first, or_second, passes}
+use Rattle.vt_spec.proofs.Found.{is_among_left}
+use Rattle.vt_spec.proofs.Worlds.{number-mount_in, same_location_is}
+use Rattle.vt_letting_go.proofs.Inodes.{no_objects_of}
+pub use Rattle.vt_spec.proofs.Worlds.{number-mount_in as number_found}
 
 -- Mounts by their numbers
 pub found_itself : (mounts : List (Mount ℕ)) → any_pair (λ (a b : Mount ℕ). nat_eq a.number b.number) mounts ≡ false
@@ -71,15 +75,6 @@ found_is_there (first ∷ rest) number e = by (nat_eq number first.number) refl 
         subst (λ x. Among x (first ∷ rest)) (sym skipped)
         (inr (next (sym (ap (λ x. is_some x.namespace) skipped) ∙ e)))
 
-pub number_found : (mounts : List (Mount ℕ)) (number : ℕ) → (mount_in nat_eq mounts number).number ≡ number
-number_found [] number = refl
-number_found (first ∷ rest) number = by (nat_eq number first.number) refl (number_found rest number)
-  where
-    by : (b : Bool) → nat_eq number first.number ≡ b → (mount_in nat_eq rest number).number ≡ number
-        → (unwrap_or (cond b (Some first) (find (λ x. nat_eq number x.number) rest)) (no_mount number)).number ≡ number
-    by true e next = sym (eqb-true number first.number e)
-    by false e next = next
-
 -- a mount outside every namespace has no place, and is in no group
 pub nowhere_parts : (mount : Mount ℕ) → is_nowhere_or_attached mount ≡ true → is_some mount.namespace ≡ false
     → (is_some mount.mount_point ≡ false) × (is_private mount.propagation ≡ true)
@@ -100,17 +95,11 @@ private_is_no_member group mount e = by mount.propagation e
     by Private f = refl
     by Unbindable f = absurd (true≢false (sym f))
 
--- places that are the same are one
-pub one_location : (a b : Location ℕ) → same_location nat_eq a b ≡ true → a ≡ b
-one_location a b e =
-    let parts = and_parts (nat_eq a.mount b.mount) (nat_eq a.node b.node) e in
-    λ i. record { mount = eqb-true a.mount b.mount parts.0 i; node = eqb-true a.node b.node parts.1 i }
-
 pub is_it : (list : List (Location ℕ)) (location : Location ℕ) → is_location_among list location ≡ true
     → Among location list
 is_it list location e =
     let t = one_passes (same_location nat_eq location) list e in
-    subst (λ l. Among l list) (sym (one_location location t.0 t.2)) t.1
+    subst (λ l. Among l list) (sym (same_location_is location t.0 t.2)) t.1
 
 -- no plain filesystem keeps another
 pub no_layers : (number : ℕ) (other : World ℕ) (filesystems : List (Filesystem ℕ))
@@ -132,12 +121,6 @@ no_layers number other filesystems plain =
         none (Some overlay) f = absurd (true≢false f)
 
 -- nor has it layers or objects
-pub no_objects_of : (world : World ℕ) → IsPlain world → (number : ℕ)
-    → flat_map (objects_of_overlay nat_eq number) world.filesystems ≡ []
-no_objects_of world plain number =
-    flat_map_none (objects_of_overlay nat_eq number) world.filesystems
-    (λ f m. no_objects world number f (fails is_overlay world.filesystems plain f m))
-
 pub no_layers_of : (world : World ℕ) → IsPlain world → (number : ℕ) → layers_in nat_eq world number ≡ []
 no_layers_of world plain number =
     ap (λ layers. map (λ layer. layer.directory) (filter (λ layer. nat_eq number layer.filesystem) layers))
@@ -248,7 +231,7 @@ module _ (world : World ℕ) (tasks : List (Task ℕ)) (left : List (Location �
       or_first (is_among nat_eq mount.number losers.mounts) (mount_lives nat_eq after mount)
       (ap (λ n. is_among nat_eq n losers.mounts) gone.2
       ∙ is_among_numbers gone.0.mount losers.mounts (among-map (λ l. l.mount) left gone.0 gone.1)))
-      (decided (mount_lives nat_eq after mount)))
+      (cases_Bool (mount_lives nat_eq after mount)))
 
   filesystems_but : IsPlain world → FilesystemsInUseBut losers.filesystems mounted
   filesystems_but plain =
@@ -273,7 +256,7 @@ module _ (world : World ℕ) (tasks : List (Task ℕ)) (left : List (Location �
       ∙ ap (λ x. x.filesystem) (sym (filesystem_left t.0 t.1 gone.0 gone.1 gone.2)))
       ∙ is_among_numbers (mount_at nat_eq world gone.0).filesystem losers.filesystems
       (among-map (λ l. (mount_at nat_eq world l).filesystem) left gone.0 gone.1)))
-      (decided (mount_lives nat_eq after t.0)))
+      (cases_Bool (mount_lives nat_eq after t.0)))
 
   pub groups_but : GroupsInUseBut losers.groups mounted
   groups_but group among none =
@@ -352,7 +335,7 @@ module _ (world : World ℕ) (tasks : List (Task ℕ)) (left : List (Location �
         (λ dead. let gone = dead_was_left mount m dead in
         may_go gone.0 gone.1 (e ∙ ap (λ n. (mount_in nat_eq world.mounts n).filesystem) gone.2) mount.root
         (inr (ap (λ x. x.root) (sym (filesystem_left mount m gone.0 gone.1 gone.2)))))
-        (decided (mount_lives nat_eq after mount))
+        (cases_Bool (mount_lives nat_eq after mount))
 
     by_place : (mount : Mount ℕ) → Among mount world.mounts → (place : Location ℕ) → mount.mount_point ≡ Some place
         → filesystem.number ≡ (mount_at nat_eq world place).filesystem
@@ -367,7 +350,7 @@ module _ (world : World ℕ) (tasks : List (Task ℕ)) (left : List (Location �
         (attached_lives mount (is_attached (is_some mount.namespace) refl))) p))
         (e ∙ ap (λ x. x.filesystem) (sym (found_still place.mount (λ other n same.
         only_one on there (attached_lives on on_attached) other n
-        (same ∙ sym (number_found world.mounts place.mount)))))))
+        (same ∙ sym (number-mount_in world.mounts place.mount)))))))
       where
         on : Mount ℕ
         on = mount_at nat_eq world place

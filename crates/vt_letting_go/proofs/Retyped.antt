@@ -1,7 +1,7 @@
 -- What goes when types of mounts change.
 use Rattle.std.proofs.Common.{◌≡◌, refl, sym, ap, subst, ◌∙◌, inl, inr, ⊎_elim, ℕ, zero, suc, nat_eq, eqb-true, Bool, true, false, cond, List, [], ◌∷◌, length, map, true≢false, Option, Some, None, is_some}
 use Rattle.std.specs.List.{list_any}
-use Rattle.std.proofs.lemmas.Bool.{false_from_ne_true, or_parts}
+use Rattle.std.proofs.lemmas.Bool.{false_from_ne_true, or_parts, cases_Bool}
 use Rattle.std.proofs.lemmas.List.Folds.{list_any-append}
 use Rattle.vt_spec.specs.Language.Calls.{TypeWord}
 use Rattle.vt_spec.specs.Lists.{Fresh, holds_of, is_among}
@@ -21,7 +21,7 @@ use Rattle.vt_letting_go.specs.Retyping.{SetTypesLetGo, groups_of_types}
 use Rattle.vt_letting_go.proofs.AttachedSwept.{of_tree}
 use Rattle.vt_letting_go.proofs.Detached.{found-map, not_found-map}
 use Rattle.vt_letting_go.proofs.Unmounted.{no_members}
-use Rattle.vt_letting_go.proofs.Lists.{Among, all_pass, among-from_filter, among-from_flat_map, among-from_map, among-map, any_passes, decided, is_among_numbers, map_twice, one_passes, or_first, passes}
+use Rattle.vt_letting_go.proofs.Lists.{Among, all_pass, among-from_filter, among-from_flat_map, among-from_map, among-map, any_passes, is_among_numbers, map_twice, one_passes, or_first, passes}
 use Rattle.vt_letting_go.proofs.MountingLosers.{Loses, changed}
 use Rattle.vt_letting_go.proofs.MountingOverlays.{only_groups_go}
 use Rattle.vt_letting_go.proofs.PlacesLeft.{found_is_there, found_itself, nowhere_parts}
@@ -57,7 +57,7 @@ tree_attached world stand (suc depth) top is mount m =
         (λ out. absurd (true≢false
         (sym (has_place child.mount_point on) ∙ (nowhere_parts child
         (passes is_nowhere_or_attached world.mounts stand.nowhere child n) out).0)))
-        (decided (is_some child.namespace))
+        (cases_Bool (is_some child.namespace))
       where
         has_place : (place : Option (Location ℕ)) → holds_of (λ l. nat_eq top.number l.mount) place ≡ true
             → is_some place ≡ true
@@ -157,7 +157,7 @@ module _ (fresh : Fresh ℕ) (world : World ℕ) (number : ℕ) (word : TypeWord
       (keeps (λ x. is_some x.namespace) (λ x kind. refl) b mount ∙ in_one))
       (λ out. outside b out (false_from_ne_true (is_named mount)
       (λ is. true≢false (sym (named_attached mount m is) ∙ out))))
-      (decided (is_some mount.namespace))
+      (cases_Bool (is_some mount.namespace))
     where
       was : is_nowhere_or_attached mount ≡ true
       was = passes is_nowhere_or_attached world.mounts stand.nowhere mount m

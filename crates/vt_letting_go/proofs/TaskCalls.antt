@@ -10,9 +10,10 @@ use Rattle.vt_letting_go.specs.Leaving.{is_location_among, only_these_are_left}
 use Rattle.vt_letting_go.specs.TaskCalls.{ChangedDirectoriesLetGo, ChangedRootsLetGo, ClosesLetGo, ForksKeepAll, NewCredentialsKeepAll, NewUmasksKeepAll, OpenedFilesKeepAll, locations_closed}
 use Rattle.vt_letting_go.proofs.FilesChanged.{none_left, replaced_leaves}
 use Rattle.vt_letting_go.proofs.LeftWithOverlays.{leaving_overlays_lets_go, staying_keeps_overlays}
-use Rattle.vt_letting_go.proofs.Lists.{Among, all_pass, among-filter, among-from_map, among-map, decided, passes}
+use Rattle.vt_letting_go.proofs.Lists.{Among, all_pass, among-filter, among-from_map, among-map, passes}
 use Rattle.std.proofs.lemmas.List.Folds.{list_any-append}
 use Rattle.std.specs.Prelude.{◌==◌}
+use Rattle.std.proofs.lemmas.Bool.{cases_Bool}
 
 -- a descriptor is closed, or is there still
 closed_or_still : (task : Task ℕ) (number : ℕ) (location : Location ℕ) → Among location (locations_of task)
@@ -31,7 +32,7 @@ closed_or_still task number location (inr (inr m)) =
     (sym from.2)
     (among-map (λ (d : Descriptor ℕ). d.location) (without_descriptor task number).descriptors from.0
     (among-filter (λ (d : Descriptor ℕ). not (number == d.number)) task.descriptors from.0 from.1 (ap not isnt)))))))
-    (decided (number == from.0.number))
+    (cases_Bool (number == from.0.number))
 
 pub closes_let_go : ClosesLetGo
 closes_let_go number fresh world task settles one there =

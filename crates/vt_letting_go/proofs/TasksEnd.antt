@@ -1,7 +1,7 @@
 -- What goes when tasks leave locations and namespaces at once.
 use Rattle.std.proofs.Common.{◌≡◌, refl, sym, ap, subst, ◌∙◌, ◌⊎◌, inl, inr, ⊎_elim, ℕ, nat_eq, eqb-true, Bool, true, false, cond, not, ◌||◌, List, filter, map, true≢false, flat_map, ◌++◌, Some, is_some}
 use Rattle.std.specs.List.{list_any}
-use Rattle.std.proofs.lemmas.Bool.{or_cases, or_parts}
+use Rattle.std.proofs.lemmas.Bool.{or_cases, or_parts, cases_Bool}
 use Rattle.std.proofs.lemmas.List.Folds.{list_any-append}
 use Rattle.vt_spec.specs.Language.Calls.{TaskName, same_name}
 use Rattle.vt_spec.specs.Lists.{Fresh, evens, holds_of, is_among, odds}
@@ -23,7 +23,7 @@ use Rattle.vt_letting_go.specs.OneByOne.{GroupsInUseBut, let_go}
 use Rattle.vt_letting_go.specs.Overlays.{let_go_all}
 use Rattle.vt_letting_go.proofs.Detached.{found-map, not_found-map}
 use Rattle.vt_letting_go.proofs.Unmounted.{event_groups}
-use Rattle.vt_letting_go.proofs.Lists.{Among, all_pass, among-append, among-append_left, among-append_right, among-filter, among-filter_map, among-flat_map, among-from_flat_map, among-from_map, among-map, any_passes, decided, is_among_numbers, one_passes, or_first, or_second, passes}
+use Rattle.vt_letting_go.proofs.Lists.{Among, all_pass, among-append, among-append_left, among-append_right, among-filter, among-filter_map, among-flat_map, among-from_flat_map, among-from_map, among-map, any_passes, is_among_numbers, one_passes, or_first, or_second, passes}
 use Rattle.vt_letting_go.proofs.MountingLosers.{Loses, StillAPlace, changed, losers_go, places_of, places_stand}
 use Rattle.vt_letting_go.proofs.MountingOverlays.{all_losers_go}
 use Rattle.vt_letting_go.proofs.MountingTaken
@@ -161,7 +161,7 @@ module _ (world : World ℕ) (all : List (Mount ℕ)) (tasks : List (Task ℕ)) 
           ),
         ),
       ))
-      (decided (loses_its_place ended mount))
+      (cases_Bool (loses_its_place ended mount))
 
   shows_the_same : (location : Location ℕ) → Among location (places_of world)
       → (mount_at nat_eq last location).filesystem ≡ (mount_at nat_eq world location).filesystem
@@ -299,7 +299,7 @@ module _ (world : World ℕ) (name : TaskName) where
       (λ is. inr (of_named from.0 from.1 is location from.2))
       (λ isnt. inl (among-flat_map locations_of (without_task world name).tasks from.0 location
       (among-filter (λ other. not (same_name name other.name)) world.tasks from.0 from.1 (ap not isnt)) from.2))
-      (decided (same_name name from.0.name))
+      (cases_Bool (same_name name from.0.name))
 
   with_another : (task : Task ℕ) → task.name ≡ name → (location : Location ℕ) → Among location (all_locations world)
       → Among location (flat_map locations_of (map (replaced_if_called task) world.tasks))
@@ -312,7 +312,7 @@ module _ (world : World ℕ) (name : TaskName) where
       (subst (λ t. Among t (map (replaced_if_called task) world.tasks))
       (ap (λ n. cond (same_name n from.0.name) task from.0) called ∙ ap (λ c. cond c task from.0) isnt)
       (among-map (replaced_if_called task) world.tasks from.0 from.1)) from.2))
-      (decided (same_name name from.0.name))
+      (cases_Bool (same_name name from.0.name))
 
 pub exits_let_go : ExitsLetGo
 exits_let_go fresh world task settles =

@@ -1,8 +1,6 @@
 -- Names of a tree, and inodes that are used no more.
-use Rattle.std.proofs.Common.{◌≡◌, ◌≢◌, refl, sym, ap, ◌∙◌, true≢false, ⊎_elim, ℕ, nat_eq, eq-eqb, Bool, true, false, cond, ◌||◌, List, [], ◌∷◌, map, Option, Some, None, is_some}
-use Rattle.std.proofs.lemmas.Option.{same_Some}
-use Rattle.std.specs.Ordering.{eq_by_cmp}
-use Rattle.vt_spec.specs.Tree.{Content, Entries, Node, entries_in, entry_named, is_directory_node, name_cmp}
+use Rattle.std.proofs.Common.{◌≡◌, ◌≢◌, refl, sym, ap, ◌∙◌, true≢false, ⊎_elim, ℕ, nat_eq, true, false, List, [], map, Option, Some, None, is_some}
+use Rattle.vt_spec.specs.Tree.{Content, Node, entries_in, entry_named, is_directory_node}
 use Rattle.vt_spec.specs.Tree.Content.{Directory, Regular, Symlink, Whiteout}
 use Rattle.vt_spec.specs.TreeLaws.{HasName}
 use Rattle.vt_spec.specs.FileTree.{FileTree, targets_in}
@@ -10,21 +8,9 @@ use Rattle.vt_spec.specs.Lists.{is_among}
 use Rattle.vt_spec.specs.Machine.Settled.{named_in}
 use Rattle.vt_spec.proofs.Nodes.{none_is_not}
 use Rattle.vt_letting_go.specs.InUse.{IsListedTree}
-use Rattle.vt_letting_go.proofs.Lists.{among-flat_map, among_numbers, decided, is_among_numbers, or_second}
-
--- where an entry leads is among the targets
-pub among_targets : (name : List ℕ) (entries : Entries ℕ) (number : ℕ) → entry_named name entries ≡ Some number
-    → is_among nat_eq number (map (λ e. e.1) entries) ≡ true
-among_targets name [] number e = none_is_not None number refl e
-among_targets name (entry ∷ entries) number e =
-    by (eq_by_cmp name_cmp name entry.0) (among_targets name entries number) e
-  where
-    by : (b : Bool) → (entry_named name entries ≡ Some number → is_among nat_eq number (map (λ e. e.1) entries) ≡ true)
-        → cond b (Some entry.1) (entry_named name entries) ≡ Some number
-        → (nat_eq number entry.1 || is_among nat_eq number (map (λ e. e.1) entries)) ≡ true
-    by true rest is = ap (λ b. b || is_among nat_eq number (map (λ e. e.1) entries))
-        (eq-eqb number entry.1 (sym (same_Some entry.1 number is)))
-    by false rest is = or_second (nat_eq number entry.1) _ (rest is)
+use Rattle.vt_letting_go.proofs.Lists.{among-flat_map, among_numbers, is_among_numbers}
+use Rattle.std.proofs.lemmas.Bool.{cases_Bool}
+use Rattle.vt_spec.proofs.Found.{among_targets}
 
 -- what has an entry is there
 there_with_entry : (name : List ℕ) (number : ℕ) (o : Option (Node ℕ)) → entry_named name (entries_in o) ≡ Some number
@@ -63,4 +49,4 @@ unnamed_is_empty files conditions number root unnamed =
     (λ is. ap (map (λ e. e.1)) (conditions.tree.unnamed_empty number is root
     (λ named. true≢false (sym (named_among files conditions number named) ∙ unnamed))))
     (λ isnt. no_targets (files.tree.node number) isnt)
-    (decided (is_directory_node (files.tree.node number)))
+    (cases_Bool (is_directory_node (files.tree.node number)))

@@ -13,8 +13,9 @@ use Rattle.vt_letting_go.specs.OneByOne.{FilesystemsInUseBut, GroupsInUseBut, In
 use Rattle.vt_letting_go.specs.TreeChanges.{ChangesTree, NamedStay, UnnamedGo, with_tree}
 use Rattle.vt_letting_go.proofs.InUse.{filesystems_stay, mounts_stay}
 use Rattle.vt_letting_go.proofs.Inodes.{all_goes_one_by_one}
-use Rattle.vt_letting_go.proofs.Lists.{Among, all_from_among, all_pass, among-from_map, among-map, among_from_all, among_numbers, any_passes, fails, is_among_left, is_among_numbers, is_among_right, none_passes, or_first, or_second, passes}
+use Rattle.vt_letting_go.proofs.Lists.{Among, all_from_among, all_pass, among-from_map, among-map, among_from_all, among_numbers, any_passes, fails, is_among_numbers, none_passes, or_first, or_second, passes}
 use Rattle.vt_letting_go.proofs.PlacesLeft.{no_layers, plain_uses}
+use Rattle.vt_spec.proofs.Found.{is_among_left, is_among_right}
 
 -- a filesystem that is there is found
 found_filesystem : (filesystems : List (Filesystem ℕ)) (number : ℕ)

@@ -23,13 +23,14 @@ use Rattle.vt_letting_go.specs.TreeChanges.{ChangesTree}
 use Rattle.vt_letting_go.specs.TreesOverlays.{ChangedTreesKeepAll, ChangedTreesLetGo, ChangesFilesystem, LeftAndChangedLetsGo, OpenedKeepsAll, TakenAndChangedLetsGo, UnnamedGoWithOverlays, in_use_of, upper_objects, with_filesystems, with_lost}
 use Rattle.vt_letting_go.proofs.InUse.{layers_stay, filesystems_stay, layers_on, mounts_stay, no_objects}
 use Rattle.vt_letting_go.proofs.LeftWithOverlays.{leaving_but}
-use Rattle.vt_letting_go.proofs.Lists.{Among, all_from_among, all_pass, among-filter, among-flat_map, among-from_filter, among-from_flat_map, among-from_map, among-map, among_from_all, among_numbers, any_passes, is_among_left, is_among_numbers, is_among_right, or_first, or_second, passes}
+use Rattle.vt_letting_go.proofs.Lists.{Among, all_from_among, all_pass, among-filter, among-flat_map, among-from_filter, among-from_flat_map, among-from_map, among-map, among_from_all, among_numbers, any_passes, is_among_numbers, or_first, or_second, passes}
 use Rattle.vt_letting_go.proofs.Unmounted.{event_groups}
 use Rattle.vt_letting_go.proofs.MountingOverlays.{all_but_those}
 use Rattle.vt_letting_go.proofs.MountingTaken
 use Rattle.vt_letting_go.proofs.MountingTaken.{hands_on, loses, taken_is}
 use Rattle.vt_letting_go.proofs.OfWorlds.{found_filesystem}
 use Rattle.vt_letting_go.proofs.WithOverlays.{with_overlays_all_goes}
+use Rattle.vt_spec.proofs.Found.{is_among_left, is_among_right}
 
 -- a test of what is changed
 any_changed : {A : Type 0} (change : A → A) (p q : A → Bool) (list : List A)

@@ -1,7 +1,7 @@
 -- What goes after unmounts, one or several after one another.
 use Rattle.std.proofs.Common.{◌≡◌, refl, sym, ap, subst, ◌∙◌, ◌⊎◌, inl, inr, ⊎_elim, ℕ, nat_eq, eqb-true, Bool, true, false, cond, not, ◌&&◌, List, [], ◌∷◌, filter, map, true≢false, Option, Some, None, is_some, option_map}
 use Rattle.std.specs.List.{list_any}
-use Rattle.std.proofs.lemmas.Bool.{false_from_ne_true, or_cases}
+use Rattle.std.proofs.lemmas.Bool.{false_from_ne_true, or_cases, cases_Bool}
 use Rattle.vt_spec.specs.Lists.{folded, holds_of, is_among}
 use Rattle.vt_spec.specs.Machine.Detach.{deepest_first, going, is_going, lazily_unmounted, mount_point_left, mounts_on, taken_away, unmounted, unmounted_if_there}
 use Rattle.vt_spec.specs.Machine.Mounts.{Location, Mount, Propagation, detached, group_of, mount_in, mount_tree, root_of}
@@ -16,12 +16,13 @@ use Rattle.vt_letting_go.specs.Leaving.{IsSettledPlain, MountsStand}
 use Rattle.vt_letting_go.specs.Mounting.{loses_its_place, places_lost}
 use Rattle.vt_letting_go.specs.OneByOne.{GroupsInUseBut, let_go}
 use Rattle.vt_letting_go.proofs.Detached.{found-map, not_found-map}
-use Rattle.vt_letting_go.proofs.Lists.{Among, all_pass, among-filter, among-filter_map, among-from_map, among-map, any_passes, decided, is_among_numbers, map_same, map_twice, none_passes, or_first, or_second, passes}
+use Rattle.vt_letting_go.proofs.Lists.{Among, all_pass, among-filter, among-filter_map, among-from_map, among-map, any_passes, is_among_numbers, map_same, map_twice, none_passes, or_first, or_second, passes}
 use Rattle.vt_letting_go.proofs.MountingLosers.{Loses, StillAPlace, changed, losers_go}
 use Rattle.vt_letting_go.proofs.MountingTaken.{is_changed, nowhere_after, same_filesystem, same_namespace, same_namespaces, same_number, same_place, same_root, stays, taking_away_lets_go}
 use Rattle.vt_letting_go.proofs.MountingTaken
-use Rattle.vt_letting_go.proofs.PlacesLeft.{found_is_there, found_itself, nowhere_parts, number_found, private_is_no_member, place_attached}
+use Rattle.vt_letting_go.proofs.PlacesLeft.{found_is_there, found_itself, nowhere_parts, private_is_no_member, place_attached}
 use Rattle.std.proofs.lemmas.Bool.{or_parts}
+use Rattle.vt_spec.proofs.Worlds.{number-mount_in}
 
 -- Where the other mounts stay in their groups, a group that is none of those of the mounts that went and has no members
 -- had none, and no master
@@ -42,7 +43,7 @@ no_members world after gone in_use stay group among none =
     (among-filter (λ x. is_among nat_eq x.number gone) world.mounts mount m went)
     (its_group (group_of mount.propagation) is))) ∙ among))
     (λ kept. true≢false (sym (stay mount m kept group is) ∙ none))
-    (decided (is_among nat_eq mount.number gone)))))
+    (cases_Bool (is_among nat_eq mount.number gone)))))
   where
     its_group : (own : Option ℕ) → holds_of (nat_eq group) own ≡ true → own ≡ Some group
     its_group None e = absurd (true≢false (sym e))
@@ -229,7 +230,7 @@ module _ (world now : World ℕ) (faded : Faded world now) (gone : List ℕ) whe
         same_place now gone now.namespaces b (faded.change mount) at
         (faded.place mount at e (still_in_one mount here) (still_in_one (mount_at nat_eq world at) there))
         (does_not_go now gone b (faded.change mount) here)
-        (ap (is_going nat_eq gone) (sym (faded.number (mount_at nat_eq world at) ∙ number_found world.mounts at.mount))
+        (ap (is_going nat_eq gone) (sym (faded.number (mount_at nat_eq world at) ∙ number-mount_in world.mounts at.mount))
         ∙ does_not_go now gone b (faded.change (mount_at nat_eq world at)) there);
     nowhere = λ mount m. nowhere_after now gone now.namespaces b (faded.change mount) (faded.nowhere mount m);
     member = λ mount here group is.
@@ -277,7 +278,7 @@ module _ (world now : World ℕ) (in_use : AllInUse world) (stand : MountsStand 
       (ap (λ c. c && not (is_some (mount_numbered nat_eq now mount.number).namespace)) e
       ∙ ap (λ x. not (is_some x.namespace)) (found_now mount m) ∙ ap not out))))
       ∙ isnt)))
-      (decided (is_some (faded.change mount).namespace))
+      (cases_Bool (is_some (faded.change mount).namespace))
 
   placed_in_one : (mount : Mount ℕ) → Among mount world.mounts → (at : Location ℕ) → mount.mount_point ≡ Some at
       → is_some mount.namespace ≡ true
@@ -286,7 +287,7 @@ module _ (world now : World ℕ) (in_use : AllInUse world) (stand : MountsStand 
       (λ out. absurd (true≢false
       (sym (ap is_some p) ∙ (nowhere_parts mount
       (passes is_nowhere_or_attached world.mounts stand.nowhere mount m) out).0)))
-      (decided (is_some mount.namespace))
+      (cases_Bool (is_some mount.namespace))
 
   stands_in_one : (mount : Mount ℕ) → Among mount world.mounts → (at : Location ℕ) → mount.mount_point ≡ Some at
       → is_some (mount_at nat_eq world at).namespace ≡ true
@@ -299,7 +300,7 @@ module _ (world now : World ℕ) (in_use : AllInUse world) (stand : MountsStand 
       (λ out. absurd (true≢false
       (sym is ∙ private_is_no_member group mount
       (nowhere_parts mount (passes is_nowhere_or_attached world.mounts stand.nowhere mount m) out).1)))
-      (decided (is_some mount.namespace))
+      (cases_Bool (is_some mount.namespace))
 
   lives : (mount : Mount ℕ) → Among mount world.mounts → is_among nat_eq mount.number lost ≡ false
       → mount_lives nat_eq last (faded.change mount) ≡ true
@@ -330,12 +331,12 @@ module _ (world now : World ℕ) (in_use : AllInUse world) (stand : MountsStand 
           (
             faded.place mount at p (in_one_still mount m (placed_in_one mount m at p) parts.0)
                 (in_one_still (mount_at nat_eq world at) (found_is_there world.mounts at.mount parent) parent
-                (ap (λ n. is_among nat_eq n lost) (number_found world.mounts at.mount) ∙ on)),
+                (ap (λ n. is_among nat_eq n lost) (number-mount_in world.mounts at.mount) ∙ on)),
             inl on,
           ),
         ),
       ))
-      (decided (loses_its_place lost mount))
+      (cases_Bool (loses_its_place lost mount))
 
   pub loses : Loses world last lost (places_lost world lost)
   loses = record {

@@ -2,17 +2,11 @@
 use Rattle.std.proofs.Common.{◌≡◌, refl, sym, ap, ◌∙◌, ℕ, nat_eq, Bool, true, false, cond, ◌||◌, ◌+◌, ◌++◌, List, [], ◌∷◌, arith}
 use Rattle.std.specs.Prelude.{nat_lt}
 use Rattle.std.specs.List.{list_any}
-use Rattle.std.proofs.lemmas.Bool.Decides.{nat_tests}
 use Rattle.vt_spec.specs.Machine.Mounts.{Location, Mount}
 use Rattle.vt_spec.specs.Machine.Settled.{used_in}
 use Rattle.vt_spec.specs.Machine.World.{all_locations}
 use Rattle.vt_letting_go.specs.Counts.{LocatedWhileCounted, MountedWhileCounted, OneMountLess, OneUseLess, UsedWhileCounted, times}
-
-counted : (n : ℕ) → true ≡ nat_lt 0 (1 + n)
-counted n = grind (arith, nat_tests)
-
-not_counted : (n : ℕ) → nat_lt 0 n ≡ nat_lt 0 (0 + n)
-not_counted n = ap (nat_lt 0) (omega arith)
+use Rattle.vt_spec.proofs.Truths.{as_many_with_none, one_more_is_some}
 
 module _ {A : Type 0} where
   any_counted : (test : A → Bool) (list : List A) → list_any test list ≡ nat_lt 0 (times test list)
@@ -21,8 +15,8 @@ module _ {A : Type 0} where
     where
       by : (b : Bool) → list_any test rest ≡ nat_lt 0 (times test rest)
           → (b || list_any test rest) ≡ nat_lt 0 (cond b 1 0 + times test rest)
-      by true e = counted (times test rest)
-      by false e = e ∙ not_counted (times test rest)
+      by true e = one_more_is_some (times test rest)
+      by false e = e ∙ as_many_with_none (times test rest)
 
   one_less : (test : A → Bool) (front back : List A) (a : A)
       → times test (front ++ (a ∷ back)) ≡ times test (front ++ back) + cond (test a) 1 0

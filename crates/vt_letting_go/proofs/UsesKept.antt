@@ -14,7 +14,8 @@ use Rattle.vt_letting_go.specs.Keeping.{FlagsAreOfOne, FlagsKeepAll, KeepsUses, 
 use Rattle.vt_letting_go.proofs.Detached.{found-map, not_found-map}
 use Rattle.vt_letting_go.proofs.InUse.{nothing_goes}
 use Rattle.vt_letting_go.proofs.Lists.{Among, all_from_among, all_pass, among-from_map, among_from_all, any-map, map_alike, map_twice, passes}
-use Rattle.vt_letting_go.proofs.PlacesLeft.{found_itself, number_found}
+use Rattle.vt_letting_go.proofs.PlacesLeft.{found_itself}
+use Rattle.vt_spec.proofs.Worlds.{number-mount_in}
 
 module _ (world : World ℕ) (change : Mount ℕ → Mount ℕ) (master : ℕ → Option ℕ) (keeps : KeepsUses change) where
   abbrev after : World ℕ
@@ -91,7 +92,7 @@ flags_are_of_one world here flags one =
     (map_alike (replaced_if_same nat_eq (record (mount_at nat_eq world here) { flags = flags }))
     (flags_if here.mount flags) world.mounts
     (λ mount m. ap (λ n. cond (nat_eq n mount.number) (record (mount_at nat_eq world here) { flags = flags }) mount)
-    (number_found world.mounts here.mount)
+    (number-mount_in world.mounts here.mount)
     ∙ by mount m (nat_eq here.mount mount.number) refl))
   where
     by : (mount : Mount ℕ) → Among mount world.mounts → (b : Bool) → nat_eq here.mount mount.number ≡ b

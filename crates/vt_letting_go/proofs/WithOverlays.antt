@@ -14,10 +14,11 @@ use Rattle.vt_letting_go.specs.InUse.{HasTrees, IsListedTree, UppersArePlain, ha
 use Rattle.vt_letting_go.specs.OneByOne.{Inode, InodesInUseBut, is_inode_among, is_used_or_among, let_go_filesystems, let_go_groups}
 use Rattle.vt_letting_go.specs.Overlays.{AllInodesGoOneByOne, MergedGoOneByOne, RealsAreThere, WithOverlaysAllGoes, is_plain, let_go_all_inodes, let_go_plain, uppers_in, uppers_of, uppers_of_inode, uppers_of_inode_in}
 use Rattle.vt_letting_go.proofs.InUse.{layers-left, no_objects, no_upper_objects, overlay-left, unused_are_empty}
-use Rattle.vt_letting_go.proofs.Lists.{Among, all_from_among, all_pass, among-filter, among-filter_map, among-flat_map, among-from_filter, among-from_filter_map, among-from_flat_map, among-from_map, among-map, among_from_all, among_numbers, any_passes, flat_map-map, is_among_left, is_among_numbers, is_among_right, one_passes, or_first, or_second, passes}
+use Rattle.vt_letting_go.proofs.Lists.{Among, all_from_among, all_pass, among-filter, among-filter_map, among-flat_map, among-from_filter, among-from_filter_map, among-from_flat_map, among-from_map, among-map, among_from_all, among_numbers, any_passes, flat_map-map, is_among_numbers, one_passes, or_first, or_second, passes}
 use Rattle.vt_letting_go.proofs.Merged.{HasReals, left_of, reals_without, without_all}
 use Rattle.vt_letting_go.proofs.MergedSteps.{Apart, ChosenAreEmpty, chosen_go_one_by_one}
 use Rattle.vt_letting_go.proofs.OneByOne.{filesystems_go_one_by_one, groups_go_one_by_one, mounts_go_one_by_one}
+use Rattle.vt_spec.proofs.Found.{is_among_left, is_among_right}
 
 overlay_without : (gone : ℕ → Bool) (f : Filesystem ℕ) → is_overlay (without_all gone f) ≡ is_overlay f
 overlay_without gone f = by f.overlay

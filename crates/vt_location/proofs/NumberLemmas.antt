@@ -1,12 +1,13 @@
 -- The numbers of what is counted, and of inodes in their slots, are different where those are.
 use Rattle.std.proofs.Common.{◌≡◌, ◌≢◌, ◌<◌, ◌≤◌, ◌+◌, ◌-◌, ◌*◌, ℕ, Bool, true, false, not, nat_eq, nat_lt, ◌&&◌, refl, sym, ap, ◌∙◌, arith, lt-ltb, le-ltb, eq-eqb}
 use Rattle.std.specs.Prelude.{if◌then◌else◌, ◌/◌}
-use Rattle.std.proofs.lemmas.Bool.{eqb-true, ltb-true, ltb-false}
+use Rattle.std.proofs.lemmas.Bool.{eqb-true, ltb-true, ltb-false, not-true}
 use Rattle.vt_spec.specs.Machine.Mounts.{same_location}
 use Rattle.vt_location.specs.declared.locations.Location.{Location}
 use Rattle.vt_location.specs.declared.locations.NodeRef.{NodeRef}
 use Rattle.vt_location.specs.Locations.{location_of, number_of}
 use Rattle.vt_location.specs.Numbers.{counted, exchanged, inode_number, is_inode_of}
+use Rattle.vt_spec.proofs.Truths.{and_from_three, and_true_first, and_true_left, and_true_right, same_truth}
 
 pub counted_same : (a b : ℕ) → counted a ≡ counted b → a ≡ b
 counted_same a b e = omega arith
@@ -26,15 +27,12 @@ exchanged_slot f slot small =
     else slot)
     (lt-ltb slot 18446744073709551616 small)
 
-both : (a b c : Bool) → a ≡ true → b ≡ true → c ≡ true → (a && b && c) ≡ true
-both a b c p q r = (λ i. p i && q i && r i)
-
 negated : (b : Bool) → b ≡ false → not b ≡ true
 negated b e = ap not e
 
 pub is_inode : (f slot : ℕ) → slot < 18446744073709551616 → is_inode_of f (inode_number f slot) ≡ true
 is_inode f slot small =
-    both _ _ _
+    and_from_three _ _ _
     (negated _ (le-ltb (inode_number f slot) (inode_number f 0) (omega arith)))
     (lt-ltb (inode_number f slot) (inode_number (f + 1) 0) (omega arith))
     (eq-eqb (2 * (inode_number f slot / 2)) (inode_number f slot) (omega arith))
@@ -62,10 +60,6 @@ stays f n large other =
     else n) large
     ∙ ap (λ b. if b then n / 2 - 18446744073709551616 * (f + 1) else n) other
 
-first_of : (a b c : Bool) → (a && b && c) ≡ true → a ≡ true
-first_of true b c e = refl
-first_of false b c e = e
-
 second_of : (a b c : Bool) → (a && b && c) ≡ true → b ≡ true
 second_of true true c e = refl
 second_of true false c e = e
@@ -76,10 +70,6 @@ third_of true true c e = e
 third_of true false c e = absurd cc
 third_of false b c e = absurd cc
 
-un_negated : (b : Bool) → not b ≡ true → b ≡ false
-un_negated true e = sym e
-un_negated false e = refl
-
 -- a number of an inode is the number of a slot
 pub slot_of : (f n : ℕ) → is_inode_of f n ≡ true
     → (slot : ℕ) × (slot < 18446744073709551616) × (n ≡ inode_number f slot)
@@ -87,7 +77,7 @@ slot_of f n e =
     let low : Bool = nat_lt n (inode_number f 0) in
     let high : Bool = nat_lt n (inode_number (f + 1) 0) in
     let doubled : Bool = nat_eq (2 * (n / 2)) n in
-    let above = ltb-false n (inode_number f 0) (un_negated low (first_of (not low) high doubled e)) in
+    let above = ltb-false n (inode_number f 0) (not-true low (and_true_first (not low) high doubled e)) in
     let below = ltb-true n (inode_number (f + 1) 0) (second_of (not low) high doubled e) in
     let even = eqb-true (2 * (n / 2)) n (third_of (not low) high doubled e) in
     (n / 2 - 18446744073709551616 * (f + 1), omega (arith, above, below, even), omega (arith, above, below, even))
@@ -118,38 +108,25 @@ exchanged_back f n = by (nat_lt n 18446744073709551616) (is_inode_of f n) refl r
 pub exchanged_same : (f a b : ℕ) → exchanged f a ≡ exchanged f b → a ≡ b
 exchanged_same f a b e = sym (exchanged_back f a) ∙ ap (exchanged f) e ∙ exchanged_back f b
 
-both-first : (a b : Bool) → (a && b) ≡ true → a ≡ true
-both-first true b e = refl
-both-first false b e = e
-
-both-second : (a b : Bool) → (a && b) ≡ true → b ≡ true
-both-second true b e = e
-both-second false b e = absurd cc
-
-pub one_test : (a b : Bool) → (a ≡ true → b ≡ true) → (b ≡ true → a ≡ true) → a ≡ b
-one_test true b there back = sym (there refl)
-one_test false true there back = back refl
-one_test false false there back = refl
-
 -- the tests of code, and those of the definitions
 pub counted_test : (a b : ℕ) → nat_eq (counted a) (counted b) ≡ nat_eq a b
 counted_test a b =
-    one_test _ _ (λ e. eq-eqb a b (counted_same a b (eqb-true (counted a) (counted b) e)))
+    same_truth _ _ (λ e. eq-eqb a b (counted_same a b (eqb-true (counted a) (counted b) e)))
     (λ e. eq-eqb (counted a) (counted b) (ap counted (eqb-true a b e)))
 
 pub inode_test : (f g a b : ℕ) → a < 18446744073709551616 → b < 18446744073709551616
     → nat_eq (inode_number f a) (inode_number g b) ≡ (nat_eq f g && nat_eq a b)
 inode_test f g a b a_small b_small =
-    one_test _ _
+    same_truth _ _
     (λ e. let same = inode_same f g a b a_small b_small (eqb-true (inode_number f a) (inode_number g b) e) in
     (λ i. eq-eqb f g same.0 i && eq-eqb a b same.1 i))
     (λ e. let same = two e in eq-eqb (inode_number f a) (inode_number g b) (λ i. inode_number (same.0 i) (same.1 i)))
   where
     two : (nat_eq f g && nat_eq a b) ≡ true → (f ≡ g) × (a ≡ b)
     two e = (
-      eqb-true f g (both-first (nat_eq f g) (nat_eq a b) e),
+      eqb-true f g (and_true_left (nat_eq f g) (nat_eq a b) e),
       eqb-true a b
-          (both-second (nat_eq f g) (nat_eq a b) e),
+          (and_true_right (nat_eq f g) (nat_eq a b) e),
     )
 
 pub nodes_test : (a b : NodeRef) → a.slot < 18446744073709551616 → b.slot < 18446744073709551616

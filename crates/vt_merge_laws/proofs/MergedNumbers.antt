@@ -20,7 +20,7 @@ use Rattle.vt_spec.proofs.Nodes.{directory_used, same_name}
 use Rattle.vt_spec.proofs.Trees.{led-append}
 use Rattle.vt_merge_laws.specs.MergedTrees.{InodesAreThoseShown, IsMergedTree, IsNamedBy, MergedTreesAreOne, NumbersAreThoseShown, OtherInodesAreHeld, OverlaysAreMergedTrees, content_as, entries_shown, inode_held, inode_shown, layers_shown, node_as, number_shown, parent_shown}
 use Rattle.vt_layer_laws.proofs.DirectoriesOrder.{NameBelow, Pairwise, names_rise, names_sorted, pairwise_filter, pairwise_filter_map, rising_sorted}
-use Rattle.vt_layer_laws.proofs.ShownAtPath.{computed, none_is_some, some_is_one}
+use Rattle.vt_layer_laws.proofs.ShownAtPath.{computed}
 use Rattle.vt_layer_laws.proofs.ShownDirectories.{last_of}
 use Rattle.vt_layer_laws.proofs.ShownMounted.{are_open}
 use Rattle.vt_layer_laws.proofs.ShownNames.{is_name, last_name, name_found, names_are_those_shown}
@@ -29,6 +29,8 @@ use Rattle.vt_layer_laws.proofs.UpperLine.{is_reached_in, named_so}
 use Rattle.vt_layer_laws.proofs.UpperShown.{front_of_longer, has_a_name, way_to}
 use Rattle.vt_layer_laws.proofs.UpperWorld.{all_found, overlay_found, overlay_layers, overlay_numbers, overlay_tree}
 use Rattle.vt_overlay_laws.proofs.WholeParts.{shown_is_there}
+use Rattle.std.proofs.lemmas.Option.{same_Some}
+use Rattle.vt_spec.proofs.Options.{none_is_some}
 
 -- a merged inode is its real object, with a parent and entries of its own
 same_filled : (parent : ℕ) (entries : Entries ℕ) (content shown : Content ℕ) → same_content content shown ≡ true
@@ -128,7 +130,7 @@ in_order number names rise =
     name_is : (name : List ℕ) (entry : List ℕ × ℕ) (o : Option ℕ) → option_map (λ n. (name, n)) o ≡ Some entry
         → name ≡ entry.0
     name_is name entry None e = none_is_some entry e
-    name_is name entry (Some n) e = ap (λ q. q.0) (some_is_one (name, n) entry e)
+    name_is name entry (Some n) e = ap (λ q. q.0) (same_Some (name, n) entry e)
 
 module _ (number_of : Real ℕ → ℕ) (held : ℕ → Option (Real ℕ)) (world : World ℕ) (filesystem : Filesystem ℕ)
     (overlay : Overlay ℕ)
@@ -162,7 +164,7 @@ module _ (number_of : Real ℕ → ℕ) (held : ℕ → Option (Real ℕ)) (worl
   reached_there : (path : List (List ℕ)) (number : ℕ) → at path ≡ Some number
       → is_some (filesystem.files.tree.node number) ≡ true
   reached_there [] number e =
-      ap (λ n. is_some (filesystem.files.tree.node n)) (sym (some_is_one filesystem.files.tree.root number e))
+      ap (λ n. is_some (filesystem.files.tree.node n)) (sym (same_Some filesystem.files.tree.root number e))
       ∙ directory_used filesystem.files.tree filesystem.files.tree.root is.tree.root_directory
   reached_there (word ∷ path) number e =
       let last = lastly (word ∷ path) number
@@ -252,7 +254,7 @@ module _ (number_of : Real ℕ → ℕ) (held : ℕ → Option (Real ℕ)) (worl
         by : (way : List (List ℕ)) → path ≡ way
             → parent_in number (filesystem.files.tree.node number) ≡ parent_shown number_of world overlay path
         by [] e =
-            let root = some_is_one filesystem.files.tree.root number (sym (ap at e) ∙ leads) in
+            let root = same_Some filesystem.files.tree.root number (sym (ap at e) ∙ leads) in
             subst (λ n. parent_in n (filesystem.files.tree.node n) ≡ n) root is.tree.root_parent
             ∙ ap (λ o. unwrap_or o 0) (sym leads ∙ numbers_are_shown path)
             ∙ ap (λ p. unwrap_or (number_shown number_of world overlay p) 0) (e ∙ sym (ap front_of e))
@@ -337,7 +339,7 @@ module _ (number_of : Real ℕ → ℕ) (held : ℕ → Option (Real ℕ)) (worl
         where
           at : (path : List (List ℕ)) → number_at_path one.files path ≢ Some number
           at [] h = true≢false (sym (eq-eqb number one.files.tree.root
-              (sym (some_is_one one.files.tree.root number h))) ∙ e)
+              (sym (same_Some one.files.tree.root number h))) ∙ e)
           at (word ∷ path) h =
               let last = lastly number_of held world one overlay is named (word ∷ path) number
               (not_empty word path) h in
@@ -373,7 +375,7 @@ module _ (number_of : Real ℕ → ℕ) (held : ℕ → Option (Real ℕ)) (worl
 pub merged_trees_are_one : MergedTreesAreOne
 merged_trees_are_one number_of held world one other overlay another upper lowers is named other_is other_named = (
   λ i. record {
-    root = some_is_one _ _ (same_paths number_of held world one other overlay another upper lowers is named other_is
+    root = same_Some _ _ (same_paths number_of held world one other overlay another upper lowers is named other_is
         other_named []) i;
     node = λ number. (same number).0 i;
   },

@@ -7,7 +7,7 @@ use Rattle.vt_spec.specs.declared.errors.Deny.{Deny}
 use Rattle.vt_spec.specs.Errors.{Rules, denial}
 use Rattle.vt_spec.specs.Language.Answers.{Answer}
 use Rattle.vt_spec.specs.Language.Answers.Answer.{Done}
-use Rattle.vt_spec.specs.Language.Calls.{MountFlags, OverlayWords, TaskName}
+use Rattle.vt_spec.specs.Language.Calls.{MountFlags, OverlayWords}
 use Rattle.vt_spec.specs.Language.Calls.Call.{MountOverlay}
 use Rattle.vt_spec.specs.Lists.{Fresh, evens, then_some}
 use Rattle.vt_spec.specs.Machine.Filesystems.{raised, raised_if_changed}
@@ -28,6 +28,7 @@ use Rattle.vt_layer_laws.proofs.MountingWalked.{are_walked, has_layers, shown_pl
 use Rattle.vt_layer_laws.proofs.ShownMounted.{remount_shows_the_same}
 use Rattle.vt_merge_laws.specs.MountedAnew.{AreKept, MountedAnewShowsTheSame, MountedOverTheSameLayers, number_mounted, world_mounted}
 use Rattle.vt_merge_laws.proofs.MountedLeft.{mounting_lets_nothing_go}
+use Rattle.vt_spec.proofs.Worlds.{answer-finished_by}
 
 abbrev pub is_answer : Result Answer Deny → Bool
 is_answer (Ok a) = true
@@ -71,12 +72,6 @@ module _ (world : World ℕ) (fresh : Fresh ℕ) (task : Task ℕ) (words : Over
           → AreLayers world (overlay_at nat_eq world task places)
       by (Ok here) e = at here.location e
       by (Err deny) e = absurd (true≢false (sym (ap is_answer e)))
-
--- the last step of a granted call
-last_answer : (b : Bool) (before : World ℕ) (name : TaskName) (changed : List ℕ) (outcome : Outcome ℕ)
-    → (finished_by nat_eq b before name changed outcome).answer ≡ outcome.answer
-last_answer true before name changed outcome = refl
-last_answer false before name changed outcome = refl
 
 -- raises numbers, and leaves files
 pub files_raised : (changed : List ℕ) (number : ℕ) (list : List (Filesystem ℕ))
@@ -128,7 +123,7 @@ module _ (fresh : Fresh ℕ) (later : World ℕ) (conditions : IsWorld nat_eq la
 
   pub granted_so : mounted.answer ≡ Ok Done
   granted_so =
-      sym (last_answer (only_looks (MountOverlay path (Some words) flags) || not
+      sym (answer-finished_by (only_looks (MountOverlay path (Some words) flags) || not
       (is_ok mounted.answer)) later task.name changed mounted)
       ∙ ap (λ o. o.answer) (sym policy_is) ∙ grants
 

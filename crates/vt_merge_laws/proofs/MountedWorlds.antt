@@ -49,6 +49,7 @@ use Rattle.vt_world_laws.proofs.ShowsAttached.{attached_show}
 use Rattle.vt_merge_laws.specs.MountedAnew.{MountingLeavesAWorld}
 use Rattle.vt_merge_laws.proofs.MountedLeft.{mounting_lets_nothing_go}
 use Rattle.vt_layer_laws.proofs.MountingKept.{mounting_keeps_overlays, mounting_keeps_trees}
+use Rattle.vt_spec.proofs.Truths.{nat_eq_itself}
 
 -- each of a list is one of the numbers that are handed in
 abbrev AreOf : Fresh ℕ → List ℕ → Type 0
@@ -260,16 +261,12 @@ module _ (world : World ℕ) (is : IsWorld nat_eq world) (fresh : Fresh ℕ) (se
             open_files = open_files_are_regular later placed;
           }
 
-      -- what mounts show is there
-      itself : (n : ℕ) → nat_eq n n ≡ true
-      itself n = eq-eqb n n refl
-
       root_there : is_directory_node (node_in larger new.number new.files.tree.root) ≡ true
       root_there =
           ap (λ (o : Option (Filesystem ℕ)). is_directory_node
           ((unwrap_or o (no_filesystem new.number)).files.tree.node new.files.tree.root))
           (find_new (λ (f : Filesystem ℕ). nat_eq new.number f.number) world.filesystems new
-          (not_found new.number world.filesystems (are_new.unused (2 * (2 * 0)))) (itself new.number))
+          (not_found new.number world.filesystems (are_new.unused (2 * (2 * 0)))) (nat_eq_itself new.number))
           ∙ (new_overlay_is_tree (evens fresh) world overlay is are_layers even_distinct).root_directory
 
       at_place : IsPlace world place

@@ -9,7 +9,6 @@ use Rattle.vt_spec.specs.Machine.World.{Real}
 use Rattle.vt_spec.specs.Tree.{Node}
 use Rattle.vt_spec.specs.TreeLaws.{entry_at}
 use Rattle.vt_spec.proofs.Trees.{led-append}
-use Rattle.vt_layer_laws.proofs.ShownAtPath.{none_is_some, some_is_one}
 use Rattle.vt_layer_laws.proofs.ShownDirectories.{last_of}
 use Rattle.vt_layer_laws.proofs.ShownNames.{last_name}
 use Rattle.vt_layer_laws.proofs.ShownPaths.{not_empty}
@@ -21,6 +20,8 @@ use Rattle.vt_merge_laws.specs.UpperChanges.Place.{Held, Named}
 use Rattle.vt_merge_laws.specs.UpperCalls.{AskedChangesHavePlaces}
 use Rattle.vt_merge_laws.specs.UpperCalls.Asks.{copies, links, makes, moves, removes, sets_attr, sets_bytes}
 use Rattle.vt_merge_laws.specs.UpperCalls.ChangeAt.{AttrAt, BytesAt, CopyAt, LinkAt, MakeAt, MoveAt, RemoveAt}
+use Rattle.std.proofs.lemmas.Option.{same_Some}
+use Rattle.vt_spec.proofs.Options.{none_is_some}
 
 module _ (stack : Stack ℕ) (merge : Merge ℕ) (whole : IsWhole stack merge) where
   -- what is there has a real object,
@@ -42,7 +43,7 @@ module _ (stack : Stack ℕ) (merge : Merge ℕ) (whole : IsWhole stack merge) w
   no_path : (object : ℕ) → nat_eq object merge.files.tree.root ≡ false → a_name nat_eq merge.files object ≡ None
       → (path : List (List ℕ)) → number_at_path merge.files path ≢ Some object
   no_path object other none [] e =
-      true≢false (sym (eq-eqb object merge.files.tree.root (sym (some_is_one merge.files.tree.root object e))) ∙ other)
+      true≢false (sym (eq-eqb object merge.files.tree.root (sym (same_Some merge.files.tree.root object e))) ∙ other)
   no_path object other none (word ∷ path) e =
       let last = last_of (word ∷ path) (not_empty word path) in
       by last.1 (number_at_path merge.files last.0)

@@ -6,7 +6,6 @@ use Rattle.vt_spec.specs.Lists.{Fresh, chain, folded, front_of, fronts, then_som
 use Rattle.vt_spec.specs.Machine.CopyUp.{Merge, Stack, copied_content, copied_each, copied_up, copy_named, copy_of, copy_of_node, copy_parent, directories_to, is_in_upper, line_by, line_to, upper_of}
 use Rattle.vt_spec.specs.Machine.Invariants.{ListsNumbers, SameObject, number_at_path, same_content}
 use Rattle.vt_spec.specs.TreeLaws.{IsDirectory, IsTree, entry_at, led}
-use Rattle.vt_layer_laws.proofs.ShownAtPath.{none_is_some, some_is_one}
 use Rattle.vt_layer_laws.proofs.UpperChain.{depth_bound, up_at_root, up_from}
 use Rattle.vt_layer_laws.proofs.UpperLine.{ReachedIn, has_entries, is_reached_in, named_so}
 use Rattle.vt_layer_laws.proofs.UpperShown.{front_of_longer, has_a_name}
@@ -32,6 +31,8 @@ use Rattle.vt_overlay_laws.proofs.WholeTogether.{stands_above}
 use Rattle.vt_spec.specs.Tree.{Content, Node, Tree}
 use Rattle.vt_spec.specs.Tree.Content.{Directory, Regular, Symlink, Whiteout}
 use Rattle.std.proofs.lemmas.List.{length-reverse}
+use Rattle.std.proofs.lemmas.Option.{same_Some}
+use Rattle.vt_spec.proofs.Options.{none_is_some}
 
 -- some copies and then others
 copied_then : (fresh : Fresh ℕ) (k : ℕ) (merge : Merge ℕ) (list : List ℕ) (last : ℕ)
@@ -105,7 +106,7 @@ module _ (files : FileTree ℕ) (tree : IsTree files.tree) (numbers : ListsNumbe
       → led files.tree files.tree.root path ≡ Some directory
       → IsDirectory files.tree directory → ReachedIn files.tree steps directory
   reached_at steps [] directory is e d = subst (λ n. ReachedIn files.tree n directory) is
-      (sym (some_is_one files.tree.root directory e))
+      (sym (same_Some files.tree.root directory e))
   reached_at zero (word ∷ path) directory is e d = absurd (let no : ⊥ = omega (arith, is) in no)
   reached_at (suc steps) (word ∷ path) directory is e d =
       let last = last_of (word ∷ path) (not_empty word path) in
@@ -234,7 +235,7 @@ module _ (fresh : Fresh ℕ) (stack : Stack ℕ) (merge : Merge ℕ) (whole : Is
       at u false e l =
           let found = above_named stack merge whole path u l e in
           true≢false (sym (ap (λ r. is_some (upper_object r)) found.2)
-          ∙ ap (λ n. is_some (upper_object (merge.real n))) (some_is_one found.0 object (sym found.1 ∙ leads)) ∙ low)
+          ∙ ap (λ n. is_some (upper_object (merge.real n))) (same_Some found.0 object (sym found.1 ∙ leads)) ∙ low)
 
       by : (o : Option ℕ) → led_above stack merge.upper path ≡ o → o ≡ None
       by None e = refl

@@ -7,20 +7,16 @@ use Rattle.vt_spec.specs.Lists.{Fresh, front_of, last_or, then_some}
 use Rattle.vt_spec.specs.Machine.Layers.{Shown, shown}
 use Rattle.vt_spec.specs.Machine.Merging.{real_object}
 use Rattle.vt_spec.specs.Machine.Views.{cuts, hides, node_led}
-use Rattle.vt_spec.specs.Machine.CopyUp.{Merge, Stack, copied_content, copied_up, copy_of, directories_to, is_in_upper, line_to, upper_of}
+use Rattle.vt_spec.specs.Machine.CopyUp.{Merge, Stack, copied_up, copy_of, directories_to, is_in_upper, line_to, upper_of}
 use Rattle.vt_spec.specs.Machine.Invariants.{SameObject, number_at_path}
 use Rattle.vt_spec.specs.Machine.World.{Real, upper_object}
 use Rattle.vt_spec.specs.Machine.World.Real.{Below, Upper}
-use Rattle.vt_spec.specs.Tree.{Content, Node, entries_of, is_directory_node, node_with_entry}
-use Rattle.vt_spec.specs.Tree.Content.{Directory, Regular, Symlink, Whiteout}
+use Rattle.vt_spec.specs.Tree.{Node, is_directory_node, node_with_entry}
 use Rattle.vt_spec.specs.TreeLaws.{IsDirectory, IsTree, entry_at, led}
 use Rattle.vt_spec.proofs.Nodes.{directory_used, is_some-node_with_entry, node_other}
-use Rattle.vt_tree_laws.proofs.TreesWalked.{no_some}
 use Rattle.vt_layer_laws.specs.Layers.ChangesUpper.{StandsInUpper}
 use Rattle.vt_layer_laws.specs.Layers.Views.{names_entry, view_in}
-use Rattle.vt_layer_laws.proofs.CopyingParts.{kept_part}
-use Rattle.vt_layer_laws.proofs.ShownAtPath.{none_is_some, some_is_one}
-use Rattle.vt_layer_laws.proofs.ShownDirectories.{append_assoc, last_of, led_is_there, no_white_directory}
+use Rattle.vt_layer_laws.proofs.ShownDirectories.{append_assoc, last_of, led_is_there}
 use Rattle.vt_layer_laws.proofs.ShownNames.{last_name}
 use Rattle.vt_layer_laws.proofs.ShownPaths.{last_of_longer, length_longer, not_empty, one_path}
 use Rattle.vt_layer_laws.proofs.UpperLine.{has_entries, is_reached_in, named_so}
@@ -37,6 +33,10 @@ use Rattle.vt_overlay_laws.proofs.WholeLines.{IsLineCopied, object_copied, stand
 use Rattle.vt_overlay_laws.proofs.WholeNames.{above_named, directory_above, entry_named_so, named_above}
 use Rattle.vt_merge_laws.specs.UpperChanges.{copied_at, copied_to, copy_node, copy_over, led_above, node_seen, object_above}
 use Rattle.vt_merge_laws.proofs.UpperCopying.{copied_after, copied_longer, directories_count, led_none, led_stands, none_copied, one_is_copied, reached_at, same_seen, stays}
+use Rattle.std.proofs.lemmas.List.{append-nil}
+use Rattle.std.proofs.lemmas.Option.{same_Some}
+use Rattle.vt_spec.proofs.NodeChanges.{directory_no_whiteout, entries_of-copied_content, part-changed_node}
+use Rattle.vt_spec.proofs.Options.{none_from_not_some, none_is_some}
 
 -- What copies of the fronts of a path leave: numbers that are still new, what other paths lead to, and what the
 -- fronts lead to.
@@ -47,12 +47,6 @@ pub record Copies (fresh : Fresh ℕ) (stack : Stack ℕ) (upper : FileTree ℕ)
       → led_above stack later other ≡ led_above stack upper other
   pub on : (front rest : List (List ℕ)) → front ++ rest ≡ path
       → led_above stack later front ≡ Some (unwrap_or (led_above stack upper front) (fresh (length front)))
-
-copied_bare : (parent : ℕ) (content : Content ℕ) → entries_of (copied_content parent content) ≡ []
-copied_bare parent (Directory p e o) = refl
-copied_bare parent (Regular bytes) = refl
-copied_bare parent (Symlink text) = refl
-copied_bare parent Whiteout = refl
 
 longer_by : (a b : List (List ℕ)) → length (a ++ b) ≡ length a + length b
 longer_by [] b = let h : length b ≡ 0 + length b = omega arith in h
@@ -121,7 +115,7 @@ module _ (fresh : Fresh ℕ) (distinct : (j k : ℕ) → fresh j ≡ fresh k →
   leads_now =
       make_adds_path before stack.directory parent copy name (copy_node parent node)
       (record { in_directory = directory; bare = λ replaced e. none_is_some replaced (sym no_entry ∙ e) })
-      (copies.vacant (length path) (omega (arith, longer))) (copied_bare parent node.content)
+      (copies.vacant (length path) (omega (arith, longer))) (entries_of-copied_content parent node.content)
 
   -- the entry is that of the path alone
   entry_only : (other : List (List ℕ)) → names_entry (view_in before stack.directory) parent name other ≡ true
@@ -145,8 +139,8 @@ module _ (fresh : Fresh ℕ) (distinct : (j k : ℕ) → fresh j ≡ fresh k →
 
   still_new : (j : ℕ) → length path < j → one_more.tree.node (fresh j) ≡ None
   still_new j h =
-      no_some _
-      (kept_part is_some (with_inode nat_eq before copy (copy_node parent node)) parent (node_with_entry name copy)
+      none_from_not_some _
+      (part-changed_node is_some (with_inode nat_eq before copy (copy_node parent node)) parent (node_with_entry name copy)
       (is_some-node_with_entry name copy) (fresh j)
       ∙ ap is_some (node_other before.tree copy (Some (copy_node parent node)) (fresh j)
       (λ e. let same = distinct j (length path) e in let no : ⊥ = omega (arith, same, h) in no)
@@ -182,14 +176,10 @@ module _ (fresh : Fresh ℕ) (distinct : (j k : ℕ) → fresh j ≡ fresh k →
   on_front : (other rest : List (List ℕ)) → other ++ rest ≡ path
       → led_above stack one_more other ≡ Some (unwrap_or (led_above stack upper other) (fresh (length other)))
   on_front other [] is =
-      let same : other ≡ path = sym (no_more other) ∙ is in
+      let same : other ≡ path = sym (append-nil other) ∙ is in
       ap (led_above stack one_more) same ∙ here
       ∙ sym (ap (λ p. Some (unwrap_or (led_above stack upper p) (fresh (length p)))) same
       ∙ ap (λ o. Some (unwrap_or o copy)) free)
-    where
-      no_more : (p : List (List ℕ)) → p ++ [] ≡ p
-      no_more [] = refl
-      no_more (word ∷ p) = ap (λ q. word ∷ q) (no_more p)
   on_front other (word ∷ rest) is =
       let last = last_of (word ∷ rest) (not_empty word rest) in
       let split : (other ++ last.0) ++ last.1 ∷ [] ≡ path = append_assoc other last.0 (last.1 ∷ [])
@@ -250,7 +240,7 @@ module _ (stack : Stack ℕ) (merge : Merge ℕ) (whole : IsWhole stack merge) (
   one_way path other there leads other_leads =
       let here = below_is path there leads in
       let too = below_is other there other_leads in
-      ap (way_in path) (some_is_one _ _ (sym here.1 ∙ too.1))
+      ap (way_in path) (same_Some _ _ (sym here.1 ∙ too.1))
     where
       way_in : List (List ℕ) → Real ℕ → List (List ℕ)
       way_in default (Upper u) = default
@@ -329,7 +319,7 @@ module _ (fresh : Fresh ℕ) (distinct : (j k : ℕ) → fresh j ≡ fresh k →
             let fronts_same = sym (front_of_longer way.0 other.1) ∙ ap front_of same ∙ front_of_longer front name in
             let names_same = sym (last_of_longer way.0 other.1 []) ∙ ap (last_or []) same
             ∙ last_of_longer front name [] in
-            let parents_same = some_is_one other.0 parent (sym way.1 ∙ ap at fronts_same ∙ above) in
+            let parents_same = same_Some other.0 parent (sym way.1 ∙ ap at fronts_same ∙ above) in
             λ i. (parents_same i, names_same i)
 
         by : (o : Option (ℕ × List ℕ)) → a_name nat_eq merge.files object ≡ o → o ≡ Some (parent, name)
@@ -441,15 +431,11 @@ module _ (fresh : Fresh ℕ) (distinct : (j k : ℕ) → fresh j ≡ fresh k →
         → ((way rest : List (List ℕ)) → way ++ rest ≡ front ++ name ∷ [] → at way ≢ Some number)
         → (copied_up nat_eq fresh merge object).real number ≡ merge.real number
     real_else number out =
-        real_later number (λ same. out (front ++ name ∷ []) [] (no_more (front ++ name ∷ []))
+        real_later number (λ same. out (front ++ name ∷ []) [] (append-nil (front ++ name ∷ []))
         (leads ∙ ap Some (sym same)))
         ∙ before.else number
         (λ way rest is. out way (rest ++ name ∷ [])
         (sym (append_assoc way rest (name ∷ [])) ∙ ap (λ p. p ++ name ∷ []) is))
-      where
-        no_more : (p : List (List ℕ)) → p ++ [] ≡ p
-        no_more [] = refl
-        no_more (word ∷ p) = ap (λ q. word ∷ q) (no_more p)
 
     pub low_copied_to : IsCopiedTo (front ++ name ∷ []) object
     low_copied_to = record {
@@ -462,8 +448,8 @@ module _ (fresh : Fresh ℕ) (distinct : (j k : ℕ) → fresh j ≡ fresh k →
   root_stands : (object : ℕ) → at [] ≡ Some object → StandsInUpper merge object
   root_stands object leads =
       let found = above_named stack merge whole [] stack.directory refl
-      (no_white_directory (merge.upper.tree.node stack.directory) (whole.layers 0 _ refl).1) in
-      subst (StandsInUpper merge) (some_is_one found.0 object (sym found.1 ∙ leads))
+      (directory_no_whiteout (merge.upper.tree.node stack.directory) (whole.layers 0 _ refl).1) in
+      subst (StandsInUpper merge) (same_Some found.0 object (sym found.1 ∙ leads))
       (ap (λ r. is_some (upper_object r)) found.2)
 
   pub copied_along : (steps : ℕ) (path : List (List ℕ)) (object : ℕ) → length path ≡ steps
@@ -504,7 +490,7 @@ module _ (fresh : Fresh ℕ) (distinct : (j k : ℕ) → fresh j ≡ fresh k →
       not_through : is_directory_node (merge.files.tree.node object) ≡ false → (rest : List (List ℕ))
           → path ++ rest ≢ other
       not_through file [] e =
-          let same = some_is_one object directory
+          let same = same_Some object directory
           (sym (led_parts merge.files.tree path [] merge.files.tree.root object leads) ∙ ap at e ∙ other_leads) in
           true≢false (sym is_directory ∙ ap (λ n. is_directory_node (merge.files.tree.node n)) (sym same) ∙ file)
       not_through file (word ∷ rest) e =

@@ -12,8 +12,6 @@ use Rattle.vt_spec.specs.Machine.World.Real.{Upper}
 use Rattle.vt_spec.specs.Tree.{Node, is_directory_node, node_with_bytes}
 use Rattle.vt_spec.specs.TreeLaws.{entry_at}
 use Rattle.vt_layer_laws.specs.Layers.ChangesUpper.{StandsInUpper}
-use Rattle.vt_layer_laws.proofs.ShownAtPath.{none_is_some, some_is_one}
-use Rattle.vt_layer_laws.proofs.ShownDirectories.{no_white_directory}
 use Rattle.vt_layer_laws.proofs.ShownNames.{last_name}
 use Rattle.vt_layer_laws.proofs.UpperLine.{has_entries}
 use Rattle.vt_overlay_laws.specs.WhatIsShown.{IsWhole}
@@ -25,6 +23,9 @@ use Rattle.vt_overlay_laws.proofs.WholeTogether.{even_distinct, odd_distinct, st
 use Rattle.vt_merge_laws.specs.UpperChanges.{AreNew, AttrIsSetAbove, BytesAreSetAbove, LeadsToDirectory, LinkedAbove, MadeAbove, object_of, MarkIsSetAbove, MovedAbove, OpenedIsCopied, RemovedAbove, copied_to, directory_above, directory_below, layers_with, led_above, linked_in, moved_in, object_above, seen_below, IsAt, Place, upper_with}
 use Rattle.vt_merge_laws.specs.UpperChanges.Place.{Named}
 use Rattle.vt_merge_laws.proofs.UpperPlaces.{at_place, copies_hide_nothing, path_there}
+use Rattle.std.proofs.lemmas.Option.{same_Some}
+use Rattle.vt_spec.proofs.NodeChanges.{directory_no_whiteout}
+use Rattle.vt_spec.proofs.Options.{none_is_some}
 
 -- Of an overlay that is whole
 module _ (stack : Stack ℕ) (c : Merge ℕ) (whole : IsWhole stack c) where
@@ -61,7 +62,7 @@ module _ (stack : Stack ℕ) (c : Merge ℕ) (whole : IsWhole stack c) where
             × (upper_object (c.real object) ≡ Some u) × (is_directory_node (c.files.tree.node object) ≡ true)
         found u l d =
             let there = above_named stack c whole (path ++ name ∷ []) u l
-            (no_white_directory (c.upper.tree.node u) d) in (
+            (directory_no_whiteout (c.upper.tree.node u) d) in (
               there.0,
               sym at_name ∙ there.1,
               ap upper_object there.2,
@@ -89,9 +90,9 @@ module _ (stack : Stack ℕ) (c : Merge ℕ) (whole : IsWhole stack c) where
             → cond d r None ≡ directory_above stack c.upper (path ++ name ∷ [])
         some object e false d r u = none (λ n l is. let f = found n l is in
             true≢false (sym f.3 ∙ ap (λ o. is_directory_node (c.files.tree.node o))
-            (some_is_one f.0 object (sym f.1 ∙ e)) ∙ d))
+            (same_Some f.0 object (sym f.1 ∙ e)) ∙ d))
         some object e true d None u = none (λ n l is. let f = found n l is in
-            none_is_some n (sym u ∙ ap (λ o. upper_object (c.real o)) (sym (some_is_one f.0 object (sym f.1 ∙ e)))
+            none_is_some n (sym u ∙ ap (λ o. upper_object (c.real o)) (sym (same_Some f.0 object (sym f.1 ∙ e)))
             ∙ f.2))
         some object e true d (Some n) u =
             let stands : StandsInUpper c object = ap is_some u in

@@ -12,7 +12,6 @@ use Rattle.vt_spec.specs.Machine.World.{Real, upper_object}
 use Rattle.vt_spec.specs.Machine.World.Real.{Below, Upper}
 use Rattle.vt_spec.specs.Tree.{Node, is_directory_node}
 use Rattle.vt_layer_laws.specs.Layers.Views.{view_in}
-use Rattle.vt_layer_laws.proofs.ShownAtPath.{none_is_some, some_is_one}
 use Rattle.vt_layer_laws.proofs.UpperLine.{is_reached_in, named_so}
 use Rattle.vt_layer_laws.proofs.UpperShown.{front_of_longer, way_to}
 use Rattle.vt_spec.proofs.Trees.{led-append}
@@ -26,10 +25,9 @@ use Rattle.vt_merge_laws.proofs.UpperCopying.{led_none, same_copied, stays}
 use Rattle.vt_merge_laws.proofs.UpperFronts.{Copies, copied_along, cuts_stay}
 use Rattle.vt_layer_laws.proofs.ShownDirectories.{led_is_there}
 use Rattle.vt_spec.specs.declared.attributes.Kind.TheVariants.{White}
-
-no_more : (p : List (List ℕ)) → p ++ [] ≡ p
-no_more [] = refl
-no_more (word ∷ p) = ap (λ q. word ∷ q) (no_more p)
+use Rattle.std.proofs.lemmas.List.{append-nil}
+use Rattle.std.proofs.lemmas.Option.{same_Some}
+use Rattle.vt_spec.proofs.Options.{none_is_some}
 
 module _ (fresh : Fresh ℕ) (stack : Stack ℕ) (merge : Merge ℕ) (whole : IsWhole stack merge)
     (new : AreNew fresh merge.upper) (object : ℕ)
@@ -52,7 +50,7 @@ module _ (fresh : Fresh ℕ) (stack : Stack ℕ) (merge : Merge ℕ) (whole : Is
         ap upper_object real
             ∙ sym (named_above stack later line.copied.whole path object (upper_of later object)
             (ap (λ files. number_at_path files path) line.copied.files ∙ leads) real)
-            ∙ copied.copies.on path [] (no_more path),
+            ∙ copied.copies.on path [] (append-nil path),
       )
 
   -- what has no path has no name
@@ -163,7 +161,7 @@ lower_place (view ∷ views) k path seen e = by (view.leads path) (cuts view pat
         at true e = none_is_some seen e
         at false e = (
           k,
-          sym (ap (λ s. s.layer) (some_is_one (record { layer = k + 1; object = object }) seen e))
+          sym (ap (λ s. s.layer) (same_Some (record { layer = k + 1; object = object }) seen e))
               ∙ (let h : k + 1 ≡ suc k = omega arith in h),
         )
     by None true e rest = none_is_some seen e
@@ -239,7 +237,7 @@ led_real stack merge whole path number u leads led = by (is_in_upper merge numbe
     by : (b : Bool) → is_in_upper merge number ≡ b → merge.real number ≡ Some (Upper u)
     by true stands =
         upper_real merge number stands
-        ∙ ap (λ o. Some (Upper o)) (some_is_one (upper_of merge number) u
+        ∙ ap (λ o. Some (Upper o)) (same_Some (upper_of merge number) u
         (sym (named_above stack merge whole path number (upper_of merge number) leads
         (upper_real merge number stands)) ∙ led))
     by false low = none_is_some u (sym (led_none (λ k. k) stack merge whole number there path leads low) ∙ led)

@@ -14,7 +14,6 @@ use Rattle.vt_spec.specs.Machine.Mounts.{mount_tree}
 use Rattle.vt_spec.specs.Machine.Permits.{Permit}
 use Rattle.vt_spec.specs.Machine.Outcomes.{after}
 use Rattle.vt_laws.proofs.CallsJudged.{call_is_judged_then_applied}
-use Rattle.vt_layer_laws.proofs.LowersMounts.{taken_filesystems, taken_mounted}
 use Rattle.vt_spec.specs.Machine.World.{Filesystem, Layer, Overlay, Task, World, filesystem_at, filesystem_numbered, mount_at, no_filesystem, with_filesystem}
 use Rattle.vt_spec.specs.Tree.{is_directory_node}
 use Rattle.vt_layer_laws.proofs.LowersWorld.{filesystem_elsewhere, filesystem_there, number_of_filesystem}
@@ -26,6 +25,7 @@ use Rattle.vt_merge_laws.specs.UpperCalls.{Asks, ChangeAt, ChangesAreByLayers, D
 use Rattle.vt_merge_laws.specs.UpperCalls.Asks.{copies, links, makes, moves, removes, sets_attr, sets_bytes, sets_mark}
 use Rattle.vt_merge_laws.specs.UpperCalls.Does.{does_change, does_make, does_open, does_open_new, does_remove, does_rename, does_write}
 use Rattle.vt_merge_laws.proofs.UpperKinds.{attr_is_set_above, bytes_are_set_above, linked_above, made_above, mark_is_set_above, moved_above, opened_is_copied, removed_above}
+use Rattle.vt_spec.proofs.Worlds.{filesystems-taken_away, shown-taken_away}
 
 pub changes_are_by_layers : ChangesAreByLayers
 changes_are_by_layers fresh stack merge whole new change at (makes path directory name number node is) =
@@ -132,10 +132,10 @@ module _ (world : World ℕ) (conditions : IsWorld nat_eq world) (gone : List �
 
   filesystem_same : filesystem_at nat_eq now location ≡ filesystem_at nat_eq world location
   filesystem_same =
-      ap (filesystem_numbered nat_eq now) (taken_mounted world gone location)
+      ap (filesystem_numbered nat_eq now) (shown-taken_away world gone location)
       ∙ ap (λ list. unwrap_or (find (λ filesystem. nat_eq
       (mount_at nat_eq world location).filesystem filesystem.number) list)
-      (no_filesystem (mount_at nat_eq world location).filesystem)) (taken_filesystems world gone)
+      (no_filesystem (mount_at nat_eq world location).filesystem)) (filesystems-taken_away world gone)
 
   upper_taken : (fresh : Fresh ℕ) (change : Change ℕ) (at : ChangeAt)
       → AreNew fresh (filesystem_numbered nat_eq world upper.filesystem).files
@@ -144,7 +144,7 @@ module _ (world : World ℕ) (conditions : IsWorld nat_eq world) (gone : List �
       ≡ changed_above fresh (stack_of nat_eq world overlay upper)
       (filesystem_numbered nat_eq world upper.filesystem).files at
   upper_taken fresh change at new asks =
-      upper_by_layers world now conditions (taken_filesystems world gone) location overlay upper
+      upper_by_layers world now conditions (filesystems-taken_away world gone) location overlay upper
       (ap (λ f. f.overlay) filesystem_same ∙ is) has fresh change at new
       (subst (λ f. Asks (merge_of nat_eq world f overlay upper) change at) (sym filesystem_same) asks)
 

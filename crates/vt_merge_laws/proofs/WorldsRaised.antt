@@ -25,11 +25,12 @@ use Rattle.vt_spec.proofs.Lists.{all-map}
 use Rattle.vt_letting_go.proofs.InUse.{nothing_goes}
 use Rattle.vt_letting_go.proofs.Lists.{any-map, flat_map-map}
 use Rattle.vt_world_laws.proofs.Raised.{FilesBy, counted, files_by, mounts_counted, namespaces_counted, roots_counted, same_files, tasks_counted, trees_counted}
-use Rattle.vt_world_laws.proofs.RaisedInUse.{in_use_later, namespace_if, number_if, numbers_raised_are, task_if, worlds_are_in_use}
+use Rattle.vt_world_laws.proofs.RaisedInUse.{in_use_later, namespace_if, number_if, numbers_raised_are, task_if}
 use Rattle.vt_merge_laws.specs.MountedAnew.{PolicyMountsAWorld, RaisingKeepsWorlds}
 use Rattle.vt_world_laws.proofs.CallsKept.{name_found}
 use Rattle.vt_merge_laws.proofs.MountedLeft.{mounting_lets_nothing_go}
 use Rattle.vt_merge_laws.proofs.MountedWorlds.{are_new, mounting_leaves_a_world}
+use Rattle.vt_letting_go.proofs.OfWorlds.{all_in_use}
 
 -- What is asked of layers, by the files of each filesystem
 abbrev opened : FilesBy → Layer ℕ → OpenLayer ℕ
@@ -200,7 +201,7 @@ module _ (of_filesystem : Filesystem ℕ → ℕ) (of_namespace : Namespace ℕ 
     tasks = tasks_counted of_filesystem of_namespace of_task change world is.tasks;
     roots = roots_counted of_filesystem of_namespace of_task change world is.roots;
     nothing_unused = nothing_goes later
-        (in_use_later of_filesystem of_namespace of_task change world (worlds_are_in_use world is));
+        (in_use_later of_filesystem of_namespace of_task change world (all_in_use world is));
   }
 
 pub raising_keeps_worlds : RaisingKeepsWorlds

@@ -1,7 +1,7 @@
 -- The entries that contracts see of what is kept.
-use Rattle.std.proofs.Common.{◌≡◌, ◌<◌, ◌≤◌, ℕ, suc, Bool, true, false, cond, ◌&&◌, List, [], ◌∷◌, ◌++◌, map, length, not, nat_eq, nat_lt, Option, None, Some, option_map, slice_get, refl, sym, ap, ◌∙◌, arith, eq-eqb, ne_eqb, le-ltb, lt-ltb}
+use Rattle.std.proofs.Common.{◌≡◌, ◌<◌, ◌≤◌, ℕ, suc, Bool, true, false, cond, ◌&&◌, List, [], ◌∷◌, ◌++◌, map, length, not, nat_eq, nat_lt, Option, None, Some, option_map, slice_get, refl, sym, ap, ◌∙◌, arith, eq-eqb, le-ltb, lt-ltb}
 use Rattle.std.specs.Prelude.{find as seek}
-use Rattle.std.proofs.lemmas.Bool.{eqb-true, eqb-false, ltb-true, ltb-false}
+use Rattle.std.proofs.lemmas.Bool.{eqb-true, ltb-true, ltb-false}
 use Rattle.std.specs.List.{IsDistinct, list_all}
 use Rattle.std.specs.Map.{keys_of, lookup}
 use Rattle.vt_spec.specs.Machine.Mounts as meant
@@ -11,15 +11,10 @@ use Rattle.vt_location.specs.Numbers.{counted}
 use Rattle.vt_mount.specs.declared.mounted.Mounted.{Mounted}
 use Rattle.vt_mount.specs.Listed.{same_id}
 use Rattle.vt_mount.specs.MountsValue.{MountEntry, changed, entries_of, entry_numbered, entry_of, in_order, mount_kept, mounts_in, without}
-use Rattle.vt_mount.proofs.OrderLemmas.{both-first, both-second, change_kept, found, found-in_order, in_order-changed, in_order-last, in_order-removed, is_above, length-in_order, tied, without_kept}
-
--- numbers that are counted are one where their counts are
-pub same_count : (a b : ℕ) → nat_eq (counted a) (counted b) ≡ nat_eq a b
-same_count a b = by (nat_eq a b) (eqb-true a b) (eqb-false a b)
-  where
-    by : (t : Bool) → (t ≡ true → a ≡ b) → (t ≡ false → (a ≡ b → ⊥)) → nat_eq (counted a) (counted b) ≡ t
-    by true same apart = eq-eqb (counted a) (counted b) (ap counted (same refl))
-    by false same apart = ne_eqb (counted a) (counted b) (λ is. apart refl (omega (arith, is)))
+use Rattle.vt_mount.proofs.OrderLemmas.{change_kept, found, found-in_order, in_order-changed, in_order-last, in_order-removed, is_above, length-in_order, tied, without_kept}
+use Rattle.vt_location.proofs.NumberLemmas.{counted_test}
+use Rattle.vt_spec.proofs.Truths.{and_true_left, and_true_right}
+pub use Rattle.vt_location.proofs.NumberLemmas.{counted_test as same_count}
 
 pub less_count : (a b : ℕ) → nat_lt (counted a) (counted b) ≡ nat_lt a b
 less_count a b = by (nat_lt a b) (ltb-true a b) (ltb-false a b)
@@ -62,7 +57,7 @@ pub found-mount : (number : MountId) (kept : List (MountId × Mounted))
     ≡ option_map (mount_under number) (found number kept)
 found-mount number [] = refl
 found-mount number (one ∷ kept) =
-    (λ i. cond (same_count number.count one.0.count i) (Some (mount_under one.0 one.1)) (found-mount number kept i))
+    (λ i. cond (counted_test number.count one.0.count i) (Some (mount_under one.0 one.1)) (found-mount number kept i))
     ∙ by (same_id number one.0) (same number one.0)
     ∙ ap (λ b. option_map (mount_under number) (cond b (Some one.1) (found number kept))) (sym (tied number one.0))
   where
@@ -77,7 +72,7 @@ found-entry : (number : MountId) (kept : List (MountId × Mounted))
     ≡ option_map (λ one. entry_of (number, one)) (found number kept)
 found-entry number [] = refl
 found-entry number (one ∷ kept) =
-    (λ i. cond (same_count number.count one.0.count i) (Some (entry_of one)) (found-entry number kept i))
+    (λ i. cond (counted_test number.count one.0.count i) (Some (entry_of one)) (found-entry number kept i))
     ∙ by (same_id number one.0) (same number one.0)
     ∙ ap (λ b. option_map (λ one. entry_of (number, one)) (cond b (Some one.1) (found number kept)))
     (sym (tied number one.0))
@@ -126,7 +121,7 @@ module _ (number : MountId) (change : MountEntry → MountEntry) (change_it : Mo
   entries-changed (one ∷ kept) =
       (λ i. by (same_id number one.0) i ∷ entries-changed kept i)
       ∙ ap (λ b. cond b (change (entry_of one)) (entry_of one) ∷ changed (counted number.count) change (entries kept))
-      (sym (same_count number.count one.0.count))
+      (sym (counted_test number.count one.0.count))
     where
       by : (b : Bool) → entry_of (one.0, cond b (change_it one.1) one.1) ≡ cond b (change (entry_of one)) (entry_of one)
       by true = so one.0 one.1
@@ -146,7 +141,7 @@ entries-without number [] = refl
 entries-without number (one ∷ kept) =
     by (same_id number one.0) (entries-without number kept)
     ∙ ap (λ b. cond (not b) (entry_of one ∷ without (counted number.count) (entries kept))
-    (without (counted number.count) (entries kept))) (sym (same_count number.count one.0.count))
+    (without (counted number.count) (entries kept))) (sym (counted_test number.count one.0.count))
   where
     by : (b : Bool) → entries (without_kept number kept) ≡ without (counted number.count) (entries kept)
         → entries (cond (not b) (one ∷ without_kept number kept) (without_kept number kept))
@@ -167,8 +162,8 @@ pub above-entries : (number : MountId) (kept : List (MountId × Mounted))
     → is_above number kept ≡ true
 above-entries number [] above = refl
 above-entries number (one ∷ kept) above =
-    (λ i. sym (less_count one.0.count number.count) i && above-entries number kept (both-second _ _ above) i)
-    ∙ ap (λ b. b && true) (both-first _ _ above)
+    (λ i. sym (less_count one.0.count number.count) i && above-entries number kept (and_true_right _ _ above) i)
+    ∙ ap (λ b. b && true) (and_true_left _ _ above)
 
 entries-last : (one : MountId × Mounted) (kept : List (MountId × Mounted))
     → entries (kept ++ one ∷ []) ≡ entries kept ++ entry_of one ∷ []

@@ -13,10 +13,11 @@ use Rattle.vt_mount.specs.Indexes.{lacks, pushed, taken}
 use Rattle.vt_mount.specs.Listed.{same_id}
 use Rattle.vt_mount.specs.MountsValue.{id_cmp, mount_kept}
 use Rattle.vt_mount.proofs.ListLemmas.{others}
-use Rattle.vt_mount.proofs.OrderLemmas.{both-first, both-second, change_kept, found, is_above, rises, tied, without_kept}
+use Rattle.vt_mount.proofs.OrderLemmas.{change_kept, found, is_above, rises, tied, without_kept}
+use Rattle.vt_spec.proofs.Truths.{T_and_left, T_and_right, and_true_left, and_true_right}
 
-pub same : (a b : MountId) → same_id a b ≡ true → a ≡ b
-same a b is = ap (λ n. record { count = n }) (eqb-true a.count b.count is)
+pub same_mount_id : (a b : MountId) → same_id a b ≡ true → a ≡ b
+same_mount_id a b is = ap (λ n. record { count = n }) (eqb-true a.count b.count is)
 
 pub turned : (a b : MountId) → same_id a b ≡ same_id b a
 turned a b = by (same_id a b) (same_id b a) refl refl
@@ -40,14 +41,6 @@ cons-numbers test one kept = by (passes test one)
         ≡ cond b (one.0 ∷ numbers_where test kept) (numbers_where test kept)
     by true = refl
     by false = refl
-
-pub first : (a b : Bool) → T (a && b) → T a
-first true b p = tt
-first false b p = p
-
-pub second : (a b : Bool) → T (a && b) → T b
-second true b p = p
-second false b p = absurd p
 
 module _ (test : Mount → Bool) where
   pub numbers-last : (one : MountId × Mounted) (kept : List (MountId × Mounted))
@@ -133,7 +126,7 @@ module _ (test : Mount → Bool) where
   failing-others id x (one ∷ kept) rising there fails =
       ap (others id) (cons-numbers test one kept)
       ∙ by (eq_by_cmp id_cmp id one.0) (tied id one.0) there
-      (λ there. failing-others id x kept (second _ _ rising) there fails)
+      (λ there. failing-others id x kept (T_and_right _ _ rising) there fails)
       ∙ sym (cons-numbers test one kept)
     where
       by : (s : Bool) → s ≡ same_id id one.0 → cond s (Some one.1) (found id kept) ≡ Some x
@@ -141,10 +134,10 @@ module _ (test : Mount → Bool) where
           → others id (cond (passes test one) (one.0 ∷ numbers_where test kept) (numbers_where test kept))
           ≡ cond (passes test one) (one.0 ∷ numbers_where test kept) (numbers_where test kept)
       by true is there step =
-          let here : id ≡ one.0 = same id one.0 (sym is) in
+          let here : id ≡ one.0 = same_mount_id id one.0 (sym is) in
           let held : one.1 ≡ x = cc in
           let wrong : passes test one ≡ false = (λ i. test (mount_kept (sym here i) (held i))) ∙ fails in
-          let rest = absent-others id kept (ap (λ n. found n kept) here ∙ below-none one.0 kept (first _ _ rising)) in
+          let rest = absent-others id kept (ap (λ n. found n kept) here ∙ below-none one.0 kept (T_and_left _ _ rising)) in
           ap (λ b. others id (cond b (one.0 ∷ numbers_where test kept) (numbers_where test kept))) wrong
           ∙ rest
           ∙ sym (ap (λ b. cond b (one.0 ∷ numbers_where test kept) (numbers_where test kept)) wrong)
@@ -173,12 +166,12 @@ module _ (test : Mount → Bool) where
       → lacks id (numbers_where test kept)
   lacks-above id [] above = refl
   lacks-above id (one ∷ kept) above =
-      ap (others id) (cons-numbers test one kept) ∙ by (passes test one) (lacks-above id kept (both-second _ _ above))
+      ap (others id) (cons-numbers test one kept) ∙ by (passes test one) (lacks-above id kept (and_true_right _ _ above))
       ∙ sym (cons-numbers test one kept)
     where
       apart : same_id one.0 id ≡ false
       apart = ne_eqb one.0.count id.count
-          (λ is. omega (arith, is, ltb-true one.0.count id.count (both-first _ _ above)))
+          (λ is. omega (arith, is, ltb-true one.0.count id.count (and_true_left _ _ above)))
 
       by : (b : Bool) → lacks id (numbers_where test kept)
           → others id (cond b (one.0 ∷ numbers_where test kept) (numbers_where test kept))

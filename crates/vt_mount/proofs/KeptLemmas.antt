@@ -17,7 +17,8 @@ use Rattle.vt_mount.specs.Listed.{same_id}
 use Rattle.vt_mount.specs.MountsValue.{MountEntry, mount_kept, without}
 use Rattle.vt_mount.proofs.ListLemmas.{others}
 use Rattle.vt_mount.proofs.IndexLemmas.{numbers-last, numbers-left, numbers-without, others-taken}
-use Rattle.vt_mount.proofs.OrderLemmas.{both-first, both-second, change_kept, found, rises, without_kept}
+use Rattle.vt_mount.proofs.OrderLemmas.{change_kept, found, rises, without_kept}
+use Rattle.vt_spec.proofs.Truths.{and_true_left, and_true_right}
 
 -- what is kept of a mount that is detached
 abbrev pub detached_kept : Mounted → Mounted
@@ -44,29 +45,29 @@ pub slots-detached : (id : MountId) (kept : List (MountId × Mounted)) → list_
 slots-detached id [] slots = refl
 slots-detached id (one ∷ kept) slots =
     ap (λ b. b && list_all is_in_slot (map (change_kept id detached_kept) kept)) (by (same_id id one.0))
-    ∙ slots-detached id kept (both-second _ _ slots)
+    ∙ slots-detached id kept (and_true_right _ _ slots)
   where
     by : (b : Bool) → is_in_slot (one.0, cond b (detached_kept one.1) one.1) ≡ true
     by true = refl
-    by false = both-first _ _ slots
+    by false = and_true_left _ _ slots
 
 pub slots-without : (id : MountId) (kept : List (MountId × Mounted)) → list_all is_in_slot kept ≡ true
     → list_all is_in_slot (without_kept id kept) ≡ true
 slots-without id [] slots = refl
-slots-without id (one ∷ kept) slots = by (same_id id one.0) (slots-without id kept (both-second _ _ slots))
+slots-without id (one ∷ kept) slots = by (same_id id one.0) (slots-without id kept (and_true_right _ _ slots))
   where
     by : (b : Bool) → list_all is_in_slot (without_kept id kept) ≡ true
         → list_all is_in_slot (cond (not b) (one ∷ without_kept id kept) (without_kept id kept)) ≡ true
     by true rest = rest
-    by false rest = ap (λ b. b && list_all is_in_slot (without_kept id kept)) (both-first _ _ slots) ∙ rest
+    by false rest = ap (λ b. b && list_all is_in_slot (without_kept id kept)) (and_true_left _ _ slots) ∙ rest
 
 slots-last : (one : MountId × Mounted) (kept : List (MountId × Mounted)) → is_in_slot one ≡ true
     → list_all is_in_slot kept ≡ true
     → list_all is_in_slot (kept ++ one ∷ []) ≡ true
 slots-last one [] slot slots = ap (λ b. b && true) slot
 slots-last one (other ∷ kept) slot slots =
-    ap (λ b. b && list_all is_in_slot (kept ++ one ∷ [])) (both-first _ _ slots)
-    ∙ slots-last one kept slot (both-second _ _ slots)
+    ap (λ b. b && list_all is_in_slot (kept ++ one ∷ [])) (and_true_left _ _ slots)
+    ∙ slots-last one kept slot (and_true_right _ _ slots)
 
 -- Lists that one mount left
 
@@ -131,8 +132,8 @@ without-above number [] above = refl
 without-above number (entry ∷ entries) above =
     ap (λ b. cond (not b) (entry ∷ without number entries) (without number entries))
     (ne_eqb number entry.mount.number
-    (λ is. omega (arith, is, ltb-true entry.mount.number number (both-first _ _ above))))
-    ∙ ap (λ rest. entry ∷ rest) (without-above number entries (both-second _ _ above))
+    (λ is. omega (arith, is, ltb-true entry.mount.number number (and_true_left _ _ above))))
+    ∙ ap (λ rest. entry ∷ rest) (without-above number entries (and_true_right _ _ above))
 
 pub without-last : (number : ℕ) (last : MountEntry) (entries : List MountEntry)
     → list_all (λ entry. nat_lt entry.mount.number number) entries ≡ true
@@ -141,8 +142,8 @@ without-last number last [] above is = ap (λ b. cond (not b) (last ∷ []) []) 
 without-last number last (entry ∷ entries) above is =
     ap (λ b. cond (not b) (entry ∷ without number (entries ++ last ∷ [])) (without number (entries ++ last ∷ [])))
     (ne_eqb number entry.mount.number
-    (λ is. omega (arith, is, ltb-true entry.mount.number number (both-first _ _ above))))
-    ∙ ap (λ rest. entry ∷ rest) (without-last number last entries (both-second _ _ above) is)
+    (λ is. omega (arith, is, ltb-true entry.mount.number number (and_true_left _ _ above))))
+    ∙ ap (λ rest. entry ∷ rest) (without-last number last entries (and_true_right _ _ above) is)
 
 pub of-ok : {A E P : Type 0} (r : Result A E) → IsOk r → OnOk r P → P
 of-ok (Ok a) ok p = p

@@ -20,8 +20,9 @@ use Rattle.vt_mount.specs.MountsValue.{are_ascending, entries_of, id_cmp, in_ord
 use Rattle.vt_location.specs.Numbers.{counted}
 use Rattle.vt_mount.proofs.EntryLemmas.{entries, less_count}
 use Rattle.vt_mount.proofs.ListLemmas.{others}
-use Rattle.vt_mount.proofs.IndexLemmas.{absent-others, below-none, cons-numbers, first, numbers-changed, numbers-left, others-taken, passes, same, second, turned}
-use Rattle.vt_mount.proofs.OrderLemmas.{both-first, both-second, change_kept, found, rises, rises-in_order, tied}
+use Rattle.vt_mount.proofs.IndexLemmas.{absent-others, below-none, cons-numbers, numbers-changed, numbers-left, others-taken, passes, turned, same_mount_id}
+use Rattle.vt_mount.proofs.OrderLemmas.{change_kept, found, rises, rises-in_order, tied}
+use Rattle.vt_spec.proofs.Truths.{T_and_left, T_and_right, and_true_left, and_true_right}
 
 -- what is kept of a mount that was moved
 abbrev pub moved_kept : Location → Mounted → Mounted
@@ -42,7 +43,7 @@ module _ (id : MountId) where
       → found id kept ≡ Some x → nat_lt id.count n.count ≡ false
   found-above n x [] below there = absurd cc
   found-above n x (one ∷ kept) below there = by (eq_by_cmp id_cmp id one.0) (tied id one.0) there
-      (found-above n x kept (second _ _ below))
+      (found-above n x kept (T_and_right _ _ below))
     where
       by : (s : Bool) → s ≡ same_id id one.0 → cond s (Some one.1) (found id kept) ≡ Some x
           → (found id kept ≡ Some x → nat_lt id.count n.count ≡ false)
@@ -52,7 +53,7 @@ module _ (id : MountId) where
           (omega (
             arith,
             ltb-true n.count one.0.count
-                (less-than n.count one.0.count (first _ _ below)),
+                (less-than n.count one.0.count (T_and_left _ _ below)),
             eqb-true id.count one.0.count (sym is),
           ))
       by false is there rest = rest there
@@ -74,7 +75,7 @@ module _ (id : MountId) where
     inserted-below [] below = refl
     inserted-below (one ∷ kept) below =
         ap (inserted id) (cons-numbers test one kept)
-        ∙ by (passes test one) (inserted-below kept (second _ _ below))
+        ∙ by (passes test one) (inserted-below kept (T_and_right _ _ below))
         ∙ ap (λ l. id ∷ l) (sym (cons-numbers test one kept))
       where
         by : (b : Bool) → inserted id (numbers_where test kept) ≡ id ∷ numbers_where test kept
@@ -82,7 +83,7 @@ module _ (id : MountId) where
             ≡ id ∷ cond b (one.0 ∷ numbers_where test kept) (numbers_where test kept)
         by true rest =
             ap (λ s. cond s (id ∷ one.0 ∷ numbers_where test kept) (one.0 ∷ inserted id (numbers_where test kept)))
-            (less-than id.count one.0.count (first _ _ below))
+            (less-than id.count one.0.count (T_and_left _ _ below))
         by false rest = rest
 
     module _ (change : Mounted → Mounted)
@@ -92,7 +93,7 @@ module _ (id : MountId) where
       numbers-moved x [] rising there = absurd cc
       numbers-moved x (one ∷ kept) rising there =
           ap (λ l. inserted id (others id l)) (cons-numbers test one kept)
-          ∙ by (eq_by_cmp id_cmp id one.0) (tied id one.0) there (numbers-moved x kept (second _ _ rising))
+          ∙ by (eq_by_cmp id_cmp id one.0) (tied id one.0) there (numbers-moved x kept (T_and_right _ _ rising))
           ∙ sym (cons-numbers test (change_kept id change one) (map (change_kept id change) kept))
         where
           N : List MountId
@@ -118,11 +119,11 @@ module _ (id : MountId) where
               (one.0 ∷ numbers_where test (map (change_kept id change) kept))
               (numbers_where test (map (change_kept id change) kept))
           by true is there rest =
-              let here : id ≡ one.0 = same id one.0 (sym is) in
+              let here : id ≡ one.0 = same_mount_id id one.0 (sym is) in
               let none : found id kept ≡ None = ap (λ n. found n kept) here
-              ∙ below-none test one.0 kept (first _ _ rising) in
+              ∙ below-none test one.0 kept (T_and_left _ _ rising) in
               let below : T (below_all id_cmp id kept) = subst (λ n. T (below_all id_cmp n kept)) (sym here)
-              (first _ _ rising) in
+              (T_and_left _ _ rising) in
               let same_rest : N ≡ numbers_where test (map (change_kept id change) kept) = ap (numbers_where test)
               (sym (absent-same change kept none)) in
               ap (inserted id) (gone (turned one.0 id ∙ sym is) (passes test one) ∙ absent-others test id kept none)
@@ -132,7 +133,7 @@ module _ (id : MountId) where
               (numbers_where test (map (change_kept id change) kept)))
               (ap (λ s. test (mount_kept one.0 (cond s (change one.1) one.1))) (sym is) ∙ always one.0 one.1))
           by false is there rest =
-              stays (turned one.0 id ∙ sym is) (found-above one.0 x kept (first _ _ rising) there) (passes test one)
+              stays (turned one.0 id ∙ sym is) (found-above one.0 x kept (T_and_left _ _ rising) there) (passes test one)
               ∙ ap (λ l. cond (passes test one) (one.0 ∷ l) l) (rest there)
               ∙ sym (ap (λ s. cond (test (mount_kept one.0 (cond s (change one.1) one.1)))
               (one.0 ∷ numbers_where test (map (change_kept id change) kept))
@@ -155,11 +156,11 @@ slots-moved : (id : MountId) (place : Location) (kept : List (MountId × Mounted
 slots-moved id place [] slot slots = refl
 slots-moved id place (one ∷ kept) slot slots =
     ap (λ b. b && list_all is_in_slot (map (change_kept id (moved_kept place)) kept)) (by (same_id id one.0))
-    ∙ slots-moved id place kept slot (both-second _ _ slots)
+    ∙ slots-moved id place kept slot (and_true_right _ _ slots)
   where
     by : (b : Bool) → is_in_slot (one.0, cond b (moved_kept place one.1) one.1) ≡ true
     by true = slot
-    by false = both-first _ _ slots
+    by false = and_true_left _ _ slots
 
 pub indexed-moved : (id : MountId) (place : Location) (x : Mounted) (kept : List (MountId × Mounted))
     (old new : Indexes) → T (rises kept) → found id kept ≡ Some x
@@ -197,11 +198,11 @@ slots-rehomed : (id : MountId) (namespace : NamespaceId) (kept : List (MountId �
 slots-rehomed id namespace [] slots = refl
 slots-rehomed id namespace (one ∷ kept) slots =
     ap (λ b. b && list_all is_in_slot (map (change_kept id (rehomed_kept namespace)) kept)) (by (same_id id one.0))
-    ∙ slots-rehomed id namespace kept (both-second _ _ slots)
+    ∙ slots-rehomed id namespace kept (and_true_right _ _ slots)
   where
     by : (b : Bool) → is_in_slot (one.0, cond b (rehomed_kept namespace one.1) one.1) ≡ true
-    by true = both-first _ _ slots
-    by false = both-first _ _ slots
+    by true = and_true_left _ _ slots
+    by false = and_true_left _ _ slots
 
 pub indexed-rehomed : (id : MountId) (namespace : NamespaceId) (x : Mounted) (kept : List (MountId × Mounted))
     (old new : Indexes)
@@ -244,13 +245,13 @@ below-counts : (n : MountId) (kept : List (MountId × Mounted)) → T (below_all
     → list_all (λ later. nat_lt (counted n.count) later.number) (mounts_in (entries kept)) ≡ true
 below-counts n [] below = refl
 below-counts n (one ∷ kept) below =
-    (λ i. (less_count n.count one.0.count ∙ less-than n.count one.0.count (first _ _ below)) i
-    && below-counts n kept (second _ _ below) i)
+    (λ i. (less_count n.count one.0.count ∙ less-than n.count one.0.count (T_and_left _ _ below)) i
+    && below-counts n kept (T_and_right _ _ below) i)
 
 counts-rise : (kept : List (MountId × Mounted)) → T (rises kept) → are_ascending (mounts_in (entries kept)) ≡ true
 counts-rise [] rising = refl
-counts-rise (one ∷ kept) rising = λ i. below-counts one.0 kept (first _ _ rising) i
-    && counts-rise kept (second _ _ rising) i
+counts-rise (one ∷ kept) rising = λ i. below-counts one.0 kept (T_and_left _ _ rising) i
+    && counts-rise kept (T_and_right _ _ rising) i
 
 pub ascending-kept : (es : List (MountId × Mounted)) → are_ascending (mounts_in (entries_of es)) ≡ true
 ascending-kept es = counts-rise (in_order es) (rises-in_order es)

@@ -1,5 +1,5 @@
 -- What is kept under numbers, in their order, in whatever order it is kept.
-use Rattle.std.proofs.Common.{◌≡◌, ◌<◌, suc, ◌+◌, Bool, true, false, cond, ◌&&◌, T, List, [], ◌∷◌, ◌++◌, map, filter, length, not, nat_eq, nat_lt, Option, None, Some, is_some, option_map, refl, sym, ap, subst, ◌∙◌, true≢false, arith, eq-eqb, ne_eqb}
+use Rattle.std.proofs.Common.{◌≡◌, ◌<◌, suc, ◌+◌, Bool, true, false, cond, ◌&&◌, T, List, [], ◌∷◌, ◌++◌, map, filter, length, not, nat_eq, nat_lt, Option, None, Some, is_some, option_map, refl, sym, ap, subst, ◌∙◌, arith, eq-eqb, ne_eqb}
 use Rattle.std.specs.Ordering.{eq_by_cmp, is_lt}
 use Rattle.std.specs.declared.cmp.Ordering.TheVariants.{Less, Equal}
 use Rattle.std.specs.Cmp.{IsTotalOrder, nat_cmp_is, unsigned_tied}
@@ -14,6 +14,7 @@ use Rattle.vt_mount.specs.declared.mounted.Mounted.{Mounted}
 use Rattle.vt_location.specs.declared.numbers.MountId.{MountId}
 use Rattle.vt_mount.specs.Listed.{same_id}
 use Rattle.vt_mount.specs.MountsValue.{id_cmp, in_order}
+use Rattle.vt_spec.proofs.Truths.{T_and, and_true_left, and_true_right, cond-not}
 
 pub id_cmp_total : IsTotalOrder id_cmp
 id_cmp_total = record {
@@ -107,10 +108,6 @@ module _ (number : MountId) (change : Mounted → Mounted) where
 abbrev pub without_kept : MountId → List (MountId × Mounted) → List (MountId × Mounted)
 without_kept number kept = filter (λ one. not (same_id number one.0)) kept
 
-cond-not : {X : Type 0} (b : Bool) (x y : X) → cond b x y ≡ cond (not b) y x
-cond-not true x y = refl
-cond-not false x y = refl
-
 pub in_order-removed : (number : MountId) (es new : List (MountId × Mounted))
     → ((q : MountId) → lookup (same_id q) new ≡ cond (same_id number q) None (lookup (same_id q) es))
     → in_order new ≡ without_kept number (in_order es)
@@ -129,14 +126,6 @@ in_order-removed number es new is =
 abbrev pub is_above : MountId → List (MountId × Mounted) → Bool
 is_above number kept = list_all (λ one. nat_lt one.0.count number.count) kept
 
-pub both-first : (a b : Bool) → (a && b) ≡ true → a ≡ true
-both-first true b e = refl
-both-first false b e = e
-
-pub both-second : (a b : Bool) → (a && b) ≡ true → b ≡ true
-both-second true b e = e
-both-second false b e = absurd (true≢false (sym e))
-
 module _ (number : MountId) (new : Mounted) where
   below-last : (x : MountId) (kept : List (MountId × Mounted)) → x.count < number.count → T (below_all id_cmp x kept)
       → T (below_all id_cmp x (kept ++ (number, new) ∷ []))
@@ -154,17 +143,13 @@ module _ (number : MountId) (new : Mounted) where
   rises-last [] above rising = tt
   rises-last (one ∷ kept) above rising =
       by (below_all id_cmp one.0 kept) rising
-      (below-last one.0 kept (ltb-true one.0.count number.count (both-first _ _ above)))
-      (rises-last kept (both-second _ _ above))
+      (below-last one.0 kept (ltb-true one.0.count number.count (and_true_left _ _ above)))
+      (rises-last kept (and_true_right _ _ above))
     where
       by : (b : Bool) → T (b && rises kept) → (T b → T (below_all id_cmp one.0 (kept ++ (number, new) ∷ [])))
           → (T (rises kept) → T (rises (kept ++ (number, new) ∷ [])))
           → T (below_all id_cmp one.0 (kept ++ (number, new) ∷ []) && rises (kept ++ (number, new) ∷ []))
-      by true rising below rest = pair _ _ (below tt) (rest rising)
-        where
-          pair : (a b : Bool) → T a → T b → T (a && b)
-          pair true b p q = q
-          pair false b p q = p
+      by true rising below rest = T_and _ _ (below tt) (rest rising)
       by false rising below rest = absurd rising
 
   none-above : (kept : List (MountId × Mounted)) → is_above number kept ≡ true → found number kept ≡ None
@@ -172,8 +157,8 @@ module _ (number : MountId) (new : Mounted) where
   none-above (one ∷ kept) above =
       ap (λ b. cond b (Some one.1) (found number kept))
       (tied number one.0 ∙ ne_eqb number.count one.0.count
-      (λ same. omega (arith, same, ltb-true one.0.count number.count (both-first _ _ above))))
-      ∙ none-above kept (both-second _ _ above)
+      (λ same. omega (arith, same, ltb-true one.0.count number.count (and_true_left _ _ above))))
+      ∙ none-above kept (and_true_right _ _ above)
 
   pub in_order-last : (es fs : List (MountId × Mounted)) → is_above number (in_order es) ≡ true
       → ((q : MountId) → lookup (same_id q) fs ≡ cond (same_id number q) (Some new) (lookup (same_id q) es))

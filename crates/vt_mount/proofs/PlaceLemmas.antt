@@ -18,9 +18,10 @@ use Rattle.vt_mount.specs.Indexed.{is_in_slot, numbers_where}
 use Rattle.vt_mount.specs.Indexes.{is_at, is_in, is_on, is_over, same_inode, same_namespace, same_place}
 use Rattle.vt_mount.specs.Listed.{same_id}
 use Rattle.vt_mount.specs.MountsValue.{mount_kept, mounts_in, stands_over}
-use Rattle.vt_mount.proofs.EntryLemmas.{entries, mount_under, same_count}
+use Rattle.vt_mount.proofs.EntryLemmas.{entries, mount_under}
 use Rattle.vt_mount.proofs.IndexLemmas.{cons-numbers}
-use Rattle.vt_mount.proofs.OrderLemmas.{both-first, both-second}
+use Rattle.vt_location.proofs.NumberLemmas.{counted_test}
+use Rattle.vt_spec.proofs.Truths.{and_true_left, and_true_right}
 
 abbrev pub counts : List MountId → List ℕ
 counts ids = map (λ id. counted id.count) ids
@@ -37,10 +38,10 @@ module _ (test : Mount → Bool) (seen : meant.Mount ℕ → Bool)
   numbers-seen [] slots = refl
   numbers-seen (one ∷ kept) slots =
       ap counts (cons-numbers test one kept)
-      ∙ by (test (mount_kept one.0 one.1)) (numbers-seen kept (both-second _ _ slots))
+      ∙ by (test (mount_kept one.0 one.1)) (numbers-seen kept (and_true_right _ _ slots))
       ∙ ap (λ b. numbers (cond b (mount_under one.0 one.1 ∷ filter seen (mounts_in (entries kept)))
       (filter seen (mounts_in (entries kept)))))
-      (sym (agree one (both-first _ _ slots)))
+      (sym (agree one (and_true_left _ _ slots)))
     where
       by : (b : Bool) → counts (numbers_where test kept) ≡ numbers (filter seen (mounts_in (entries kept)))
           → counts (cond b (one.0 ∷ numbers_where test kept) (numbers_where test kept))
@@ -119,7 +120,7 @@ on-agrees parent one slot = by one.1.mount_point
         → holds_of (λ place. nat_eq (counted parent.count) place.mount) (option_map location_of point)
         ≡ holds_of (λ place. same_id parent place.mount) point
     by None = refl
-    by (Some place) = same_count parent.count place.mount.count
+    by (Some place) = counted_test parent.count place.mount.count
 
 pub in-agrees : (namespace : NamespaceId) (one : MountId × Mounted) → is_in_slot one ≡ true
     → holds_of (nat_eq (counted namespace.count)) (mount_under one.0 one.1).namespace
@@ -130,7 +131,7 @@ in-agrees namespace one slot = by one.1.namespace
         → holds_of (nat_eq (counted namespace.count)) (option_map (λ n. counted n.count) other)
         ≡ holds_of (same_namespace namespace) other
     by None = refl
-    by (Some other) = same_count namespace.count other.count
+    by (Some other) = counted_test namespace.count other.count
 
 pub at-agrees : (location : Location) → location.node.slot < slot_limit → (one : MountId × Mounted)
     → is_in_slot one ≡ true
@@ -144,7 +145,7 @@ at-agrees location less one slot = by one.1.mount_point slot
         ≡ holds_of (same_place location) point
     by None slot = refl
     by (Some place) slot =
-        λ i. same_count location.mount.count place.mount.count i
+        λ i. counted_test location.mount.count place.mount.count i
         && same_number location.node place.node less (ltb-true place.node.slot slot_limit slot) i
 
 pub over-agrees : (inode : NodeRef) → inode.slot < slot_limit → (one : MountId × Mounted) → is_in_slot one ≡ true

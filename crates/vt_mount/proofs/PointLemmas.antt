@@ -16,9 +16,9 @@ use Rattle.vt_mount.specs.declared.mounted.Mounted.{Mounted}
 use Rattle.vt_mount.specs.Listed.{same_id}
 use Rattle.vt_mount.specs.MountsValue.{MountEntry, entries_of, id_cmp, in_order, mounts_in}
 use Rattle.vt_mount.proofs.EntryLemmas.{entries, found-mount, mount_under}
-use Rattle.vt_mount.proofs.IndexLemmas.{first, second}
 use Rattle.vt_mount.proofs.OrderLemmas.{found, found-in_order, rises, rises-in_order, tied}
 use Rattle.vt_mount.proofs.PlaceLemmas.{counts, numbers}
+use Rattle.vt_spec.proofs.Truths.{T_and_left, T_and_right}
 
 -- each one of a part is found in the whole by its number
 abbrev pub Owns : List (MountId × Mounted) → List (MountId × Mounted) → Type 0
@@ -32,11 +32,11 @@ owns-more one whole [] below owns = tt
 owns-more one whole (other ∷ part) below owns = (
   ap (λ b. cond b (Some one.1) (found other.0 whole)) apart
       ∙ owns.0,
-  owns-more one whole part (second _ _ below) owns.1,
+  owns-more one whole part (T_and_right _ _ below) owns.1,
 )
   where
     apart : eq_by_cmp id_cmp other.0 one.0 ≡ false
-    apart = tied other.0 one.0 ∙ ne_eqb other.0.count one.0.count (λ is. below_apart (first _ _ below) (sym is))
+    apart = tied other.0 one.0 ∙ ne_eqb other.0.count one.0.count (λ is. below_apart (T_and_left _ _ below) (sym is))
       where
         less-apart : (o : Ordering) → T (is_lt o) → is_eq o ≡ true → ⊥
         less-apart Less less tie = true≢false (sym tie)
@@ -52,8 +52,8 @@ owns-all [] rising = tt
 owns-all (one ∷ kept) rising = (
   ap (λ b. cond b (Some one.1) (found one.0 kept))
       (tied one.0 one.0 ∙ eq-eqb one.0.count one.0.count refl),
-  owns-more one kept kept (first _ _ rising)
-      (owns-all kept (second _ _ rising)),
+  owns-more one kept kept (T_and_left _ _ rising)
+      (owns-all kept (T_and_right _ _ rising)),
 )
 
 module _ (whole : List (MountId × Mounted)) where

@@ -14,7 +14,7 @@ use Rattle.vt_mount.specs.Indexes.{is_at, is_in, is_on, is_over, same_inode, sam
 use Rattle.vt_mount.specs.Listed.{same_id}
 use Rattle.vt_mount.specs.MountsValue.{MountEntry, changed, entries_of, entry_of, held, in_order, released}
 use Rattle.vt_mount.proofs.EntryLemmas.{kept-changed}
-use Rattle.vt_mount.proofs.IndexLemmas.{numbers-changed, same}
+use Rattle.vt_mount.proofs.IndexLemmas.{numbers-changed, same_mount_id}
 use Rattle.vt_mount.proofs.OrderLemmas.{change_kept, in_order-changed}
 
 -- a map in which one mount is changed by a function, if it is there
@@ -28,7 +28,7 @@ module _ {S : Type 0} (id : MountId) (change : Mounted → Mounted) (m n : Index
       → WritesThrough same_id (same_id id) m w n
       → IsWritten id change m.entries n.entries
   is-written x w there is writes q =
-      (writes.3 some).0 q ∙ by (same_id id q) (same id q)
+      (writes.3 some).0 q ∙ by (same_id id q) (same_mount_id id q)
     where
       some : IsSome (get_by (same_id id) m)
       some = ap is_some there
@@ -43,7 +43,7 @@ pub not-written : {S : Type 0} (id : MountId) (change : Mounted → Mounted) (m 
     (new : List (MountId × Mounted))
     → get_by (same_id id) m ≡ None → new ≡ m.entries → IsWritten id change m.entries new
 not-written id change m new none is q =
-    ap (lookup (same_id q)) is ∙ by (same_id id q) (same id q)
+    ap (lookup (same_id q)) is ∙ by (same_id id q) (same_mount_id id q)
   where
     by : (b : Bool) → (b ≡ true → id ≡ q) → lookup (same_id q) m.entries
         ≡ cond b (option_map change (lookup (same_id q) m.entries)) (lookup (same_id q) m.entries)

@@ -15,9 +15,10 @@ use Rattle.vt_mount_laws.specs.Mounts.Attaching.{OneNumberAMount}
 use Rattle.vt_mount_laws.specs.Mounts.Copies.{ServeAsImages}
 use Rattle.vt_mount_laws.proofs.GroupsKept.{member_shared}
 use Rattle.vt_mount_laws.proofs.GroupsRetyped.{unused_members}
-use Rattle.vt_mount_laws.proofs.MountsFound.{number_found}
 use Rattle.vt_mount_laws.proofs.MountsNumbered.{is_one_of, taker_elsewhere}
-use Rattle.vt_mount_laws.proofs.MountsReplaced.{apart, found_itself}
+use Rattle.vt_mount_laws.proofs.MountsReplaced.{found_itself}
+use Rattle.vt_spec.proofs.Truths.{nat_eq_false_turned}
+use Rattle.vt_spec.proofs.Worlds.{number-mount_in}
 
 -- the master of a group after groups were made: as it was, or one of those that were made for it
 abbrev IsMade : List (ℕ × Option ℕ) → ℕ → Option ℕ → Type 0
@@ -250,7 +251,7 @@ module _ (world : World ℕ) (new : Copies ℕ) (place : Location ℕ) (moves : 
       (among-map twig mounts origin n) e)
 
   pub at_destination : is_destination nat_eq tree destination.number ≡ true
-  at_destination = eq-eqb destination.number place.mount (number_found world.mounts place.mount)
+  at_destination = eq-eqb destination.number place.mount (number-mount_in world.mounts place.mount)
 
   -- the master of a group that a mount of the tree makes at the destination
   pub master_there : (origin : Mount ℕ) → Among origin mounts → (group : ℕ)
@@ -276,7 +277,7 @@ module _ (world : World ℕ) (new : Copies ℕ) (place : Location ℕ) (moves : 
       ⊎_elim
       (λ same. absurd (true≢false (sym has ∙ ap (is_member_of nat_eq group) same ∙ lacks)))
       (λ later.
-      apart place.mount part.number
+      nat_eq_false_turned place.mount part.number
       (taker_elsewhere world place part
       (among-from_filter (takes_part nat_eq world place) (receivers_of nat_eq world destination) part later).1))
       m

@@ -1,10 +1,10 @@
 -- A mount outside every namespace stays nowhere where a tree of mounts is attached in one.
-use Rattle.std.proofs.Common.{◌≡◌, refl, sym, ap, ◌∙◌, true, false, nat_eq, ℕ, Bool, List, None, Option, Some, [], flat_map, inl, inr, is_some, map, not, true≢false, ⊎_elim, ◌&&◌, ◌++◌, ◌∷◌, ◌||◌, ◌⊎◌, subst}
+use Rattle.std.proofs.Common.{◌≡◌, refl, sym, ap, ◌∙◌, true, false, nat_eq, ℕ, Bool, List, None, Option, Some, [], flat_map, is_some, map, not, true≢false, ⊎_elim, ◌&&◌, ◌++◌, ◌∷◌, ◌||◌}
 use Rattle.std.proofs.lemmas.Bool.{and_parts}
 use Rattle.vt_spec.proofs.Lists.{Among, among-append, among-from_filter, among-from_flat_map, among-from_map, among_from_list_all, list_all_from_among}
 use Rattle.vt_spec.specs.Machine.Attach.{Copies, added_mounts, attached_by, bind_tree, copies_at, copy_at, pushed_onto, reaches, receiver_below, receivers_of, takes_part, with_moved_mounts}
-use Rattle.vt_spec.specs.Lists.{folded, holds_of, rest_of}
-use Rattle.vt_spec.specs.Machine.Mounts.{Location, Mount, replaced_if_same, same_location, stands_at, with_mount}
+use Rattle.vt_spec.specs.Lists.{holds_of, rest_of}
+use Rattle.vt_spec.specs.Machine.Mounts.{Location, Mount, same_location, stands_at}
 use Rattle.vt_spec.specs.Machine.Outcome.Mounting.{moved_tree, new_mount, with_new_filesystem}
 use Rattle.vt_spec.specs.Machine.World.{World, mount_at}
 use Rattle.vt_spec.specs.Machine.Invariants.{is_nowhere_or_attached, is_private}
@@ -12,24 +12,7 @@ use Rattle.vt_mount_laws.specs.Mounts.Attached.{BindsKeepNowhere, MovesKeepNowhe
 use Rattle.vt_mount_laws.specs.Mounts.Conditions.{NowhereOrAttached}
 use Rattle.vt_mount_laws.proofs.MountsAttached.{arriving, graft, moved_ones, parts, push, supplied}
 use Rattle.vt_mount_laws.proofs.MountsFound.{found_in}
-use Rattle.vt_mount_laws.proofs.MountsReplaced.{replaced_elsewhere, replaced_there}
-
--- of mounts that were put in the place of others each is one of either
-pub among-folded : (mounts copies : List (Mount ℕ)) (mount : Mount ℕ)
-    → Among mount (folded (with_mount nat_eq) mounts copies) → Among mount mounts ⊎ Among mount copies
-among-folded mounts [] mount m = inl m
-among-folded mounts (copy ∷ copies) mount m =
-    ⊎_elim
-    (λ replaced.
-    let from = among-from_map (replaced_if_same nat_eq copy) mounts mount replaced in
-    by from.0 from.1 from.2 (nat_eq copy.number from.0.number) refl)
-    (λ later. inr (inr later))
-    (among-folded (with_mount nat_eq mounts copy) copies mount m)
-  where
-    by : (old : Mount ℕ) → Among old mounts → mount ≡ replaced_if_same nat_eq copy old → (b : Bool)
-        → nat_eq copy.number old.number ≡ b → Among mount mounts ⊎ Among mount (copy ∷ copies)
-    by old n e true f = inr (inl (e ∙ replaced_there copy old f))
-    by old n e false f = inl (subst (λ x. Among x mounts) (sym (e ∙ replaced_elsewhere copy old f)) n)
+use Rattle.vt_spec.proofs.Worlds.{among-folded_mounts}
 
 module _ (world : World ℕ) (new : Copies ℕ) (place : Location ℕ) (moves : Bool) (mounts : List (Mount ℕ))
     (nowhere : NowhereOrAttached world) (attached : is_some (mount_at nat_eq world place).namespace ≡ true) where
@@ -86,7 +69,7 @@ module _ (world : World ℕ) (new : Copies ℕ) (place : Location ℕ) (moves : 
       ⊎_elim
       (λ old. among_from_list_all is_nowhere_or_attached world.mounts nowhere mount old)
       (copy_fits (mount_at nat_eq world place) mount attached)
-      (among-folded world.mounts (arriving world new place moves mounts) mount m)
+      (among-folded_mounts world.mounts (arriving world new place moves mounts) mount m)
   moved_fits false mount m = among_from_list_all is_nowhere_or_attached world.mounts nowhere mount m
 
   added_fits : (b : Bool) (mount : Mount ℕ) → Among mount (added_mounts b (arriving world new place moves mounts))

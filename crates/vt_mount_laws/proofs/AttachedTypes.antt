@@ -11,12 +11,11 @@ use Rattle.vt_spec.specs.Machine.Receives.{is_member_of}
 use Rattle.vt_spec.specs.Machine.World.{World, mount_at}
 use Rattle.vt_mount_laws.specs.Mounts.Attaching.{OneNumberAMount, numbers_of}
 use Rattle.vt_mount_laws.proofs.AttachedGroups.{HasCopies, IsOldOrCopy, MembersStay, kind_at}
-use Rattle.vt_mount_laws.proofs.AttachedNowhere.{among-folded}
 use Rattle.vt_mount_laws.proofs.GroupsKept.{member_shared, shared_member}
 use Rattle.vt_mount_laws.proofs.MountsAttached.{keeps_number, push_keeps}
-use Rattle.vt_mount_laws.proofs.MountsFound.{number_found}
 use Rattle.vt_mount_laws.proofs.MountsNumbered.{is_one_of}
 use Rattle.vt_mount_laws.proofs.MountsReplaced.{found_itself, numbers-with_mount, replaced_elsewhere, replaced_there}
+use Rattle.vt_spec.proofs.Worlds.{among-folded_mounts, number-mount_in}
 
 -- Mounts that are put in the place of others
 module _ (new : Mount ℕ) where
@@ -181,7 +180,7 @@ module _ (world : World ℕ) (new : Copies ℕ) (place : Location ℕ) (moves : 
   moved_or_old : (b : Bool) (mount : Mount ℕ) → Among mount (movers b) → IsOldOrCopy world new place moves mounts mount
   moved_or_old true mount m =
       ⊎_elim (λ l. inl (mount, l, refl)) (is_copy destination mount (inl refl))
-      (among-folded world.mounts (copies destination) mount m)
+      (among-folded_mounts world.mounts (copies destination) mount m)
   moved_or_old false mount m = inl (mount, m, refl)
 
   added_copies : (b : Bool) (mount : Mount ℕ) → Among mount (added_mounts b (copies destination))
@@ -274,7 +273,7 @@ module _ (world : World ℕ) (new : Copies ℕ) (place : Location ℕ) (mounts :
       ap
       (λ b. if b then taken.propagation
       else copy_type nat_eq world new (parts_of nat_eq world place) destination taken destination.propagation)
-      (eq-eqb destination.number place.mount (number_found world.mounts place.mount))
+      (eq-eqb destination.number place.mount (number-mount_in world.mounts place.mount))
       ∙ keeps_shared new (group_of destination.propagation) origin group e
 
   pub members_move : MembersStay world new place true mounts

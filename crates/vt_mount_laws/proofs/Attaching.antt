@@ -16,10 +16,11 @@ use Rattle.vt_mount_laws.specs.Mounts.Conditions.{NowhereOrAttached}
 use Rattle.vt_mount_laws.specs.Mounts.Copies.{ServeAsCopies}
 use Rattle.vt_mount_laws.specs.Mounts.Standing.{AllStand}
 use Rattle.vt_mount_laws.proofs.MountsAttached.{found_attached, none_pushes, push_keeps}
-use Rattle.vt_mount_laws.proofs.MountsFound.{found_in, found_or_none, found_there, number_found, placed_among}
+use Rattle.vt_mount_laws.proofs.MountsFound.{found_in, found_or_none, found_there, placed_among}
 use Rattle.vt_mount_laws.proofs.MountsNumbered.{copies_keep_numbers, is_one_of, same_origin}
 use Rattle.vt_mount_laws.proofs.MountsPlaces.{stands_there}
 use Rattle.vt_mount_laws.proofs.MountsReplaced.{found_itself}
+use Rattle.vt_spec.proofs.Worlds.{number-mount_in}
 
 -- A list of mounts is a tree: its first is the top, and each other one stands on one of them
 pub data Hangs (mounts : List (Mount ℕ)) : ℕ → Type 0 where
@@ -206,7 +207,7 @@ module _ (world : World ℕ) (new : Copies ℕ) (place : Location ℕ) (mounts :
       → is_mount world on.mount ≡ true
   parent_there nowhere number on e f =
       ⊎_elim
-      (λ found. subst (λ n. is_mount world n ≡ true) (number_found world.mounts on.mount)
+      (λ found. subst (λ n. is_mount world n ≡ true) (number-mount_in world.mounts on.mount)
       (is_one_of world.mounts (mount_numbered nat_eq world on.mount) found))
       (λ none.
       absurd (outside (mount_numbered nat_eq world number) (placed_among world.mounts number on e) e

@@ -20,11 +20,13 @@ use Rattle.vt_mount_laws.specs.Mounts.Places.{OneMountAPlace}
 use Rattle.vt_mount_laws.specs.Mounts.Standing.{AllStand}
 use Rattle.vt_mount_laws.proofs.Attaching.{Hangs, all_stand_after, cover, hanging, parent_there, taker_there, top_among}
 use Rattle.vt_mount_laws.proofs.Attaching.Hangs.{from_parent, from_top}
-use Rattle.vt_mount_laws.proofs.MountsFound.{found_in, found_there, number_found, unfound}
+use Rattle.vt_mount_laws.proofs.MountsFound.{found_in, found_there, unfound}
 use Rattle.vt_mount_laws.proofs.MountsNumbered.{copies_keep_numbers, is_one_of, number_in_use, pair-append, pair-flat_map, parts_apart, same_number, same_origin}
-use Rattle.vt_mount_laws.proofs.MountsPlaces.{one_place_of_two, one_stander, same_location_is, stands_at_its_place, stands_there}
-use Rattle.vt_mount_laws.proofs.MountsReplaced.{apart, found_itself}
+use Rattle.vt_mount_laws.proofs.MountsPlaces.{one_place_of_two, one_stander, stands_at_its_place, stands_there}
+use Rattle.vt_mount_laws.proofs.MountsReplaced.{found_itself}
 use Rattle.vt_mount_laws.proofs.Standing.{fewer_numbers, rank, rank_child}
+use Rattle.vt_spec.proofs.Truths.{nat_eq_false_turned}
+use Rattle.vt_spec.proofs.Worlds.{number-mount_in, same_location_is}
 
 abbrev pub test : Mount ℕ → Mount ℕ → Bool
 test a b = share_a_mount_point nat_eq a b
@@ -307,7 +309,7 @@ module _ (world : World ℕ) (new : Copies ℕ) (place : Location ℕ) (mounts :
       false_from_ne_true (nat_eq number (new.copy part.number origin.number)) (λ same.
       let found = found_there world.mounts number is in
       let used : Among number (numbers_in_use world) =
-      subst (λ k. Among k (numbers_in_use world)) (number_found world.mounts number)
+      subst (λ k. Among k (numbers_in_use world)) (number-mount_in world.mounts number)
       (number_in_use world (mount_numbered nat_eq world number) found) in
       true≢false
       (sym (is_among_numbers (numbers_in_use world) (new.copy part.number origin.number)
@@ -330,7 +332,7 @@ module _ (world : World ℕ) (new : Copies ℕ) (place : Location ℕ) (mounts :
   part_there part m =
       ⊎_elim
       (λ e. subst (λ n. is_mount world n ≡ true)
-      (sym (ap (λ (x : Mount ℕ). x.number) e ∙ number_found world.mounts place.mount)) there)
+      (sym (ap (λ (x : Mount ℕ). x.number) e ∙ number-mount_in world.mounts place.mount)) there)
       (λ later. is_one_of world.mounts part (taker_there world place part later))
       m
 
@@ -353,7 +355,7 @@ module _ (world : World ℕ) (new : Copies ℕ) (place : Location ℕ) (mounts :
           (copy_is_new q parent n there_is p.number (part_there p m)))
       by a i (on_copy on parent e f there_is same c) b j (at_part g h) =
           differ_by_mount (copy p a) (copy q b) (place_upon p on) (place_at q) c h
-          (apart q.number (new.copy p.number on.mount)
+          (nat_eq_false_turned q.number (new.copy p.number on.mount)
           (subst (λ k. nat_eq q.number (new.copy p.number k) ≡ false) same
           (copy_is_new p parent m there_is q.number (part_there q n))))
       by a i (on_copy on parent e f there_is same c) b j (on_copy at other g h there_too same_too d) =
@@ -381,7 +383,7 @@ module _ (world : World ℕ) (new : Copies ℕ) (place : Location ℕ) (mounts :
             (copy_is_new part parent m there_is part.number (part_there part m)))
         by (on_copy on parent e f there_is same c) (at_part g h) =
             differ_by_mount (copy part a) (copy part b) (place_upon part on) (place_at part) c h
-            (apart part.number (new.copy part.number on.mount)
+            (nat_eq_false_turned part.number (new.copy part.number on.mount)
             (subst (λ k. nat_eq part.number (new.copy part.number k) ≡ false) same
             (copy_is_new part parent m there_is part.number (part_there part m))))
         by (on_copy on parent e f there_is same c) (on_copy at other g h there_too same_too d) =
@@ -492,7 +494,7 @@ module _ (world : World ℕ) (new : Copies ℕ) (place : Location ℕ) (mounts :
                       ∙ differ_by_mount x (push y) on (top_at receiver) e f elsewhere,
                   ap (λ (z : Mount ℕ). test (push y) z) keeps
                       ∙ differ_by_mount (push y) x (top_at receiver) on f e
-                      (apart on.mount (top_at receiver).mount elsewhere),
+                      (nat_eq_false_turned on.mount (top_at receiver).mount elsewhere),
                 )
 
         by : PushCase a → PushCase b → test (push a) (push b) ≡ false
@@ -549,7 +551,7 @@ module _ (world : World ℕ) (new : Copies ℕ) (place : Location ℕ) (mounts :
             ⊎_elim
             (λ is_destination.
             let number : part.number ≡ place.mount =
-            ap (λ (z : Mount ℕ). z.number) is_destination ∙ number_found world.mounts place.mount in
+            ap (λ (z : Mount ℕ). z.number) is_destination ∙ number-mount_in world.mounts place.mount in
             let at_place : a.mount_point ≡ Some place =
             stands ∙ (λ i. Some (record { mount = number i; node = place.node })) in
             true≢false (sym (stands_at_its_place place a at_place)
@@ -562,7 +564,7 @@ module _ (world : World ℕ) (new : Copies ℕ) (place : Location ℕ) (mounts :
         by origin o (at_part e f) (goes receiver second r u g h same) in_copies =
             differ_by_mount (push a) (copy part origin) (top_at receiver) (place_at part) h f
             (ap (λ c. nat_eq c part.number) same
-            ∙ apart part.number (new.copy receiver.number second.number)
+            ∙ nat_eq_false_turned part.number (new.copy receiver.number second.number)
             (copy_is_new receiver second (inr r) u part.number (part_there part n)))
         by origin o (on_copy on parent e f there_is same c) (stays g h) in_copies = at a.mount_point refl
           where

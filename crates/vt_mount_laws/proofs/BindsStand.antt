@@ -13,9 +13,9 @@ use Rattle.vt_mount_laws.proofs.Attaching.{Hangs, all_stand_after}
 use Rattle.vt_mount_laws.proofs.Attaching.Hangs.{from_parent, from_top}
 use Rattle.vt_mount_laws.proofs.AttachingPlaces.{places_after, two_of}
 use Rattle.vt_mount_laws.proofs.MountsAttached.{supplied}
-use Rattle.vt_mount_laws.proofs.MountsFound.{number_found}
 use Rattle.vt_mount_laws.proofs.MountsNumbered.{attach_keeps_numbers, supplies_serve_as_copies}
 use Rattle.vt_mount_laws.proofs.Standing.{bindable_child, binds_take_each_once, trees_have_each_once}
+use Rattle.vt_spec.proofs.Worlds.{number-mount_in}
 
 -- What a bind takes hangs together
 module _ (world : World ℕ) (whole : List (Mount ℕ)) where
@@ -76,7 +76,7 @@ bind_hangs world source true x m =
     let chosen = filter (stands_under nat_eq world source) under in
     let top : Hangs whole (bound nat_eq world source).number =
     from_top (bound nat_eq world source) (flat_map (bindable_tree nat_eq fuel world.mounts) chosen) refl in
-    let at_source : Hangs whole source.mount = subst (Hangs whole) (number_found world.mounts source.mount) top in
+    let at_source : Hangs whole source.mount = subst (Hangs whole) (number-mount_in world.mounts source.mount) top in
     ⊎_elim
     (λ e. subst (λ (y : Mount ℕ). Hangs whole y.number) (sym e) top)
     (λ later.

@@ -7,7 +7,6 @@ use Rattle.vt_spec.specs.Machine.Mounts.{Location, Mount, mount_tree, stands_on}
 use Rattle.vt_spec.specs.Machine.Namespaces.{namespaces_ended}
 use Rattle.vt_spec.specs.Machine.World.{World, mount_numbered}
 use Rattle.vt_spec.specs.Machine.Invariants.{MountInvariants, Stands}
-use Rattle.vt_spec.specs.Machine.Invariants.Stands.{at_root, on_parent}
 use Rattle.vt_mount_laws.specs.Mounts.Conditions.{AreApart, OneMountEachPlace}
 use Rattle.vt_mount_laws.specs.Mounts.Ending.{EndedNamespacesKeepMounts, PointsKeepMounts, ReplacedKeepsMounts, TreesKeepMounts, UnmountKeepsMounts}
 use Rattle.vt_mount_laws.specs.Mounts.Standing.{AllStand}
@@ -15,13 +14,13 @@ use Rattle.vt_mount_laws.specs.Mounts.Unmounting.{PlacesEnd}
 use Rattle.vt_mount_laws.proofs.GroupsLiving.{all_live, tested_live}
 use Rattle.vt_mount_laws.proofs.EndingStanding.{lands_by_closed, lands_by_places, taken_stand}
 use Rattle.vt_mount_laws.proofs.GroupsKept.{taking_away_keeps_groups}
-use Rattle.vt_mount_laws.proofs.MountsFound.{number_found}
 use Rattle.vt_mount_laws.proofs.MountsKept.{taking_away_keeps_nowhere, taking_away_keeps_numbers}
 use Rattle.vt_mount_laws.proofs.MountsReplaced.{found_itself}
 use Rattle.vt_mount_laws.proofs.Standing.{standing_is_computed}
 use Rattle.vt_mount_laws.proofs.UnmountingNamespaces.{ended_closed, in_ended}
 use Rattle.vt_mount_laws.proofs.UnmountingPlaces.{goes_or_may, unmount_leaves_one_mount_a_place}
 use Rattle.vt_mount_laws.proofs.UnmountingTrees.{AreClosed, closed_keeps_apart, trees_closed}
+use Rattle.vt_spec.proofs.Worlds.{number-mount_in, stands_alike}
 
 -- nothing stands on a mount without children
 pub none_stands : (world : World ℕ) (one : ℕ) → has_child nat_eq world one ≡ false → (x : Mount ℕ) (place : Location ℕ)
@@ -65,7 +64,7 @@ unmount_keeps_mounts world one kept childless =
     (taken_stand world gone kept.one_number kept.standing
     (lands_by_places world gone kept.one_number kept.standing (λ x place m e goes.
     ⊎_elim
-    (λ itself. absurd (none_stands world one childless x place m e (itself ∙ number_found world.mounts one)))
+    (λ itself. absurd (none_stands world one childless x place m e (itself ∙ number-mount_in world.mounts one)))
     (λ t. ap (λ n. is_some (mount_numbered nat_eq world n).mount_point) t.3
     ∙ ap (λ z. is_some z.mount_point) (found_itself world.mounts kept.one_number t.0 t.1) ∙ t.4)
     (goes_or_may world mount place.mount goes))))
@@ -81,16 +80,6 @@ points_keep_mounts world location kept = trees_keep_mounts world (mounts_on nat_
 pub replaced_keeps_mounts : ReplacedKeepsMounts
 replaced_keeps_mounts world None kept = kept
 replaced_keeps_mounts world (Some object) kept = points_keep_mounts world object kept
-
--- standing is of the mounts alone
-stands_alike : (world other : World ℕ) → ((number : ℕ)
-    → mount_numbered nat_eq other number ≡ mount_numbered nat_eq world number)
-    → (number : ℕ) → Stands nat_eq world number → Stands nat_eq other number
-stands_alike world other same number (at_root it e) = at_root it (ap (λ m. m.mount_point) (same it) ∙ e)
-stands_alike world other same number (on_parent it place e f stands) =
-    on_parent it place (ap (λ m. m.mount_point) (same it) ∙ e)
-    (ap (λ m. m.namespace) (same it) ∙ f ∙ ap (λ m. m.namespace) (sym (same place.mount)))
-    (stands_alike world other same place.mount stands)
 
 pub ended_namespaces_keep_mounts : EndedNamespacesKeepMounts
 ended_namespaces_keep_mounts world kept =

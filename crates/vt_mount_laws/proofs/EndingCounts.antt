@@ -13,11 +13,12 @@ use Rattle.vt_spec.specs.Machine.Invariants.{is_root_mount}
 use Rattle.vt_mount_laws.specs.Mounts.Conditions.{OneNumberEach}
 use Rattle.vt_mount_laws.specs.Mounts.Ending.{ByEndedNamespaces, ByPoints, ByReplaced, ByTrees, ByUnmount, EndedNamespacesKeepRootMounts, HasNoMoreMounts, IsOutOrStays, PointsKeepRootMounts, ReplacedKeepsRootMounts, TakesNoMountsIn, TreesKeepRootMounts, UnmountKeepsRootMounts, root_mounts_in}
 use Rattle.vt_mount_laws.proofs.Groups.{mounts-regrouped}
-use Rattle.vt_mount_laws.proofs.MountsFound.{number_found}
 use Rattle.vt_mount_laws.proofs.MountsReplaced.{found_itself}
-use Rattle.vt_mount_laws.proofs.Unmounting.{going_is_detached, middle, number_after, staying_is_placed}
+use Rattle.vt_mount_laws.proofs.Unmounting.{going_is_detached, middle, staying_is_placed}
 use Rattle.vt_mount_laws.proofs.UnmountingNamespaces.{in_ended}
 use Rattle.vt_mount_laws.proofs.UnmountingPlaces.{goes_or_may}
+use Rattle.std.proofs.Math.Bool.{and-false}
+use Rattle.vt_spec.proofs.Worlds.{number-after_going, number-mount_in}
 
 -- Lists that are filtered
 module _ {A : Type 0} where
@@ -115,7 +116,7 @@ module _ (world : World ℕ) (gone : List ℕ) where
       by mount old m e (inr same) = inr (
         old,
         contains_from_among world.mounts old m,
-        ap (λ x. x.number) e ∙ number_after world gone old,
+        ap (λ x. x.number) e ∙ number-after_going world gone old,
         ap (λ x. x.namespace) e ∙ same,
       )
 
@@ -136,11 +137,7 @@ module _ (world : World ℕ) (gone : List ℕ) where
     where
       no_root : (mount : Mount ℕ) → (is_some mount.mount_point ≡ true) ⊎ (lies_in namespace mount ≡ false)
           → is_root namespace mount ≡ false
-      no_root mount (inl e) = ap (λ b. lies_in namespace mount && not b) e ∙ both (lies_in namespace mount)
-        where
-          both : (b : Bool) → (b && false) ≡ false
-          both true = refl
-          both false = refl
+      no_root mount (inl e) = ap (λ b. lies_in namespace mount && not b) e ∙ and-false (lies_in namespace mount)
       no_root mount (inr e) = ap (λ b. b && is_root_mount nat_eq mount) e
 
       placed_alike : (place : Option (Location ℕ))
@@ -172,7 +169,7 @@ unmount_keeps_roots world one each placed namespace =
     taken_keeps_roots world (going nat_eq world itself) namespace (λ mount m goes.
     inl (⊎_elim
     (λ same. ap (λ x. is_some x.mount_point) (sym (found_itself world.mounts each mount m)
-    ∙ ap (mount_in nat_eq world.mounts) (same ∙ number_found world.mounts one)) ∙ placed)
+    ∙ ap (mount_in nat_eq world.mounts) (same ∙ number-mount_in world.mounts one)) ∙ placed)
     (λ t. ap (λ x. is_some x.mount_point) (same_mount world each mount t.0 m t.1 t.3) ∙ t.4)
     (goes_or_may world itself mount.number goes)))
 

@@ -11,10 +11,10 @@ use Rattle.vt_mount_laws.specs.Mounts.Conditions.{OneNumberEach}
 use Rattle.vt_mount_laws.specs.Mounts.Ending.{ByLazyUnmount, HasNoMoreMounts, IsOutOrStays, KeepsRootMounts, LazyUnmountKeepsRootMounts, TakesNoMountsIn, root_mounts_in}
 use Rattle.vt_mount_laws.proofs.EndingCounts.{stays_in, tree_placed, unmount_has_no_more, unmount_keeps_roots, unmount_takes_none_in}
 use Rattle.vt_mount_laws.proofs.EndingOrder.{from_tree, taken_in_turn}
-use Rattle.vt_mount_laws.proofs.MountsFound.{number_found}
 use Rattle.vt_mount_laws.proofs.MountsKept.{unmount_keeps_numbers}
 use Rattle.vt_mount_laws.proofs.MountsReplaced.{found_itself}
 use Rattle.vt_mount_laws.proofs.Unmounting.{detached_by_number, kept_by_number, staying_is_placed, taken}
+use Rattle.vt_spec.proofs.Worlds.{number-mount_in}
 
 -- Each event changes nothing, or is an unmount
 event_by : (Relation : World ℕ → World ℕ → Type 0) (world : World ℕ) (mount : Mount ℕ) → Relation world world
@@ -98,7 +98,7 @@ placed_or_out_then world gone number was = by (is_going nat_eq gone number) refl
     by false e (inl placed) =
         inl (ap (λ m. is_some m.mount_point) (taken world gone number)
         ∙ ap (λ m. is_some m.mount_point)
-        (staying_is_placed world gone itself (ap (is_going nat_eq gone) (number_found world.mounts number) ∙ e))
+        (staying_is_placed world gone itself (ap (is_going nat_eq gone) (number-mount_in world.mounts number) ∙ e))
         ∙ alike itself.mount_point ∙ placed)
 
 all_keep_roots : (mounts : List (Mount ℕ)) (world : World ℕ) → OneNumberEach world
@@ -129,7 +129,7 @@ lazy_unmount_keeps_roots world one each placed =
     all_keep_roots (taken_in_turn world one) world each (λ mount m.
     inl (⊎_elim
     (λ top. ap (λ (x : Mount ℕ). is_some (mount_numbered nat_eq world x.number).mount_point) top
-    ∙ ap (λ n. is_some (mount_numbered nat_eq world n).mount_point) (number_found world.mounts one) ∙ placed)
+    ∙ ap (λ n. is_some (mount_numbered nat_eq world n).mount_point) (number-mount_in world.mounts one) ∙ placed)
     (λ t. ap (λ x. is_some x.mount_point) (found_itself world.mounts each mount t.0) ∙ t.1)
     (tree_placed (length world.mounts) world.mounts (mount_numbered nat_eq world one) mount
     (from_tree world one mount m))))

@@ -10,11 +10,12 @@ use Rattle.vt_spec.specs.Machine.World.{World, mount_numbered}
 use Rattle.vt_mount_laws.specs.Mounts.Attaching.{numbers_of}
 use Rattle.vt_mount_laws.specs.Mounts.Conditions.{OneNumberEach}
 use Rattle.vt_mount_laws.specs.Mounts.Standing.{AllStand}
-use Rattle.vt_mount_laws.proofs.MountsFound.{number_found, placed_among}
+use Rattle.vt_mount_laws.proofs.MountsFound.{placed_among}
 use Rattle.vt_mount_laws.proofs.MountsReplaced.{found_itself, tree_among}
 use Rattle.vt_mount_laws.proofs.Standing.{LiesIn, lies_in_tree, standing_is_computed}
 use Rattle.vt_mount_laws.proofs.Standing.LiesIn.{itself, under}
 use Rattle.vt_mount_laws.proofs.UnmountingTrees.{trees_closed}
+use Rattle.vt_spec.proofs.Worlds.{number-mount_in}
 
 module _ (world : World ℕ) where
   -- the list begins with its deepest, and so does what follows
@@ -127,7 +128,7 @@ module _ (world : World ℕ) where
     -- each of them lies in the tree
     pub lies_in_it : (number : ℕ) (x : Mount ℕ) → Among x (taken_in_turn number) → LiesIn world number x.number
     lies_in_it number x m =
-        subst (λ k. LiesIn world k x.number) (number_found world.mounts number)
+        subst (λ k. LiesIn world k x.number) (number-mount_in world.mounts number)
         (lies_in_tree world one all (length world.mounts) (mount_numbered nat_eq world number) x
         (from_tree number x m))
 
@@ -137,7 +138,7 @@ module _ (world : World ℕ) where
         ⊎_elim
         (λ top.
         ap (λ y. mount_numbered nat_eq world y.number) top
-        ∙ ap (mount_in nat_eq world.mounts) (number_found world.mounts number) ∙ sym top)
+        ∙ ap (mount_in nat_eq world.mounts) (number-mount_in world.mounts number) ∙ sym top)
         (λ there. found_itself world.mounts one x there)
         (tree_among (length world.mounts) world.mounts (mount_numbered nat_eq world number) x (from_tree number x m))
 
@@ -155,12 +156,12 @@ module _ (world : World ℕ) where
     lies_under number x (itself it) =
         let top = mount_numbered nat_eq world it in
         is_among_numbers (numbers_under it) it
-        (subst (λ k. Among k (numbers_under it)) (number_found world.mounts it)
+        (subst (λ k. Among k (numbers_under it)) (number-mount_in world.mounts it)
         (among-map (λ (mount : Mount ℕ). mount.number) (flat_map (mount_tree nat_eq world.mounts) (top ∷ [])) top
         (among-flat_map (mount_tree nat_eq world.mounts) (top ∷ []) top top (inl refl)
         (top_in_tree (length world.mounts) top))))
     lies_under number x (under top it place e way) =
-        subst (λ k. is_going nat_eq (numbers_under top) k ≡ true) (number_found world.mounts it)
+        subst (λ k. is_going nat_eq (numbers_under top) k ≡ true) (number-mount_in world.mounts it)
         (trees_closed world one ((standing_is_computed world one).0 all) (mount_numbered nat_eq world top ∷ [])
         (mount_numbered nat_eq world it) place (placed_among world.mounts it place e) e
         (lies_under top place.mount way))

@@ -11,10 +11,11 @@ use Rattle.vt_mount_laws.specs.Mounts.Conditions.{OneNumberEach}
 use Rattle.vt_mount_laws.specs.Mounts.Standing.{AllStand}
 use Rattle.vt_mount_laws.specs.Mounts.Unmounting.{FallsTo}
 use Rattle.vt_mount_laws.specs.Mounts.Unmounting.FallsTo.{falls, rests}
-use Rattle.vt_mount_laws.proofs.MountsFound.{number_found, placed_among}
+use Rattle.vt_mount_laws.proofs.MountsFound.{placed_among}
 use Rattle.vt_mount_laws.proofs.Standing.{stand, standing_is_computed}
 use Rattle.vt_mount_laws.proofs.Unmounting.{detached_by_number, kept_by_number, place_fallen, root_stays}
 use Rattle.vt_mount_laws.proofs.UnmountingTrees.{AreClosed}
+use Rattle.vt_spec.proofs.Worlds.{number-mount_in}
 
 module _ (world : World ℕ) (gone : List ℕ) where
   abbrev later : World ℕ
@@ -121,5 +122,5 @@ module _ (world : World ℕ) (gone : List ℕ) where
       by : (b : Bool) → is_going nat_eq gone place.mount ≡ b → (rest : Location ℕ) × FallsTo world gone place rest
       by true goes =
           absurd (true≢false (sym (closed (before_it number) place (placed_among world.mounts number place e) e goes)
-          ∙ ap (is_going nat_eq gone) (number_found world.mounts number) ∙ stays))
+          ∙ ap (is_going nat_eq gone) (number-mount_in world.mounts number) ∙ stays))
       by false rest = (place, rests place rest)

@@ -7,17 +7,8 @@ use Rattle.vt_spec.specs.Machine.Mounts.{Mount, Propagation, group_of, source_of
 use Rattle.vt_spec.specs.Machine.Mounts.Propagation.{Private, Shared, Slave, Unbindable}
 use Rattle.vt_spec.specs.Machine.Receives.{has_members, heir, inherited, inheriting, is_lost_group, is_member_of, lost_a_group, regrouped, regrouped_by, slave_of_heir}
 use Rattle.vt_spec.specs.Machine.World.{World}
-use Rattle.vt_spec.proofs.Lists.{chain_ends, chain_goes_on, map_same, none_among}
-
--- a chain whose start passes gives its start
-pub find_start : (p : ℕ → Bool) (next : ℕ → Option ℕ) (n a : ℕ) → p a ≡ true → find p (chain n next a) ≡ Some a
-find_start p next zero a e = ap (λ b. cond b (Some a) None) e
-find_start p next (suc n) a e = by (next a) refl
-  where
-    by : (found : Option ℕ) → next a ≡ found → find p (chain (suc n) next a) ≡ Some a
-    by None f = ap (find p) (chain_ends next n a f) ∙ ap (λ b. cond b (Some a) None) e
-    by (Some above) f = ap (find p) (chain_goes_on next n a above f)
-        ∙ ap (λ b. cond b (Some a) (find p (chain n next above))) e
+use Rattle.vt_spec.proofs.Lists.{chain_ends, map_same, none_among}
+use Rattle.vt_spec.proofs.Found.{find-chain_start}
 
 no_group_of_heir : (found : Option ℕ) → group_of (slave_of_heir found) ≡ None
 no_group_of_heir None = refl
@@ -43,7 +34,7 @@ module _ (world : World ℕ) where
   pub inherited_kept : (above : ℕ) → has_members nat_eq world.mounts above ≡ true
       → inherited nat_eq world (Slave above) ≡ Slave above
   inherited_kept above e = ap slave_of_heir
-      (find_start (has_members nat_eq world.mounts) world.master (length world.mounts) above e)
+      (find-chain_start (has_members nat_eq world.mounts) world.master (length world.mounts) above e)
 
   pub nothing_lost : (mount : Mount ℕ) → lost_a_group nat_eq world mount ≡ false → inheriting nat_eq world mount ≡ mount
   nothing_lost mount e = by mount.propagation refl (or_parts _ _ e).0
@@ -86,7 +77,7 @@ module _ (world : World ℕ) where
     where
       by : (b : Bool) → (regrouped_by nat_eq b world).master group ≡ Some above
       by true = ap (heir nat_eq world) e
-          ∙ find_start (has_members nat_eq world.mounts) world.master (length world.mounts) above f
+          ∙ find-chain_start (has_members nat_eq world.mounts) world.master (length world.mounts) above f
       by false = e
 
 -- a group without members and without a master has no heir

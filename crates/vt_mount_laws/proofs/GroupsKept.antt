@@ -22,9 +22,9 @@ use Rattle.vt_spec.specs.Machine.Settled.{is_located, mount_lives, settled}
 use Rattle.vt_spec.specs.Machine.Invariants.{Lives, is_nowhere_or_attached, is_private}
 use Rattle.vt_mount_laws.proofs.Groups.{members-inherited}
 use Rattle.std.proofs.lemmas.Bool.{not-false, or_parts}
-use Rattle.vt_mount_laws.proofs.MountsFound.{number_found}
 use Rattle.std.proofs.lemmas.Option.{same_Some}
 use Rattle.vt_spec.specs.Machine.Outcome.Mounting.{with_flags}
+use Rattle.vt_spec.proofs.Worlds.{number-mount_in}
 
 -- what is found passes, and is there
 pub found_passes : (p : ℕ → Bool) (xs : List ℕ) (x : ℕ) → find p xs ≡ Some x
@@ -319,7 +319,7 @@ flags_keep_groups world at flags one_each live =
     same_type old m true e =
         ap (λ x. x.propagation) (replaced_there (record (mount_at nat_eq world at) { flags = flags }) old e)
         ∙ ap (λ x. x.propagation)
-        (ap (mount_in nat_eq world.mounts) (sym (number_found world.mounts at.mount) ∙ eqb-true _ _ e)
+        (ap (mount_in nat_eq world.mounts) (sym (number-mount_in world.mounts at.mount) ∙ eqb-true _ _ e)
         ∙ found_itself world.mounts one_each old m)
     same_type old m false e = ap (λ x. x.propagation)
         (replaced_elsewhere (record (mount_at nat_eq world at) { flags = flags }) old e)

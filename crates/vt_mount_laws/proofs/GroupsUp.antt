@@ -14,6 +14,7 @@ use Rattle.vt_spec.specs.Machine.Invariants.{Lives, has_living_groups, masters_e
 use Rattle.vt_spec.specs.Machine.Invariants.Lives.{has_master, has_no_master}
 use Rattle.std.specs.Prelude.{option_to_list}
 use Rattle.std.proofs.lemmas.Option.{same_Some}
+use Rattle.vt_spec.proofs.Options.{none_from_not_some}
 
 -- a group that comes up the masters of another
 pub data Up (master : ℕ → Option ℕ) : ℕ → ℕ → Type 0 where
@@ -25,10 +26,6 @@ pub data EndsUp (master : ℕ → Option ℕ) : ℕ → Type 0 where
   at_top : (group : ℕ) → master group ≡ None → EndsUp master group
   goes_up : (group next : ℕ) → master group ≡ Some next → EndsUp master next → EndsUp master group
 
-none_there : {A : Type 0} (found : Option A) → is_some found ≡ false → found ≡ None
-none_there None e = refl
-none_there (Some a) e = absurd (true≢false e)
-
 module _ (master : ℕ → Option ℕ) where
   snoc : (group lower next : ℕ) → Up master group lower → master lower ≡ Some next → Up master group next
   snoc group lower next (here it) e = above it next next e (here next)
@@ -39,7 +36,7 @@ module _ (master : ℕ → Option ℕ) where
       along_chain master (Up master source) (λ g lower e way. snoc source lower g way e) n source group (here source) h
 
   ends_up : (n group : ℕ) → is_some (master (last_or group (chain n master group))) ≡ false → EndsUp master group
-  ends_up zero group e = at_top group (none_there (master group) e)
+  ends_up zero group e = at_top group (none_from_not_some (master group) e)
   ends_up (suc n) group e = by (master group) refl (ends_up n)
     where
       by : (found : Option ℕ) → master group ≡ found
@@ -56,7 +53,7 @@ module _ (master : ℕ → Option ℕ) where
     pub lives_by_chain : (n group : ℕ) → list_all members (chain n master group) ≡ true
         → is_some (master (last_or group (chain n master group))) ≡ false → Lives members master group
     lives_by_chain zero group all e =
-        has_no_master group (and_parts (members group) true all).0 (none_there (master group) e)
+        has_no_master group (and_parts (members group) true all).0 (none_from_not_some (master group) e)
     lives_by_chain (suc n) group all e = by (master group) refl (lives_by_chain n)
       where
         by : (found : Option ℕ) → master group ≡ found

@@ -15,10 +15,10 @@ use Rattle.std.specs.Prelude.{if◌then◌else◌}
 use Rattle.vt_spec.specs.Machine.Receives.{inheriting}
 use Rattle.vt_spec.specs.Machine.Settled.{mount_lives}
 use Rattle.vt_mount_laws.proofs.Groups.{mounts-regrouped}
-use Rattle.vt_mount_laws.proofs.MountsFound.{number_found}
 use Rattle.vt_spec.specs.Machine.Types.{named_mounts}
 use Rattle.vt_spec.specs.Machine.Invariants.{share_a_mount_point, is_nowhere_or_attached}
 use Rattle.vt_spec.specs.Machine.Namespaces.{copied_mount}
+use Rattle.vt_spec.proofs.Worlds.{number-mount_in}
 
 -- places that stay the same stay apart
 places_same : (f : Mount ℕ → Mount ℕ) (mounts : List (Mount ℕ))
@@ -53,7 +53,7 @@ flags_keep_apart world here flags both =
       by_place = places_same (replaced_if_same nat_eq new) world.mounts
           (replaced_same_place world.mounts both.by_number new
           (ap (λ n. (mount_in nat_eq world.mounts n).mount_point)
-          (number_found world.mounts here.mount))) both.by_place;
+          (number-mount_in world.mounts here.mount))) both.by_place;
     }
 
 pub types_keep_apart : KeptByType AreApart
@@ -136,7 +136,7 @@ flags_keep_nowhere world here flags one e =
         ≡ true
     by old m true f =
         let same : mount_at nat_eq world here ≡ old =
-        ap (mount_in nat_eq world.mounts) (sym (number_found world.mounts here.mount) ∙ eqb-true _ _ f)
+        ap (mount_in nat_eq world.mounts) (sym (number-mount_in world.mounts here.mount) ∙ eqb-true _ _ f)
         ∙ found_itself world.mounts one old m in
         ap is_nowhere_or_attached (replaced_there (record (mount_at nat_eq world here) { flags = flags }) old f)
         ∙ ap is_nowhere_or_attached same ∙ among_from_list_all is_nowhere_or_attached world.mounts e old m

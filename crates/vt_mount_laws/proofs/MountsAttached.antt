@@ -10,9 +10,11 @@ use Rattle.vt_spec.specs.Lists.{folded, rest_of, Fresh, is_among}
 use Rattle.std.specs.Prelude.{if◌then◌else◌}
 use Rattle.std.proofs.lemmas.Bool.{or_parts}
 use Rattle.vt_spec.proofs.Lists.{Among, among-from_map, among-map, none_among}
-use Rattle.vt_mount_laws.proofs.MountsReplaced.{apart, found-append, found-with_mount_other, numbers-with_mount, found_itself, related-with_mount, tree_among}
-use Rattle.vt_mount_laws.proofs.MountsFound.{found-map, numbers-map, number_found}
+use Rattle.vt_mount_laws.proofs.MountsReplaced.{found-append, found-with_mount_other, numbers-with_mount, found_itself, related-with_mount, tree_among}
+use Rattle.vt_mount_laws.proofs.MountsFound.{found-map, numbers-map}
 use Rattle.vt_spec.specs.Machine.Outcome.Mounting.{moved_tree}
+use Rattle.vt_spec.proofs.Truths.{nat_eq_false_turned}
+use Rattle.vt_spec.proofs.Worlds.{number-mount_in}
 
 -- a test that no element passes finds none
 none_found : {A : Type 0} (test : A → Bool) (xs : List A) → list_any test xs ≡ false → find test xs ≡ None
@@ -158,7 +160,7 @@ module _ (world : World ℕ) (new : Copies ℕ) (place : Location ℕ) (mounts :
   pub keeps_number : (origin : ℕ) → copy_number nat_eq new move (mount_at nat_eq world place).number origin ≡ origin
   keeps_number origin =
       ap (λ b. if b then origin else new.copy (mount_at nat_eq world place).number origin)
-      (eq-eqb (mount_at nat_eq world place).number place.mount (number_found world.mounts place.mount))
+      (eq-eqb (mount_at nat_eq world place).number place.mount (number-mount_in world.mounts place.mount))
 
   -- each mount that arrives is one that moves, with all that it shows
   pub arrives : (copy : Mount ℕ) → Among copy (arriving world new place true mounts)
@@ -185,7 +187,7 @@ module _ (world : World ℕ) (new : Copies ℕ) (place : Location ℕ) (mounts :
   stays_put number other =
       found-folded_other world.mounts (arriving world new place true mounts) number (λ copy m.
       let from = arrives copy m in
-      apart number copy.number
+      nat_eq_false_turned number copy.number
       (ap (nat_eq number) from.2.number
       ∙ none_among (nat_eq number) (numbers_of mounts) other from.0.number
       (among-map (λ (mount : Mount ℕ). mount.number) mounts from.0 from.1)))
@@ -266,5 +268,5 @@ moved_mounts_show world fresh source place number one there =
         → mount_in nat_eq world.mounts origin.number ≡ origin
     itself origin (inl e) =
         ap (λ m. mount_in nat_eq world.mounts m.number) e
-        ∙ ap (mount_in nat_eq world.mounts) (number_found world.mounts source.mount) ∙ sym e
+        ∙ ap (mount_in nat_eq world.mounts) (number-mount_in world.mounts source.mount) ∙ sym e
     itself origin (inr m) = found_itself world.mounts one origin m

@@ -6,7 +6,7 @@ use Rattle.vt_mount_laws.specs.Mounts.Conditions.{FlagsKeepPlacesEnding, Inherit
 use Rattle.vt_mount_laws.specs.Mounts.Unmounting.{PlacesEnd}
 use Rattle.vt_spec.specs.Machine.World.{World, mount_at, mount_numbered}
 use Rattle.vt_spec.specs.Lists.{chain, is_among, last_or, same_option}
-use Rattle.vt_mount_laws.proofs.MountsFound.{found-map, found_there, numbers-map, number_found}
+use Rattle.vt_mount_laws.proofs.MountsFound.{found-map, found_there, numbers-map}
 use Rattle.vt_mount_laws.proofs.MountsReplaced.{found_itself, numbers-with_mount, one_number_by_numbers, related-with_mount}
 use Rattle.vt_spec.specs.Machine.Receives.{inheriting, regrouped}
 use Rattle.vt_spec.specs.Machine.Invariants.{last_parent, stands_in_its_namespace}
@@ -16,6 +16,7 @@ use Rattle.vt_mount_laws.specs.Mounts.Attaching.{numbers_of}
 use Rattle.vt_mount_laws.proofs.MountsRetyped.{numbers_with_type, type_is_all_that_changes}
 use Rattle.vt_spec.specs.Machine.Outcome.Mounting.{with_flags}
 use Rattle.vt_spec.specs.Machine.Types.{with_type}
+use Rattle.vt_spec.proofs.Worlds.{number-mount_in}
 
 -- a mount with the place and the namespace of another
 pub record StandsAlike (before later : Mount ℕ) : Type 0 where
@@ -95,7 +96,7 @@ flags_keep_places_ending world here flags one ends =
     let new = record (mount_at nat_eq world here) { flags = flags } in
     places_end_alike world (with_flags nat_eq world here flags)
     (related-with_mount StandsAlike (λ mount. record { mount_point = refl; namespace = refl }) world.mounts new
-    (subst (λ m. StandsAlike m new) (sym (ap (mount_in nat_eq world.mounts) (number_found world.mounts here.mount)))
+    (subst (λ m. StandsAlike m new) (sym (ap (mount_in nat_eq world.mounts) (number-mount_in world.mounts here.mount)))
     (record { mount_point = refl; namespace = refl })))
     one (numbers-with_mount new world.mounts) ends
 

@@ -1,11 +1,12 @@
 -- Mounts found by their numbers.
-use Rattle.std.proofs.Common.{◌≡◌, refl, sym, ap, subst, ◌∙◌, ◌⊎◌, inl, inr, ⊎_elim, ℕ, nat_eq, eqb-true, Bool, true, false, cond, List, [], ◌∷◌, map, true≢false, None, Some, find, is_some, ◌||◌}
+use Rattle.std.proofs.Common.{◌≡◌, refl, sym, ap, subst, ◌∙◌, ◌⊎◌, inl, inr, ⊎_elim, ℕ, nat_eq, Bool, true, false, cond, List, [], ◌∷◌, map, true≢false, None, Some, find, is_some, ◌||◌}
 use Rattle.std.specs.Prelude.{unwrap_or}
 use Rattle.std.proofs.lemmas.Option.{same_Some}
 use Rattle.vt_spec.specs.Machine.Mounts.{Location, Mount, mount_in, no_mount}
 use Rattle.vt_spec.specs.Lists.{is_among}
 use Rattle.vt_spec.proofs.Lists.{Among}
 use Rattle.vt_mount_laws.specs.Mounts.Attaching.{numbers_of}
+pub use Rattle.vt_spec.proofs.Worlds.{number-mount_in as number_found}
 
 abbrev has_number : ℕ → Mount ℕ → Bool
 has_number number mount = nat_eq number mount.number
@@ -84,19 +85,6 @@ unfound test (first ∷ rest) e mount m = by (test first) refl (unfound test res
     by false f later =
         ⊎_elim (λ same. ap test same ∙ f)
         (λ l. later (sym (ap (λ c. cond c (Some first) (find test rest)) f) ∙ e) mount l) m
-
--- what is found has the number
-pub number_found : (mounts : List (Mount ℕ)) (number : ℕ) → (mount_in nat_eq mounts number).number ≡ number
-number_found [] number = refl
-number_found (first ∷ rest) number = by (nat_eq number first.number) refl (number_found rest number)
-  where
-    by : (b : Bool) → nat_eq number first.number ≡ b → (mount_in nat_eq rest number).number ≡ number
-        → (mount_in nat_eq (first ∷ rest) number).number ≡ number
-    by true e later =
-        ap (λ b. (unwrap_or (cond b (Some first) (find (has_number number) rest)) (no_mount number)).number) e
-        ∙ sym (eqb-true number first.number e)
-    by false e later =
-        ap (λ b. (unwrap_or (cond b (Some first) (find (has_number number) rest)) (no_mount number)).number) e ∙ later
 
 -- a change of each mount that keeps the numbers is found under them
 pub found-map : (f : Mount ℕ → Mount ℕ) → ((mount : Mount ℕ) → (f mount).number ≡ mount.number)

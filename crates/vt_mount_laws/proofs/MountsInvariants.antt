@@ -19,13 +19,14 @@ use Rattle.vt_mount_laws.proofs.GroupsRetyped.{type_keeps_groups}
 use Rattle.vt_mount_laws.proofs.MountsApart.{flags_keep_apart, flags_keep_nowhere, types_keep_apart}
 use Rattle.vt_mount_laws.proofs.MountsCounted.{as_many}
 use Rattle.vt_mount_laws.proofs.MountsEnding.{flags_keep_places_ending, type_keeps_places_ending}
-use Rattle.vt_mount_laws.proofs.MountsFound.{number_found, placed_among}
+use Rattle.vt_mount_laws.proofs.MountsFound.{placed_among}
 use Rattle.vt_mount_laws.proofs.MountsKept.{flags_keep_numbers, inheritance_keeps_nowhere, types_keep_numbers}
 use Rattle.vt_mount_laws.proofs.MountsReplaced.{found_itself, replaced_elsewhere, replaced_there}
 use Rattle.vt_mount_laws.proofs.MountsRetyped.{between, groups_by, retype, retype_keeps, retyped_if}
 use Rattle.vt_mount_laws.proofs.Standing.{LiesIn, lies_in_tree, standing_is_computed}
 use Rattle.vt_mount_laws.proofs.Standing.LiesIn.{itself, under}
 use Rattle.vt_mount_laws.proofs.Unsharing.{placed_inside}
+use Rattle.vt_spec.proofs.Worlds.{number-mount_in}
 
 module _ (world : World ℕ) (mounts : MountInvariants nat_eq world) where
   -- what lies in the tree of a mount of a namespace is in one
@@ -48,14 +49,14 @@ module _ (world : World ℕ) (mounts : MountInvariants nat_eq world) where
       ⊎_elim
       (λ same.
       ap (λ (x : Mount ℕ). is_some (mount_numbered nat_eq world x.number).namespace) same
-      ∙ ap (λ n. is_some (mount_numbered nat_eq world n).namespace) (number_found world.mounts number) ∙ h)
+      ∙ ap (λ n. is_some (mount_numbered nat_eq world n).namespace) (number-mount_in world.mounts number) ∙ h)
       (λ none. absurd none)
       m
   named_inside number true h other m =
       let top = mount_numbered nat_eq world number in
       inside top.number other.number
       (lies_in_tree world mounts.one_number mounts.standing _ top other m)
-      (ap (λ n. is_some (mount_numbered nat_eq world n).namespace) (number_found world.mounts number) ∙ h)
+      (ap (λ n. is_some (mount_numbered nat_eq world n).namespace) (number-mount_in world.mounts number) ∙ h)
 
   type_keeps_nowhere : (fresh : Fresh ℕ) (number : ℕ) (word : _) (recursive : Bool)
       → is_some (mount_numbered nat_eq world number).namespace ≡ true
@@ -145,7 +146,7 @@ module _ (world : World ℕ) (here : Location ℕ) (flags : MountFlags) (one : O
           × ((replaced_if_same nat_eq new mount).mount_point ≡ mount.mount_point)
       by true f =
           let same : mount_at nat_eq world here ≡ mount =
-          ap (mount_in nat_eq world.mounts) (sym (number_found world.mounts here.mount) ∙ eqb-true _ _ f)
+          ap (mount_in nat_eq world.mounts) (sym (number-mount_in world.mounts here.mount) ∙ eqb-true _ _ f)
           ∙ found_itself world.mounts one mount m in (
             ap (λ x. x.namespace) (replaced_there new mount f) ∙ ap (λ x. x.namespace) same,
             ap (λ x. x.mount_point) (replaced_there new mount f) ∙ ap (λ x. x.mount_point) same,

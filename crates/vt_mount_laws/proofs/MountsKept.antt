@@ -20,6 +20,7 @@ use Rattle.vt_mount_laws.proofs.MountsFound.{numbers-map}
 use Rattle.vt_mount_laws.specs.Mounts.Attaching.{numbers_of}
 use Rattle.vt_mount_laws.proofs.MountsRetyped.{numbers_with_type}
 use Rattle.vt_spec.specs.Machine.Types.{with_type}
+use Rattle.vt_spec.proofs.Worlds.{number-pivoted_mount}
 
 -- Numbers
 numbers_regrouped : (world : World ℕ) → numbers_of (regrouped nat_eq world).mounts ≡ numbers_of world.mounts
@@ -52,21 +53,10 @@ flags_keep_numbers world here flags e =
     one_number_by_numbers world.mounts (with_flags nat_eq world here flags).mounts
     (numbers-with_mount (record (mount_at nat_eq world here) { flags = flags }) world.mounts) e
 
-pub pivot_number : (root new : Mount ℕ) (put : Location ℕ) (mount : Mount ℕ)
-    → (pivoted_mount nat_eq root new put mount).number ≡ mount.number
-pivot_number root new put mount = by (nat_eq mount.number new.number) (nat_eq mount.number root.number)
-  where
-    by : (a b : Bool)
-        → (if a then (record mount { mount_point = root.mount_point }) else if b then
-        (record mount { mount_point = Some put }) else mount).number ≡ mount.number
-    by true b = refl
-    by false true = refl
-    by false false = refl
-
 pub pivot_keeps_numbers : KeptByPivot OneNumberEach
 pivot_keeps_numbers world namespace root new put e =
     one_number_by_numbers world.mounts (pivoted nat_eq world namespace root new put).mounts
-    (numbers-map (pivoted_mount nat_eq root new put) (pivot_number root new put) world.mounts) e
+    (numbers-map (pivoted_mount nat_eq root new put) (number-pivoted_mount root new put) world.mounts) e
 
 pub settling_keeps_numbers : KeptBySettling OneNumberEach
 settling_keeps_numbers world e =

@@ -4,14 +4,13 @@ use Rattle.std.specs.List.{list_any}
 use Rattle.vt_spec.specs.Machine.Mounts.{Mount, Location, group_of, numbers_by, index_of}
 use Rattle.vt_spec.proofs.Lists.{Among, among-append, among-append_left, among-flat_map, among-from_filter, among-from_flat_map, among-from_map, any_among, is_among_numbers, none_among, none_from_among, among-map, pair-filter, pair-map}
 use Rattle.vt_mount_laws.proofs.GroupsKept.{member_shared}
-use Rattle.vt_mount_laws.proofs.MountsFound.{number_found}
 use Rattle.vt_spec.specs.Lists.{Fresh, any_pair, evens, holds_of, odds, place_from}
 use Rattle.vt_spec.specs.Machine.Attach.{Copies, Graft, Twig, attached_by, copies_at, copies_from, copy_at, graft_of, index_of_group, is_destination, numbered, parts_of, reaches, receivers_of, takes_part, twig_of}
 use Rattle.vt_spec.specs.Machine.Receives.{has_members, is_member_of, receivers, receives}
 use Rattle.vt_spec.specs.Machine.Run.{Serves, numbers_in_use, used_by_filesystem, used_by_mount}
 use Rattle.vt_spec.specs.Machine.World.{World, Namespace, mount_at, mounts_of}
-use Rattle.vt_mount_laws.proofs.MountsReplaced.{apart, pair_by_numbers}
-use Rattle.std.proofs.lemmas.Bool.{and_parts, false_from_ne_true, or_from, or_parts}
+use Rattle.vt_mount_laws.proofs.MountsReplaced.{pair_by_numbers}
+use Rattle.std.proofs.lemmas.Bool.{and_parts, false_from_ne_true, or_from, or_parts, not-true}
 use Rattle.std.proofs.lemmas.Nat.{div-mul-add}
 use Rattle.std.specs.Prelude.{if◌then◌else◌, slice_get, ◌*◌}
 use Rattle.vt_mount_laws.specs.Mounts.Attaching.{OneNumberAMount, numbers_of}
@@ -20,6 +19,8 @@ use Rattle.vt_mount_laws.specs.Mounts.Copies.{CopiesKeepNumbers, IsOneOf, ServeA
 use Rattle.vt_spec.specs.Machine.Namespaces.{copied_mount}
 use Rattle.vt_mount_laws.proofs.MountsAttached.{numbers_attached, others}
 use Rattle.std.proofs.lemmas.Option.{same_Some, slice_get_within}
+use Rattle.vt_spec.proofs.Truths.{nat_eq_false_turned as apart}
+use Rattle.vt_spec.proofs.Worlds.{number-mount_in}
 
 -- lists that are apart, and apart from one another
 pub pair-append : {A : Type 0} (test : A → A → Bool) (xs ys : List A) → any_pair test xs ≡ false
@@ -248,21 +249,17 @@ module _ (world : World ℕ) (place : Location ℕ) where
       let elsewhere = not (nat_eq place.mount mount.number) in
       let attached = is_some mount.namespace in
       let alike = nat_eq (mount_at nat_eq world place).filesystem mount.filesystem in
-      by (nat_eq place.mount mount.number)
+      not-true (nat_eq place.mount mount.number)
       (and_parts elsewhere attached
       (and_parts (elsewhere && attached) alike
       (and_parts (elsewhere && attached && alike) (reaches nat_eq world place.node mount) h).0).0).0
-    where
-      by : (b : Bool) → not b ≡ true → b ≡ false
-      by true e = absurd (true≢false (sym e))
-      by false e = refl
 
   pub parts_apart : OneNumberAMount world.mounts → any_pair same_number (parts_of nat_eq world place) ≡ false
   parts_apart one =
       let takers = filter (takes_part nat_eq world place) (receivers_of nat_eq world (mount_at nat_eq world place)) in
       or_from (list_any (same_number (mount_at nat_eq world place)) takers) (any_pair same_number takers)
       (none_from_among (same_number (mount_at nat_eq world place)) takers (λ mount m.
-      ap (λ n. nat_eq n mount.number) (number_found world.mounts place.mount)
+      ap (λ n. nat_eq n mount.number) (number-mount_in world.mounts place.mount)
       ∙ taker_elsewhere mount
       (among-from_filter (takes_part nat_eq world place) (receivers_of nat_eq world (mount_at nat_eq world place))
       mount m).1))

@@ -1,26 +1,19 @@
 -- Where mounts stand.
-use Rattle.std.proofs.Common.{◌≡◌, refl, sym, ap, ◌∙◌, ⊎_elim, ℕ, nat_eq, eqb-true, eq-eqb, Bool, true, false, true≢false, cond, ◌&&◌, List, [], ◌∷◌, Option, Some, None, is_some, find}
+use Rattle.std.proofs.Common.{◌≡◌, refl, sym, ap, ◌∙◌, ⊎_elim, ℕ, nat_eq, eq-eqb, Bool, true, false, true≢false, cond, ◌&&◌, List, [], ◌∷◌, Option, Some, None, is_some, find}
 use Rattle.std.specs.List.{list_any}
-use Rattle.std.proofs.lemmas.Bool.{and_parts, and_from, or_parts}
+use Rattle.std.proofs.lemmas.Bool.{and_from, or_parts}
 use Rattle.std.proofs.lemmas.Option.{same_Some}
 use Rattle.vt_spec.specs.Lists.{any_pair, holds_of, same_option}
 use Rattle.vt_spec.specs.Machine.Mounts.{Location, Mount, child_at, same_location, stands_at}
 use Rattle.vt_spec.specs.Machine.Invariants.{share_a_mount_point}
 use Rattle.vt_mount_laws.specs.Mounts.Places.{OneMountAPlace, StandsAloneAtItsPlace}
 use Rattle.vt_spec.proofs.Lists.{Among, all_from_among, none_among}
+use Rattle.vt_spec.proofs.Worlds.{same_location_is}
 
 pub same_location_itself : (place : Location ℕ) → same_location nat_eq place place ≡ true
 same_location_itself place =
     and_from (nat_eq place.mount place.mount) (nat_eq place.node place.node) (eq-eqb place.mount place.mount refl)
     (eq-eqb place.node place.node refl)
-
-pub same_location_is : (a b : Location ℕ) → same_location nat_eq a b ≡ true → a ≡ b
-same_location_is a b h =
-    let parts : (nat_eq a.mount b.mount ≡ true) × (nat_eq a.node b.node ≡ true) =
-    and_parts (nat_eq a.mount b.mount) (nat_eq a.node b.node) h in
-    let mounts : a.mount ≡ b.mount = eqb-true a.mount b.mount parts.0 in
-    let nodes : a.node ≡ b.node = eqb-true a.node b.node parts.1 in
-    λ i. record { mount = mounts i; node = nodes i }
 
 -- a mount that stands at a place has it
 pub stands_there : (place : Location ℕ) (mount : Mount ℕ) → stands_at nat_eq place mount ≡ true → mount.mount_point ≡ Some place

@@ -1,18 +1,15 @@
 -- A mount in the place of the one with its number.
 use Rattle.std.proofs.Common.{zero, ◌≡◌, refl, sym, ap, ◌∙◌, Bool, List, Some, [], cond, eq-eqb, eqb-true, find, nat_eq, subst, true≢false, unwrap_or, ℕ, ⊎_elim, ◌++◌, ◌||◌, ◌∷◌, false, true, inl, inr, ◌⊎◌, suc}
 use Rattle.vt_spec.specs.Machine.Mounts.{Mount, mount_in, no_mount, replaced_if_same, with_mount, children, stands_on, tree_from}
-use Rattle.std.proofs.lemmas.Bool.Decides.{eqb_tells}
-use Rattle.vt_mount_laws.proofs.MountsFound.{found-map, number_found, numbers-map}
+use Rattle.vt_mount_laws.proofs.MountsFound.{found-map, numbers-map}
 use Rattle.std.specs.Prelude.{if◌then◌else◌}
 use Rattle.vt_spec.specs.Lists.{is_among, any_pair}
 use Rattle.vt_mount_laws.specs.Mounts.Attaching.{numbers_of, OneNumberAMount}
 use Rattle.std.proofs.lemmas.Bool.{or_parts}
 use Rattle.vt_spec.proofs.Lists.{Among, among-from_filter, among-from_flat_map, none_among}
 use Rattle.std.specs.List.{list_any}
-
--- numbers that are told apart either way
-pub apart : (a b : ℕ) → nat_eq a b ≡ false → nat_eq b a ≡ false
-apart a b e = ⊎_elim (λ t. absurd (true≢false (sym (eq-eqb a b (sym t.1)) ∙ e))) (λ t. t.0) (eqb_tells b a)
+use Rattle.vt_spec.proofs.Truths.{nat_eq_false_turned}
+use Rattle.vt_spec.proofs.Worlds.{number-mount_in}
 
 module _ (new : Mount ℕ) where
   pub replaced_there : (old : Mount ℕ) → nat_eq new.number old.number ≡ true → replaced_if_same nat_eq new old ≡ new
@@ -34,7 +31,7 @@ module _ (new : Mount ℕ) where
       → mount_in nat_eq (with_mount nat_eq mounts new) number ≡ mount_in nat_eq mounts number
   found-with_mount_other mounts number e =
       found-map (replaced_if_same nat_eq new) number_replaced mounts number (replaced_elsewhere (no_mount number) e)
-      ∙ replaced_elsewhere (mount_in nat_eq mounts number) (ap (nat_eq new.number) (number_found mounts number) ∙ e)
+      ∙ replaced_elsewhere (mount_in nat_eq mounts number) (ap (nat_eq new.number) (number-mount_in mounts number) ∙ e)
 
   pub numbers-with_mount : (mounts : List (Mount ℕ)) → numbers_of (with_mount nat_eq mounts new) ≡ numbers_of mounts
   numbers-with_mount mounts = numbers-map (replaced_if_same nat_eq new) number_replaced mounts
@@ -139,7 +136,7 @@ found_itself (first ∷ rest) one mount m =
     (λ later.
     ap (λ b. unwrap_or (cond b (Some first) (find (λ other. nat_eq mount.number other.number) rest))
     (no_mount mount.number))
-    (apart first.number mount.number
+    (nat_eq_false_turned first.number mount.number
     (none_among (λ (other : Mount ℕ). nat_eq first.number other.number) rest parts.0 mount later))
     ∙ found_itself rest parts.1 mount later)
     m

@@ -8,7 +8,7 @@ use Rattle.vt_mount_laws.specs.Mounts.Unmounting.{KeepsAllButMounts, has_its_mas
 use Rattle.vt_spec.specs.Machine.Mounts.{Mount, Propagation, mount_in, numbers_by, with_mount}
 use Rattle.vt_spec.specs.Language.Calls.{TypeWord}
 use Rattle.vt_spec.specs.Machine.World.{World, mount_numbered, mount_at}
-use Rattle.vt_mount_laws.proofs.MountsFound.{found-map, found-map_there, number_found, numbers-map}
+use Rattle.vt_mount_laws.proofs.MountsFound.{found-map, found-map_there, numbers-map}
 use Rattle.vt_mount_laws.proofs.MountsReplaced.{found-with_mount_itself, found-with_mount_other, none_numbered}
 use Rattle.vt_spec.specs.Machine.Receives.{has_members, inherited, inheriting, lost_a_group, regrouped_by, slave_of_heir}
 use Rattle.vt_mount_laws.proofs.Groups.{inherited_kept, members-regrouped, mounts-regrouped, no_heir}
@@ -17,11 +17,12 @@ use Rattle.vt_mount_laws.specs.Mounts.Attaching.{is_mount, numbers_of}
 use Rattle.vt_spec.specs.Machine.Types.{master_after, named_mounts, retyped, retyped_mount, type_after, with_master, with_new_groups, with_type}
 use Rattle.vt_spec.proofs.Lists.{is_among_numbers}
 use Rattle.std.specs.Prelude.{if◌then◌else◌}
+use Rattle.vt_spec.proofs.Worlds.{number-mount_in}
 
 pub flags_are_set : FlagsAreSet
 flags_are_set world here flags there =
     let one = mount_at nat_eq world here in
-    let number : one.number ≡ here.mount = number_found world.mounts here.mount in
+    let number : one.number ≡ here.mount = number-mount_in world.mounts here.mount in
     let new = record one { flags = flags } in
     ap (mount_in nat_eq (with_mount nat_eq world.mounts new)) (sym number)
     ∙ found-with_mount_itself new world.mounts (ap (λ n. is_among nat_eq n (numbers_of world.mounts)) number ∙ there)
@@ -29,7 +30,7 @@ flags_are_set world here flags there =
 pub flags_are_of_one : FlagsAreOfOne
 flags_are_of_one world here flags number other =
     found-with_mount_other (record (mount_at nat_eq world here) { flags = flags }) world.mounts number
-    (ap (λ n. nat_eq n number) (number_found world.mounts here.mount) ∙ other)
+    (ap (λ n. nat_eq n number) (number-mount_in world.mounts here.mount) ∙ other)
 
 -- Types
 all_but_type_itself : (mount : Mount ℕ) → KeepsAllButType mount mount
@@ -106,7 +107,7 @@ module _ (world : World ℕ) (group : ℕ → ℕ) (word : TypeWord) (named : Li
   named_by_number : (number : ℕ)
       → is_named (mount_numbered nat_eq world number) ≡ is_among nat_eq number (numbers_of named)
   named_by_number number =
-      ap (λ n. list_any (λ (other : Mount ℕ). nat_eq n other.number) named) (number_found world.mounts number)
+      ap (λ n. list_any (λ (other : Mount ℕ). nat_eq n other.number) named) (number-mount_in world.mounts number)
       ∙ by named
     where
       by : (list : List (Mount ℕ))
@@ -148,7 +149,7 @@ module _ (world : World ℕ) (group : ℕ → ℕ) (word : TypeWord) (named : Li
       ∙ ap (λ b. inherited nat_eq between (retyped_if one b).propagation)
       (named_by_number number ∙ chosen)
       ∙ ap (λ n. inherited nat_eq between (type_after (group n) word one.propagation))
-      (number_found world.mounts number)
+      (number-mount_in world.mounts number)
 
   pub retyping_is_of_mounts : KeepsAllButMounts world next_world
   retyping_is_of_mounts = by (list_any (lost_a_group nat_eq between) between.mounts)
@@ -190,7 +191,7 @@ alone_is_private world fresh number one there shared no_master none =
     let named = named_mounts nat_eq world number false in
     let middle = between world group ToSlave named in
     let chosen : is_among nat_eq number (numbers_of named) ≡ true =
-    is_among_numbers (numbers_of named) number (inl (sym (number_found world.mounts number))) in
+    is_among_numbers (numbers_of named) number (inl (sym (number-mount_in world.mounts number))) in
     let above : middle.master one ≡ None =
     ap (λ kind. with_master nat_eq world.master (group (mount_numbered nat_eq world number).number)
     (master_after kind) one) shared

@@ -1,5 +1,5 @@
 -- A move leaves each mount standing, and at most one at a place.
-use Rattle.std.proofs.Common.{◌≡◌, refl, sym, ap, subst, ◌∙◌, true, false, nat_eq, ℕ, Bool, List, [], append-nil, eqb-true, flat_map, inl, inr, is_some, length, not, suc, true≢false, zero, ⊎_elim, ◌&&◌, ◌∷◌, ◌||◌}
+use Rattle.std.proofs.Common.{◌≡◌, refl, sym, ap, subst, ◌∙◌, true, nat_eq, ℕ, List, [], append-nil, eqb-true, flat_map, inl, inr, is_some, length, not, suc, true≢false, zero, ⊎_elim, ◌&&◌, ◌∷◌, ◌||◌}
 use Rattle.vt_spec.proofs.Lists.{Among, among-flat_map, among-from_filter, among-from_flat_map, among-from_map, among_from_all, among_from_list_all, none_among, none_from_among}
 use Rattle.vt_spec.specs.Machine.Attach.{parts_of}
 use Rattle.vt_spec.specs.Lists.{holds_of, is_among}
@@ -14,14 +14,16 @@ use Rattle.vt_mount_laws.proofs.Attaching.{Hangs}
 use Rattle.vt_mount_laws.proofs.Attaching.Hangs.{from_top}
 use Rattle.vt_mount_laws.proofs.BindsStand.{child_hangs}
 use Rattle.vt_mount_laws.proofs.MountsAttached.{supplied}
-use Rattle.vt_mount_laws.proofs.MountsFound.{found_or_none, number_found}
+use Rattle.vt_mount_laws.proofs.MountsFound.{found_or_none}
 use Rattle.vt_mount_laws.proofs.MountsNumbered.{is_one_of, supplies_serve_as_copies}
-use Rattle.vt_mount_laws.proofs.MountsReplaced.{apart, found_itself, tree_among}
+use Rattle.vt_mount_laws.proofs.MountsReplaced.{found_itself, tree_among}
 use Rattle.vt_mount_laws.proofs.MovingLeaves.{MayMove}
 use Rattle.vt_mount_laws.proofs.MovingPlaces.{places_moved}
 use Rattle.vt_mount_laws.proofs.MovingStands.{all_after}
 use Rattle.vt_mount_laws.proofs.Standing.{standing_is_computed, trees_have_each_once}
 use Rattle.vt_mount_laws.proofs.UnmountingTrees.{AreClosed, trees_closed}
+use Rattle.vt_spec.proofs.Truths.{nat_eq_false_turned, or_false_alone}
+use Rattle.vt_spec.proofs.Worlds.{number-mount_in}
 
 -- a tree begins with its top
 tree_top : (fuel : ℕ) (mounts : List (Mount ℕ)) (top : Mount ℕ)
@@ -45,7 +47,7 @@ attached_there : (mounts : List (Mount ℕ)) (number : ℕ) → is_some (mount_i
     → is_among nat_eq number (numbers_of mounts) ≡ true
 attached_there mounts number attached =
     ⊎_elim
-    (λ l. subst (λ n. is_among nat_eq n (numbers_of mounts) ≡ true) (number_found mounts number)
+    (λ l. subst (λ n. is_among nat_eq n (numbers_of mounts) ≡ true) (number-mount_in mounts number)
     (is_one_of mounts (mount_in nat_eq mounts number) l))
     (λ none. absurd (true≢false (sym attached ∙ ap (λ (x : Mount ℕ). is_some x.namespace) none)))
     (found_or_none mounts number)
@@ -146,7 +148,7 @@ module _ (world : World ℕ) where
           outside = none_from_among (nat_eq place.mount) (numbers_of mounts) (λ number m.
               let from = among-from_map (λ (mount : Mount ℕ). mount.number) mounts number m in
               ap (nat_eq place.mount) from.2
-              ∙ apart from.0.number place.mount
+              ∙ nat_eq_false_turned from.0.number place.mount
               (none_among (λ (other : Mount ℕ). nat_eq other.number place.mount) mounts can.outside from.0 from.1));
           in_one = λ origin m. tree_namespace fuel top origin top_there m ∙ sym can.one_namespace;
           attached = attached;
@@ -155,13 +157,9 @@ module _ (world : World ℕ) where
         in_some : (mount : Mount ℕ) → Among mount world.mounts → is_some mount.mount_point ≡ true
             → is_some mount.namespace ≡ true
         in_some mount m placed =
-            by (is_some mount.namespace)
+            or_false_alone (is_some mount.namespace)
             (sym (ap (λ b. is_some mount.namespace || (not b && is_private mount.propagation)) placed)
             ∙ among_from_list_all is_nowhere_or_attached world.mounts invariants.nowhere mount m)
-          where
-            by : (b : Bool) → (b || false) ≡ true → b ≡ true
-            by true e = refl
-            by false e = e
 
 pub moves_keep_standing : MovesKeepStanding
 moves_keep_standing world fresh source place serves invariants can =

@@ -20,9 +20,11 @@ use Rattle.vt_mount_laws.proofs.MountsPlaces.{stands_at_its_place}
 use Rattle.vt_mount_laws.proofs.Attaching.{Hangs, hanging}
 use Rattle.vt_mount_laws.proofs.Attaching.Hangs.{from_parent, from_top}
 use Rattle.vt_mount_laws.proofs.MountsAttached.{arriving, found-folded_other, keeps_number, moved_ones, numbers_moved, stays_put}
-use Rattle.vt_mount_laws.proofs.MountsFound.{found_or_none, found_there, number_found, placed_among, unfound}
+use Rattle.vt_mount_laws.proofs.MountsFound.{found_or_none, found_there, placed_among, unfound}
 use Rattle.vt_mount_laws.proofs.MountsNumbered.{is_one_of, same_number, same_origin}
-use Rattle.vt_mount_laws.proofs.MountsReplaced.{apart, found-with_mount_itself, found_itself, numbers-with_mount, one_number_by_numbers}
+use Rattle.vt_mount_laws.proofs.MountsReplaced.{found-with_mount_itself, found_itself, numbers-with_mount, one_number_by_numbers}
+use Rattle.vt_spec.proofs.Truths.{nat_eq_false_turned}
+use Rattle.vt_spec.proofs.Worlds.{number-mount_in}
 
 -- mounts that are replaced by others with numbers of their own are found
 pub found_folded : (mounts copies : List (Mount ℕ)) → OneNumberAMount copies → (copy : Mount ℕ) → Among copy copies
@@ -36,7 +38,7 @@ found_folded mounts (first ∷ copies) own copy m is =
     (λ e.
     subst (λ x. mount_in nat_eq (folded (with_mount nat_eq) mounts (first ∷ copies)) x.number ≡ x) (sym e)
     (found-folded_other (with_mount nat_eq mounts first) copies first.number (λ other n.
-    apart first.number other.number (none_among (same_number first) copies parted.0 other n))
+    nat_eq_false_turned first.number other.number (none_among (same_number first) copies parted.0 other n))
     ∙ found-with_mount_itself first mounts
     (subst (λ (x : Mount ℕ). is_among nat_eq x.number (numbers_of mounts) ≡ true) e is)))
     (λ later.
@@ -64,7 +66,7 @@ pub stood_on_there : (world : World ℕ) → NowhereOrAttached world → (number
     → is_mount world on.mount ≡ true
 stood_on_there world nowhere number on e f =
     ⊎_elim
-    (λ found. subst (λ n. is_mount world n ≡ true) (number_found world.mounts on.mount)
+    (λ found. subst (λ n. is_mount world n ≡ true) (number-mount_in world.mounts on.mount)
     (is_one_of world.mounts (mount_numbered nat_eq world on.mount) found))
     (λ none.
     absurd (outside (mount_numbered nat_eq world number) (placed_among world.mounts number on e) e
@@ -226,7 +228,7 @@ module _ (world : World ℕ) (new : Copies ℕ) (place : Location ℕ) (mounts :
       → (arrived origin).mount_point ≡ Some place
   top_place origin e =
       placed origin true e
-      ∙ ap (λ (k : ℕ). Some (record { mount = k; node = place.node })) (number_found world.mounts place.mount)
+      ∙ ap (λ (k : ℕ). Some (record { mount = k; node = place.node })) (number-mount_in world.mounts place.mount)
 
   other_place : (origin : Mount ℕ) → nat_eq origin.number may.top.number ≡ false → (on : Location ℕ)
       → origin.mount_point ≡ Some on → (arrived origin).mount_point ≡ Some on
@@ -277,7 +279,7 @@ module _ (world : World ℕ) (new : Copies ℕ) (place : Location ℕ) (mounts :
       by true g parent_stands =
           absurd (true≢false
           (sym (may.closed (mount_numbered nat_eq world it) on (placed_among world.mounts it on e) e g)
-          ∙ ap (is_moved mounts) (number_found world.mounts it) ∙ other))
+          ∙ ap (is_moved mounts) (number-mount_in world.mounts it) ∙ other))
       by false g parent_stands =
           on_parent it on (ap (λ (x : Mount ℕ). x.mount_point) (found_stayed it other) ∙ e)
           (ap (λ (x : Mount ℕ). x.namespace) (found_stayed it other) ∙ f
@@ -287,7 +289,7 @@ module _ (world : World ℕ) (new : Copies ℕ) (place : Location ℕ) (mounts :
   destination_stands : Stands nat_eq left place.mount
   destination_stands =
       stayed_stands place.mount
-      (subst (Stands nat_eq world) (number_found world.mounts place.mount)
+      (subst (Stands nat_eq world) (number-mount_in world.mounts place.mount)
       (among_from_all (λ (x : Mount ℕ). Stands nat_eq world x.number) world.mounts may.all destination
       (found_there world.mounts place.mount may.there)))
       may.outside

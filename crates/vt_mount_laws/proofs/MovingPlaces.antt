@@ -18,12 +18,14 @@ use Rattle.vt_mount_laws.specs.Mounts.Places.{OneMountAPlace}
 use Rattle.vt_mount_laws.proofs.Attaching.{Hangs, hanging, taker_there, top_among}
 use Rattle.vt_mount_laws.proofs.Attaching.Hangs.{from_parent, from_top}
 use Rattle.vt_mount_laws.proofs.AttachingPlaces.{beside, differ_by_mount, one_place, stand_together, test, topmost_free, two_of}
-use Rattle.vt_mount_laws.proofs.MountsFound.{found_in, found_there, number_found, unfound}
+use Rattle.vt_mount_laws.proofs.MountsFound.{found_in, found_there, unfound}
 use Rattle.vt_mount_laws.proofs.MountsNumbered.{is_one_of, number_in_use, pair-append, pair-flat_map, parts_apart, same_number, same_origin, taker_elsewhere}
 use Rattle.vt_mount_laws.proofs.MountsPlaces.{stands_at_its_place, stands_there}
-use Rattle.vt_mount_laws.proofs.MountsReplaced.{apart, found_itself}
+use Rattle.vt_mount_laws.proofs.MountsReplaced.{found_itself}
 use Rattle.vt_mount_laws.proofs.MovingLeaves.{MayMove, all_left, left, nowhere_left, one_left, places_left, same_numbers, stood_on_there}
 use Rattle.vt_mount_laws.proofs.MovingStands.{after, all_after, copies_after, one_after}
+use Rattle.vt_spec.proofs.Truths.{nat_eq_false_turned}
+use Rattle.vt_spec.proofs.Worlds.{number-mount_in}
 
 module _ (world : World ℕ) (new : Copies ℕ) (place : Location ℕ) (mounts : List (Mount ℕ))
     (may : MayMove world place mounts) (serve : ServeAsCopies world (parts_of nat_eq world place) mounts new) where
@@ -73,7 +75,7 @@ module _ (world : World ℕ) (new : Copies ℕ) (place : Location ℕ) (mounts :
   -- a receiver is not the destination
   elsewhere : (part : Mount ℕ) → Among part takers → nat_eq part.number place.mount ≡ false
   elsewhere part m =
-      apart place.mount part.number
+      nat_eq_false_turned place.mount part.number
       (taker_elsewhere world place part
       (among-from_filter (takes_part nat_eq world place) (receivers_of nat_eq world (mount_at nat_eq world place))
       part m).1)
@@ -136,7 +138,7 @@ module _ (world : World ℕ) (new : Copies ℕ) (place : Location ℕ) (mounts :
       false_from_ne_true (nat_eq number (new.copy part.number origin.number)) (λ same.
       let found = found_there world.mounts number is in
       let used : Among number (numbers_in_use world) =
-      subst (λ k. Among k (numbers_in_use world)) (number_found world.mounts number)
+      subst (λ k. Among k (numbers_in_use world)) (number-mount_in world.mounts number)
       (number_in_use world (mount_numbered nat_eq world number) found) in
       true≢false
       (sym (is_among_numbers (numbers_in_use world) (new.copy part.number origin.number)
@@ -177,7 +179,7 @@ module _ (world : World ℕ) (new : Copies ℕ) (place : Location ℕ) (mounts :
           (copy_is_new q parent n there_is p.number (part_there p m)))
       by a i (on_copy on parent f there_is same c) b j (at_part g h) =
           differ_by_mount (copy p a) (copy q b) (place_upon p on) (place_at q) c h
-          (apart q.number (new.copy p.number on.mount)
+          (nat_eq_false_turned q.number (new.copy p.number on.mount)
           (subst (λ k. nat_eq q.number (new.copy p.number k) ≡ false) same
           (copy_is_new p parent m there_is q.number (part_there q n))))
       by a i (on_copy on parent f there_is same c) b j (on_copy at other h there_too same_too d) =
@@ -205,7 +207,7 @@ module _ (world : World ℕ) (new : Copies ℕ) (place : Location ℕ) (mounts :
             (copy_is_new part parent m there_is part.number (part_there part m)))
         by (on_copy on parent f there_is same c) (at_part g h) =
             differ_by_mount (copy part a) (copy part b) (place_upon part on) (place_at part) c h
-            (apart part.number (new.copy part.number on.mount)
+            (nat_eq_false_turned part.number (new.copy part.number on.mount)
             (subst (λ k. nat_eq part.number (new.copy part.number k) ≡ false) same
             (copy_is_new part parent m there_is part.number (part_there part m))))
         by (on_copy on parent f there_is same c) (on_copy at other h there_too same_too d) =
@@ -324,7 +326,7 @@ module _ (world : World ℕ) (new : Copies ℕ) (place : Location ℕ) (mounts :
                       ∙ differ_by_mount x (push y) on (top_at receiver) e f other_mount,
                   ap (λ (z : Mount ℕ). test (push y) z) keeps
                       ∙ differ_by_mount (push y) x (top_at receiver) on f e
-                      (apart on.mount (top_at receiver).mount other_mount),
+                      (nat_eq_false_turned on.mount (top_at receiver).mount other_mount),
                 )
 
         by : PushCase a → PushCase b → test (push a) (push b) ≡ false
@@ -385,7 +387,7 @@ module _ (world : World ℕ) (new : Copies ℕ) (place : Location ℕ) (mounts :
         by origin o (at_part e f) (goes receiver second r u g h same) in_copies =
             differ_by_mount (push a) (copy part origin) (top_at receiver) (place_at part) h f
             (ap (λ c. nat_eq c part.number) same
-            ∙ apart part.number (new.copy receiver.number second.number)
+            ∙ nat_eq_false_turned part.number (new.copy receiver.number second.number)
             (copy_is_new receiver second r u part.number (part_there part n)))
         by origin o (on_copy on parent f there_is same c) (stays g h) in_copies = at a.mount_point refl
           where

@@ -15,8 +15,8 @@ use Rattle.vt_mount_laws.proofs.MountsAttached.{arrives, arriving, graft, in_fro
 use Rattle.vt_mount_laws.proofs.MountsFound.{found_in, found_or_none, placed_among}
 use Rattle.vt_mount_laws.proofs.MountsPlaces.{stands_there}
 use Rattle.vt_mount_laws.proofs.MountsReplaced.{found_itself, replaced_elsewhere, replaced_there, tree_among}
-use Rattle.vt_mount_laws.proofs.AttachedNowhere.{among-folded}
 use Rattle.vt_mount_laws.specs.Mounts.Moving.{BindsKeepRootMounts, BindsStayInNamespaces, MovesKeepRootMounts, MovesStayInNamespaces, NewMountsKeepRootMounts, NewMountsStayInNamespaces, StaysInNamespaces}
+use Rattle.vt_spec.proofs.Worlds.{among-folded_mounts}
 
 -- the root mounts of a namespace, and whether a mount is one
 abbrev count : ℕ → List (Mount ℕ) → ℕ
@@ -313,4 +313,4 @@ moves_stay_in_namespaces world fresh source place =
     (λ l.
     part_has_one world new place true mounts (mount_at nat_eq world place) (inl refl) namespace
     (sym (copy_has world new place true mounts (mount_at nat_eq world place) x l).1 ∙ e))
-    (among-folded world.mounts (arriving world new place true mounts) x m))
+    (among-folded_mounts world.mounts (arriving world new place true mounts) x m))

@@ -16,11 +16,12 @@ use Rattle.vt_mount_laws.specs.Mounts.Standing.{AllStand}
 use Rattle.vt_mount_laws.proofs.Attaching.{Hangs, hanging, taker_there, top_among}
 use Rattle.vt_mount_laws.proofs.Attaching.Hangs.{from_parent, from_top}
 use Rattle.vt_mount_laws.proofs.MountsAttached.{found_attached, none_pushes, push_keeps}
-use Rattle.vt_mount_laws.proofs.MountsFound.{found_in, found_there, number_found}
+use Rattle.vt_mount_laws.proofs.MountsFound.{found_in, found_there}
 use Rattle.vt_mount_laws.proofs.MountsNumbered.{copies_keep_numbers, is_one_of, same_origin}
 use Rattle.vt_mount_laws.proofs.MountsPlaces.{stands_there}
 use Rattle.vt_mount_laws.proofs.MountsReplaced.{found_itself}
 use Rattle.vt_mount_laws.proofs.MovingLeaves.{MayMove, all_left, left, namespace_kept, nowhere_left, same_numbers, stood_on_there}
+use Rattle.vt_spec.proofs.Worlds.{number-mount_in}
 
 module _ (world : World ℕ) (new : Copies ℕ) (place : Location ℕ) (mounts : List (Mount ℕ))
     (may : MayMove world place mounts) (serve : ServeAsCopies world (parts_of nat_eq world place) mounts new) where
@@ -229,7 +230,7 @@ module _ (world : World ℕ) (new : Copies ℕ) (place : Location ℕ) (mounts :
   old_stands : (number : ℕ) → is_mount moved number ≡ true → Stands nat_eq after number
   old_stands number is =
       stands_after number
-      (subst (Stands nat_eq moved) (number_found moved.mounts number)
+      (subst (Stands nat_eq moved) (number-mount_in moved.mounts number)
       (among_from_all (λ (x : Mount ℕ). Stands nat_eq moved x.number) moved.mounts (all_left world new place mounts may)
       (mount_numbered nat_eq moved number) (found_there moved.mounts number is)))
       is

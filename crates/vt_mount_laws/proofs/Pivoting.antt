@@ -15,14 +15,15 @@ use Rattle.vt_spec.specs.Machine.Invariants.Stands.{at_root, on_parent}
 use Rattle.vt_mount_laws.specs.Mounts.Namespaces.{CanPivot, NumberedMountsCanPivot, PivotKeepsMounts}
 use Rattle.vt_mount_laws.proofs.GroupsLiving.{all_live, tested_live}
 use Rattle.vt_mount_laws.proofs.GroupsKept.{pivot_keeps_groups}
-use Rattle.vt_mount_laws.proofs.MountsFound.{found_or_none, number_found, placed_among, unfound}
-use Rattle.vt_mount_laws.proofs.MountsKept.{pivot_keeps_numbers, pivot_number}
+use Rattle.vt_mount_laws.proofs.MountsFound.{found_or_none, placed_among, unfound}
+use Rattle.vt_mount_laws.proofs.MountsKept.{pivot_keeps_numbers}
 use Rattle.vt_mount_laws.proofs.MountsNumbered.{same_number}
 use Rattle.vt_mount_laws.proofs.MountsPlaces.{one_stander, place_of_both, stands_at_its_place}
 use Rattle.vt_mount_laws.proofs.MountsReplaced.{found_itself}
 use Rattle.vt_mount_laws.proofs.Standing.{LiesIn, lies_deeper, rank, rank_child}
 use Rattle.vt_mount_laws.proofs.Standing.LiesIn.{itself, under}
 use Rattle.vt_mount_laws.proofs.Unsharing.{parent_of, stands_itself}
+use Rattle.vt_spec.proofs.Worlds.{number-mount_in, number-pivoted_mount}
 
 -- what the places below a place are on
 module _ (world : World ℕ) where
@@ -174,7 +175,7 @@ module _ (world : World ℕ) (namespace : ℕ) (root new : Mount ℕ) (put : Loc
 
   found_after : (mount : Mount ℕ) → Among mount world.mounts → mount_numbered nat_eq after mount.number ≡ move mount
   found_after mount m =
-      ap (mount_numbered nat_eq after) (sym (pivot_number root new put mount))
+      ap (mount_numbered nat_eq after) (sym (number-pivoted_mount root new put mount))
       ∙ found_itself after.mounts one_after (move mount) (among-map move world.mounts mount m)
 
   -- Standing
@@ -275,7 +276,7 @@ module _ (world : World ℕ) (namespace : ℕ) (root new : Mount ℕ) (put : Loc
       mount = mount_numbered nat_eq world it
 
       number_is : mount.number ≡ it
-      number_is = number_found world.mounts it
+      number_is = number-mount_in world.mounts it
 
       higher : level new.number < level it
       higher =
@@ -305,7 +306,7 @@ module _ (world : World ℕ) (namespace : ℕ) (root new : Mount ℕ) (put : Loc
   -- and the old one,
   root_stands : Stands nat_eq after root.number
   root_stands =
-      let number = number_found world.mounts put.mount in
+      let number = number-mount_in world.mounts put.mount in
       stand_on root (mount_at nat_eq world put) root_among put_among put moved_root number
       (may.root_inside ∙ sym may.put_inside)
       (subst (Stands nat_eq after) (sym number) (over_new new.number put.mount put_lies_over refl))
@@ -336,7 +337,7 @@ module _ (world : World ℕ) (namespace : ℕ) (root new : Mount ℕ) (put : Loc
   all_stand_after : (mount : Mount ℕ) → Among mount after.mounts → Stands nat_eq after mount.number
   all_stand_after mount m =
       let from = among-from_map move world.mounts mount m in
-      subst (Stands nat_eq after) (sym (ap (λ x. x.number) from.2 ∙ pivot_number root new put from.0))
+      subst (Stands nat_eq after) (sym (ap (λ x. x.number) from.2 ∙ number-pivoted_mount root new put from.0))
       (rise from.0.number (stands_itself world mounts from.0 from.1) from.0 from.1 refl)
 
   -- Places
@@ -443,8 +444,8 @@ pivot_keeps_mounts world namespace root new put may mounts =
 
 pub numbered_mounts_can_pivot : NumberedMountsCanPivot
 numbered_mounts_can_pivot world namespace root new put root_inside new_inside put_inside node_is over put_under free =
-    let root_number : (mount_numbered nat_eq world root).number ≡ root = number_found world.mounts root in
-    let new_number : (mount_at nat_eq world new).number ≡ new.mount = number_found world.mounts new.mount in
+    let root_number : (mount_numbered nat_eq world root).number ≡ root = number-mount_in world.mounts root in
+    let new_number : (mount_at nat_eq world new).number ≡ new.mount = number-mount_in world.mounts new.mount in
     let top : new ≡ root_of (mount_at nat_eq world new) =
     λ i. record { mount = sym new_number i; node = node_is i } in
     record {

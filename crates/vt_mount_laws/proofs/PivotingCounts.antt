@@ -13,8 +13,8 @@ use Rattle.vt_mount_laws.specs.Mounts.Attaching.{OneNumberAMount}
 use Rattle.vt_mount_laws.specs.Mounts.Namespaces.{CanPivot, PivotKeepsCounts}
 use Rattle.vt_mount_laws.proofs.MountsCounted.{as_many_mounts, filter-map, filter_alike, is_in}
 use Rattle.vt_mount_laws.proofs.MountsNumbered.{same_number}
-use Rattle.vt_mount_laws.proofs.MountsReplaced.{apart}
 use Rattle.vt_mount_laws.proofs.Pivoting.{is_new, is_root, move, moved_namespace, moved_new, moved_other, moved_root, new_among, new_placed, root_among}
+use Rattle.vt_spec.proofs.Truths.{nat_eq_false_turned}
 
 -- but for one mount
 abbrev besides : (Mount ℕ → Bool) → Mount ℕ → Mount ℕ → Bool
@@ -38,7 +38,7 @@ one_more p (y ∷ ys) one a m e =
     (sym (filter_skip (besides p a) y ys (and_false (p y) (nat_eq a.number y.number)
     (eq-eqb a.number y.number (ap (λ (z : Mount ℕ). z.number) same))))))
     (λ later.
-    by (p y) refl (apart y.number a.number (none_among (same_number y) ys parts.0 a later))
+    by (p y) refl (nat_eq_false_turned y.number a.number (none_among (same_number y) ys parts.0 a later))
     (one_more p ys parts.1 a later e))
     m
   where
@@ -145,8 +145,8 @@ module _ (world : World ℕ) (namespace : ℕ) (root new : Mount ℕ) (put : Loc
           (eq-eqb root.number mount.number (sym (eqb-true mount.number root.number f))))
       by false e false f =
           ap (λ b. b && not (nat_eq new.number mount.number)) (other_later mount e f)
-          ∙ ap (λ b. before mount && not b) (apart mount.number new.number e)
-          ∙ sym (ap (λ b. before mount && not b) (apart mount.number root.number f))
+          ∙ ap (λ b. before mount && not b) (nat_eq_false_turned mount.number new.number e)
+          ∙ sym (ap (λ b. before mount && not b) (nat_eq_false_turned mount.number root.number f))
 
   roots_of : (other : ℕ) → length (filter later (mounts_of nat_eq world other))
       ≡ length (filter before (mounts_of nat_eq world other))

@@ -15,10 +15,11 @@ use Rattle.vt_mount_laws.specs.Mounts.Copies.{ServeAsCopies, ServeAsImages}
 use Rattle.vt_mount_laws.specs.Mounts.Propagation.{Attachment, CanAttach, CopiesAreNew, CopiesAtLowerGroupsFollow, CopiesAtPeersArePeers, CopiesAtSlavesAreSlaves, EachIsCopied, FirstStandsOnItsPart, IsOfTree, IsPart, OthersStandOnCopies, PrivateOnShared, SharedOnShared, SlaveOnShared, TypeOnNotShared, copy_of, destination_of, moves_to, number_at, world_after}
 use Rattle.vt_mount_laws.proofs.GroupsKept.{shared_member}
 use Rattle.vt_mount_laws.proofs.MountsAttached.{is_pushed_by}
-use Rattle.vt_mount_laws.proofs.MountsFound.{found_or_none, number_found}
+use Rattle.vt_mount_laws.proofs.MountsFound.{found_or_none}
 use Rattle.vt_mount_laws.proofs.MountsNumbered.{is_one_of, number_in_use, supplies_serve_as_copies, supplies_serve_as_images}
 use Rattle.vt_mount_laws.proofs.PropagationCopies.{arrived, arrived_keeps, first_not_pushed, first_place, found_copy, made, not_pushed, other_place, push, tree}
 use Rattle.vt_mount_laws.proofs.PropagationTypes.{image_new, image_of, kind, kind_there, lower_master, private_there, shared_kind, slave_kind, slave_there, there_new}
+use Rattle.vt_spec.proofs.Worlds.{number-mount_in}
 
 module _ (it : Attachment) (can : CanAttach it) where
   abbrev pub supply : Copies ℕ
@@ -131,7 +132,7 @@ module _ (it : Attachment) (can : CanAttach it) where
       ∙ not_pushed it.world supply it.mount_point it.moves it.mounts part origin (by (moves_to it part) refl))
       ∙ place
       ∙ ap (λ n. Some (record { mount = n; node = at.node }))
-      (sym (number_found (world_after it).mounts (number_at it part below)))
+      (sym (number-mount_in (world_after it).mounts (number_at it part below)))
     where
       takers : List (Mount ℕ)
       takers = rest_of (parts_of nat_eq it.world it.mount_point)
@@ -170,7 +171,7 @@ module _ (it : Attachment) (can : CanAttach it) where
 pub each_is_copied : EachIsCopied
 each_is_copied it part origin can c d = record {
   there = there it can part origin c d;
-  number = number_found (world_after it).mounts (number_at it part origin);
+  number = number-mount_in (world_after it).mounts (number_at it part origin);
   namespace = (copy_keeps it can part origin c d).namespace;
   filesystem = (copy_keeps it can part origin c d).filesystem;
   root = (copy_keeps it can part origin c d).root;

@@ -10,10 +10,11 @@ use Rattle.vt_spec.specs.Machine.World.{World, mount_at, mount_numbered}
 use Rattle.vt_mount_laws.specs.Mounts.Attaching.{KeepsAllButPlace, OneNumberAMount, numbers_of}
 use Rattle.vt_mount_laws.specs.Mounts.Copies.{ServeAsCopies}
 use Rattle.vt_mount_laws.proofs.MountsAttached.{arriving, found_attached, is_pushed_by, keeps_number, moved_ones, none_pushes, push_keeps}
-use Rattle.vt_mount_laws.proofs.MountsFound.{number_found}
 use Rattle.vt_mount_laws.proofs.MountsNumbered.{copies_keep_numbers, is_one_of, same_number, same_origin, taker_elsewhere}
-use Rattle.vt_mount_laws.proofs.MountsReplaced.{apart, found_itself}
+use Rattle.vt_mount_laws.proofs.MountsReplaced.{found_itself}
 use Rattle.vt_mount_laws.proofs.MovingLeaves.{found_folded}
+use Rattle.vt_spec.proofs.Truths.{nat_eq_false_turned}
+use Rattle.vt_spec.proofs.Worlds.{number-mount_in}
 
 -- a mount that keeps all stays the same
 same_mount : (mount : Mount ℕ) → KeepsAllButPlace mount mount
@@ -60,13 +61,13 @@ module _ (world : World ℕ) (new : Copies ℕ) (place : Location ℕ) (moves : 
   -- a receiver that takes part is elsewhere
   pub not_there : (part : Mount ℕ) → Among part (rest_of parts) → nat_eq part.number place.mount ≡ false
   not_there part m =
-      apart place.mount part.number
+      nat_eq_false_turned place.mount part.number
       (taker_elsewhere world place part
       (among-from_filter (takes_part nat_eq world place) (receivers_of nat_eq world (mount_at nat_eq world place)) part
       m).1)
 
   pub destination_there : nat_eq (mount_at nat_eq world place).number place.mount ≡ true
-  destination_there = eq-eqb (mount_at nat_eq world place).number place.mount (number_found world.mounts place.mount)
+  destination_there = eq-eqb (mount_at nat_eq world place).number place.mount (number-mount_in world.mounts place.mount)
 
   pub arrived_keeps : (part origin : Mount ℕ) → KeepsAllButPlace (made part origin) (arrived part origin)
   arrived_keeps part origin = by (stays part)

@@ -17,7 +17,8 @@ use Rattle.vt_mount_laws.proofs.GroupsKept.{shared_member}
 use Rattle.vt_mount_laws.proofs.GroupsUp.{LivesIn, lives_in}
 use Rattle.vt_mount_laws.proofs.PropagationAttaching.{copy_kind, copy_shared, each_is_copied, image_group, kind_at_destination, moving_there, part_among, serve_images, supply, tree_among}
 use Rattle.vt_mount_laws.proofs.PropagationHearing.{hears_images, hears_old, old_up, old_up_after}
-use Rattle.vt_mount_laws.proofs.PropagationUp.{heard, hears, same_truth, up_among}
+use Rattle.vt_mount_laws.proofs.PropagationUp.{heard, hears, up_among}
+use Rattle.vt_spec.proofs.Truths.{same_truth}
 
 -- groups live on, whether mounts move or not
 keeps_groups : (world : World ℕ) (new : Copies ℕ) (place : Location ℕ) (moves : Bool) (mounts : List (Mount ℕ))

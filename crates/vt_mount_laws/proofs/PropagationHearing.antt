@@ -21,9 +21,10 @@ use Rattle.vt_mount_laws.proofs.MountsFound.{found_or_none}
 use Rattle.vt_mount_laws.proofs.MountsNumbered.{is_one_of}
 use Rattle.vt_mount_laws.proofs.PropagationCopies.{not_there}
 use Rattle.vt_mount_laws.proofs.PropagationTypes.{image_in, image_new, image_of, kind, lower_master, shared_kind, slave_kind, slave_there, there_new}
-use Rattle.vt_mount_laws.proofs.PropagationUp.{Nearest, finds_some, found_nearest, heard, hears, lives_up, nearest_passes, nearest_up, no_loop, same_truth, up_among, up_further}
+use Rattle.vt_mount_laws.proofs.PropagationUp.{Nearest, finds_some, found_nearest, heard, hears, lives_up, nearest_passes, nearest_up, no_loop, up_among, up_further}
 use Rattle.vt_mount_laws.proofs.PropagationUp.Nearest.{further, itself}
 use Rattle.vt_mount_laws.proofs.Receivers.{receives_from_source}
+use Rattle.vt_spec.proofs.Truths.{same_truth}
 
 shared_kind_of : (kind : Propagation ℕ) (group : ℕ) → group_of kind ≡ Some group → kind ≡ Shared group
 shared_kind_of (Shared own) group e = ap Shared (same_Some own group e)

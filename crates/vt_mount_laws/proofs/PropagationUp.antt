@@ -17,12 +17,6 @@ use Rattle.vt_spec.specs.Machine.Invariants.Lives.{has_master, has_no_master}
 use Rattle.vt_mount_laws.proofs.GroupsUp.Up.{above, here}
 use Rattle.vt_mount_laws.proofs.Receivers.{receives_completely}
 
-pub same_truth : (a b : Bool) → (a ≡ true → b ≡ true) → (b ≡ true → a ≡ true) → a ≡ b
-same_truth true true f g = refl
-same_truth true false f g = sym (f refl)
-same_truth false true f g = g refl
-same_truth false false f g = refl
-
 module _ (master : ℕ → Option ℕ) where
   pub up_further : (group lower next : ℕ) → Up master group lower → Up master lower next → Up master group next
   up_further group lower next (here it) way = way

@@ -17,10 +17,12 @@ use Rattle.vt_mount_laws.specs.Mounts.Attaching.{OneNumberAMount, numbers_of}
 use Rattle.vt_mount_laws.specs.Mounts.Conditions.{OneNumberEach}
 use Rattle.vt_mount_laws.specs.Mounts.Standing.{AllStand, BindsTakeEachOnce, StandingIsComputed, TreesHaveEachOnce}
 use Rattle.vt_mount_laws.specs.Mounts.Unmounting.{PlacesEnd}
-use Rattle.vt_mount_laws.proofs.MountsFound.{found_or_none, number_found, placed_among}
+use Rattle.vt_mount_laws.proofs.MountsFound.{found_or_none, placed_among}
 use Rattle.vt_mount_laws.proofs.MountsNumbered.{pair-flat_map, same_number}
 use Rattle.vt_mount_laws.proofs.MountsReplaced.{found_itself}
 use Rattle.vt_mount_laws.proofs.UnmountingNamespaces.{one_namespace, same_namespace}
+use Rattle.vt_spec.proofs.Found.{length_from_among}
+use Rattle.vt_spec.proofs.Worlds.{number-mount_in}
 
 -- numbers that are each another one and stand in a list are no more than it has
 pub fewer_numbers : (numbers others : List ℕ) → any_pair nat_eq numbers ≡ false
@@ -116,7 +118,7 @@ module _ (world : World ℕ) where
   way_there number (at_root it e) other m = absurd m
   way_there number (on_parent it place e f stands) other m =
       ⊎_elim
-      (λ same. subst (λ k. Among k (numbers_of world.mounts)) (number_found world.mounts it ∙ sym same)
+      (λ same. subst (λ k. Among k (numbers_of world.mounts)) (number-mount_in world.mounts it ∙ sym same)
       (among-map (λ (mount : Mount ℕ). mount.number) world.mounts (mount_of it) (placed_among world.mounts it place e)))
       (way_there place.mount stands other)
       m
@@ -191,10 +193,6 @@ module _ (world : World ℕ) where
       (λ none. missing none)
       (found_or_none world.mounts place.mount)
     where
-      mounts_there : (mounts : List (Mount ℕ)) (x : Mount ℕ) → Among x mounts → (n : ℕ) × (length mounts ≡ suc n)
-      mounts_there [] x m = absurd m
-      mounts_there (y ∷ ys) x m = (length ys, refl)
-
       alone : (k : ℕ) (x : Mount ℕ) → below x ≡ None → last_in k x ≡ x
       alone zero x f = refl
       alone (suc k) x f = ap (last_or x) (chain_ends below k x f)
@@ -204,7 +202,7 @@ module _ (world : World ℕ) where
       missing none =
           let x = mount_of number in
           let parent = mount_of place.mount in
-          let long = mounts_there world.mounts x (placed_among world.mounts number place e) in
+          let long = length_from_among world.mounts x (placed_among world.mounts number place e) in
           let both : (not (is_some (last_parent nat_eq world x).mount_point) ≡ true)
           × (same_option nat_eq x.namespace (last_parent nat_eq world x).namespace ≡ true) =
           and_parts _ _
@@ -272,7 +270,7 @@ module _ (world : World ℕ) (one : OneNumberEach world) (all : AllStand world) 
   pub stand : (number : ℕ) → Stands nat_eq world number
   stand number =
       ⊎_elim
-      (λ there. subst (Stands nat_eq world) (number_found world.mounts number)
+      (λ there. subst (Stands nat_eq world) (number-mount_in world.mounts number)
       (among_from_all (λ (mount : Mount ℕ). Stands nat_eq world mount.number) world.mounts all
       (mount_numbered nat_eq world number) there))
       (λ none. at_root number (ap (λ m. m.mount_point) none))
@@ -449,7 +447,7 @@ module _ (world : World ℕ) (one : OneNumberEach world) (all : AllStand world) 
   bind_once source false = refl
   bind_once source true =
       let mount = bound nat_eq world source in
-      let number : mount.number ≡ source.mount = number_found world.mounts source.mount in
+      let number : mount.number ≡ source.mount = number-mount_in world.mounts source.mount in
       let fuel = length world.mounts in
       let under_source = bindable_children nat_eq world.mounts source.mount in
       let chosen = filter (stands_under nat_eq world source) under_source in

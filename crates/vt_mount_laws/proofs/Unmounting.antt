@@ -15,7 +15,9 @@ use Rattle.vt_mount_laws.specs.Mounts.Unmounting.{FallsTo, GroupsKeepTheirMaster
 use Rattle.vt_mount_laws.specs.Mounts.Unmounting.FallsTo.{falls, rests}
 use Rattle.vt_mount_laws.proofs.Groups.{inherited_kept, master-regrouped, members-regrouped, mounts-regrouped}
 use Rattle.vt_spec.proofs.Lists.{among_from_list_all, chain_ends, chain_goes_on, find_agrees, last_of_chain}
-use Rattle.vt_mount_laws.proofs.MountsFound.{found-map, found_or_none, number_found, numbers-map}
+use Rattle.vt_mount_laws.proofs.MountsFound.{found-map, found_or_none, numbers-map}
+use Rattle.vt_spec.proofs.Worlds.{number-after_going, number-mount_in}
+pub use Rattle.vt_spec.proofs.Worlds.{number-after_going as number_after}
 
 module _ (world : World ℕ) (gone : List ℕ) where
   -- one mount after the event
@@ -31,15 +33,6 @@ module _ (world : World ℕ) (gone : List ℕ) where
   staying_is_placed mount e =
       ap (λ b. if b then detached mount else
       (record mount { mount_point = option_map (mount_point_left nat_eq world gone) mount.mount_point })) e
-
-  pub number_after : (mount : Mount ℕ) → (after_going nat_eq world gone mount).number ≡ mount.number
-  number_after mount = by (is_going nat_eq gone mount.number)
-    where
-      by : (b : Bool)
-          → (if b then detached mount else
-          (record mount { mount_point = option_map (mount_point_left nat_eq world gone) mount.mount_point })).number ≡ mount.number
-      by true = refl
-      by false = refl
 
   none_after : (number : ℕ) → after_going nat_eq world gone (no_mount number) ≡ no_mount number
   none_after number = by (is_going nat_eq gone number)
@@ -62,14 +55,14 @@ module _ (world : World ℕ) (gone : List ℕ) where
       ap (λ mounts. mount_in nat_eq mounts number) (mounts-regrouped middle)
       ∙ found-map (inheriting nat_eq middle) (λ mount. refl) middle.mounts number refl
       ∙ ap (inheriting nat_eq middle)
-      (found-map (after_going nat_eq world gone) number_after world.mounts number (none_after number))
+      (found-map (after_going nat_eq world gone) (number-after_going world gone) world.mounts number (none_after number))
 
   pub numbers_taken : map (λ mount. mount.number) (taken_away nat_eq world gone).mounts
       ≡ map (λ mount. mount.number) world.mounts
   numbers_taken =
       ap (map (λ mount. mount.number)) (mounts-regrouped middle)
       ∙ numbers-map (inheriting nat_eq middle) (λ mount. refl) middle.mounts
-      ∙ numbers-map (after_going nat_eq world gone) number_after world.mounts
+      ∙ numbers-map (after_going nat_eq world gone) (number-after_going world gone) world.mounts
 
   -- what goes, by the number of what is found
   taken_going : (number : ℕ) → is_going nat_eq gone (mount_numbered nat_eq world number).number ≡ true
@@ -174,7 +167,7 @@ module _ (world : World ℕ) (gone : List ℕ) where
 
   goes_so : (number : ℕ) (b : Bool) → is_going nat_eq gone number ≡ b
       → is_going nat_eq gone (before_it number).number ≡ b
-  goes_so number b e = ap (is_going nat_eq gone) (number_found world.mounts number) ∙ e
+  goes_so number b e = ap (is_going nat_eq gone) (number-mount_in world.mounts number) ∙ e
 
   pub detached_by_number : (number : ℕ) → is_going nat_eq gone number ≡ true → left number ≡ detached (before_it number)
   detached_by_number number e = taken_going number (goes_so number true e)

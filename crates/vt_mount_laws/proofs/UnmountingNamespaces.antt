@@ -1,5 +1,5 @@
 -- A namespace that ends leaves at most one mount at a place in the others.
-use Rattle.std.proofs.Common.{◌≡◌, refl, sym, ap, subst, ◌∙◌, true, false, zero, suc, nat_eq, ℕ, List, None, Option, Some, [], eqb-true, filter, is_some, length, map, not, option_map, true≢false, ◌&&◌, ◌∷◌}
+use Rattle.std.proofs.Common.{◌≡◌, refl, sym, ap, subst, ◌∙◌, true, false, zero, suc, nat_eq, ℕ, List, None, Option, Some, eqb-true, filter, is_some, map, not, option_map, true≢false, ◌&&◌}
 use Rattle.vt_spec.specs.Machine.Mounts.{Location, Mount, mount_in}
 use Rattle.vt_spec.proofs.Lists.{Among, among-filter, among-from_filter, among-from_map, among-map, among_from_list_all, among_numbers, chain_ends, chain_goes_on, is_among_numbers, last_of_chain}
 use Rattle.vt_mount_laws.specs.Mounts.Conditions.{EndedNamespacesLeaveOneMountAPlace, OneNumberEach}
@@ -12,6 +12,7 @@ use Rattle.vt_mount_laws.proofs.MountsReplaced.{found_itself}
 use Rattle.vt_spec.specs.Machine.Namespaces.{has_tasks, is_in_ended}
 use Rattle.vt_spec.specs.Machine.Invariants.{last_parent, stands_in_its_namespace}
 use Rattle.std.specs.List.{list_any}
+use Rattle.vt_spec.proofs.Found.{length_from_among}
 
 -- one step more changes no chain that has ended
 last_longer : {A : Type 0} (next : A → Option A) (n : ℕ) (a : A) → next (last_or a (chain n next a)) ≡ None
@@ -37,10 +38,6 @@ one_namespace None None e = refl
 one_namespace None (Some b) e = absurd (true≢false (sym e))
 one_namespace (Some a) None e = absurd (true≢false (sym e))
 one_namespace (Some a) (Some b) e = ap Some (eqb-true a b e)
-
-not_none : (mounts : List (Mount ℕ)) (x : Mount ℕ) → Among x mounts → (n : ℕ) × (length mounts ≡ suc n)
-not_none [] x m = absurd m
-not_none (y ∷ ys) x m = (length ys, refl)
 
 module _ (world : World ℕ) (ends : PlacesEnd world) where
   abbrev under : Mount ℕ → Option (Mount ℕ)
@@ -68,7 +65,7 @@ module _ (world : World ℕ) (ends : PlacesEnd world) where
       → x.namespace ≡ (mount_at nat_eq world place).namespace
   same_namespace x place m e n =
       let on = mount_at nat_eq world place in
-      let size = not_none world.mounts x m in
+      let size = length_from_among world.mounts x m in
       let first = parts x m in
       let other = parts on n in
       let shorter : last_parent nat_eq world x ≡ last_or on (chain size.0 under on) =

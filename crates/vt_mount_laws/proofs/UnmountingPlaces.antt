@@ -11,7 +11,7 @@ use Rattle.std.proofs.lemmas.Bool.{false_from_ne_true}
 use Rattle.std.specs.Prelude.{filter_map, if◌then◌else◌}
 use Rattle.vt_mount_laws.proofs.MountsPlaces.{one_place_of_two, one_stander, place_of_both, stands_there}
 use Rattle.vt_mount_laws.proofs.MountsReplaced.{found_itself}
-use Rattle.vt_mount_laws.proofs.MountsFound.{found_in, number_found, placed_among}
+use Rattle.vt_mount_laws.proofs.MountsFound.{found_in, placed_among}
 use Rattle.vt_mount_laws.proofs.Unmounting.{going_is_detached, middle, staying_is_placed}
 use Rattle.vt_spec.specs.Machine.Receives.{inheriting}
 use Rattle.vt_mount_laws.proofs.Groups.{mounts-regrouped}
@@ -19,6 +19,7 @@ use Rattle.vt_spec.specs.Machine.Attach.{receivers_of}
 use Rattle.std.proofs.lemmas.Option.{same_Some}
 use Rattle.vt_spec.specs.Machine.Invariants.{share_a_mount_point}
 use Rattle.vt_mount_laws.proofs.MountsKept.{unmount_keeps_numbers}
+use Rattle.vt_spec.proofs.Worlds.{number-mount_in}
 
 -- a mount's place falls to where mounts that go leave it
 pub data Falls (world : World ℕ) (gone : List ℕ) (mount : Mount ℕ) : Location ℕ → Type 0 where
@@ -98,7 +99,7 @@ module _ (world : World ℕ) (gone : List ℕ) (apart_all : AreApart world)
       → is_going nat_eq gone p.mount ≡ true → q.mount ≡ p.mount → p ≡ q
   one_root x y p q m n e f goes same =
       let under = mount_at nat_eq world p in
-      let number : under.number ≡ p.mount = number_found world.mounts p.mount in
+      let number : under.number ≡ p.mount = number-mount_in world.mounts p.mount in
       let on_it : (z : Mount ℕ) (r : Location ℕ) → z.mount_point ≡ Some r → r.mount ≡ p.mount
       → stands_on nat_eq under.number z ≡ true =
       λ z r g h. ap (holds_of (λ place. nat_eq under.number place.mount)) g
@@ -114,7 +115,7 @@ module _ (world : World ℕ) (gone : List ℕ) (apart_all : AreApart world)
       → mount_at nat_eq world place ≡ a → ⊥
   not_both a place stays goes same =
       true≢false (sym goes ∙ ap (is_going nat_eq gone)
-      (sym (number_found world.mounts place.mount) ∙ ap (λ z. z.number) same) ∙ stays)
+      (sym (number-mount_in world.mounts place.mount) ∙ ap (λ z. z.number) same) ∙ stays)
 
   -- two that stay fall to one place only where they are one
   one_falls : (a b : Mount ℕ) → Among a world.mounts → Among b world.mounts → is_going nat_eq gone a.number ≡ false
@@ -136,8 +137,8 @@ module _ (world : World ℕ) (gone : List ℕ) (apart_all : AreApart world)
       (placed_among world.mounts at.mount rest under) (placed_among world.mounts at_too.mount end under_too) rest under
       (under_too ∙ ap Some same) in
       let number : at_too.mount ≡ at.mount =
-      sym (number_found world.mounts at_too.mount) ∙ ap (λ z. z.number) (sym on_one)
-      ∙ number_found world.mounts at.mount in
+      sym (number-mount_in world.mounts at_too.mount) ∙ ap (λ z. z.number) (sym on_one)
+      ∙ number-mount_in world.mounts at.mount in
       let x = stander a at m fall in
       let y = stander b at_too n fall_too in
       one_falls a b m n stays also at fall at_too fall_too
@@ -217,7 +218,7 @@ unmount_leaves_one_mount_a_place world one apart_all childless = record {
   by_place = taking_away_leaves_one world (going nat_eq world (mount_numbered nat_eq world one)) apart_all
       (λ x place m e goes.
       ⊎_elim
-      (λ itself. absurd (no_child x place m e (itself ∙ number_found world.mounts one)))
+      (λ itself. absurd (no_child x place m e (itself ∙ number-mount_in world.mounts one)))
       (λ t.
       subst (λ z. may_go nat_eq world z ≡ true)
       (sym (ap (mount_in nat_eq world.mounts) t.3 ∙ found_itself world.mounts apart_all.by_number t.0 t.1)) t.2)

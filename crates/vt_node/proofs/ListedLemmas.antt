@@ -1,34 +1,18 @@
 -- The entries that an index map keeps in some order, and the entries that contracts see, in the order of their names.
-use Rattle.std.proofs.Common.{◌≡◌, ◌≢◌, ℕ, Bool, true, false, cond, not, T, List, [], ◌∷◌, nat_eq, Option, None, Some, Ordering, refl, sym, ap, ◌∙◌, true≢false}
+use Rattle.std.proofs.Common.{◌≡◌, ◌≢◌, ℕ, Bool, true, false, cond, not, T, List, [], ◌∷◌, nat_eq, Option, None, Some, refl, sym, ap, ◌∙◌}
 use Rattle.std.specs.declared.cmp.Ordering.TheVariants.{Less, Equal, Greater}
 use Rattle.std.specs.declared.vec.Vec.{Vec}
-use Rattle.std.specs.Ordering.{is_eq, eq_by_cmp}
+use Rattle.std.specs.Ordering.{eq_by_cmp}
 use Rattle.std.specs.Cmp.Lexicographic.{pointwise, texts_ties}
 use Rattle.std.proofs.lemmas.Cmp.{nat_list_cmp_total, nat_list_eq_equiv}
 use Rattle.std.specs.Map.{lookup, KeepsOthers}
-use Rattle.std.specs.FinMap.{nat_cmp-IsAntisymmetric, slice_cmp-IsAntisymmetric}
 use Rattle.std.specs.FinMap.Entries.{by_order, find, is_sorted, same_entries, find-put, find-where_key, is_sorted-put, is_sorted-where_key}
 use Rattle.std.specs.Str.{bytes_eq}
 use Rattle.vt_spec.specs.Tree.{Entries, name_cmp, with_entry}
 use Rattle.vt_spec.specs.Language.Changes.{without_entry}
 use Rattle.vt_node.specs.Listed.{listed}
-
--- two names tie only where they are one
-pub same_name : (x y : List ℕ) → name_cmp x y ≡ Equal → x ≡ y
-same_name = slice_cmp-IsAntisymmetric nat_cmp-IsAntisymmetric
-
-is_eq-Equal : (r : Ordering) → is_eq r ≡ true → r ≡ Equal
-is_eq-Equal Less e = absurd (true≢false (sym e))
-is_eq-Equal Equal e = refl
-is_eq-Equal Greater e = absurd (true≢false (sym e))
-
-pub holds : (b : Bool) → T b → b ≡ true
-holds true p = refl
-holds false p = absurd p
-
-cond-not : {X : Type 0} (b : Bool) (x y : X) → cond b x y ≡ cond (not b) y x
-cond-not true x y = refl
-cond-not false x y = refl
+use Rattle.vt_spec.proofs.NodeChanges.{same_name-Equal}
+use Rattle.vt_spec.proofs.Truths.{Equal_from_is_eq, cond-not}
 
 -- an entry more is an entry
 with_entry-some : (name : List ℕ) (id : ℕ) (es : Entries ℕ) → with_entry name id es ≢ []
@@ -74,11 +58,11 @@ module _ {A : Type 0} where
       where
         by : (b : Bool) → eq_by_cmp name_cmp q name ≡ b
             → lookup (is_name q) new ≡ cond b value (find name_cmp q (listed old))
-        by true e = ap (λ w. lookup (is_name w) new) (same_name q name (is_eq-Equal _ e)) ∙ here
+        by true e = ap (λ w. lookup (is_name w) new) (same_name-Equal q name (Equal_from_is_eq _ e)) ∙ here
         by false e =
             others (is_name q) (λ x y at. nat_list_eq_equiv.congr q x.items y.items at)
             (λ k at.
-            sym (ap (pointwise nat_eq q) (same_name name k.items (is_eq-Equal _ (sym (texts_ties name k.items) ∙ at))))
+            sym (ap (pointwise nat_eq q) (same_name-Equal name k.items (Equal_from_is_eq _ (sym (texts_ties name k.items) ∙ at))))
             ∙ texts_ties q name ∙ e)
             ∙ sym (find-listed q old)
 
@@ -86,7 +70,7 @@ module _ {A : Type 0} where
       → lookup (is_name name) new ≡ Some id → KeepsOthers key_eq (is_name name) old new
       → listed new ≡ with_entry name id (listed old)
   listed-insert old new name id here others =
-      same_entries name_cmp nat_list_cmp_total same_name (listed new) (with_entry name id (listed old))
+      same_entries name_cmp nat_list_cmp_total same_name-Equal (listed new) (with_entry name id (listed old))
       (is_sorted-listed new)
       (is_sorted-put name_cmp nat_list_cmp_total name id (listed old) (is_sorted-listed old))
       (λ q. found_after old new name (Some id) here others q
@@ -96,13 +80,13 @@ module _ {A : Type 0} where
       → lookup (is_name name) new ≡ None → KeepsOthers key_eq (is_name name) old new
       → listed new ≡ without_entry name (listed old)
   listed-remove old new name here others =
-      same_entries name_cmp nat_list_cmp_total same_name (listed new) (without_entry name (listed old))
+      same_entries name_cmp nat_list_cmp_total same_name-Equal (listed new) (without_entry name (listed old))
       (is_sorted-listed new)
       (is_sorted-where_key name_cmp other (listed old) (is_sorted-listed old))
       (λ q. found_after old new name None here others q
       ∙ ap (λ b. cond b None (find name_cmp q (listed old))) (sym (texts_ties q name))
       ∙ cond-not (bytes_eq q name) None (find name_cmp q (listed old))
-      ∙ sym (find-where_key name_cmp other q (λ x tie. ap other (sym (same_name q x tie))) (listed old)))
+      ∙ sym (find-where_key name_cmp other q (λ x tie. ap other (sym (same_name-Equal q x tie))) (listed old)))
     where
       other : List ℕ → Bool
       other x = not (bytes_eq x name)

@@ -1,75 +1,48 @@
 -- The name that leads to a number, among entries as they are kept.
-use Rattle.std.proofs.Common.{◌≡◌, ℕ, zero, suc, nat_eq, nat_lt, length, ◌<◌, ◌≤◌, ltb-false, ltb-true, arith, eq-eqb, eqb-true, Bool, true, false, cond, ◌&&◌, List, [], ◌∷◌, Option, None, Some, is_some, option_map, refl, sym, ap, subst, ◌∙◌, true≢false}
+use Rattle.std.proofs.Common.{◌≡◌, ℕ, zero, suc, nat_eq, nat_lt, length, ◌<◌, ◌≤◌, ltb-false, ltb-true, arith, eq-eqb, eqb-true, Bool, true, false, cond, List, [], ◌∷◌, Option, None, Some, is_some, option_map, refl, sym, ap, subst, ◌∙◌, true≢false}
 use Rattle.std.specs.Prelude.{find, position, slice_get}
 use Rattle.std.specs.List.{position_or_len}
 use Rattle.std.proofs.lemmas.List.Folds.{find_at}
 use Rattle.std.specs.Cmp.{tied_itself}
-use Rattle.std.specs.declared.cmp.Ordering.{Ordering}
 use Rattle.std.specs.declared.cmp.Ordering.TheVariants.{Less, Equal, Greater}
 use Rattle.std.specs.declared.vec.Vec.{Vec}
 use Rattle.std.specs.FinMap.Entries.{below_all, by_order, is_sorted}
 use Rattle.std.specs.Map.{values_of}
-use Rattle.std.specs.Ordering.{eq_by_cmp, is_eq, is_lt}
+use Rattle.std.specs.Ordering.{eq_by_cmp, is_eq}
 use Rattle.std.specs.Cmp.Lexicographic.{nat_list_cmp_total}
 use Rattle.vt_spec.specs.Tree.{Entries, entry_named, name_cmp, with_entry}
 use Rattle.vt_node.specs.Listed.{HasOneName, listed}
-use Rattle.vt_node.proofs.ListedLemmas.{is_name, same_name}
+use Rattle.vt_node.proofs.ListedLemmas.{is_name}
+use Rattle.std.proofs.lemmas.Option.{same_Some}
+use Rattle.vt_spec.proofs.Found.{found_passes}
+use Rattle.vt_spec.proofs.NodeChanges.{entry_named-below, same_name-Equal}
+use Rattle.vt_spec.proofs.Truths.{Equal_from_is_eq, and_true_left, and_true_right}
 
 abbrev pub leads : ℕ → List ℕ × ℕ → Bool
 leads id entry = nat_eq id entry.1
 
-one_entry : (a b : List ℕ × ℕ) → Some a ≡ Some b → a ≡ b
-one_entry a b e = cc
-
-and_first : (a b : Bool) → (a && b) ≡ true → a ≡ true
-and_first true b e = refl
-and_first false b e = absurd (true≢false (sym e))
-
-and_second : (a b : Bool) → (a && b) ≡ true → b ≡ true
-and_second true b e = e
-and_second false b e = absurd (true≢false (sym e))
-
--- what an entry is found by leads to it
-below_none : (name : List ℕ) (entries : Entries ℕ) → below_all name_cmp name entries ≡ true
-    → entry_named name entries ≡ None
-below_none name [] e = refl
-below_none name (entry ∷ entries) e =
-    ap (λ b. cond b (Some entry.1) (entry_named name entries))
-    (apart (name_cmp name entry.0) (and_first (is_lt (name_cmp name entry.0)) _ e))
-    ∙ below_none name entries (and_second (is_lt (name_cmp name entry.0)) _ e)
-  where
-    apart : (o : Ordering) → is_lt o ≡ true → is_eq o ≡ false
-    apart Less e = refl
-    apart Equal e = absurd (true≢false (sym e))
-    apart Greater e = refl
-
 tied : (name other : List ℕ) → eq_by_cmp name_cmp name other ≡ true → name ≡ other
-tied name other e = same_name name other (by (name_cmp name other) e)
-  where
-    by : (o : Ordering) → is_eq o ≡ true → o ≡ Equal
-    by Less e = absurd (true≢false (sym e))
-    by Equal e = refl
-    by Greater e = absurd (true≢false (sym e))
+tied name other e = same_name-Equal name other (Equal_from_is_eq (name_cmp name other) e)
 
 pub found_is_named : (id : ℕ) (entries : Entries ℕ) (entry : List ℕ × ℕ) → is_sorted name_cmp entries ≡ true
     → find (leads id) entries ≡ Some entry → entry_named entry.0 entries ≡ Some id
 found_is_named id [] entry sorted e = absurd (true≢false (sym (ap is_some e)))
 found_is_named id (first ∷ entries) entry sorted e =
     by (nat_eq id first.1) refl e (λ rest.
-    found_is_named id entries entry (and_second (below_all name_cmp first.0 entries) _ sorted) rest)
+    found_is_named id entries entry (and_true_right (below_all name_cmp first.0 entries) _ sorted) rest)
   where
     later : (is : Bool) → eq_by_cmp name_cmp entry.0 first.0 ≡ is → entry_named entry.0 entries ≡ Some id
         → cond is (Some first.1) (entry_named entry.0 entries) ≡ Some id
     later true t named =
         absurd (true≢false (sym (ap is_some (sym (ap (λ n. entry_named n entries) (tied entry.0 first.0 t)
-        ∙ below_none first.0 entries (and_first (below_all name_cmp first.0 entries) _ sorted)) ∙ named))))
+        ∙ entry_named-below first.0 entries (and_true_left (below_all name_cmp first.0 entries) _ sorted)) ∙ named))))
     later false t named = named
 
     by : (b : Bool) → nat_eq id first.1 ≡ b → cond b (Some first) (find (leads id) entries) ≡ Some entry
         → (find (leads id) entries ≡ Some entry → entry_named entry.0 entries ≡ Some id)
         → entry_named entry.0 (first ∷ entries) ≡ Some id
     by true t e rest =
-        subst (λ (found : List ℕ × ℕ). entry_named found.0 (first ∷ entries) ≡ Some id) (one_entry first entry e)
+        subst (λ (found : List ℕ × ℕ). entry_named found.0 (first ∷ entries) ≡ Some id) (same_Some first entry e)
         (ap (λ o. cond (is_eq o) (Some first.1) (entry_named first.0 entries)) (tied_itself nat_list_cmp_total first.0)
         ∙ ap Some (sym (eqb-true id first.1 t)))
     by false t e rest = later (eq_by_cmp name_cmp entry.0 first.0) refl (rest e)
@@ -85,14 +58,11 @@ named_is_found id name (first ∷ entries) e = by (eq_by_cmp name_cmp name first
     right true e = refl
     right false e = e
 
-    one_number : (a b : ℕ) → Some a ≡ Some b → a ≡ b
-    one_number a b e = cc
-
     by : (b : Bool) → cond b (Some first.1) (entry_named name entries) ≡ Some id
         → (entry_named name entries ≡ Some id → is_some (find (leads id) entries) ≡ true)
         → is_some (cond (nat_eq id first.1) (Some first) (find (leads id) entries)) ≡ true
     by true e rest = ap (λ b. is_some (cond b (Some first) (find (leads id) entries)))
-        (eq-eqb id first.1 (sym (one_number first.1 id e)))
+        (eq-eqb id first.1 (sym (same_Some first.1 id e)))
     by false e rest = right (nat_eq id first.1) (rest e)
 
 -- the one name of a number is the first
@@ -142,18 +112,6 @@ within : {X : Type 0} (xs : List X) (n : ℕ) → n < length xs → is_some (sli
 within [] n near = absurd (omega (arith, near))
 within (x ∷ xs) zero near = refl
 within (x ∷ xs) (suc n) near = within xs n (omega (arith, near))
-
-found_passes : {X : Type 0} (test : X → Bool) (xs : List X) (x : X) → find test xs ≡ Some x → test x ≡ true
-found_passes test [] x e = absurd (true≢false (sym (ap is_some e)))
-found_passes {X = X} test (first ∷ xs) x e = by (test first) refl e (found_passes test xs x)
-  where
-    one_of : (a b : X) → Some a ≡ Some b → a ≡ b
-    one_of a b e = cc
-
-    by : (b : Bool) → test first ≡ b → cond b (Some first) (find test xs) ≡ Some x
-        → (find test xs ≡ Some x → test x ≡ true) → test x ≡ true
-    by true is e later = ap test (sym (one_of first x e)) ∙ is
-    by false is e later = later e
 
 no_place : {X : Type 0} (test : X → Bool) (xs : List X) → position test xs ≡ None → find test xs ≡ None
 no_place test xs none = find_at test xs ∙ by (nat_lt (position_or_len test xs) (length xs)) refl none

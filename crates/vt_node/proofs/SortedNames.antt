@@ -14,11 +14,9 @@ use Rattle.std.proofs.lemmas.List.Sorted.{IsPermutation-map, list_any-IsPermutat
 use Rattle.std.proofs.lemmas.Map.Keys.{IsDistinct-IsPermutation, apart_from_distinct, sorted_from_all_adjacent, sorted_head, sorted_tail}
 use Rattle.vt_spec.specs.Tree.{Entries, name_cmp}
 use Rattle.vt_node.specs.Listed.{listed}
-use Rattle.vt_node.proofs.ListedLemmas.{find-listed, is_name, is_sorted-listed, key_eq, same_name}
-
-both : (a b : Bool) → T a → T b → T (a && b)
-both true b p q = q
-both false b p q = p
+use Rattle.vt_node.proofs.ListedLemmas.{find-listed, is_name, is_sorted-listed, key_eq}
+use Rattle.vt_spec.proofs.NodeChanges.{same_name-Equal}
+use Rattle.vt_spec.proofs.Truths.{T_and}
 
 -- what is neither greater nor equal is less
 is_less : (r s : Ordering) → r ≡ ordering_reverse s → is_lt s ≡ false → is_eq r ≡ false → r ≡ Less
@@ -49,7 +47,7 @@ same_names : (xs ys : List (List ℕ)) → T (is_sorted name_cmp (marked xs)) �
 same_names xs ys p q alike =
     sym (names-marked xs)
     ∙ ap (map (λ e. e.0))
-    (same_entries name_cmp nat_list_cmp_total same_name (marked xs) (marked ys) p q
+    (same_entries name_cmp nat_list_cmp_total same_name-Equal (marked xs) (marked ys) p q
     (λ name. same_presence _ _ (found name)))
     ∙ names-marked ys
   where
@@ -114,13 +112,13 @@ module _ {A : Type 0} where
       → T (below_all name_cmp x.items (marked (bytes_of keys)))
   below_all-bytes_of x [] h = tt
   below_all-bytes_of x (key ∷ keys) h =
-      both _ _ (subst (λ r. T (is_lt r)) (sym h.0) tt) (below_all-bytes_of x keys h.1)
+      T_and _ _ (subst (λ r. T (is_lt r)) (sym h.0) tt) (below_all-bytes_of x keys h.1)
 
   is_sorted-bytes_of : (keys : List (Vec ℕ A)) → IsStrictlySortedBy key_cmp keys
       → T (is_sorted name_cmp (marked (bytes_of keys)))
   is_sorted-bytes_of [] h = tt
   is_sorted-bytes_of (key ∷ keys) h =
-      both _ _ (below_all-bytes_of key keys (sorted_head key_cmp key keys h))
+      T_and _ _ (below_all-bytes_of key keys (sorted_head key_cmp key keys h))
       (is_sorted-bytes_of keys (sorted_tail key_cmp key keys h))
 
   -- a look-up finds the names of the keys

@@ -13,9 +13,9 @@ use Rattle.vt_spec.specs.TreeLaws.{IsDirectory}
 use Rattle.vt_one_text.specs.OneTree.{AreApart, AreInOrder, Beside, IsFit, IsWhole, embedded, opened_in, task_there, times_in, upwards, used_in}
 use Rattle.vt_one_text.proofs.OneTreeCounts.{IsCounted, counted_changed}
 use Rattle.vt_one_text.proofs.OneTreeEntries.{changed_at, named_by, named_of, one_if}
-use Rattle.vt_one_text.proofs.OneTreeJudged.{}
 use Rattle.vt_one_text.proofs.OneTreeSettled.{IsBefore, fit_after, numbers_after, once_after, raw, settled_is}
 use Rattle.vt_one_text.proofs.OneTreeTrees.{among_times, as_long, has_entry_directory, times_append}
+use Rattle.vt_spec.proofs.Inodes.{directory_inode_is_there}
 
 -- a world that is fit counts its uses
 pub counted_start : (numbers : List ℕ) (world : World ℕ) → IsFit numbers world
@@ -165,11 +165,7 @@ module _ (numbers : List ℕ) (world : World ℕ) (fit : IsFit numbers world) wh
       by (Some inode) = refl
 
   pub directory_there : (directory : ℕ) → IsDirectory tree directory → is_some (world.inodes.inode directory) ≡ true
-  directory_there directory is = by (world.inodes.inode directory) is
-    where
-      by : (o : Option (Inode ℕ)) → is_directory_node (node_in o) ≡ true → is_some o ≡ true
-      by None e = cc
-      by (Some inode) e = refl
+  directory_there directory is = directory_inode_is_there (world.inodes.inode directory) is
 
   -- the uses of an inode
   pub uses_parts : (number : ℕ)
@@ -415,8 +411,4 @@ module _ (numbers : List ℕ) (world : World ℕ) (fit : IsFit numbers world) (p
     where
       some_directory : (directory : ℕ) → IsDirectory (tree_of (with_changed nat_eq world.inodes place change)) directory
           → is_some ((with_changed nat_eq world.inodes place change).inode directory) ≡ true
-      some_directory directory is = by ((with_changed nat_eq world.inodes place change).inode directory) is
-        where
-          by : (o : Option (Inode ℕ)) → is_directory_node (node_in o) ≡ true → is_some o ≡ true
-          by None e = cc
-          by (Some inode) e = refl
+      some_directory directory is = directory_inode_is_there ((with_changed nat_eq world.inodes place change).inode directory) is

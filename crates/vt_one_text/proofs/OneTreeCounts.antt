@@ -28,11 +28,15 @@ at_or P inode place new here there number =
     (λ t. subst (λ b. P number (cond b new (inode number))) (sym t.0) (there number t.1))
     (eqb_tells number place)
 
-own : (number : ℕ) → one_if number number ≡ 1
-own number = ap (λ b. cond b 1 0) (eq-eqb number number refl)
+pub one_if-itself : (number : ℕ) → one_if number number ≡ 1
+one_if-itself number = ap (λ b. cond b 1 0) (eq-eqb number number refl)
 
 pub other_if : (number other : ℕ) → number ≢ other → one_if number other ≡ 0
 other_if number other apart = ap (λ b. cond b 1 0) (ne_eqb number other apart)
+
+pub apart_one : (number other : ℕ) → one_if number other ≡ 0 → number ≢ other
+apart_one number other none same = let one : one_if number other ≡ 1 = ap (λ b. cond b 1 0) (eq-eqb number other same) in
+    omega arith
 
 -- an inode that is there
 pub some_inode : (o : Option (Inode ℕ)) → is_some o ≡ true → (inode : Inode ℕ) × (o ≡ Some inode)
@@ -59,7 +63,7 @@ module _ (uses : ℕ → ℕ) (node : ℕ → Option (Node ℕ)) (inodes : Inode
   counted_pinned = subst (λ o. IsCounted (λ number. one_if number place + uses number) node
       (with_inode nat_eq inodes place o)) (sym (ap used_once_more is)) (record {
         uses_are = at_or (λ number o. uses_in o ≡ one_if number place + uses number) inodes.inode place more
-            (let e = here_uses in let one : one_if place place ≡ 1 = own place in omega arith)
+            (let e = here_uses in let one : one_if place place ≡ 1 = one_if-itself place in omega arith)
             (λ number apart. let e = counted.uses_are number in let none : one_if number place
             ≡ 0 = other_if number place apart in
             omega arith);
@@ -94,7 +98,7 @@ module _ (uses : ℕ → ℕ) (node : ℕ → Option (Node ℕ)) (inodes : Inode
       (⊎_elim (λ t. last t.0 t.1) (λ t. kept t.0 (let h = t.1 in omega arith)) (leb_tells inode.uses 1))
     where
       left_here : suc (left place) ≡ inode.uses
-      left_here = let e = here_uses in let one : one_if place place ≡ 1 = own place in let f = less place in omega arith
+      left_here = let e = here_uses in let one : one_if place place ≡ 1 = one_if-itself place in let f = less place in omega arith
 
       left_there : (number : ℕ) → number ≢ place → uses_in (inodes.inode number) ≡ left number
       left_there number apart =
@@ -134,7 +138,7 @@ module _ (uses : ℕ → ℕ) (node : ℕ → Option (Node ℕ)) (inodes : Inode
                 (let all : one_if place place + times_in place
                 (removed place counted.list) ≡ times_in place counted.list = times_removed place place counted.list
                 (let h = here_listed in omega arith) in
-                let one : one_if place place ≡ 1 = own place in let h = here_listed in omega arith)
+                let one : one_if place place ≡ 1 = one_if-itself place in let h = here_listed in omega arith)
                 (λ number apart.
                 (let all : one_if number place + times_in number
                 (removed place counted.list) ≡ times_in number counted.list = times_removed place number counted.list
@@ -225,7 +229,7 @@ pub counted_new : (uses : ℕ → ℕ) (node : ℕ → Option (Node ℕ)) (inode
 counted_new uses node inodes counted number new vacant = record {
   uses_are = at_or (λ other o. uses_in o ≡ one_if other number + uses other) inodes.inode number now
       (let none : 0 ≡ uses number = sym (ap uses_in vacant) ∙ counted.uses_are number in
-      let one : one_if number number ≡ 1 = own number in omega arith)
+      let one : one_if number number ≡ 1 = one_if-itself number in omega arith)
       (λ other apart. let e = counted.uses_are other in let none : one_if other number
       ≡ 0 = other_if other number apart in omega arith);
   in_use =
@@ -244,7 +248,7 @@ counted_new uses node inodes counted number new vacant = record {
   listed = at_or (λ other o. one_if other number + times_in other counted.list
       ≡ cond (is_some o) 1 0) inodes.inode number now
       (let none : times_in number counted.list ≡ 0 = counted.listed number ∙ ap (λ o. cond (is_some o) 1 0) vacant in
-      let one : one_if number number ≡ 1 = own number in omega arith)
+      let one : one_if number number ≡ 1 = one_if-itself number in omega arith)
       (λ other apart. (let none : one_if other number ≡ 0 = other_if other number apart in
       let same : one_if other number + times_in other counted.list ≡ times_in other counted.list = omega arith in
       same) ∙ counted.listed other);

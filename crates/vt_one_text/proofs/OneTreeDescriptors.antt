@@ -13,8 +13,10 @@ use Rattle.vt_one_text.specs.OneTree.{AreApart, AreInOrder, Beside, IsFit, IsWho
 use Rattle.vt_one_text.proofs.OneTreeChanges.{StaysWhole, stays_whole, whole_counted}
 use Rattle.vt_one_text.proofs.OneTreeCounts.{IsCounted, counted_unpinned, some_inode}
 use Rattle.vt_one_text.proofs.OneTreeEntries.{one_if}
-use Rattle.vt_one_text.proofs.OneTreeTasks.{Entry, same_is}
+use Rattle.vt_one_text.proofs.OneTreeTasks.{Entry}
 use Rattle.vt_one_text.proofs.OneTreeTrees.{has_entry_directory, times_append}
+use Rattle.std.proofs.lemmas.Bool.{le-ltb, lt-ltb}
+use Rattle.vt_spec.proofs.Worlds.{same_task_name}
 
 -- Lists of descriptors
 
@@ -95,15 +97,12 @@ inserted_order number (descriptor ∷ rest) new order free =
         let above : number + 1 ≤ free_from (number + 1) rest = free_above (number + 1) rest in
         let next : descriptor.number + 1 ≡ number + 1 = omega arith in
         let here : nat_lt new.number descriptor.number ≡ false =
-        below_false new.number descriptor.number (omega arith) in
+        le-ltb new.number descriptor.number (omega arith) in
         subst (λ b. AreInOrder number (cond b (new ∷ descriptor ∷ rest) (descriptor ∷ inserted new rest))) (sym here) (
           order.0,
           subst (λ n. AreInOrder n (inserted new rest)) (sym next)
               (later (subst (λ n. AreInOrder n rest) next order.1) is),
         )
-      where
-        below_false : (a b : ℕ) → b ≤ a → nat_lt a b ≡ false
-        below_false a b h = grind arith
 
     gap : nat_eq descriptor.number number ≡ false → descriptor.number ≢ number
         → AreInOrder number (cond (nat_lt new.number descriptor.number) (new ∷ descriptor ∷ rest)
@@ -112,12 +111,9 @@ inserted_order number (descriptor ∷ rest) new order free =
         let is : new.number ≡ number = free ∙ ap (λ b. cond b (free_from (number + 1) rest) number) t in
         let low : number ≤ descriptor.number = order.0 in
         let less : number < descriptor.number = grind arith in
-        let here : nat_lt new.number descriptor.number ≡ true = below_true new.number descriptor.number (omega arith) in
+        let here : nat_lt new.number descriptor.number ≡ true = lt-ltb new.number descriptor.number (omega arith) in
         subst (λ b. AreInOrder number (cond b (new ∷ descriptor ∷ rest) (descriptor ∷ inserted new rest))) (sym here)
         (omega arith, (omega arith, order.1))
-      where
-        below_true : (a b : ℕ) → a < b → nat_lt a b ≡ true
-        below_true a b h = grind arith
 
 pub inserted_times : (number : ℕ) (new : Descriptor ℕ) (descriptors : List (Descriptor ℕ))
     → times_in number (map (λ descriptor. descriptor.file) (inserted new descriptors))
@@ -272,7 +268,7 @@ find_stays name other (first ∷ rest) entry apart e =
     by true f true g e later =
         let found : find (is_called other) rest ≡ Some entry = later e in
         let none : find (is_called other) rest ≡ None =
-        ap (λ n. find (is_called n) rest) (same_is other first.0 g) ∙ apart.0 in
+        ap (λ n. find (is_called n) rest) (same_task_name other first.0 g) ∙ apart.0 in
         absurd (true≢false (sym (ap is_some found) ∙ ap is_some none))
     by true f false g e later = later e
     by false f true g e later =
@@ -331,7 +327,7 @@ uses_stay number name task (first ∷ rest) apart e =
     by true f e later =
         let same : first ≡ (name, task) = cc in
         let none : find (is_called name) rest ≡ None =
-        ap (λ n. find (is_called n) rest) (same_is name first.0 f) ∙ apart.0 in
+        ap (λ n. find (is_called n) rest) (same_task_name name first.0 f) ∙ apart.0 in
         times_append number (files_of first) (flat_map files_of rest)
         ∙ (λ i. times_in number (files_of (same i)) + times_in number
         (flat_map files_of (sym (none_leaves name rest none) i)))

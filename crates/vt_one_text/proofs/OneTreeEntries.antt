@@ -14,6 +14,7 @@ use Rattle.vt_spec.specs.Tree.{Entries, Node, entry_named, name_cmp, with_entry}
 use Rattle.vt_one_text.specs.OneTree.{times_in}
 use Rattle.vt_one_text.proofs.OneTreeTrees.{times_append}
 use Rattle.vt_spec.proofs.Nodes.{passes}
+use Rattle.vt_spec.proofs.NodeChanges.{entry_named-below}
 
 abbrev pub targets : Entries ℕ → List ℕ
 targets entries = map (λ entry. entry.1) entries
@@ -30,19 +31,6 @@ is_less : (o : Ordering) → is_lt o ≡ true → o ≡ Less
 is_less Less e = refl
 is_less Equal e = cc
 is_less Greater e = cc
-
-is_equal : (o : Ordering) → is_eq o ≡ true → o ≡ Equal
-is_equal Less e = cc
-is_equal Equal e = refl
-is_equal Greater e = cc
-
--- a name below all is not there
-find_below : (name : List ℕ) (entries : Entries ℕ) → below_all name_cmp name entries ≡ true
-    → entry_named name entries ≡ None
-find_below name [] e = refl
-find_below name (entry ∷ rest) e =
-    let parts = and_parts (is_lt (name_cmp name entry.0)) (below_all name_cmp name rest) e in
-    ap (λ o. cond (is_eq o) (Some entry.1) (entry_named name rest)) (is_less _ parts.0) ∙ find_below name rest parts.1
 
 below_less : (name other : List ℕ) (entries : Entries ℕ) → name_cmp name other ≡ Less
     → below_all name_cmp other entries ≡ true
@@ -74,7 +62,7 @@ times_put number name object (entry ∷ rest) sorted =
         (cond (is_eq o) (Some entry.1) (entry_named name rest))
         ≡ times_in number (targets (entry ∷ rest)) + one_if number object
     by Less e later =
-        let none : entry_named name rest ≡ None = find_below name rest (below_less name entry.0 rest e parts.0) in
+        let none : entry_named name rest ≡ None = entry_named-below name rest (below_less name entry.0 rest e parts.0) in
         ap (λ o. (one_if number object +
         (one_if number entry.1 + times_in number (targets rest))) + one_if_some number o) none
         ∙ (let aside : (one_if number object + (one_if number entry.1 + times_in number (targets rest))) + 0 ≡
@@ -103,7 +91,7 @@ times_without number name (entry ∷ rest) sorted =
     by true e true f later =
         let same : entry.0 ≡ name = (bytes_decides entry.0 name).0 e in
         let none : entry_named name rest ≡ None =
-        find_below name rest (subst (λ n. below_all name_cmp n rest ≡ true) same parts.0) in
+        entry_named-below name rest (subst (λ n. below_all name_cmp n rest ≡ true) same parts.0) in
         let all : times_in number (targets (without_entry name rest)) + 0 ≡ times_in number (targets rest) =
         subst (λ o. times_in number (targets (without_entry name rest)) + one_if_some number o ≡ times_in number
         (targets rest)) none later in

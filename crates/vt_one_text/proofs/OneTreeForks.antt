@@ -19,9 +19,9 @@ use Rattle.vt_spec.specs.OneTree.World.{Task, World, changed_if_called, is_calle
 use Rattle.vt_spec.specs.Rights.{Credentials, cap_setgid, cap_setuid}
 use Rattle.vt_one_text.specs.OneTree.{AreApart, AreInOrder, Beside, DropsAgree, ForksAgree, IsAnsweredAlike, IsFit, UmasksAgree, embedded, files_of, opened_in, task_there, times_in, used_in}
 use Rattle.vt_one_text.proofs.OneTreeJudged.{IsChanged, IsJudged, done, judged_alike, judged_finished, policy_alike, refused, still_settled}
-use Rattle.vt_one_text.proofs.OneTreeSettled.{}
-use Rattle.vt_one_text.proofs.OneTreeTasks.{Entry, apart_changed, changed_there, find_there, found_is, found_name, same_is, same_self, task_changed, uses_changed}
+use Rattle.vt_one_text.proofs.OneTreeTasks.{Entry, apart_changed, changed_there, find_there, found_is, found_name, task_changed, uses_changed}
 use Rattle.vt_one_text.proofs.OneTreeTrees.{times_append}
+use Rattle.vt_spec.proofs.Worlds.{same_name_itself, same_task_name}
 
 -- The same tree with other tasks stays fit, where they have the same uses.
 pub fit_of_tasks : (numbers : List ℕ) (world : World ℕ) (tasks : List Entry) → IsFit numbers world
@@ -258,7 +258,7 @@ task_more name entries last task e = by (find (is_called name) entries) refl
         inside : (b : Bool) → is_called name last ≡ b
             → option_map (λ (entry : Entry). entry.1) (cond b (Some last) None) ≡ Some task
             → (None ≡ Some task) ⊎ ((name ≡ last.0) × (last.1 ≡ task))
-        inside true c e = inr (same_is name last.0 c, cc)
+        inside true c e = inr (same_task_name name last.0 c, cc)
         inside false c e = cc
     by (Some entry) f = inl (ap (option_map (λ entry. entry.1)) (sym (find_more name entries last (Some entry) f)) ∙ e)
 
@@ -279,7 +279,7 @@ apart_more (entry ∷ rest) last apart none = by (is_called last.0 entry) refl n
       where
         differ : (b : Bool) → is_called entry.0 last ≡ b → b ≡ false
         differ false d = refl
-        differ true d = sym (same_self last.0) ∙ ap (same_name last.0) (sym (same_is entry.0 last.0 d)) ∙ c
+        differ true d = sym (same_name_itself last.0) ∙ ap (same_name last.0) (sym (same_task_name entry.0 last.0 d)) ∙ c
 
 uses_more : (number : ℕ) (entries : List Entry) (last : Entry) → files_of last ≡ []
     → times_in number (flat_map files_of (entries ++ (last ∷ []))) ≡ times_in number (flat_map files_of entries)
@@ -420,7 +420,7 @@ module _ (beside : Beside) (world : World ℕ) (name : TaskName) (task : Task �
                   (Rattle.vt_one_text.proofs.OneTreeTasks.find_changed name parent name world.tasks
                   ∙ ap (option_map (changed_if_called name parent)) is)
                   ∙ ap (λ t. option_map (λ (entry : Entry). entry.1) (Some (cond t (name, parent) (name, task))))
-                  (same_self name)
+                  (same_name_itself name)
 
               own : other ≡ name → number ≡ task.forks + 1 → number ≤ b.forks
               own here last =
@@ -440,7 +440,7 @@ module _ (beside : Beside) (world : World ℕ) (name : TaskName) (task : Task �
       (λ i. (changed_there beside world.inodes.root name parent world.tasks
       ∙ map_more beside world.inodes.root new.0 with_parent.tasks no_child_there) i
       ++ (record (task_there beside world.inodes.root new) {
-        change = cond (sym (same_self new.0) i) 0
+        change = cond (sym (same_name_itself new.0) i) 0
             (beside.task_change new.0);
       } ∷ []))
       ∙ sym (map_append (task_there beside_child world.inodes.root) with_parent.tasks new)

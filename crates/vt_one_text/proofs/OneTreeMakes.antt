@@ -15,7 +15,7 @@ use Rattle.vt_spec.specs.Inodes.{Inode, Inodes, inode_with_node, node_in, tree_o
 use Rattle.vt_spec.specs.OneTree.Permits.Permit.{ToChange, ToOpenNew}
 use Rattle.vt_spec.specs.OneTree.World.{Task, World, is_called, with_inodes}
 use Rattle.vt_spec.specs.Rights.{is_directory}
-use Rattle.vt_spec.specs.Tree.{Content, Node, Tree, entries_in, entries_of, entry_named, is_directory_node, kind_of, name_cmp, new_directory, node_with_entry, parent_in, parent_of, with_entries, with_entry}
+use Rattle.vt_spec.specs.Tree.{Content, Node, Tree, entries_in, entries_of, entry_named, is_directory_node, kind_of, name_cmp, new_directory, node_with_entry, parent_in, parent_of, with_entry}
 use Rattle.vt_spec.specs.Tree.Content.{Directory, Regular, Symlink, Whiteout}
 use Rattle.vt_spec.specs.TreeLaws.{IsDirectory}
 use Rattle.vt_one_text.specs.OneTree.{Beside, IsFit, IsWhole, embedded, location_there, opened_in, task_there, times_in, upwards, used_in}
@@ -27,46 +27,10 @@ use Rattle.vt_one_text.proofs.OneTreeForks.{changed_to}
 use Rattle.vt_one_text.proofs.OneTreeJudged.{IsChanged}
 use Rattle.vt_one_text.proofs.OneTreeOpens.{opened_alike}
 use Rattle.vt_one_text.proofs.OneTreeTrees.{among_times, as_long, has_entry_directory, times_among, times_append}
+use Rattle.vt_spec.proofs.Inodes.{node_in-none}
+use Rattle.vt_spec.proofs.Nodes.{entries-node_with_entry, is_directory-node_with_entry, parent-node_with_entry}
 
 -- a directory with an entry more
-
-pub directory_with_entry : (name : List ℕ) (number : ℕ) (o : Option (Node ℕ))
-    → is_directory_node (node_with_entry name number o) ≡ is_directory_node o
-directory_with_entry name number None = refl
-directory_with_entry name number (Some node) = by node.content
-  where
-    by : (content : Content ℕ)
-        → is_directory (kind_of (with_entries content (with_entry name number (entries_of content))))
-        ≡ is_directory (kind_of content)
-    by (Directory parent entries opaque) = refl
-    by (Regular bytes) = refl
-    by (Symlink text) = refl
-    by Whiteout = refl
-
-pub parent_with_entry : (name : List ℕ) (number own : ℕ) (o : Option (Node ℕ))
-    → parent_in own (node_with_entry name number o) ≡ parent_in own o
-parent_with_entry name number own None = refl
-parent_with_entry name number own (Some node) = by node.content
-  where
-    by : (content : Content ℕ) → parent_of own (with_entries content (with_entry name number (entries_of content)))
-        ≡ parent_of own content
-    by (Directory parent entries opaque) = refl
-    by (Regular bytes) = refl
-    by (Symlink text) = refl
-    by Whiteout = refl
-
-pub entries_with_entry : (name : List ℕ) (number : ℕ) (o : Option (Node ℕ)) → is_directory_node o ≡ true
-    → entries_in (node_with_entry name number o) ≡ with_entry name number (entries_in o)
-entries_with_entry name number None d = cc
-entries_with_entry name number (Some node) d = by node.content d
-  where
-    by : (content : Content ℕ) → is_directory (kind_of content) ≡ true
-        → entries_of (with_entries content (with_entry name number (entries_of content)))
-        ≡ with_entry name number (entries_of content)
-    by (Directory parent entries opaque) e = refl
-    by (Regular bytes) e = cc
-    by (Symlink text) e = cc
-    by Whiteout e = cc
 
 -- what a new object holds
 pub new_entries : (directory : ℕ) (content : Content ℕ)
@@ -149,12 +113,12 @@ module _ (numbers : List ℕ) (world : World ℕ) (fit : IsFit numbers world) (d
       ∙ ap is_some vacant)
 
   directory_before : (n : ℕ) → n ≢ number → is_directory_node (node_made n) ≡ true → IsDirectory tree n
-  directory_before n other d = sym (part_made is_directory_node (directory_with_entry name number) n other) ∙ d
+  directory_before n other d = sym (part_made is_directory_node (is_directory-node_with_entry name number) n other) ∙ d
 
   -- the entries
   entries_there : entries_in (node_with_entry name number (tree.node directory))
       ≡ with_entry name number (entries_in (tree.node directory))
-  entries_there = entries_with_entry name number (tree.node directory) is
+  entries_there = entries-node_with_entry name number (tree.node directory) is
 
   targets_there : (n : ℕ) → times_in n (targets_in (node_with_entry name number (tree.node directory))) ≡ times_in n
       (targets_in (tree.node directory)) + one_if n number
@@ -219,7 +183,7 @@ module _ (numbers : List ℕ) (world : World ℕ) (fit : IsFit numbers world) (d
   up_made zero d is_d = refl
   up_made (suc steps) d is_d =
       ap (upwards (bare world.inodes.root node_made) steps)
-      (part_made (parent_in d) (parent_with_entry name number d) d (old_apart d is_d))
+      (part_made (parent_in d) (parent-node_with_entry name number d) d (old_apart d is_d))
       ∙ up_made steps (parent_in d (tree.node d))
       (Rattle.vt_one_text.proofs.OneTreeTrees.parent_is tree fit.whole d is_d)
 
@@ -231,10 +195,10 @@ module _ (numbers : List ℕ) (world : World ℕ) (fit : IsFit numbers world) (d
   whole_made = whole_counted uses_made node_made inodes_made counted_made (record {
     root_stays = old_some world.inodes.root fit.whole.root_directory;
     root_directory =
-        part_made is_directory_node (directory_with_entry name number) world.inodes.root
+        part_made is_directory_node (is_directory-node_with_entry name number) world.inodes.root
         (old_apart world.inodes.root fit.whole.root_directory) ∙ fit.whole.root_directory;
     root_parent =
-        part_made (parent_in world.inodes.root) (parent_with_entry name number world.inodes.root) world.inodes.root
+        part_made (parent_in world.inodes.root) (parent-node_with_entry name number world.inodes.root) world.inodes.root
         (old_apart world.inodes.root fit.whole.root_directory) ∙ fit.whole.root_parent;
     in_order = order;
     in_parent = λ d there is_d other. lies d is_d other (eqb_tells d number);
@@ -278,7 +242,7 @@ module _ (numbers : List ℕ) (world : World ℕ) (fit : IsFit numbers world) (d
           has_entry_directory tree (parent_in d (tree.node d)) d entry in
           subst (λ p. (has_entry_to nat_eq (bare world.inodes.root node_made) p d ≡ true)
           × (is_some (inodes_made.inode p) ≡ true))
-          (sym (part_made (parent_in d) (parent_with_entry name number d) d t.1)) (
+          (sym (part_made (parent_in d) (parent-node_with_entry name number d) d t.1)) (
             entry_kept (parent_in d (tree.node d)) d (old_apart (parent_in d (tree.node d)) parent) entry,
             old_some
                 (parent_in d (tree.node d)) parent,
@@ -323,10 +287,6 @@ module _ (numbers : List ℕ) (world : World ℕ) (fit : IsFit numbers world) (d
   node_is : (n : ℕ) → (tree_of inodes_made).node n ≡ node_made n
   node_is n = by (is_some (inodes_made.inode n)) refl
     where
-      none : (o : Option (Inode ℕ)) → is_some o ≡ false → node_in o ≡ None
-      none None e = refl
-      none (Some inode) e = cc
-
       by : (b : Bool) → is_some (inodes_made.inode n) ≡ b → (tree_of inodes_made).node n ≡ node_made n
       by true e = sym (counted_made.kept n e)
       by false e =
@@ -339,11 +299,11 @@ module _ (numbers : List ℕ) (world : World ℕ) (fit : IsFit numbers world) (d
           let no_directory : n ≢ directory =
           (λ (same : n ≡ directory). true≢false (sym (directory_there numbers world fit directory is)
           ∙ ap (λ m. is_some (world.inodes.inode m)) (sym same) ∙ gone)) in
-          none (inodes_made.inode n) e
+          node_in-none (inodes_made.inode n) e
           ∙ sym (made_other n other
           ∙ ap (λ b. cond b (node_with_entry name number (tree.node directory)) (tree.node n))
           (ne_eqb n directory no_directory)
-          ∙ none (world.inodes.inode n) gone)
+          ∙ node_in-none (world.inodes.inode n) gone)
 
   named_now : (n : ℕ) → times_in n (named_by node_made (number ∷ numbers))
       ≡ one_if n number + times_in n (named_by tree.node numbers)

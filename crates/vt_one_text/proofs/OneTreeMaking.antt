@@ -40,6 +40,7 @@ use Rattle.vt_one_text.proofs.OneTreeMakes.{made_alike, made_opened}
 use Rattle.vt_one_text.proofs.OneTreeOpens.{open_file_alike}
 use Rattle.vt_one_text.proofs.OneTreeRewrites.{bytes_set}
 use Rattle.vt_one_text.proofs.OneTreeWalks.{IsPlace, IsPlaceOf, file_walk_alike, file_walk_is, ifok_then, ifok_unless, new_leaf_walk_alike, new_walk_alike, new_walk_is, object_walk_alike}
+use Rattle.vt_spec.proofs.Truths.{or_false_left}
 
 module _ (beside : Beside) (world : World ℕ) (name : TaskName) (task : Task ℕ) (fit : IsFit beside.numbers world)
     (is : find (is_called name) world.tasks ≡ Some (name, task)) (fresh : Fresh ℕ)
@@ -189,10 +190,6 @@ module _ (beside : Beside) (world : World ℕ) (name : TaskName) (task : Task �
       (Outcomes.granted Done (with_made parent (name_of last) (new_file task file_mode bytes)))
       (inr (made_named parent last (new_file task file_mode bytes) place named (inr refl))))
 
-  either_false : (a b : Bool) → (a || b) ≡ false → a ≡ false
-  either_false true b e = e
-  either_false false b e = refl
-
   write_alike : (path bytes : List ℕ)
       → Judged (write_permit (fresh 0) tree task path bytes)
       (Making.write_outcome nat_eq fresh there there_task path bytes)
@@ -205,7 +202,7 @@ module _ (beside : Beside) (world : World ℕ) (name : TaskName) (task : Task �
       (Making.written nat_eq fresh there there_task (place_there place steps) bytes
       (option_map location_there place.object))
       (λ pass. written_alike place.parent place.last place.object place.slash steps bytes (place_file path place e)
-      (either_false (is_special place.last) place.slash pass.0)))
+      (or_false_left (is_special place.last) place.slash pass.0)))
 
   -- a new file is opened
   created_alike : (parent : ℕ) (last : LastWord) (slash : Bool) (steps : Steps) (access : Access) (mode : ℕ)
@@ -298,7 +295,7 @@ module _ (beside : Beside) (world : World ℕ) (name : TaskName) (task : Task �
       (option_map location_there place.object))
       (λ pass. opened_or_alike place.parent place.last place.object place.slash steps access mode
       (place_file path place e)
-      (either_false (is_special place.last) place.slash pass.0)))
+      (or_false_left (is_special place.last) place.slash pass.0)))
   opened_by_alike path access (Exclusive mode) =
       after_alike there Judged denied place_there (new_walk tree who path) _ _ _
       (new_walk_alike beside world (name, task) fit path)

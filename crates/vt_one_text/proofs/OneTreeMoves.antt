@@ -1,5 +1,5 @@
 -- A name is moved alike: rename.
-use Rattle.std.proofs.Common.{◌≡◌, ◌≢◌, refl, sym, ap, subst, ◌∙◌, ⊎_elim, inl, inr, ◌⊎◌, ℕ, zero, suc, ◌+◌, ◌≤◌, nat_eq, eq-eqb, Bool, true, false, cond, not, List, [], ◌∷◌, ◌++◌, map, Option, Some, None, is_some, arith}
+use Rattle.std.proofs.Common.{◌≡◌, ◌≢◌, refl, sym, ap, subst, ◌∙◌, ⊎_elim, ◌⊎◌, ℕ, zero, suc, ◌+◌, ◌≤◌, nat_eq, eq-eqb, Bool, true, false, cond, not, List, [], ◌∷◌, ◌++◌, map, Option, Some, None, is_some, arith}
 use Rattle.std.specs.Cmp.Lexicographic.{bytes_decides, texts_ties}
 use Rattle.std.specs.FinMap.Entries.{find-where_key, is_sorted}
 use Rattle.std.specs.Str.{bytes_eq}
@@ -14,13 +14,15 @@ use Rattle.vt_spec.specs.Tree.{Entries, Node, Tree, entries_in, entry_named, is_
 use Rattle.vt_spec.specs.TreeLaws.{IsDirectory}
 use Rattle.vt_one_text.specs.OneTree.{Beside, IsFit, embedded, opened_in, task_there, times_in, upwards, used_in}
 use Rattle.vt_one_text.proofs.OneTreeChanges.{bare, counted_start, directory_there, directory_uses, uses_parts}
-use Rattle.vt_one_text.proofs.OneTreeCounts.{IsCounted, counted_unpinned, other_if, some_inode}
+use Rattle.vt_one_text.proofs.OneTreeCounts.{apart_one, IsCounted, counted_unpinned, other_if, some_inode, one_if-itself}
 use Rattle.vt_one_text.proofs.OneTreeDescriptors.{counted_some}
 use Rattle.vt_one_text.proofs.OneTreeEntries.{found_target, named_by, named_changed, named_of, one_if, one_if_some, sorted_put, sorted_without, targets, times_put, times_without}
-use Rattle.vt_one_text.proofs.OneTreeMakes.{directory_with_entry, entries_with_entry, parent_with_entry}
-use Rattle.vt_one_text.proofs.OneTreeNames.{IsRearranged, at_here, at_other, at_place, counted_at, directory_with_parent, directory_without, entries_with_parent, entries_without, parent_with_parent, parent_without, part_at, rearranged, some_with, some_with_parent, some_without, sorted_at}
+use Rattle.vt_one_text.proofs.OneTreeNames.{IsRearranged, at_here, at_other, at_place, counted_at, part_at, rearranged, sorted_at}
 use Rattle.vt_one_text.proofs.OneTreeSettled.{raw}
 use Rattle.vt_one_text.proofs.OneTreeTrees.{IsAway, among_times, away, parent_is, times_among, way_up}
+use Rattle.vt_spec.proofs.NodeChanges.{entries-node_with_parent, entries-node_without_entry, is_directory-node_with_parent, is_directory-node_without_entry, is_some-node_with_parent, is_some-node_without_entry, parent-node_with_parent, parent-node_without_entry}
+use Rattle.vt_spec.proofs.Nodes.{entries-node_with_entry, is_directory-node_with_entry, is_some-node_with_entry, parent-node_with_entry}
+use Rattle.vt_spec.proofs.Truths.{zero_or_some}
 
 -- changes at two places may change places
 pub commute : (node : ℕ → Option (Node ℕ)) (a b : ℕ) (f g : Option (Node ℕ) → Option (Node ℕ)) → a ≢ b → (n : ℕ)
@@ -81,61 +83,55 @@ module _ (beside : Beside) (world : World ℕ) (task_name : TaskName) (task : Ta
   abbrev pub inodes_moved : Inodes ℕ
   inodes_moved = without_replaced nat_eq inodes_under replaced
 
-  own : (n : ℕ) → one_if n n ≡ 1
-  own n = ap (λ b. cond b 1 0) (eq-eqb n n refl)
-
   -- parts
   directory_on : (n : ℕ) → is_directory_node (node_on n) ≡ is_directory_node (tree.node n)
   directory_on n =
       part_at is_directory_node node_off to (node_with_entry new object)
-      (directory_with_entry new object (node_off to)) n
-      ∙ part_at is_directory_node tree.node from (node_without_entry old) (directory_without old (tree.node from)) n
+      (is_directory-node_with_entry new object (node_off to)) n
+      ∙ part_at is_directory_node tree.node from (node_without_entry old) (is_directory-node_without_entry old (tree.node from)) n
 
   directory_moved : (n : ℕ) → is_directory_node (node_moved replaced n) ≡ is_directory_node (tree.node n)
   directory_moved n = by replaced
     where
       under : is_directory_node (node_under n) ≡ is_directory_node (tree.node n)
       under = part_at is_directory_node node_on object (node_with_parent to)
-          (directory_with_parent to (node_on object)) n ∙ directory_on n
+          (is_directory-node_with_parent to (node_on object)) n ∙ directory_on n
 
       by : (o : Option ℕ) → is_directory_node (node_moved o n) ≡ is_directory_node (tree.node n)
       by None = under
       by (Some gone) =
           part_at is_directory_node node_under gone (node_with_parent gone)
-          (directory_with_parent gone (node_under gone)) n ∙ under
+          (is_directory-node_with_parent gone (node_under gone)) n ∙ under
 
   some_moved : (n : ℕ) → is_some (node_moved replaced n) ≡ is_some (tree.node n)
   some_moved n = by replaced
     where
       under : is_some (node_under n) ≡ is_some (tree.node n)
       under =
-          part_at is_some node_on object (node_with_parent to) (some_with_parent to (node_on object)) n
-          ∙ part_at is_some node_off to (node_with_entry new object) (some_with new object (node_off to)) n
-          ∙ part_at is_some tree.node from (node_without_entry old) (some_without old (tree.node from)) n
+          part_at is_some node_on object (node_with_parent to) (is_some-node_with_parent to (node_on object)) n
+          ∙ part_at is_some node_off to (node_with_entry new object) (is_some-node_with_entry new object (node_off to)) n
+          ∙ part_at is_some tree.node from (node_without_entry old) (is_some-node_without_entry old (tree.node from)) n
 
       by : (o : Option ℕ) → is_some (node_moved o n) ≡ is_some (tree.node n)
       by None = under
       by (Some gone) = part_at is_some node_under gone (node_with_parent gone)
-          (some_with_parent gone (node_under gone)) n ∙ under
+          (is_some-node_with_parent gone (node_under gone)) n ∙ under
 
   entries_moved : (n : ℕ) → entries_in (node_moved replaced n) ≡ entries_in (node_on n)
   entries_moved n = by replaced
     where
       under : entries_in (node_under n) ≡ entries_in (node_on n)
-      under = part_at entries_in node_on object (node_with_parent to) (entries_with_parent to (node_on object)) n
+      under = part_at entries_in node_on object (node_with_parent to) (entries-node_with_parent to (node_on object)) n
 
       by : (o : Option ℕ) → entries_in (node_moved o n) ≡ entries_in (node_on n)
       by None = under
       by (Some gone) = part_at entries_in node_under gone (node_with_parent gone)
-          (entries_with_parent gone (node_under gone)) n ∙ under
+          (entries-node_with_parent gone (node_under gone)) n ∙ under
 
   parent_on : (n : ℕ) → parent_in n (node_on n) ≡ parent_in n (tree.node n)
   parent_on n =
-      part_at (parent_in n) node_off to (node_with_entry new object) (parent_with_entry new object n (node_off to)) n
-      ∙ part_at (parent_in n) tree.node from (node_without_entry old) (parent_without old n (tree.node from)) n
-
-  apart_one : (n m : ℕ) → one_if n m ≡ 0 → n ≢ m
-  apart_one n m none same = let one : one_if n m ≡ 1 = ap (λ b. cond b 1 0) (eq-eqb n m same) in omega arith
+      part_at (parent_in n) node_off to (node_with_entry new object) (parent-node_with_entry new object n (node_off to)) n
+      ∙ part_at (parent_in n) tree.node from (node_without_entry old) (parent-node_without_entry old n (tree.node from)) n
 
   not_gone : (n : ℕ) (change : ℕ → Option (Node ℕ) → Option (Node ℕ)) (o : Option ℕ) → one_if_some n o ≡ 0
       → node_moved o n ≡ node_under n
@@ -151,7 +147,7 @@ module _ (beside : Beside) (world : World ℕ) (task_name : TaskName) (task : Ta
   parent_object : IsDirectory tree object → parent_in object (node_moved replaced object) ≡ to
   parent_object is =
       ap (parent_in object) (not_gone object (λ m o. o) replaced other ∙ at_here node_on object (node_with_parent to))
-      ∙ parent_with_parent to object (node_on object) (directory_on object ∙ is)
+      ∙ parent-node_with_parent to object (node_on object) (directory_on object ∙ is)
 
   -- names
   once : (d : ℕ) → IsDirectory tree d → times_in d beside.numbers ≡ 1
@@ -168,25 +164,25 @@ module _ (beside : Beside) (world : World ℕ) (task_name : TaskName) (task : Ta
       ap (one_if_some n) leads in
       let same : times_in n (targets_in (node_without_entry old (tree.node from))) ≡ times_in n
       (targets (without_entry old (entries_in (tree.node from)))) = ap (λ e. times_in n (targets e))
-      (entries_without old (tree.node from)) in
+      (entries-node_without_entry old (tree.node from)) in
       omega arith
 
   off_order : (n : ℕ) → is_sorted name_cmp (entries_in (node_off n)) ≡ true
   off_order =
       sorted_at tree.node from (node_without_entry old) fit.whole.in_order
-      (ap (is_sorted name_cmp) (entries_without old (tree.node from))
+      (ap (is_sorted name_cmp) (entries-node_without_entry old (tree.node from))
       ∙ sorted_without old (entries_in (tree.node from)) (fit.whole.in_order from))
 
   to_off : is_directory_node (node_off to) ≡ true
   to_off = part_at is_directory_node tree.node from (node_without_entry old)
-      (directory_without old (tree.node from)) to ∙ to_is
+      (is_directory-node_without_entry old (tree.node from)) to ∙ to_is
 
   -- the new name still leads where it led
   finds_off : entry_named new (entries_in (node_off to)) ≡ replaced
   finds_off =
       ⊎_elim
       (λ t. ap (λ b. entry_named new (entries_in (cond b (node_without_entry old (tree.node from)) (tree.node to)))) t.0
-      ∙ ap (entry_named new) (entries_without old (tree.node from))
+      ∙ ap (entry_named new) (entries-node_without_entry old (tree.node from))
       ∙ here t.1 (bytes_eq new old) refl)
       (λ t. ap (λ b. entry_named new
       (entries_in (cond b (node_without_entry old (tree.node from)) (tree.node to)))) t.0 ∙ finds)
@@ -199,7 +195,7 @@ module _ (beside : Beside) (world : World ℕ) (task_name : TaskName) (task : Ta
           let it : replaced ≡ Some object =
           sym finds ∙ (λ i. entry_named (name i) (entries_in (tree.node (same i)))) ∙ leads in
           let one : one_if_some object replaced ≡ one_if object object = ap (one_if_some object) it in
-          let self = own object in
+          let self = one_if-itself object in
           absurd (omega (arith, other))
       here same false e =
           find_without old new (entries_in (tree.node from)) e
@@ -216,7 +212,7 @@ module _ (beside : Beside) (world : World ℕ) (task_name : TaskName) (task : Ta
       ap (one_if_some n) finds_off in
       let same : times_in n (targets_in (node_with_entry new object (node_off to))) ≡ times_in n
       (targets (with_entry new object (entries_in (node_off to)))) = ap (λ e. times_in n (targets e))
-      (entries_with_entry new object (node_off to) to_off) in
+      (entries-node_with_entry new object (node_off to) to_off) in
       omega arith
 
   abbrev uses_moved : ℕ → ℕ
@@ -252,7 +248,7 @@ module _ (beside : Beside) (world : World ℕ) (task_name : TaskName) (task : Ta
       named_of n tree.node d beside.numbers (let o = once d is in omega arith) in omega arith
 
   object_target : 1 ≤ times_in object (targets_in (tree.node from))
-  object_target = let off = off_targets object in let one = own object in omega arith
+  object_target = let off = off_targets object in let one = one_if-itself object in omega arith
 
   object_used : 1 ≤ uses_was object
   object_used =
@@ -281,11 +277,7 @@ module _ (beside : Beside) (world : World ℕ) (task_name : TaskName) (task : Ta
       omega arith
 
   none_or_one : (n : ℕ) → (one_if_some n replaced ≡ 0) ⊎ (1 ≤ one_if_some n replaced)
-  none_or_one n = by (one_if_some n replaced)
-    where
-      by : (k : ℕ) → (k ≡ 0) ⊎ (1 ≤ k)
-      by zero = inl refl
-      by (suc k) = inr (omega arith)
+  none_or_one n = zero_or_some (one_if_some n replaced)
 
   full_stays : (d n : ℕ) → 1 ≤ times_in n (targets_in (tree.node d)) → one_if_some d replaced ≡ 0
   full_stays d n full =
@@ -336,7 +328,7 @@ module _ (beside : Beside) (world : World ℕ) (task_name : TaskName) (task : Ta
   new_entry =
       times_among object (targets_in (node_moved replaced to))
       (subst (λ l. 1 ≤ times_in object (targets l)) (sym (entries_moved to))
-      (let on = on_targets object in let one = own object in
+      (let on = on_targets object in let one = one_if-itself object in
       let same : times_in object (targets_in (node_on to)) ≡ times_in object
       (targets_in (node_with_entry new object (node_off to))) = ap (λ o. times_in object (targets_in o))
       (at_here node_off to (node_with_entry new object)) in
@@ -351,7 +343,7 @@ module _ (beside : Beside) (world : World ℕ) (task_name : TaskName) (task : Ta
           (λ i. λ n. (let l = less n in let none : one_if_some n replaced ≡ 0 = ap (one_if_some n) e in
           let same : uses_was n ≡ uses_moved n = omega arith in same) i) counted_under
       by (Some gone) e =
-          let one : one_if_some gone replaced ≡ 1 = ap (one_if_some gone) e ∙ own gone in
+          let one : one_if_some gone replaced ≡ 1 = ap (one_if_some gone) e ∙ one_if-itself gone in
           let used : 1 ≤ uses_was gone = (let l = less gone in omega arith) in
           let second = counted_at uses_was node_under inodes_under gone (node_with_parent gone) counted_under used
           (λ some. (_, refl)) in
@@ -390,7 +382,7 @@ module _ (beside : Beside) (world : World ℕ) (task_name : TaskName) (task : Ta
   root_unnamed d is =
       let named : times_in world.inodes.root (named_by tree.node beside.numbers) + one_if world.inodes.root world.inodes.root ≡ 1 =
       (directory_uses beside.numbers world fit world.inodes.root fit.whole.root_directory).1 in
-      let self = own world.inodes.root in
+      let self = one_if-itself world.inodes.root in
       let all : times_in world.inodes.root (targets_in (tree.node d)) ≤ times_in world.inodes.root (named_by tree.node beside.numbers) =
       named_of world.inodes.root tree.node d beside.numbers (let o = once d is in omega arith) in
       omega arith
@@ -468,7 +460,7 @@ module _ (beside : Beside) (world : World ℕ) (task_name : TaskName) (task : Ta
           (parent_moved world.inodes.root root_apart root_stays ∙ fit.whole.root_parent);
       in_order = λ n. ap (is_sorted name_cmp) (entries_moved n)
           ∙ sorted_at node_off to (node_with_entry new object) off_order
-          (ap (is_sorted name_cmp) (entries_with_entry new object (node_off to) to_off)
+          (ap (is_sorted name_cmp) (entries-node_with_entry new object (node_off to) to_off)
           ∙ sorted_put new object (entries_in (node_off to)) (off_order to)) n;
       in_parent = λ d there is other_root.
           lies d there (sym (directory_moved d) ∙ is) (λ e. other_root (e ∙ sym root_is));

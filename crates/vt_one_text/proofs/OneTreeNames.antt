@@ -2,7 +2,7 @@
 use Rattle.std.proofs.Common.{◌≡◌, ◌≢◌, refl, sym, ap, subst, ◌∙◌, ⊎_elim, ℕ, zero, suc, ◌+◌, ◌≤◌, nat_eq, eq-eqb, ne_eqb, true, false, true≢false, cond, List, [], ◌∷◌, ◌++◌, map, Option, Some, None, is_some, Ok, arith}
 use Rattle.std.specs.FinMap.Entries.{is_sorted}
 use Rattle.std.proofs.lemmas.Bool.Decides.{eqb_tells}
-use Rattle.vt_spec.specs.Language.Changes.{content_with_parent, node_with_parent, node_without_entry, without_entry}
+use Rattle.vt_spec.specs.Language.Changes.{node_with_parent, node_without_entry, without_entry}
 use Rattle.vt_spec.specs.Language.Changes.Change.{AddName, Remove}
 use Rattle.vt_spec.specs.FileTree.{has_entry_to, targets_in}
 use Rattle.vt_spec.specs.Machine.Filesystems.{with_change}
@@ -11,12 +11,10 @@ use Rattle.vt_spec.specs.Machine.Outcomes as Outcomes
 use Rattle.vt_spec.specs.Language.Answers.Answer.{Done}
 use Rattle.vt_spec.specs.Machine.Settled.{settled}
 use Rattle.vt_spec.specs.Language.Calls.{TaskName}
-use Rattle.vt_spec.specs.Inodes.{Inode, Inodes, node_in, tree_of, uses_in, with_changed, with_name, without_name}
+use Rattle.vt_spec.specs.Inodes.{Inodes, tree_of, uses_in, with_changed, with_name, without_name}
 use Rattle.vt_spec.specs.OneTree.Permits.Permit.{ToChange}
 use Rattle.vt_spec.specs.OneTree.World.{Task, World, with_inodes}
-use Rattle.vt_spec.specs.Rights.{is_directory}
-use Rattle.vt_spec.specs.Tree.{Content, Node, Tree, entries_in, entries_of, entry_named, is_directory_node, kind_of, name_cmp, node_with_entry, parent_in, parent_of, with_entries, with_entry}
-use Rattle.vt_spec.specs.Tree.Content.{Directory, Regular, Symlink, Whiteout}
+use Rattle.vt_spec.specs.Tree.{Node, Tree, entries_in, entry_named, is_directory_node, name_cmp, node_with_entry, parent_in, with_entry}
 use Rattle.vt_spec.specs.TreeLaws.{IsDirectory}
 use Rattle.vt_one_text.specs.OneTree.{Beside, IsFit, embedded, location_there, opened_in, task_there, times_in, upwards, used_in}
 use Rattle.vt_one_text.proofs.OneTreeChanges.{StaysWhole, bare, counted_start, directory_there, directory_uses, settled_fit, there_once, uses_parts, whole_counted}
@@ -24,10 +22,12 @@ use Rattle.vt_one_text.proofs.OneTreeCounts.{IsCounted, counted_changed, counted
 use Rattle.vt_one_text.proofs.OneTreeDescriptors.{counted_some}
 use Rattle.vt_one_text.proofs.OneTreeEntries.{changed_at, found_target, named_by, named_changed, one_if, one_if_some, sorted_put, sorted_without, targets, times_put, times_without}
 use Rattle.vt_one_text.proofs.OneTreeJudged.{IsChanged}
-use Rattle.vt_one_text.proofs.OneTreeMakes.{directory_with_entry, entries_with_entry, parent_with_entry}
 use Rattle.vt_one_text.proofs.OneTreeOpens.{directory_now}
 use Rattle.vt_one_text.proofs.OneTreeSettled.{raw}
 use Rattle.vt_one_text.proofs.OneTreeTrees.{among_times, has_entry_directory, parent_is, times_among, times_append}
+use Rattle.vt_spec.proofs.Inodes.{directory_inode_is_there}
+use Rattle.vt_spec.proofs.NodeChanges.{entries-node_with_parent, entries-node_without_entry, is_directory-node_with_parent, is_directory-node_without_entry, is_some-node_with_parent, is_some-node_without_entry, parent-node_without_entry}
+use Rattle.vt_spec.proofs.Nodes.{entries-node_with_entry, is_directory-node_with_entry, is_some-node_with_entry, parent-node_with_entry}
 
 -- a node changed where it stands
 abbrev pub at_place : (ℕ → Option (Node ℕ)) → ℕ → (Option (Node ℕ) → Option (Node ℕ)) → ℕ → Option (Node ℕ)
@@ -62,91 +62,7 @@ sorted_at node place change all here n =
 
 -- a directory without an entry
 
-pub directory_without : (name : List ℕ) (o : Option (Node ℕ))
-    → is_directory_node (node_without_entry name o) ≡ is_directory_node o
-directory_without name None = refl
-directory_without name (Some node) = by node.content
-  where
-    by : (content : Content ℕ)
-        → is_directory (kind_of (with_entries content (without_entry name (entries_of content))))
-        ≡ is_directory (kind_of content)
-    by (Directory parent entries opaque) = refl
-    by (Regular bytes) = refl
-    by (Symlink text) = refl
-    by Whiteout = refl
-
-pub parent_without : (name : List ℕ) (own : ℕ) (o : Option (Node ℕ))
-    → parent_in own (node_without_entry name o) ≡ parent_in own o
-parent_without name own None = refl
-parent_without name own (Some node) = by node.content
-  where
-    by : (content : Content ℕ) → parent_of own (with_entries content (without_entry name (entries_of content)))
-        ≡ parent_of own content
-    by (Directory parent entries opaque) = refl
-    by (Regular bytes) = refl
-    by (Symlink text) = refl
-    by Whiteout = refl
-
-pub entries_without : (name : List ℕ) (o : Option (Node ℕ))
-    → entries_in (node_without_entry name o) ≡ without_entry name (entries_in o)
-entries_without name None = refl
-entries_without name (Some node) = by node.content
-  where
-    by : (content : Content ℕ)
-        → entries_of (with_entries content (without_entry name (entries_of content)))
-        ≡ without_entry name (entries_of content)
-    by (Directory parent entries opaque) = refl
-    by (Regular bytes) = refl
-    by (Symlink text) = refl
-    by Whiteout = refl
-
-pub some_without : (name : List ℕ) (o : Option (Node ℕ)) → is_some (node_without_entry name o) ≡ is_some o
-some_without name None = refl
-some_without name (Some node) = refl
-
-pub some_with : (name : List ℕ) (number : ℕ) (o : Option (Node ℕ)) → is_some (node_with_entry name number o) ≡ is_some o
-some_with name number None = refl
-some_with name number (Some node) = refl
-
 -- a directory with another parent
-
-pub directory_with_parent : (parent : ℕ) (o : Option (Node ℕ))
-    → is_directory_node (node_with_parent parent o) ≡ is_directory_node o
-directory_with_parent parent None = refl
-directory_with_parent parent (Some node) = by node.content
-  where
-    by : (content : Content ℕ) → is_directory (kind_of (content_with_parent parent content))
-        ≡ is_directory (kind_of content)
-    by (Directory old entries opaque) = refl
-    by (Regular bytes) = refl
-    by (Symlink text) = refl
-    by Whiteout = refl
-
-pub entries_with_parent : (parent : ℕ) (o : Option (Node ℕ)) → entries_in (node_with_parent parent o) ≡ entries_in o
-entries_with_parent parent None = refl
-entries_with_parent parent (Some node) = by node.content
-  where
-    by : (content : Content ℕ) → entries_of (content_with_parent parent content) ≡ entries_of content
-    by (Directory old entries opaque) = refl
-    by (Regular bytes) = refl
-    by (Symlink text) = refl
-    by Whiteout = refl
-
-pub parent_with_parent : (parent own : ℕ) (o : Option (Node ℕ)) → is_directory_node o ≡ true
-    → parent_in own (node_with_parent parent o) ≡ parent
-parent_with_parent parent own None d = cc
-parent_with_parent parent own (Some node) d = by node.content d
-  where
-    by : (content : Content ℕ) → is_directory (kind_of content) ≡ true
-        → parent_of own (content_with_parent parent content) ≡ parent
-    by (Directory old entries opaque) e = refl
-    by (Regular bytes) e = cc
-    by (Symlink text) e = cc
-    by Whiteout e = cc
-
-pub some_with_parent : (parent : ℕ) (o : Option (Node ℕ)) → is_some (node_with_parent parent o) ≡ is_some o
-some_with_parent parent None = refl
-some_with_parent parent (Some node) = refl
 
 pub targets_same : (change : Option (Node ℕ) → Option (Node ℕ))
     → ((o : Option (Node ℕ)) → entries_in (change o) ≡ entries_in o)
@@ -200,11 +116,7 @@ rearranged beside world name task fit filesystem_change uses node inodes is =
     )
   where
     there : (d : ℕ) → IsDirectory (tree_of inodes) d → is_some (inodes.inode d) ≡ true
-    there d is_d = by (inodes.inode d) is_d
-      where
-        by : (o : Option (Inode ℕ)) → is_directory_node (node_in o) ≡ true → is_some o ≡ true
-        by None e = cc
-        by (Some inode) e = refl
+    there d is_d = directory_inode_is_there (inodes.inode d) is_d
 
 -- Link
 
@@ -261,18 +173,18 @@ module _ (beside : Beside) (world : World ℕ) (task_name : TaskName) (task : Ta
       let none : one_if_some n (entry_named name (entries_in (tree.node directory))) ≡ 0 = ap (one_if_some n) free in
       let same : times_in n (targets_in (node_with_entry name object (tree.node directory))) ≡ times_in n
       (targets (with_entry name object (entries_in (tree.node directory)))) = ap (λ e. times_in n (targets e))
-      (entries_with_entry name object (tree.node directory) is) in
+      (entries-node_with_entry name object (tree.node directory) is) in
       omega arith
 
   linked_directory : (n : ℕ) → is_directory_node (node_linked n) ≡ is_directory_node (tree.node n)
   linked_directory =
       part_at is_directory_node tree.node directory (node_with_entry name object)
-      (directory_with_entry name object (tree.node directory))
+      (is_directory-node_with_entry name object (tree.node directory))
 
   linked_parent : (n : ℕ) → parent_in n (node_linked n) ≡ parent_in n (tree.node n)
   linked_parent n =
       part_at (parent_in n) tree.node directory (node_with_entry name object)
-      (parent_with_entry name object n (tree.node directory)) n
+      (parent-node_with_entry name object n (tree.node directory)) n
 
   linked_some : (n : ℕ) → IsDirectory tree n → is_some (inodes_linked.inode n) ≡ true
   linked_some n d = counted_some uses_linked node_linked inodes_linked counted_linked n
@@ -305,7 +217,7 @@ module _ (beside : Beside) (world : World ℕ) (task_name : TaskName) (task : Ta
     counted = counted_linked;
     root_same = refl;
     some_same = part_at is_some tree.node directory (node_with_entry name object)
-        (some_with name object (tree.node directory));
+        (is_some-node_with_entry name object (tree.node directory));
     names = λ n.
         let one : times_in directory beside.numbers ≡ 1 =
         fit.each_once directory ∙ ap (λ b. cond b 1 0) (directory_there beside.numbers world fit directory is) in
@@ -324,7 +236,7 @@ module _ (beside : Beside) (world : World ℕ) (task_name : TaskName) (task : Ta
       root_directory = linked_directory world.inodes.root ∙ fit.whole.root_directory;
       root_parent = linked_parent world.inodes.root ∙ fit.whole.root_parent;
       in_order = sorted_at tree.node directory (node_with_entry name object) fit.whole.in_order
-          (ap (is_sorted name_cmp) (entries_with_entry name object (tree.node directory) is)
+          (ap (is_sorted name_cmp) (entries-node_with_entry name object (tree.node directory) is)
           ∙ sorted_put name object (entries_in (tree.node directory)) (fit.whole.in_order directory));
       in_parent = λ d there is_d other.
           let was : IsDirectory tree d = sym (linked_directory d) ∙ is_d in
@@ -406,12 +318,12 @@ module _ (beside : Beside) (world : World ℕ) (task_name : TaskName) (task : Ta
       ap (one_if_some n) leads in
       let same : times_in n (targets_in (node_without_entry name (tree_r.node directory))) ≡ times_in n
       (targets (without_entry name (entries_in (tree_r.node directory)))) = ap (λ e. times_in n (targets e))
-      (entries_without name (tree_r.node directory)) in
+      (entries-node_without_entry name (tree_r.node directory)) in
       omega arith
 
   removed_entries : (n : ℕ) → entries_in (node_removed n) ≡ entries_in (node_off n)
   removed_entries = part_at entries_in node_off object (node_with_parent object)
-      (entries_with_parent object (node_off object))
+      (entries-node_with_parent object (node_off object))
 
   named_same : (list : List ℕ) → named_by node_removed list ≡ named_by node_off list
   named_same [] = refl
@@ -462,15 +374,15 @@ module _ (beside : Beside) (world : World ℕ) (task_name : TaskName) (task : Ta
   removed_directory : (n : ℕ) → is_directory_node (node_removed n) ≡ is_directory_node (tree_r.node n)
   removed_directory n =
       part_at is_directory_node node_off object (node_with_parent object)
-      (directory_with_parent object (node_off object)) n
+      (is_directory-node_with_parent object (node_off object)) n
       ∙ part_at is_directory_node tree_r.node directory (node_without_entry name)
-      (directory_without name (tree_r.node directory)) n
+      (is_directory-node_without_entry name (tree_r.node directory)) n
 
   removed_parent : (n : ℕ) → n ≢ object → parent_in n (node_removed n) ≡ parent_in n (tree_r.node n)
   removed_parent n other =
       ap (parent_in n) (at_other node_off object (node_with_parent object) n other)
       ∙ part_at (parent_in n) tree_r.node directory (node_without_entry name)
-      (parent_without name n (tree_r.node directory)) n
+      (parent-node_without_entry name n (tree_r.node directory)) n
 
   -- a directory that loses its name goes
   stays_apart : (d : ℕ) → is_some (inodes_removed.inode d) ≡ true → IsDirectory tree_r d → d ≢ object
@@ -543,8 +455,8 @@ module _ (beside : Beside) (world : World ℕ) (task_name : TaskName) (task : Ta
     counted = counted_removed;
     root_same = refl;
     some_same =
-        λ n. part_at is_some node_off object (node_with_parent object) (some_with_parent object (node_off object)) n
-        ∙ part_at is_some tree_r.node directory (node_without_entry name) (some_without name (tree_r.node directory)) n;
+        λ n. part_at is_some node_off object (node_with_parent object) (is_some-node_with_parent object (node_off object)) n
+        ∙ part_at is_some tree_r.node directory (node_without_entry name) (is_some-node_without_entry name (tree_r.node directory)) n;
     names = λ n. refl;
     one_use = λ d there is_d.
         let was : IsDirectory tree_r d = sym (removed_directory d) ∙ is_d in
@@ -558,7 +470,7 @@ module _ (beside : Beside) (world : World ℕ) (task_name : TaskName) (task : Ta
       in_order =
           λ n. ap (is_sorted name_cmp) (removed_entries n)
           ∙ sorted_at tree_r.node directory (node_without_entry name) fit.whole.in_order
-          (ap (is_sorted name_cmp) (entries_without name (tree_r.node directory))
+          (ap (is_sorted name_cmp) (entries-node_without_entry name (tree_r.node directory))
           ∙ sorted_without name (entries_in (tree_r.node directory)) (fit.whole.in_order directory)) n;
       in_parent = λ d there is_d root_other.
           let was : IsDirectory tree_r d = sym (removed_directory d) ∙ is_d in

@@ -35,16 +35,13 @@ use Rattle.vt_one_text.proofs.OneTreeLooks.{descriptor_alike}
 use Rattle.vt_one_text.proofs.OneTreeSettled.{beside_raised, raised_is, raw}
 use Rattle.vt_one_text.proofs.OneTreeTasks.{Entry, apart_changed, changed_there, uses_changed, without_there}
 use Rattle.vt_one_text.proofs.OneTreeTrees.{times_append}
+use Rattle.vt_spec.proofs.Inodes.{directory_inode_is_there}
 
 -- a directory that is there has a node that says so
 pub directory_now : (uses : ℕ → ℕ) (node : ℕ → Option (Node ℕ)) (inodes : Inodes ℕ) → IsCounted uses node inodes
     → (directory : ℕ) → IsDirectory (tree_of inodes) directory → is_directory_node (node directory) ≡ true
 directory_now uses node inodes counted directory is =
-    ap is_directory_node (counted.kept directory (by (inodes.inode directory) is)) ∙ is
-  where
-    by : (o : Option (Inode ℕ)) → is_directory_node (node_in o) ≡ true → is_some o ≡ true
-    by None e = cc
-    by (Some inode) e = refl
+    ap is_directory_node (counted.kept directory (directory_inode_is_there (inodes.inode directory) is)) ∙ is
 
 module _ (beside : Beside) (world : World ℕ) (name : TaskName) (task : Task ℕ) (fit : IsFit beside.numbers world)
     (is : find (is_called name) world.tasks ≡ Some (name, task)) where

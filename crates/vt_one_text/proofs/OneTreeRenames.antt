@@ -36,6 +36,7 @@ use Rattle.vt_one_text.proofs.OneTreeLinks.{IsOld, old_leaf_is}
 use Rattle.vt_one_text.proofs.OneTreeMoves.{moved_settled, node_there}
 use Rattle.vt_one_text.proofs.OneTreeTrees.{IsAway, near, parent_is, parent_named, way_up}
 use Rattle.vt_one_text.proofs.OneTreeWalks.{IsPlace, IsPlaceOf, ifok_then, ifok_unless, new_walk_is, old_leaf_walk_alike, rename_new_walk_alike}
+use Rattle.std.proofs.Math.Bool.{and-false}
 
 -- Directories above
 
@@ -115,10 +116,6 @@ module _ (numbers : List ℕ) (world : World ℕ) (fit : IsFit numbers world) wh
       (let h : suc steps ≤ length numbers = near numbers world fit steps d is far in let c = fit.counted in omega arith) none
 
 -- tests
-
-and_false : (a : Bool) → (a && false) ≡ false
-and_false true = refl
-and_false false = refl
 
 and_true : (a b : Bool) → ((a && true) && b) ≡ (a && b)
 and_true true b = refl
@@ -248,8 +245,8 @@ module _ (beside : Beside) (world : World ℕ) (name : TaskName) (task : Task �
       ∷ (may_not tree_here who from write_right || may_not tree_here who to write_right, C1)
       ∷ ((is_directory_at tree_here object && not (nat_eq from to)) && may_not tree_here who object write_right, C1)
       ∷ (is_kept tree_here who from object || false, C3)
-      ∷ (sym (and_false (is_directory_at tree_here object)) i, O1) ∷ (false, B1) ∷
-      (sym (and_false (is_directory_at tree_here object && not (nat_eq from to))) i, B1) ∷ [])
+      ∷ (sym (and-false (is_directory_at tree_here object)) i, O1) ∷ (false, B1) ∷
+      (sym (and-false (is_directory_at tree_here object && not (nat_eq from to))) i, B1) ∷ [])
       (judged_when there Judged denied
       (inl (not (is_directory_at tree_here object) && false, E2) ∷ inl (is_directory_at tree_here object && false, E3)
       ∷ inl
@@ -284,8 +281,8 @@ module _ (beside : Beside) (world : World ℕ) (name : TaskName) (task : Task �
       ∷ (may_not tree_here who from write_right || may_not tree_here who to write_right, C1)
       ∷ ((is_directory_at tree_here object && not (nat_eq from to)) && may_not tree_here who object write_right, C1)
       ∷ (is_kept tree_here who from object || is_kept tree_here who to gone, C3)
-      ∷ (sym (and_false (is_directory_at tree_here object)) i, O1) ∷ (false, B1) ∷
-      (sym (and_false (is_directory_at tree_here object && not (nat_eq from to))) i, B1) ∷ [])
+      ∷ (sym (and-false (is_directory_at tree_here object)) i, O1) ∷ (false, B1) ∷
+      (sym (and-false (is_directory_at tree_here object && not (nat_eq from to))) i, B1) ∷ [])
       (judged_when there Judged denied
       (inl (not (is_directory_at tree_here object) && is_directory_at tree_here gone, E2) ∷ inl
       (is_directory_at tree_here object && not (is_directory_at tree_here gone), E3) ∷ inl

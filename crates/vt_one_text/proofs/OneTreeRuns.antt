@@ -27,6 +27,7 @@ use Rattle.vt_one_text.proofs.OneTreeEntries.{one_if}
 use Rattle.vt_one_text.proofs.OneTreeLanguage.{files_answered}
 use Rattle.vt_one_text.proofs.OneTreeOpening.{opening_is_fit}
 use Rattle.vt_one_text.proofs.OneTreeTrees.{times_among}
+use Rattle.std.proofs.lemmas.Bool.{or_right}
 
 -- what a line of the grammar asks for is answered alike
 abbrev pub RequestAnswered : Option Script.Request → Type 0
@@ -95,14 +96,10 @@ vacant_there : (beside : Beside) (world : World ℕ) → IsFit beside.numbers wo
 vacant_there beside world fit fresh unused =
     vacant_if beside.numbers world fit fresh (by (times_in fresh beside.numbers) refl)
   where
-    later : (a b : Bool) → b ≡ true → (a || b) ≡ true
-    later true b e = refl
-    later false b e = e
-
     found : is_among nat_eq fresh beside.numbers ≡ true
         → is_among nat_eq fresh (Machine.numbers_in_use (embedded beside world)) ≡ true
     found e =
-        later (nat_eq fresh 0) _ (later (nat_eq fresh 2) _
+        or_right (nat_eq fresh 0) _ (or_right (nat_eq fresh 2) _
         (list_any-append (nat_eq fresh) (beside.numbers ++ []) (1 ∷ [])
         ∙ ap (λ b. b || list_any (nat_eq fresh) (1 ∷ []))
         (list_any-append (nat_eq fresh) beside.numbers [] ∙ ap (λ b. b || false) e)))

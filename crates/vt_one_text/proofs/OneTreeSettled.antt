@@ -16,6 +16,9 @@ use Rattle.vt_spec.specs.Inodes.{Inode, node_in, tree_of, uses_in}
 use Rattle.vt_spec.specs.OneTree.World.{Descriptor, Task, World, task_called}
 use Rattle.vt_one_text.specs.OneTree.{AreApart, AreInOrder, Beside, IsFit, IsWhole, descriptor_there, embedded, files_of, filesystem_there, location_there, mount_there, opened_in, task_there, times_in}
 use Rattle.vt_one_text.proofs.OneTreeTrees.{among_times, times_among}
+use Rattle.std.proofs.lemmas.Bool.{and_parts}
+use Rattle.vt_spec.proofs.Inodes.{node_in-none, node_in_is_there}
+use Rattle.vt_spec.proofs.Options.{none_from_not_some}
 
 -- a world of the whole machine with one mount of one plain filesystem
 abbrev pub raw : ℕ → (ℕ → Option (Node ℕ)) → List ℕ → ℕ → List (MachineWorld.Task ℕ) → ℕ → MachineWorld.World ℕ
@@ -60,15 +63,11 @@ all_among : (p : ℕ → Bool) (number : ℕ) (list : List ℕ) → list_all p l
 all_among p number [] e found = absurd (omega arith)
 all_among p number (first ∷ rest) e found =
     ⊎_elim
-    (λ t. ap p t.1 ∙ (both (p first) (list_all p rest) e).0)
-    (λ t. all_among p number rest (both (p first) (list_all p rest) e).1
+    (λ t. ap p t.1 ∙ (and_parts (p first) (list_all p rest) e).0)
+    (λ t. all_among p number rest (and_parts (p first) (list_all p rest) e).1
     (let h : 1 ≤ 0 + times_in number rest = subst
     (λ b. 1 ≤ cond b 1 0 + times_in number rest) t.0 found in omega arith))
     (eqb_tells number first)
-  where
-    both : (a b : Bool) → (a && b) ≡ true → (a ≡ true) × (b ≡ true)
-    both true b e = (refl, e)
-    both false b e = cc
 
 pub times_filter : (p : ℕ → Bool) (number : ℕ) (list : List ℕ)
     → times_in number (filter p list) ≡ cond (p number) (times_in number list) 0
@@ -243,16 +242,12 @@ module _ (beside : Beside) (world : World ℕ) (node : ℕ → Option (Node ℕ)
   abbrev pub beside_after : Beside
   beside_after = record beside { numbers = numbers_after }
 
-  missing : (o : Option (Inode ℕ)) → is_some o ≡ false → node_in o ≡ None
-  missing None e = refl
-  missing (Some inode) e = cc
-
   node_kept : (number : ℕ) → cond (stays number) (node number) None ≡ node_in (world.inodes.inode number)
   node_kept number = by (stays number) refl
     where
       by : (b : Bool) → stays number ≡ b → cond b (node number) None ≡ node_in (world.inodes.inode number)
       by true e = is.kept number e
-      by false e = sym (missing (world.inodes.inode number) e)
+      by false e = sym (node_in-none (world.inodes.inode number) e)
 
   abbrev with_files : (ℕ → Option (Node ℕ)) → List ℕ → MachineWorld.World ℕ
   with_files some_node some_numbers =
@@ -264,11 +259,7 @@ module _ (beside : Beside) (world : World ℕ) (node : ℕ → Option (Node ℕ)
   settled_is = by (list_all (λ number. is_among nat_eq number (used beside world node numbers 0)) numbers) refl
     where
       absent : (number : ℕ) → is_some (node number) ≡ false → node number ≡ None
-      absent number e = none (node number) e
-        where
-          none : (o : Option (Node ℕ)) → is_some o ≡ false → o ≡ None
-          none None e = refl
-          none (Some n) e = cc
+      absent number e = none_from_not_some (node number) e
 
       all_kept : list_all (λ number. is_among nat_eq number (used beside world node numbers 0)) numbers ≡ true
           → (number : ℕ)
@@ -286,7 +277,7 @@ module _ (beside : Beside) (world : World ℕ) (node : ℕ → Option (Node ℕ)
             where
               there : (b : Bool) → stays number ≡ b → node_in (world.inodes.inode number) ≡ None
               there true s = sym (is.kept number s) ∙ absent number e
-              there false s = missing (world.inodes.inode number) s
+              there false s = node_in-none (world.inodes.inode number) s
 
       by : (all : Bool) → list_all (λ number. is_among nat_eq number (used beside world node numbers 0)) numbers ≡ all
           → record (before beside world node numbers 0) {
@@ -322,13 +313,9 @@ module _ (beside : Beside) (world : World ℕ) (node : ℕ → Option (Node ℕ)
   pub once_after : (number : ℕ) → times_in number numbers_after ≡ cond (is_some (world.inodes.inode number)) 1 0
   once_after number = times_filter stays number numbers ∙ by (stays number) refl
     where
-      there : (o : Option (Inode ℕ)) → is_some o ≡ true → is_some (node_in o) ≡ true
-      there None e = e
-      there (Some inode) e = refl
-
       by : (b : Bool) → stays number ≡ b → cond b (times_in number numbers) 0 ≡ cond b 1 0
       by true e = is.once number ∙ ap (λ b. cond b 1 0)
-          (ap is_some (is.kept number e) ∙ there (world.inodes.inode number) e)
+          (ap is_some (is.kept number e) ∙ node_in_is_there (world.inodes.inode number) e)
       by false e = refl
 
   pub fit_after : IsWhole (tree_of world.inodes) → world.inodes.count ≡ length numbers_after

@@ -1,21 +1,14 @@
 -- Tasks of one tree, and of the whole machine where it has one tree.
 use Rattle.std.proofs.Common.{◌≡◌, refl, sym, ap, ◌∙◌, inl, inr, ◌⊎◌, ℕ, ◌+◌, Bool, true, false, cond, not, List, [], ◌∷◌, ◌++◌, map, filter, find, flat_map, Option, Some, None, option_map, arith}
-use Rattle.std.specs.Cmp.Lexicographic.{bytes_decides}
 use Rattle.vt_spec.specs.Machine.World as MachineWorld
 use Rattle.vt_spec.specs.Language.Calls.{TaskName, same_name}
 use Rattle.vt_spec.specs.OneTree.World.{Task, changed_if_called, is_called}
 use Rattle.vt_one_text.specs.OneTree.{AreApart, Beside, files_of, task_there, times_in}
 use Rattle.vt_one_text.proofs.OneTreeTrees.{times_append}
+use Rattle.vt_spec.proofs.Worlds.{same_task_name}
 
 abbrev pub Entry : Type 0
 Entry = TaskName × Task ℕ
-
--- names that are the same
-pub same_is : (a b : TaskName) → same_name a b ≡ true → a ≡ b
-same_is a b e = (bytes_decides a b).0 e
-
-pub same_self : (a : TaskName) → same_name a a ≡ true
-same_self a = (bytes_decides a a).1 refl
 
 -- what is found by a name has it
 pub found_name : (name : TaskName) (entries : List Entry) (entry : Entry) → find (is_called name) entries ≡ Some entry
@@ -30,7 +23,7 @@ found_name name (first ∷ rest) entry e = by (is_called name first) refl e (fou
 
 pub found_is : (name : TaskName) (entries : List Entry) (entry : Entry) → find (is_called name) entries ≡ Some entry
     → entry ≡ (name, entry.1)
-found_is name entries entry e = λ i. (sym (same_is name entry.0 (found_name name entries entry e)) i, entry.1)
+found_is name entries entry e = λ i. (sym (same_task_name name entry.0 (found_name name entries entry e)) i, entry.1)
 
 -- a task is found alike
 pub find_there : (beside : Beside) (root : ℕ) (name : TaskName) (entries : List Entry)
@@ -61,7 +54,7 @@ changed_there beside root name task (entry ∷ rest) =
     by : (b : Bool) → is_called name entry ≡ b
         → cond b (task_there beside root (name, task)) (task_there beside root entry) ≡ task_there beside root
         (cond b (entry.0, task) entry)
-    by true e = ap (λ n. task_there beside root (n, task)) (same_is name entry.0 e)
+    by true e = ap (λ n. task_there beside root (n, task)) (same_task_name name entry.0 e)
     by false e = refl
 
 -- and leaves alike
@@ -148,8 +141,8 @@ module _ (name : TaskName) (task : Task ℕ) where
               → (Some entry.1 ≡ Some now) ⊎ ((Some entry.1 ≡ Some was) × (now ≡ task))
           inside false c e = inl e
           inside true c e =
-              let one : name ≡ entry.0 = same_is name entry.0 c in
-              let two : other ≡ entry.0 = same_is other entry.0 (found_name other entries entry f) in
+              let one : name ≡ entry.0 = same_task_name name entry.0 c in
+              let two : other ≡ entry.0 = same_task_name other entry.0 (found_name other entries entry f) in
               let here : Some entry ≡ Some (name, was) =
               sym f ∙ ap (λ n. find (is_called n) entries) (two ∙ sym one) ∙ is in
               let it : task ≡ now = cc in
@@ -188,7 +181,7 @@ module _ (name : TaskName) (task : Task ℕ) where
       by true is e later =
           let same : entry ≡ (name, was) = cc in
           let none : find (is_called name) rest ≡ None =
-          ap (λ n. find (is_called n) rest) (same_is name entry.0 is) ∙ apart.0 in
+          ap (λ n. find (is_called n) rest) (same_task_name name entry.0 is) ∙ apart.0 in
           let rest_same : map (changed_if_called name task) rest ≡ rest = none_changed rest none in
           let left : times_in number (files_of (name, task)
           ++ flat_map files_of (map (changed_if_called name task) rest))

@@ -1,5 +1,5 @@
 -- In a whole tree no directory is lost: going up from each leads to the root, by no more steps than there are inodes.
-use Rattle.std.proofs.Common.{◌≡◌, ◌≢◌, refl, sym, ap, subst, ◌∙◌, ⊎_elim, inl, inr, ◌⊎◌, ℕ, zero, suc, ◌+◌, ◌≤◌, nat_eq, eq-eqb, ne_eqb, Bool, true, false, cond, not, ◌||◌, List, [], ◌∷◌, ◌++◌, length, map, Option, Some, None, is_some, arith}
+use Rattle.std.proofs.Common.{◌≡◌, ◌≢◌, refl, sym, ap, subst, ◌∙◌, ⊎_elim, ℕ, zero, suc, ◌+◌, ◌≤◌, nat_eq, eq-eqb, ne_eqb, Bool, true, false, cond, not, ◌||◌, List, [], ◌∷◌, ◌++◌, length, map, Option, Some, None, is_some, arith}
 use Rattle.std.specs.List.{list_any}
 use Rattle.std.proofs.lemmas.Bool.Decides.{eqb_tells}
 use Rattle.vt_spec.specs.Tree.{Tree, Node, entries_in, is_directory_node, parent_in}
@@ -9,6 +9,9 @@ use Rattle.vt_spec.specs.Lists.{chain, is_among, when}
 use Rattle.vt_spec.specs.Inodes.{tree_of}
 use Rattle.vt_spec.specs.OneTree.World.{World}
 use Rattle.vt_one_text.specs.OneTree.{IsFit, IsWhole, times_in, upwards}
+use Rattle.std.proofs.lemmas.Bool.{or_right}
+use Rattle.vt_spec.proofs.Inodes.{directory_inode_is_there}
+use Rattle.vt_spec.proofs.Truths.{zero_or_some}
 
 -- Numbers in lists
 
@@ -198,16 +201,12 @@ way_once tree (suc steps) directory number is =
     away_once tree near.0 (suc steps) number near.2 (subst (IsAway tree (suc steps)) (sym t.1) is) in
     let below : near.0 ≤ steps = near.1 in
     absurd (omega arith))
-    (some_or_none (times_in number (way_up tree steps (parent_in directory (tree.node directory))))))
+    (zero_or_some (times_in number (way_up tree steps (parent_in directory (tree.node directory))))))
     (λ t. subst (λ b. cond b 1 0 + times_in number (way_up tree steps (parent_in directory (tree.node directory))) ≤ 1)
     (sym t.0)
     (let h : times_in number (way_up tree steps (parent_in directory (tree.node directory))) ≤ 1 = way_once tree steps
     (parent_in directory (tree.node directory)) number is.1 in omega arith))
     (eqb_tells number directory)
-  where
-    some_or_none : (n : ℕ) → (n ≡ 0) ⊎ (1 ≤ n)
-    some_or_none zero = inl refl
-    some_or_none (suc n) = inr (omega arith)
 
 module _ (tree : Tree ℕ) (whole : IsWhole tree) where
   -- the parent of a directory is a directory
@@ -274,12 +273,8 @@ module _ (tree : Tree ℕ) (whole : IsWhole tree) where
       ap (λ o. list_any (nat_eq tree.root)
       (elim o [ None ↦ directory ∷ [] | Some b ↦ directory ∷ chain most (named_parent nat_eq tree) b ]))
       (parent_named directory is far.0)
-      ∙ either (nat_eq tree.root directory) _
+      ∙ or_right (nat_eq tree.root directory) _
       (root_above most steps (parent_in directory (tree.node directory)) (parent_is directory is) far.1 (omega arith))
-    where
-      either : (a b : Bool) → b ≡ true → (a || b) ≡ true
-      either true b e = refl
-      either false b e = e
 
 module _ (numbers : List ℕ) (world : World ℕ) (fit : IsFit numbers world) where
   -- the tree
@@ -288,13 +283,7 @@ module _ (numbers : List ℕ) (world : World ℕ) (fit : IsFit numbers world) wh
 
   -- what is a directory is among the numbers
   pub directory_once : (directory : ℕ) → IsDirectory tree directory → times_in directory numbers ≡ 1
-  directory_once directory is = fit.each_once directory ∙ ap (λ b. cond b 1 0) (by (world.inodes.inode directory) is)
-    where
-      by : (o : Option (Rattle.vt_spec.specs.Inodes.Inode ℕ))
-          → is_directory_node (Rattle.vt_spec.specs.Inodes.node_in o) ≡ true
-          → is_some o ≡ true
-      by None e = cc
-      by (Some inode) e = refl
+  directory_once directory is = fit.each_once directory ∙ ap (λ b. cond b 1 0) (directory_inode_is_there (world.inodes.inode directory) is)
 
   -- the root is not as many steps away as there are inodes
   pub near : (steps directory : ℕ) → IsDirectory tree directory → IsAway tree steps directory
@@ -305,10 +294,6 @@ module _ (numbers : List ℕ) (world : World ℕ) (fit : IsFit numbers world) wh
       no_longer (way_up tree steps directory) numbers less in
       omega arith
     where
-      none_or_one : (n : ℕ) → (n ≡ 0) ⊎ (1 ≤ n)
-      none_or_one zero = inl refl
-      none_or_one (suc n) = inr (omega arith)
-
       less : (number : ℕ) → times_in number (way_up tree steps directory) ≤ times_in number numbers
       less number =
           ⊎_elim
@@ -318,7 +303,7 @@ module _ (numbers : List ℕ) (world : World ℕ) (fit : IsFit numbers world) wh
           let there : times_in number numbers ≡ 1 =
           directory_once number (way_is tree fit.whole steps directory number is some) in
           omega arith)
-          (none_or_one (times_in number (way_up tree steps directory)))
+          (zero_or_some (times_in number (way_up tree steps directory)))
 
   -- so each directory lies under the root
   pub lies_under : (directory : ℕ) → IsDirectory tree directory

@@ -1,5 +1,5 @@
 -- The invariants of overlays and of trees after a change of an overlay.
-use Rattle.std.proofs.Common.{◌≡◌, ◌≢◌, refl, sym, ap, subst, ◌∙◌, true≢false, eqb-true, ◌⊎◌, ⊎_elim, inl, inr, ℕ, nat_eq, Bool, true, false, not, cond, ◌&&◌, ◌||◌, List, [], ◌∷◌, map, Option, Some, None, is_some}
+use Rattle.std.proofs.Common.{◌≡◌, ◌≢◌, refl, sym, ap, subst, ◌∙◌, true≢false, ◌⊎◌, ⊎_elim, inl, inr, ℕ, nat_eq, Bool, true, false, not, cond, ◌||◌, List, [], ◌∷◌, map, Option, Some, None, is_some}
 use Rattle.std.proofs.lemmas.Bool.Decides.{eqb_tells}
 use Rattle.std.specs.List.{list_all, list_any}
 use Rattle.vt_spec.specs.Language.Changes.{Change}
@@ -19,8 +19,6 @@ use Rattle.vt_tree_laws.proofs.TreesOfWorlds.{numbered_anyhow}
 use Rattle.vt_overlay_laws.proofs.UpperLimits.{sizes_stay}
 use Rattle.vt_layer_laws.specs.Layers.Locked.{AreNoInodes}
 use Rattle.vt_layer_laws.proofs.LockedApart.{layer_among, layer_plain, no_overlay_in, upper_in_layers}
-use Rattle.vt_layer_laws.proofs.ShownAtPath.{none_is_some, some_is_one}
-use Rattle.vt_layer_laws.proofs.UpperLine.{and_first, and_second}
 use Rattle.vt_layer_laws.proofs.ViewsNames.{alike_kept}
 use Rattle.vt_overlay_laws.specs.LayersApart.{OverlayInvariantsStay, TreeInvariantsStay, TreesAfter, TreesStay}
 use Rattle.vt_overlay_laws.specs.WholeChanges.{IsAskedWell}
@@ -31,6 +29,11 @@ use Rattle.vt_overlay_laws.proofs.WholeGrown.{directory_alike}
 use Rattle.vt_overlay_laws.proofs.WholeLater
 use Rattle.vt_overlay_laws.proofs.WholeLater.{changed_overlay_is_merged}
 use Rattle.vt_overlay_laws.proofs.WholeOthers.{other_overlays_stay_merged}
+use Rattle.std.proofs.lemmas.Bool.{and_from}
+use Rattle.std.proofs.lemmas.Option.{same_Some}
+use Rattle.vt_spec.proofs.Options.{none_is_some}
+use Rattle.vt_spec.proofs.Truths.{and_true_left, and_true_right}
+use Rattle.vt_spec.proofs.Worlds.{number-replaced_if_numbered}
 
 -- numbers are those that they were
 pub pair_same : (r : Filesystem ℕ → Filesystem ℕ) (fs : List (Filesystem ℕ))
@@ -143,12 +146,9 @@ module _ (fresh : Fresh ℕ) (world : World ℕ) (location : Location ℕ) (chan
       → (layer ≡ upper) ⊎ ApartLater.IsOther fresh world location change overlay upper conditions is has distinct none asked layer
       → is_plain_layer nat_eq later layer ≡ true
   still_plain layer live =
-      both (not (is_overlay (filesystem_numbered nat_eq later layer.filesystem))) _
+      and_from (not (is_overlay (filesystem_numbered nat_eq later layer.filesystem))) _
       (no_overlay (eqb_tells layer.filesystem upper.filesystem)) (directory live)
     where
-      both : (a b : Bool) → a ≡ true → b ≡ true → (a && b) ≡ true
-      both a b e f = ap (λ x. x && b) e ∙ f
-
       was_plain : is_plain_layer nat_eq world layer ≡ true
       was_plain =
           ⊎_elim (λ same. ap (is_plain_layer nat_eq world) same
@@ -165,7 +165,7 @@ module _ (fresh : Fresh ℕ) (world : World ℕ) (location : Location ℕ) (chan
           ap (λ f. not (is_overlay f))
           (ApartLater.stays fresh world location change overlay upper conditions is has distinct none asked layer.filesystem
           (ApartLater.plain_elsewhere fresh world location change overlay upper conditions is has distinct none asked layer was_plain) t.1)
-          ∙ and_first (not (is_overlay (filesystem_numbered nat_eq world layer.filesystem))) _ was_plain
+          ∙ and_true_left (not (is_overlay (filesystem_numbered nat_eq world layer.filesystem))) _ was_plain
 
       directory : (layer ≡ upper)
           ⊎ ApartLater.IsOther fresh world location change overlay upper conditions is has distinct none asked layer
@@ -178,7 +178,7 @@ module _ (fresh : Fresh ℕ) (world : World ℕ) (location : Location ℕ) (chan
       directory (inr other) =
           directory_alike _ _
           (alike_kept _ _ (ApartLater.other_leads fresh world location change overlay upper conditions is has distinct none asked layer other []).1)
-          ∙ and_second (not (is_overlay (filesystem_numbered nat_eq world layer.filesystem))) _ was_plain
+          ∙ and_true_right (not (is_overlay (filesystem_numbered nat_eq world layer.filesystem))) _ was_plain
 
   live : (n : ℕ) (v : Overlay ℕ) → (filesystem_numbered nat_eq world n).overlay ≡ Some v → (layer : Layer ℕ)
       → Among layer (layers_of v)
@@ -232,8 +232,8 @@ module _ (fresh : Fresh ℕ) (world : World ℕ) (location : Location ℕ) (chan
       here : (nat_eq n number ≡ true) × (n ≡ number)
           → IsReached (filesystem_numbered nat_eq later u.filesystem).files.tree u.directory
       here t =
-          as_upper (some_is_one u upper (sym f ∙ ap (λ (o : Overlay ℕ). o.upper)
-          (sym (some_is_one _ v (sym (ap (λ (x : Filesystem ℕ). x.overlay)
+          as_upper (same_Some u upper (sym f ∙ ap (λ (o : Overlay ℕ). o.upper)
+          (sym (same_Some _ v (sym (ap (λ (x : Filesystem ℕ). x.overlay)
           (ap (λ w. filesystem_numbered nat_eq w number) later_is
           ∙ WholeLater.overlay_later fresh world location change overlay upper conditions is has distinct none asked))
           ∙ ap (λ k. (filesystem_numbered nat_eq later k).overlay) (sym t.1) ∙ e))) ∙ has))
@@ -338,18 +338,11 @@ module _ (fresh : Fresh ℕ) (world : World ℕ) (location : Location ℕ) (chan
             (filesystem_then f m));
         one_filesystem = ap (λ w. any_pair (λ (a b : Filesystem ℕ). nat_eq a.number b.number) w.filesystems) later_is
             ∙ pair_same (replaced_if_numbered nat_eq changed_upper)
-            (map (replaced_if_numbered nat_eq changed) world.filesystems) (λ f. one_number changed_upper f)
-            ∙ pair_same (replaced_if_numbered nat_eq changed) world.filesystems (λ f. one_number changed f)
+            (map (replaced_if_numbered nat_eq changed) world.filesystems) (λ f. number-replaced_if_numbered changed_upper f)
+            ∙ pair_same (replaced_if_numbered nat_eq changed) world.filesystems (λ f. number-replaced_if_numbered changed f)
             ∙ conditions.files.one_filesystem;
         reached = upper_reached;
       }
-    where
-      one_number : (new f : Filesystem ℕ) → (replaced_if_numbered nat_eq new f).number ≡ f.number
-      one_number new f = by (nat_eq new.number f.number) refl
-        where
-          by : (b : Bool) → nat_eq new.number f.number ≡ b → (cond b new f).number ≡ f.number
-          by true e = eqb-true new.number f.number e
-          by false e = refl
 
 pub overlay_invariants_stay : OverlayInvariantsStay
 overlay_invariants_stay fresh world location change overlay upper conditions is has distinct none asked =

@@ -21,12 +21,11 @@ use Rattle.vt_tree_laws.proofs.TreesOfWorlds.{numbered_anyhow}
 use Rattle.vt_layer_laws.specs.Layers.Locked.{AreNoInodes, LeadsAsBefore}
 use Rattle.vt_layer_laws.specs.Layers.Untouched.{inode_in}
 use Rattle.vt_layer_laws.specs.Layers.Upper.{IsUpperObject}
-use Rattle.vt_layer_laws.proofs.LockedApart.{both_hold, layer_among, layer_plain, left_holds, lies_there, never_both, no_overlay_in, object_counts, right_holds, upper_in_layers, upper_is_layer}
+use Rattle.vt_layer_laws.proofs.LockedApart.{layer_among, layer_plain, lies_there, never_both, no_overlay_in, object_counts, upper_in_layers, upper_is_layer}
 use Rattle.vt_layer_laws.proofs.LockedPaths.{layer_tree, leads_as_before}
 use Rattle.vt_layer_laws.proofs.LowersWorld.{filesystem_elsewhere, number_of_filesystem}
-use Rattle.vt_layer_laws.proofs.ShownAtPath.{none_is_some, some_is_one}
 use Rattle.vt_layer_laws.proofs.ShownDirectories.{led_is_there}
-use Rattle.vt_layer_laws.proofs.UpperLine.{and_first, and_second, has_entries}
+use Rattle.vt_layer_laws.proofs.UpperLine.{has_entries}
 use Rattle.vt_layer_laws.proofs.UpperWorld.{overlay_merges}
 use Rattle.vt_overlay_laws.specs.LayersApart.{LayersStayApart, StandApart}
 use Rattle.vt_overlay_laws.specs.WhatIsShown.{IsWhole}
@@ -39,10 +38,10 @@ use Rattle.vt_overlay_laws.proofs.UpperWhole.{change_goes}
 use Rattle.vt_overlay_laws.proofs.WholeLater
 use Rattle.vt_overlay_laws.proofs.WholeOthers.{inode_kept}
 use Rattle.vt_overlay_laws.proofs.WholeWorlds.{overlays_are_whole}
-
-pub or_cases : (a b : Bool) → (a || b) ≡ true → (a ≡ true) ⊎ (b ≡ true)
-or_cases true b e = inl refl
-or_cases false b e = inr e
+use Rattle.std.proofs.lemmas.Bool.{and_from, or_cases, or_left, or_right}
+use Rattle.std.proofs.lemmas.Option.{same_Some}
+use Rattle.vt_spec.proofs.Options.{none_is_some}
+use Rattle.vt_spec.proofs.Truths.{and_true_left, and_true_right, or_false_alone, or_false_left, or_false_right}
 
 -- of two that differ in a list of which no pair passes
 two_apart : {A : Type 0} (test : A → A → Bool) (xs : List A) → any_pair test xs ≡ false → (a b : A) → Among a xs → Among b xs → a ≢ b
@@ -51,17 +50,9 @@ two_apart test [] e a b m n differ = absurd m
 two_apart test (x ∷ xs) e a b m n differ =
     ⊎_elim
     (λ (ax : a ≡ x). ⊎_elim (λ (bx : b ≡ x). absurd (differ (ax ∙ sym bx)))
-    (λ l. inl (ap (λ y. test y b) ax ∙ none_among (test x) xs (first (list_any (test x) xs) (any_pair test xs) e) b l)) n)
-    (λ k. ⊎_elim (λ (bx : b ≡ x). inr (ap (λ y. test y a) bx ∙ none_among (test x) xs (first (list_any (test x) xs) (any_pair test xs) e) a k))
-    (λ l. two_apart test xs (second (list_any (test x) xs) (any_pair test xs) e) a b k l differ) n) m
-  where
-    first : (p q : Bool) → (p || q) ≡ false → p ≡ false
-    first true q e = e
-    first false q e = refl
-
-    second : (p q : Bool) → (p || q) ≡ false → q ≡ false
-    second true q e = absurd (true≢false e)
-    second false q e = e
+    (λ l. inl (ap (λ y. test y b) ax ∙ none_among (test x) xs (or_false_left (list_any (test x) xs) (any_pair test xs) e) b l)) n)
+    (λ k. ⊎_elim (λ (bx : b ≡ x). inr (ap (λ y. test y a) bx ∙ none_among (test x) xs (or_false_left (list_any (test x) xs) (any_pair test xs) e) a k))
+    (λ l. two_apart test xs (or_false_right (list_any (test x) xs) (any_pair test xs) e) a b k l differ) n) m
 
 -- no pair passes where each that does passed another test of which none does
 pub no_pair_later : {A : Type 0} (test later : A → A → Bool) (xs : List A)
@@ -175,7 +166,7 @@ module _ (fresh : Fresh ℕ) (world : World ℕ) (location : Location ℕ) (chan
       (filesystem_numbered nat_eq world m).files.numbers ≡ true) same
       (any_from_among (λ (o : ℕ). lies_or_counts_under nat_eq world n o a && list_any (lies_or_counts_under nat_eq world n o) (b ∷ []))
       (filesystem_numbered nat_eq world n).files.numbers object (listed n object there)
-      (both_hold _ _ in_a (left_holds _ false in_b)))
+      (and_from _ _ in_a (or_left _ false in_b)))
 
   pub clash : (layer : Layer ℕ) → IsOther layer → (n object : ℕ) → is_some (inode_in world n object) ≡ true → Lies upper n object → Lies layer n object → ⊥
   clash layer (inl m) n object there in_upper in_layer =
@@ -213,7 +204,7 @@ module _ (fresh : Fresh ℕ) (world : World ℕ) (location : Location ℕ) (chan
   pub stays : (n : ℕ) → n ≢ number → n ≢ upper.filesystem → filesystem_numbered nat_eq later n ≡ filesystem_numbered nat_eq world n
   stays n no_number no_upper =
       Rattle.vt_layer_laws.proofs.LowersWorld.others_elsewhere fresh world location change n no_number
-      (λ o u f g s. no_upper (s ∙ ap (λ l. l.filesystem) (some_is_one u upper (sym g ∙ ap (λ v. v.upper) (some_is_one o overlay (sym f ∙ is)) ∙ has))))
+      (λ o u f g s. no_upper (s ∙ ap (λ l. l.filesystem) (same_Some u upper (sym g ∙ ap (λ v. v.upper) (same_Some o overlay (sym f ∙ is)) ∙ has))))
 
   tree_later : (layer : Layer ℕ) → is_plain_layer nat_eq world layer ≡ true → IsTree (filesystem_numbered nat_eq later layer.filesystem).files.tree
   tree_later layer plain = ⊎_elim here other (eqb_tells layer.filesystem upper.filesystem)
@@ -237,23 +228,23 @@ module _ (fresh : Fresh ℕ) (world : World ℕ) (location : Location ℕ) (chan
   lies_later : (layer : Layer ℕ) → is_plain_layer nat_eq world layer ≡ true → (n object : ℕ) → lies_in_layer nat_eq later n object layer ≡ true
       → (n ≡ layer.filesystem) × LedIn later layer object
   lies_later layer plain n object e =
-      let same = eqb-true n layer.filesystem (and_first (nat_eq n layer.filesystem) _ e) in (
+      let same = eqb-true n layer.filesystem (and_true_left (nat_eq n layer.filesystem) _ e) in (
         same,
         under_led (filesystem_numbered nat_eq later layer.filesystem).files (tree_later layer plain) layer.directory object
             (subst (λ k. is_under nat_eq (filesystem_numbered nat_eq later k).files layer.directory object ≡ true) same
-            (and_second (nat_eq n layer.filesystem) _ e)),
+            (and_true_right (nat_eq n layer.filesystem) _ e)),
       )
 
   pub led_lies : (layer : Layer ℕ) → is_plain_layer nat_eq world layer ≡ true → (n object : ℕ) → n ≡ layer.filesystem → LedIn world layer object
       → lies_in_layer nat_eq world n object layer ≡ true
   led_lies layer plain n object same way =
-      both_hold _ _ (eq-eqb n layer.filesystem same)
+      and_from _ _ (eq-eqb n layer.filesystem same)
       (subst (λ k. is_under nat_eq (filesystem_numbered nat_eq world k).files layer.directory object ≡ true) (sym same)
       (led_under (filesystem_numbered nat_eq world layer.filesystem).files (layer_tree world conditions layer plain) layer.directory
-      (numbers_in layer.filesystem) (and_second (not (is_overlay (filesystem_numbered nat_eq world layer.filesystem))) _ plain) object way))
+      (numbers_in layer.filesystem) (and_true_right (not (is_overlay (filesystem_numbered nat_eq world layer.filesystem))) _ plain) object way))
 
   pub lies_first : (layer : Layer ℕ) (n object : ℕ) → lies_in_layer nat_eq world n object layer ≡ true → Lies layer n object
-  lies_first layer n object e = left_holds (lies_in_layer nat_eq world n object layer) _ e
+  lies_first layer n object e = or_left (lies_in_layer nat_eq world n object layer) _ e
 
   -- under the others lies what lay there
   other_lies : (layer : Layer ℕ) → IsOther layer → (n object : ℕ) → lies_in_layer nat_eq later n object layer ≡ true → lies_in_layer nat_eq world n object layer ≡ true
@@ -284,7 +275,7 @@ module _ (fresh : Fresh ℕ) (world : World ℕ) (location : Location ℕ) (chan
       (UpperOwn.told fresh stack before whole new change asked object name next e)
 
   placed_along : (path : List (List ℕ)) (from object : ℕ) → IsPlaced from → led merge.upper.tree from path ≡ Some object → IsPlaced object
-  placed_along [] from object placed e = subst IsPlaced (some_is_one from object e) placed
+  placed_along [] from object placed e = subst IsPlaced (same_Some from object e) placed
   placed_along (name ∷ path) from object placed e =
       let step = Rattle.vt_spec.proofs.Trees.found (λ next. led merge.upper.tree next path) (entry_at merge.upper.tree from name) object e in
       placed_along path step.0 object (placed_on from name step.0 placed step.1) step.2
@@ -330,14 +321,6 @@ module _ (fresh : Fresh ℕ) (world : World ℕ) (location : Location ℕ) (chan
   pub own_number : (f : Filesystem ℕ) → Among f world.filesystems → filesystem_numbered nat_eq world f.number ≡ f
   own_number f m = ap (λ o. Rattle.std.specs.Prelude.unwrap_or o (Rattle.vt_spec.specs.Machine.World.no_filesystem f.number)) (by world.filesystems conditions.files.one_filesystem m)
     where
-      first : (p q : Bool) → (p || q) ≡ false → p ≡ false
-      first true q e = e
-      first false q e = refl
-
-      second : (p q : Bool) → (p || q) ≡ false → q ≡ false
-      second true q e = absurd (true≢false e)
-      second false q e = e
-
       by : (fs : List (Filesystem ℕ)) → any_pair (λ (a b : Filesystem ℕ). nat_eq a.number b.number) fs ≡ false → Among f fs
           → Rattle.std.specs.Prelude.find (λ (g : Filesystem ℕ). nat_eq f.number g.number) fs ≡ Some f
       by [] e m = absurd m
@@ -349,8 +332,8 @@ module _ (fresh : Fresh ℕ) (world : World ℕ) (location : Location ℕ) (chan
           (ne_eqb f.number x.number (λ same.
           true≢false (sym (eq-eqb x.number f.number (sym same))
           ∙ none_among (λ (g : Filesystem ℕ). nat_eq x.number g.number) fs
-          (first (list_any (λ (g : Filesystem ℕ). nat_eq x.number g.number) fs) (any_pair (λ (a b : Filesystem ℕ). nat_eq a.number b.number) fs) e) f l)))
-          ∙ by fs (second (list_any (λ (g : Filesystem ℕ). nat_eq x.number g.number) fs) (any_pair (λ (a b : Filesystem ℕ). nat_eq a.number b.number) fs) e) l
+          (or_false_left (list_any (λ (g : Filesystem ℕ). nat_eq x.number g.number) fs) (any_pair (λ (a b : Filesystem ℕ). nat_eq a.number b.number) fs) e) f l)))
+          ∙ by fs (or_false_right (list_any (λ (g : Filesystem ℕ). nat_eq x.number g.number) fs) (any_pair (λ (a b : Filesystem ℕ). nat_eq a.number b.number) fs) e) l
 
   -- What counts under a layer: the parts of it
   record Counts (w : World ℕ) (layer : Layer ℕ) (n object : ℕ) (g : Filesystem ℕ) : Type 0 where
@@ -372,8 +355,8 @@ module _ (fresh : Fresh ℕ) (world : World ℕ) (location : Location ℕ) (chan
         is_of = f;
         upper_of_it = u;
         has_it = k;
-        lies = and_first (lies_in_layer nat_eq w u.filesystem u.directory layer) _ e;
-        object_of = and_second (lies_in_layer nat_eq w u.filesystem u.directory layer) _ e;
+        lies = and_true_left (lies_in_layer nat_eq w u.filesystem u.directory layer) _ e;
+        object_of = and_true_right (lies_in_layer nat_eq w u.filesystem u.directory layer) _ e;
       }
 
       by : (o : Option (Overlay ℕ)) → g.overlay ≡ o
@@ -384,17 +367,17 @@ module _ (fresh : Fresh ℕ) (world : World ℕ) (location : Location ℕ) (chan
 
   counts_again : (layer : Layer ℕ) (n object : ℕ) (g : Filesystem ℕ) → Among g (overlays world) → Counts world layer n object g → Lies layer n object
   counts_again layer n object g m parts =
-      right_holds (lies_in_layer nat_eq world n object layer) _
+      or_right (lies_in_layer nat_eq world n object layer) _
       (any_from_among (counts_in_layer nat_eq world n object layer) (overlays world) g m
       (ap (overlay_or false (λ v. holds_of (λ u. lies_in_layer nat_eq world u.filesystem u.directory layer) v.upper && is_object_of nat_eq n object g v)) parts.is_of
-      ∙ both_hold _ _ (ap (holds_of (λ u. lies_in_layer nat_eq world u.filesystem u.directory layer)) parts.has_it ∙ parts.lies) parts.object_of))
+      ∙ and_from _ _ (ap (holds_of (λ u. lies_in_layer nat_eq world u.filesystem u.directory layer)) parts.has_it ∙ parts.lies) parts.object_of))
 
   -- the object of which it is said is one of the upper layer
   real_of_object : (g : Filesystem ℕ) (v : Overlay ℕ) (u : Layer ℕ) → v.upper ≡ Some u → (n object : ℕ) → is_object_of nat_eq n object g v ≡ true
       → (n ≡ u.filesystem) × ((k : ℕ) × (v.real k ≡ Some (Upper object)))
   real_of_object g v u has_u n object e =
-      let first = and_first (holds_of (λ l. nat_eq n l.filesystem) v.upper) _ e in
-      let found = any_among (is_real_upper nat_eq v object) g.files.numbers (and_second (holds_of (λ l. nat_eq n l.filesystem) v.upper) _ e) in (
+      let first = and_true_left (holds_of (λ l. nat_eq n l.filesystem) v.upper) _ e in
+      let found = any_among (is_real_upper nat_eq v object) g.files.numbers (and_true_right (holds_of (λ l. nat_eq n l.filesystem) v.upper) _ e) in (
         eqb-true n u.filesystem (sym (ap (holds_of (λ l. nat_eq n l.filesystem)) has_u) ∙ first),
         (found.0, by (v.real found.0) found.2),
       )
@@ -411,13 +394,13 @@ module _ (fresh : Fresh ℕ) (world : World ℕ) (location : Location ℕ) (chan
     where
       led_there : lies_in_layer nat_eq world n object layer ≡ true → is_some (inode_in world n object) ≡ true
       led_there f =
-          let same = eqb-true n layer.filesystem (and_first (nat_eq n layer.filesystem) _ f) in
+          let same = eqb-true n layer.filesystem (and_true_left (nat_eq n layer.filesystem) _ f) in
           let tree = layer_tree world conditions layer plain in
           let way = under_led (filesystem_numbered nat_eq world layer.filesystem).files tree layer.directory object
-          (subst (λ k. is_under nat_eq (filesystem_numbered nat_eq world k).files layer.directory object ≡ true) same (and_second (nat_eq n layer.filesystem) _ f)) in
+          (subst (λ k. is_under nat_eq (filesystem_numbered nat_eq world k).files layer.directory object ≡ true) same (and_true_right (nat_eq n layer.filesystem) _ f)) in
           subst (λ k. is_some (inode_in world k object) ≡ true) (sym same)
           (led_is_there (open_layer nat_eq world layer) tree
-          (and_second (not (is_overlay (filesystem_numbered nat_eq world layer.filesystem))) _ plain) way.0 object way.1)
+          (and_true_right (not (is_overlay (filesystem_numbered nat_eq world layer.filesystem))) _ plain) way.0 object way.1)
 
       counted : list_any (counts_in_layer nat_eq world n object layer) (overlays world) ≡ true → is_some (inode_in world n object) ≡ true
       counted f =
@@ -437,13 +420,13 @@ module _ (fresh : Fresh ℕ) (world : World ℕ) (location : Location ℕ) (chan
   pub directory_there : (layer : Layer ℕ) → is_plain_layer nat_eq world layer ≡ true → is_some (inode_in world layer.filesystem layer.directory) ≡ true
   directory_there layer plain =
       directory_used (filesystem_numbered nat_eq world layer.filesystem).files.tree layer.directory
-      (and_second (not (is_overlay (filesystem_numbered nat_eq world layer.filesystem))) _ plain)
+      (and_true_right (not (is_overlay (filesystem_numbered nat_eq world layer.filesystem))) _ plain)
 
   changed_parts : (w : World ℕ) (layer : Layer ℕ) (n object : ℕ) → Counts w layer n object changed
       → (lies_in_layer nat_eq w upper.filesystem upper.directory layer ≡ true) × ((n ≡ upper.filesystem) × ((k : ℕ) × (merge.real k ≡ Some (Upper object))))
   changed_parts w layer n object parts =
-      let same = some_is_one _ parts.overlay_of parts.is_of in
-      let one : upper ≡ parts.upper_of_it = some_is_one upper parts.upper_of_it (sym has ∙ ap (λ v. v.upper) same ∙ parts.has_it) in
+      let same = same_Some _ parts.overlay_of parts.is_of in
+      let one : upper ≡ parts.upper_of_it = same_Some upper parts.upper_of_it (sym has ∙ ap (λ v. v.upper) same ∙ parts.has_it) in
       let real = real_of_object changed parts.overlay_of parts.upper_of_it parts.has_it n object parts.object_of in (
         subst (λ u. lies_in_layer nat_eq w u.filesystem u.directory layer ≡ true) (sym one) parts.lies,
         (real.0 ∙ ap (λ u. u.filesystem) (sym one), (real.1.0, ap (λ v. v.real real.1.0) same ∙ real.1.1)),
@@ -578,10 +561,10 @@ module _ (fresh : Fresh ℕ) (world : World ℕ) (location : Location ℕ) (chan
   abbrev IgnoresReal : (Overlay ℕ → List (Layer ℕ)) → Type 0
   IgnoresReal layers = (o : Overlay ℕ) (real : ℕ → Option (Real ℕ)) → layers (record o { real = real }) ≡ layers o
 
-  all_of : (layers : Overlay ℕ → List (Layer ℕ)) (fs : List (Filesystem ℕ))
+  pub layers_of_all : (layers : Overlay ℕ → List (Layer ℕ)) (fs : List (Filesystem ℕ))
       → flat_map (of_overlay [] layers) (filter is_overlay fs) ≡ flat_map (of_overlay [] layers) fs
-  all_of layers [] = refl
-  all_of layers (f ∷ fs) = by f.overlay refl (all_of layers fs)
+  layers_of_all layers [] = refl
+  layers_of_all layers (f ∷ fs) = by f.overlay refl (layers_of_all layers fs)
     where
       by : (o : Option (Overlay ℕ)) → f.overlay ≡ o → flat_map (of_overlay [] layers) (filter is_overlay fs) ≡ flat_map (of_overlay [] layers) fs
           → flat_map (of_overlay [] layers) (cond (is_some f.overlay) (f ∷ filter is_overlay fs) (filter is_overlay fs))
@@ -636,10 +619,10 @@ module _ (fresh : Fresh ℕ) (world : World ℕ) (location : Location ℕ) (chan
       → flat_map (of_overlay [] layers) (overlays later) ≡ flat_map (of_overlay [] layers) (overlays world)
   layers_same layers ignores =
       ap (λ w. flat_map (of_overlay [] layers) (overlays w)) later_is
-      ∙ all_of layers (map (replaced_if_numbered nat_eq changed_upper) (map (replaced_if_numbered nat_eq changed) world.filesystems))
+      ∙ layers_of_all layers (map (replaced_if_numbered nat_eq changed_upper) (map (replaced_if_numbered nat_eq changed) world.filesystems))
       ∙ mapped_same layers (replaced_if_numbered nat_eq changed_upper) (map (replaced_if_numbered nat_eq changed) world.filesystems) (second_same layers)
       ∙ mapped_same layers (replaced_if_numbered nat_eq changed) world.filesystems (first_same layers ignores)
-      ∙ sym (all_of layers world.filesystems)
+      ∙ sym (layers_of_all layers world.filesystems)
 
   live_of : (layer : Layer ℕ) → Among layer (live_upper_and_work world) → IsLive layer
   unfolding IsLive
@@ -655,16 +638,12 @@ module _ (fresh : Fresh ℕ) (world : World ℕ) (location : Location ℕ) (chan
       from (any_among (λ (o : ℕ). lies_or_counts_under nat_eq later a.filesystem o a && list_any (lies_or_counts_under nat_eq later a.filesystem o) (b ∷ []))
       (filesystem_numbered nat_eq later a.filesystem).files.numbers e)
     where
-      one : (c : Bool) → (c || false) ≡ true → c ≡ true
-      one true e = e
-      one false e = e
-
       from : (o : ℕ) × Among o (filesystem_numbered nat_eq later a.filesystem).files.numbers
           × ((lies_or_counts_under nat_eq later a.filesystem o a && (lies_or_counts_under nat_eq later a.filesystem o b || false)) ≡ true)
           → overlap nat_eq world a b ≡ true
       from (o, m, f) =
-          overlap_before a b live_a live_b a.filesystem o refl (and_first (lies_or_counts_under nat_eq later a.filesystem o a) _ f)
-          (one (lies_or_counts_under nat_eq later a.filesystem o b) (and_second (lies_or_counts_under nat_eq later a.filesystem o a) _ f))
+          overlap_before a b live_a live_b a.filesystem o refl (and_true_left (lies_or_counts_under nat_eq later a.filesystem o a) _ f)
+          (or_false_alone (lies_or_counts_under nat_eq later a.filesystem o b) (and_true_right (lies_or_counts_under nat_eq later a.filesystem o a) _ f))
 
   changed_stay : any_pair (overlap nat_eq later) (live_upper_and_work later) ≡ false
   changed_stay =
@@ -686,10 +665,6 @@ module _ (fresh : Fresh ℕ) (world : World ℕ) (location : Location ℕ) (chan
           (filesystem_numbered nat_eq world a.filesystem).files.numbers
           (overlap_before a b (live_of a m) (low_of b n) a.filesystem o refl p q))
         where
-          one : (c : Bool) → (c || false) ≡ true → c ≡ true
-          one true e = e
-          one false e = e
-
           found : (x : ℕ) × Among x (filesystem_numbered nat_eq world a.filesystem).files.numbers
               × ((lies_or_counts_under nat_eq world a.filesystem x a && (lies_or_counts_under nat_eq world a.filesystem x b || false)) ≡ true) → ⊥
           found (x, l, f) =
@@ -697,15 +672,15 @@ module _ (fresh : Fresh ℕ) (world : World ℕ) (location : Location ℕ) (chan
               (none_among (λ (y : ℕ). lies_or_counts_under nat_eq world a.filesystem y a && list_any (lies_or_counts_under nat_eq world a.filesystem y) (live_lowers nat_eq world))
               (filesystem_numbered nat_eq world a.filesystem).files.numbers
               (none_among (overlaps_one_of nat_eq world (live_lowers nat_eq world)) (live_upper_and_work world) conditions.overlays.lowers_apart a m) x l)
-              (and_first (lies_or_counts_under nat_eq world a.filesystem x a) _ f)
+              (and_true_left (lies_or_counts_under nat_eq world a.filesystem x a) _ f)
               (any_from_among (lies_or_counts_under nat_eq world a.filesystem x) (live_lowers nat_eq world) b n
-              (one (lies_or_counts_under nat_eq world a.filesystem x b) (and_second (lies_or_counts_under nat_eq world a.filesystem x a) _ f)))
+              (or_false_alone (lies_or_counts_under nat_eq world a.filesystem x b) (and_true_right (lies_or_counts_under nat_eq world a.filesystem x a) _ f)))
 
       from : (a : Layer ℕ) → Among a (live_upper_and_work world) → (o : ℕ) × Among o (filesystem_numbered nat_eq later a.filesystem).files.numbers
           × ((lies_or_counts_under nat_eq later a.filesystem o a && list_any (lies_or_counts_under nat_eq later a.filesystem o) (live_lowers nat_eq world)) ≡ true) → ⊥
       from a m (o, l, f) =
-          inner a m o (and_first (lies_or_counts_under nat_eq later a.filesystem o a) _ f)
-          (any_among (lies_or_counts_under nat_eq later a.filesystem o) (live_lowers nat_eq world) (and_second (lies_or_counts_under nat_eq later a.filesystem o a) _ f))
+          inner a m o (and_true_left (lies_or_counts_under nat_eq later a.filesystem o a) _ f)
+          (any_among (lies_or_counts_under nat_eq later a.filesystem o) (live_lowers nat_eq world) (and_true_right (lies_or_counts_under nat_eq later a.filesystem o a) _ f))
 
       by : (a : Layer ℕ) → Among a (live_upper_and_work world) → (b : Bool) → overlaps_one_of nat_eq later (live_lowers nat_eq world) a ≡ b
           → overlaps_one_of nat_eq later (live_lowers nat_eq world) a ≡ false

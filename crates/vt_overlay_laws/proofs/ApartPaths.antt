@@ -1,5 +1,5 @@
 -- What lies under a directory of a tree is led to from it.
-use Rattle.std.proofs.Common.{◌≡◌, refl, sym, ap, subst, ◌∙◌, true≢false, eqb-true, ◌⊎◌, ⊎_elim, inl, inr, ℕ, zero, suc, nat_eq, Bool, true, false, cond, ◌&&◌, ◌||◌, List, [], ◌∷◌, ◌++◌, length, Option, Some, None}
+use Rattle.std.proofs.Common.{◌≡◌, refl, sym, ap, subst, ◌∙◌, true≢false, eqb-true, ⊎_elim, ℕ, zero, suc, nat_eq, Bool, true, false, cond, ◌&&◌, List, [], ◌∷◌, ◌++◌, length, Option, Some, None}
 use Rattle.vt_spec.specs.FileTree.{FileTree, has_entry_to, is_directory_under, is_file_under, is_under, named_parent}
 use Rattle.vt_spec.specs.Lists.{chain, is_among, when}
 use Rattle.vt_spec.specs.Machine.Invariants.{ListsNumbers}
@@ -9,12 +9,11 @@ use Rattle.vt_spec.proofs.Lists.{any_among}
 use Rattle.vt_spec.proofs.Trees.{led-append}
 use Rattle.vt_layer_laws.proofs.DirectoriesBelow.{led_below}
 use Rattle.vt_layer_laws.proofs.LockedApart.{under_itself}
-use Rattle.vt_layer_laws.proofs.ShownAtPath.{none_is_some, some_is_one}
-use Rattle.vt_layer_laws.proofs.UpperLine.{and_first, and_second, entry_from}
-
-or_cases : (a b : Bool) → (a || b) ≡ true → (a ≡ true) ⊎ (b ≡ true)
-or_cases true b e = inl refl
-or_cases false b e = inr e
+use Rattle.std.proofs.lemmas.Bool.{or_cases}
+use Rattle.std.proofs.lemmas.Option.{same_Some}
+use Rattle.vt_spec.proofs.NodeChanges.{entry_from}
+use Rattle.vt_spec.proofs.Options.{none_is_some}
+use Rattle.vt_spec.proofs.Truths.{and_true_left, and_true_right}
 
 module _ (files : FileTree ℕ) (tree : IsTree files.tree) (top : ℕ) where
   abbrev pub Led : ℕ → Type 0
@@ -35,7 +34,7 @@ module _ (files : FileTree ℕ) (tree : IsTree files.tree) (top : ℕ) where
           → cond p None (when q (parent_in d (files.tree.node d))) ≡ Some b → has_entry_to nat_eq files.tree b d ≡ true
       by true q h e = none_is_some b e
       by false true h e = subst (λ n. has_entry_to nat_eq files.tree n d ≡ true)
-          (some_is_one (parent_in d (files.tree.node d)) b e) h
+          (same_Some (parent_in d (files.tree.node d)) b e) h
       by false false h e = none_is_some b e
 
   by_chain : (most d : ℕ) → is_among nat_eq top (chain most (named_parent nat_eq files.tree) d) ≡ true → Led d
@@ -64,10 +63,10 @@ module _ (files : FileTree ℕ) (tree : IsTree files.tree) (top : ℕ) where
           let found = any_among (λ directory. has_entry_to nat_eq files.tree directory object
           && is_directory_under nat_eq files top directory) files.numbers e in
           let name = entry_from files.tree tree found.0 object
-          (and_first (has_entry_to nat_eq files.tree found.0 object) _ found.2) in
+          (and_true_left (has_entry_to nat_eq files.tree found.0 object) _ found.2) in
           led_on found.0 name.0 object
           (by_chain (length files.numbers) found.0
-          (and_second (has_entry_to nat_eq files.tree found.0 object) _ found.2)) name.1
+          (and_true_right (has_entry_to nat_eq files.tree found.0 object) _ found.2)) name.1
 
   -- and what is led to lies under it
   pub led_under : ListsNumbers nat_eq files → IsDirectory files.tree top → (object : ℕ) → Led object

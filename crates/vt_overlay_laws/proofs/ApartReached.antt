@@ -18,9 +18,8 @@ use Rattle.vt_tree_laws.proofs.TreesOfWorlds.{numbered_all}
 use Rattle.vt_layer_laws.specs.Layers.Locked.{AreNoInodes}
 use Rattle.vt_layer_laws.proofs.LockedApart.{object_counts}
 use Rattle.vt_layer_laws.proofs.LockedPaths.{layer_tree}
-use Rattle.vt_layer_laws.proofs.ShownAtPath.{none_is_some, some_is_one}
 use Rattle.vt_layer_laws.proofs.UpperChanges.{changes_keep_so, moved_leaves}
-use Rattle.vt_layer_laws.proofs.UpperLine.{and_second, entry_from, entry_to, has_entries}
+use Rattle.vt_layer_laws.proofs.UpperLine.{has_entries}
 use Rattle.vt_layer_laws.proofs.UpperWorld.{from_too, overlay_numbers, overlay_tree, root_is_upper}
 use Rattle.vt_layer_laws.proofs.ViewsMoves.{no_way_up}
 use Rattle.vt_overlay_laws.specs.WholeChanges.{IsAskedWell}
@@ -31,6 +30,10 @@ use Rattle.vt_overlay_laws.proofs.UpperTold.{told_emptied}
 use Rattle.vt_overlay_laws.proofs.WholeAttributes.{upper_real}
 use Rattle.vt_overlay_laws.proofs.WholeLater
 use Rattle.vt_overlay_laws.proofs.WholeTogether.{both_copied, twice}
+use Rattle.std.proofs.lemmas.Option.{same_Some}
+use Rattle.vt_spec.proofs.NodeChanges.{entry_from, entry_to}
+use Rattle.vt_spec.proofs.Options.{none_is_some}
+use Rattle.vt_spec.proofs.Truths.{and_true_right}
 
 -- a directory that keeps its parent keeps its name
 stays_named : (before after : FileTree ℕ) → IsTree before.tree → IsTree after.tree → HasOwnParents after.tree
@@ -91,7 +94,7 @@ module _ (fresh : Fresh ℕ) (world : World ℕ) (location : Location ℕ) (chan
   directory : IsDirectory before.upper.tree layer.directory
   directory =
       subst (λ n. IsDirectory (filesystem_numbered nat_eq world n).files.tree layer.directory) same
-      (and_second _ _ plain)
+      (and_true_right _ _ plain)
 
   there : is_some (before.upper.tree.node layer.directory) ≡ true
   there = directory_used before.upper.tree layer.directory directory
@@ -140,7 +143,7 @@ module _ (fresh : Fresh ℕ) (world : World ℕ) (location : Location ℕ) (chan
       by (Some (Upper object)) r f =
           ApartLater.clash fresh world location change overlay upper conditions is has distinct none asked layer other upper.filesystem layer.directory there
           (object_counts world conditions number overlay is upper has layer.directory
-          (n, r ∙ ap (λ o. Some (Upper o)) (some_is_one object layer.directory f)))
+          (n, r ∙ ap (λ o. Some (Upper o)) (same_Some object layer.directory f)))
           lies_itself
       by (Some (Below depth path)) r f = none_is_some layer.directory f
 
@@ -179,7 +182,7 @@ module _ (fresh : Fresh ℕ) (world : World ℕ) (location : Location ℕ) (chan
 
       placed_along : (path : List (List ℕ)) (from object : ℕ) → IsPlaced from
           → led two.upper.tree from path ≡ Some object → IsPlaced object
-      placed_along [] from object placed e = subst IsPlaced (some_is_one from object e) placed
+      placed_along [] from object placed e = subst IsPlaced (same_Some from object e) placed
       placed_along (name ∷ path) from object placed e =
           let step = Rattle.vt_spec.proofs.Trees.found (λ next. led two.upper.tree next path)
           (entry_at two.upper.tree from name) object e in

@@ -8,7 +8,7 @@ use Rattle.vt_spec.specs.FileTree.{FileTree}
 use Rattle.vt_spec.specs.Language.Changes.{Change, changed, changed_node, node_with_attr, node_with_mark, node_without_entries}
 use Rattle.vt_spec.specs.Language.Changes.Change.{AddName, CopyUp, Make, Move, Remove, SetAttr, SetBytes, SetMark}
 use Rattle.vt_spec.specs.Machine.Invariants.{ListsNumbers}
-use Rattle.vt_spec.specs.Tree.{Content, Node, Tree, entries_in, entries_of, entry_named, is_directory_node, kind_of, name_cmp, node_with_bytes, parent_in, parent_of, with_entries}
+use Rattle.vt_spec.specs.Tree.{Content, Node, Tree, entries_in, entry_named, is_directory_node, kind_of, name_cmp, node_with_bytes, parent_in, parent_of, with_entries}
 use Rattle.vt_spec.specs.Tree.Content.{Directory, Regular, Symlink, Whiteout}
 use Rattle.vt_spec.specs.TreeLaws.{HasName, HasOwnParents, IsDirectory, IsReached, IsTree, entry_at}
 use Rattle.vt_spec.proofs.Nodes.{directory_used}
@@ -16,11 +16,13 @@ use Rattle.vt_spec.proofs.Trees.{directory_kept, entry_kept, reached_named, used
 use Rattle.vt_tree_laws.specs.Trees.{IsProper, MayMake}
 use Rattle.vt_tree_laws.proofs.ChangesKeepTrees.{bytes_keep_place, changes_keep_numbers, changes_keep_own_parents, changes_keep_trees, made_alike, numbers_stay}
 use Rattle.vt_tree_laws.proofs.ChangesNodes.{KeepsPlace, attr_keeps_place, elsewhere, mark_keeps_place, part_stays, there}
-use Rattle.vt_tree_laws.proofs.ChangesOfNames.{Nobody, Nowhere, linked_rearranged, removed_rearranged, still_rearranged, unparented_root}
+use Rattle.vt_tree_laws.proofs.ChangesOfNames.{Nobody, Nowhere, linked_rearranged, removed_rearranged, still_rearranged}
 use Rattle.vt_tree_laws.proofs.ChangesOfPlace.{moved_rearranged}
 use Rattle.vt_tree_laws.proofs.TreesRearranged.{IsRearranged, is_tree-rearranged, own_parent-rearranged}
 use Rattle.vt_layer_laws.proofs.CopyingParts.{without_entries_keeps}
-use Rattle.vt_layer_laws.proofs.ShownAtPath.{none_is_some}
+use Rattle.vt_spec.proofs.NodeChanges.{entries-node_without_entries}
+use Rattle.vt_spec.proofs.Options.{none_is_some}
+use Rattle.vt_spec.proofs.Worlds.{root-without_parent}
 
 -- a tree in which names lead to a directory
 pub record IsGood (top : ℕ) (files : FileTree ℕ) : Type 0 where
@@ -128,7 +130,7 @@ change_reaches files (Move from old to new object) conditions may number spares 
       moves.directories number ∙ is,
       rearranged_reached files.tree (changed nat_eq files (Move from old to new object)).tree _ _ moves
           (changes_keep_trees files (Move from old to new object) conditions may)
-          (unparented_root files (entry_at files.tree to new)) number
+          (root-without_parent files (entry_at files.tree to new)) number
           (⊎_elim spares.0 spares.1) is reached,
     )
 change_reaches files (SetBytes file bytes) conditions may number spares is reached =
@@ -161,16 +163,6 @@ module _ (files : FileTree ℕ) (r : ℕ) (conditions : IsTree files.tree)
   abbrev pub bare : FileTree ℕ
   bare = changed_node nat_eq files r node_without_entries
 
-  none_of : (o : Option (Node ℕ)) → entries_in (node_without_entries o) ≡ []
-  none_of None = refl
-  none_of (Some node) = by node.content
-    where
-      by : (content : Content ℕ) → entries_of (with_entries content []) ≡ []
-      by (Directory parent entries opaque) = refl
-      by (Regular bytes) = refl
-      by (Symlink text) = refl
-      by Whiteout = refl
-
   parent_same : (own : ℕ) (o : Option (Node ℕ)) → parent_in own (node_without_entries o) ≡ parent_in own o
   parent_same own None = refl
   parent_same own (Some node) = by node.content
@@ -182,7 +174,7 @@ module _ (files : FileTree ℕ) (r : ℕ) (conditions : IsTree files.tree)
       by Whiteout = refl
 
   pub bare_there : entries_in (bare.tree.node r) ≡ []
-  bare_there = ap entries_in (there files r node_without_entries) ∙ none_of (files.tree.node r)
+  bare_there = ap entries_in (there files r node_without_entries) ∙ entries-node_without_entries (files.tree.node r)
 
   pub bare_elsewhere : (d : ℕ) → d ≢ r → bare.tree.node d ≡ files.tree.node d
   bare_elsewhere d differ = elsewhere files r node_without_entries d differ

@@ -7,13 +7,13 @@ use Rattle.vt_spec.specs.Machine.CopyUp.{Merge, Stack, copied_up, emptied, hides
 use Rattle.vt_spec.specs.Tree.{Node}
 use Rattle.vt_spec.proofs.Nodes.{directory_used}
 use Rattle.vt_tree_laws.specs.Trees.Sizes.{IsFitChange, is_fit_name, is_fit_node, is_fit_tree}
-use Rattle.vt_tree_laws.proofs.ChangesOfSizes.{changes_keep_sizes}
+use Rattle.vt_tree_laws.proofs.ChangesOfSizes.{changes_keep_sizes, inode_fits}
 use Rattle.vt_layer_laws.specs.Layers.Upper.{IsThere}
 use Rattle.vt_layer_laws.proofs.UpperLine.{has_entries}
 use Rattle.vt_overlay_laws.specs.WhatIsShown.{IsWhole}
 use Rattle.vt_overlay_laws.specs.WholeChanges.{IsAskedWell}
 use Rattle.vt_overlay_laws.specs.WholeStays.{AreNew, SizesStay}
-use Rattle.vt_overlay_laws.proofs.UpperSizes.{above_fits_limits, emptied_sized, inode_sized, left_sized, marked_sized, moved_sized, name_fits, name_sized}
+use Rattle.vt_overlay_laws.proofs.UpperSizes.{above_fits_limits, emptied_sized, left_sized, marked_sized, moved_sized, name_fits, name_sized}
 use Rattle.vt_overlay_laws.proofs.UpperWhole.{files_changed}
 use Rattle.vt_overlay_laws.proofs.WholeLines.{object_copied}
 use Rattle.vt_overlay_laws.proofs.WholeTogether.{both_copied, copied, is_copied, odd_distinct, still_unused, twice}
@@ -28,7 +28,7 @@ module _ (fresh : Fresh ℕ) (stack : Stack ℕ) (merge : Merge ℕ) (h : is_fit
       marked_sized (changed nat_eq merge.upper (Make (upper_of merge d) w (fresh 0) inode))
       (hides_directory nat_eq stack merge d w) (fresh 0)
       (name_sized first (upper_of merge d) w (fresh 0) name
-      (inode_sized merge.upper (fresh 0) inode (above_fits_limits (upper_of merge d) node small) h))
+      (inode_fits merge.upper (fresh 0) inode (above_fits_limits (upper_of merge d) node small) h))
 
   removed_sized : (d : ℕ) (w : List ℕ) (object : ℕ) → is_fit_name w ≡ true
       → is_fit_tree (removed nat_eq fresh stack merge d w object).upper ≡ true

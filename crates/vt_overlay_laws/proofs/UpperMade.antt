@@ -16,10 +16,7 @@ use Rattle.vt_spec.specs.TreeLaws.{IsDirectory, IsReached, entry_at, led}
 use Rattle.vt_spec.proofs.Nodes.{directory_used}
 use Rattle.vt_spec.proofs.Trees.{led-append}
 use Rattle.vt_tree_laws.specs.Trees.{MayAddName, MayMake}
-use Rattle.vt_tree_laws.proofs.TreesWalked.{no_some}
 use Rattle.vt_layer_laws.specs.Layers.ChangesUpper.{StandsInUpper}
-use Rattle.vt_layer_laws.proofs.ShownAtPath.{none_is_some}
-use Rattle.vt_layer_laws.proofs.ShownDirectories.{no_white_directory}
 use Rattle.vt_layer_laws.proofs.ShownNames.{last_name}
 use Rattle.vt_layer_laws.proofs.ViewsMoves.{led_parts}
 use Rattle.vt_overlay_laws.specs.WhatIsShown.{IsWhole}
@@ -27,6 +24,8 @@ use Rattle.vt_overlay_laws.proofs.UpperGoes.{Goes, IsGood, goes_both, goes_by, g
 use Rattle.vt_overlay_laws.proofs.UpperNames.{freed, freed_free, freed_goes, freed_kind, freed_made, freed_named, freed_reached, freed_used}
 use Rattle.vt_overlay_laws.proofs.WholeAttributes.{upper_real}
 use Rattle.vt_overlay_laws.proofs.WholeNames.{above_named, directory_above, named_above, top_good}
+use Rattle.vt_spec.proofs.NodeChanges.{directory_no_whiteout}
+use Rattle.vt_spec.proofs.Options.{none_from_not_some, none_is_some}
 
 -- A directory of the overlay that names lead to, in the upper layer
 module _ (stack : Stack ℕ) (merge : Merge ℕ) (whole : IsWhole stack merge) (d ud : ℕ)
@@ -62,7 +61,7 @@ module _ (stack : Stack ℕ) (merge : Merge ℕ) (whole : IsWhole stack merge) (
       by : (b : Bool) → is_directory_node (merge.upper.tree.node r) ≡ b
           → is_directory_node (merge.upper.tree.node r) ≡ false
       by true is =
-          let found = named_below w r e (no_white_directory (merge.upper.tree.node r) is) in
+          let found = named_below w r e (directory_no_whiteout (merge.upper.tree.node r) is) in
           none_is_some found.0 (sym free ∙ found.1)
       by false is = is
 
@@ -93,7 +92,7 @@ make_over top files d w c node good is reached plain vacant fits =
         reached = freed_reached top files good d w plain d is reached;
         free = freed_free top files good d w plain;
       };
-      number_is_new = no_some (free.tree.node c) (freed_used top files good d w plain c ∙ ap is_some vacant);
+      number_is_new = none_from_not_some (free.tree.node c) (freed_used top files good d w plain c ∙ ap is_some vacant);
       fits = fits;
     }) tt))
   where

@@ -11,12 +11,10 @@ use Rattle.vt_spec.specs.Tree.Content.{Directory, Regular, Symlink, Whiteout}
 use Rattle.vt_spec.specs.TreeLaws.{IsDirectory, IsReached, entry_at}
 use Rattle.vt_spec.proofs.Trees.{led_kept}
 use Rattle.vt_tree_laws.specs.Trees.{MayMove}
-use Rattle.vt_tree_laws.proofs.TreesWalked.{no_some}
 use Rattle.vt_layer_laws.specs.Layers.ChangesUpper.{StandsInUpper}
-use Rattle.vt_layer_laws.proofs.ShownAtPath.{none_is_some, some_is_one}
 use Rattle.vt_layer_laws.proofs.ViewsEntries.{is_entry}
 use Rattle.vt_layer_laws.proofs.ViewsMoves.{move_told}
-use Rattle.vt_layer_laws.proofs.ViewsNames.{file_is_empty, names_leave_inodes, no_entries}
+use Rattle.vt_layer_laws.proofs.ViewsNames.{names_leave_inodes, no_entries}
 use Rattle.vt_overlay_laws.specs.WhatIsShown.{IsWhole}
 use Rattle.vt_overlay_laws.proofs.UpperGoes.{Goes, IsGood, bare, bare_goes, bare_kept, bare_kind, bare_reached, bare_there, bare_told, bare_used, change_reaches, goes_both, goes_by, goes_none}
 use Rattle.vt_overlay_laws.proofs.UpperMade.{make_over, mark_goes, named_below, up_reached}
@@ -26,6 +24,9 @@ use Rattle.vt_overlay_laws.proofs.WholeLeft.{own_upper}
 use Rattle.vt_overlay_laws.proofs.WholeLinked.{no_white_object}
 use Rattle.vt_overlay_laws.proofs.WholeMovedTree
 use Rattle.vt_overlay_laws.proofs.WholeNames.{is_fine, object_above, top_good}
+use Rattle.std.proofs.lemmas.Option.{same_Some}
+use Rattle.vt_spec.proofs.NodeChanges.{entries_in-no_directory}
+use Rattle.vt_spec.proofs.Options.{none_from_not_some, none_is_some}
 
 -- with itself as the parent once more
 parent_twice : (k : ℕ) (o : Option (Node ℕ)) → node_with_parent k (node_with_parent k o) ≡ node_with_parent k o
@@ -61,7 +62,7 @@ moved_twice files from old to new object r named =
     still =
         ap (entry_named new)
         (Rattle.vt_tree_laws.proofs.ChangesNodes.part_stays files r (node_with_parent r) entries_in
-        (Rattle.vt_tree_laws.proofs.ChangesNodes.entries-node_with_parent r) to)
+        (Rattle.vt_spec.proofs.NodeChanges.entries-node_with_parent r) to)
         ∙ named
 
 module _ (fresh : Fresh ℕ) (stack : Stack ℕ) (merge : Merge ℕ) (whole : IsWhole stack merge) (f : ℕ) (old : List ℕ)
@@ -168,7 +169,7 @@ module _ (fresh : Fresh ℕ) (stack : Stack ℕ) (merge : Merge ℕ) (whole : Is
         itself =
             ap (λ b. Rattle.std.proofs.Common.◌&&◌ b (Rattle.std.specs.Str.bytes_eq old old))
             (Rattle.std.proofs.Common.eq-eqb uf uf refl)
-            ∙ Rattle.vt_overlay_laws.proofs.WholeAttributes.bytes_same old
+            ∙ Rattle.vt_spec.proofs.Truths.bytes_eq_itself old
 
         by : (b : Bool) → is_entry ut new uf old ≡ b
             → cond b (Some uo) (cond (is_entry uf old uf old) None (entry_at base.tree uf old))
@@ -181,7 +182,7 @@ module _ (fresh : Fresh ℕ) (stack : Stack ℕ) (merge : Merge ℕ) (whole : Is
 
     moved_vacant : moved_up.tree.node (fresh 0) ≡ None
     moved_vacant =
-        no_some (moved_up.tree.node (fresh 0))
+        none_from_not_some (moved_up.tree.node (fresh 0))
         ((names_leave_inodes base (Move uf old ut new uo) top (fresh 0) refl).there ∙ used (fresh 0)
         ∙ ap is_some vacant)
 
@@ -210,7 +211,7 @@ module _ (fresh : Fresh ℕ) (stack : Stack ℕ) (merge : Merge ℕ) (whole : Is
           let plain = none_named stack merge whole t ut real_t may.reached.0 may.reached.1 new e in
           moved_up_goes merge.upper (goes_none top merge.upper good) (λ d n k g. g) (λ k. refl)
           (λ k. refl) named_up uf_reached ut_reached
-          (λ k g. file_is_empty (merge.upper.tree.node k) (plain k g))
+          (λ k g. entries_in-no_directory (merge.upper.tree.node k) (plain k g))
           (λ g. true≢false (sym good.directory ∙ plain top g)) left marks
       by (Some r) e left marks =
           subst (λ x. Goes top merge.upper (marked nat_eq marks (name_left_by nat_eq left fresh stack x uf old) uo))
@@ -248,4 +249,4 @@ module _ (fresh : Fresh ℕ) (stack : Stack ℕ) (merge : Merge ℕ) (whole : Is
               ∙ may.replaced_empty own.0 own.1) old) ∙ may.named)
 
           one : (k : ℕ) → entry_at (bare merge.upper r good.tree leaf).tree ut new ≡ Some k → k ≡ r
-          one k g = some_is_one k r (sym (bare_told merge.upper r good.tree leaf ut new k g).1 ∙ entry)
+          one k g = same_Some k r (sym (bare_told merge.upper r good.tree leaf ut new k g).1 ∙ entry)

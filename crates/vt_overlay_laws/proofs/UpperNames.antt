@@ -5,22 +5,17 @@ use Rattle.std.proofs.lemmas.Float.{T_from_true}
 use Rattle.std.specs.FinMap.Entries.{is_sorted, is_sorted-put, is_sorted-where_key, same_entries}
 use Rattle.std.specs.Cmp.Lexicographic.{bytes_decides, nat_list_cmp_total}
 use Rattle.std.specs.Cmp.{tied_itself}
-use Rattle.std.specs.declared.cmp.Ordering.TheVariants.{Equal}
 use Rattle.std.specs.Ordering.{eq_by_cmp, is_eq}
 use Rattle.std.specs.Str.{bytes_eq}
 use Rattle.vt_spec.specs.FileTree.{FileTree}
-use Rattle.vt_spec.specs.Language.Changes.{changed, changed_node, content_with_parent, node_with_parent, node_without_entry, with_inode, with_name, without_entry, without_name}
+use Rattle.vt_spec.specs.Language.Changes.{changed, changed_node, node_with_parent, node_without_entry, with_inode, with_name, without_entry, without_name}
 use Rattle.vt_spec.specs.Language.Changes.Change.{Remove}
-use Rattle.vt_spec.specs.Rights.{is_directory}
-use Rattle.vt_spec.specs.Tree.{Content, Entries, Node, entries_in, entries_of, entry_named, is_directory_node, kind_of, name_cmp, node_with_entry, with_entries, with_entry}
+use Rattle.vt_spec.specs.Tree.{Content, Entries, Node, entries_in, entries_of, entry_named, is_directory_node, name_cmp, node_with_entry, with_entries, with_entry}
 use Rattle.vt_spec.specs.Tree.Content.{Directory, Regular, Symlink, Whiteout}
 use Rattle.vt_spec.specs.TreeLaws.{IsDirectory, IsReached, entry_at}
-use Rattle.vt_spec.proofs.Nodes.{entry_named-with_entry, entry_named-without_entry, same_name}
-use Rattle.vt_layer_laws.proofs.ViewsNames.{file_is_empty}
+use Rattle.vt_spec.proofs.Nodes.{entry_named-with_entry, entry_named-without_entry}
 use Rattle.vt_overlay_laws.proofs.UpperGoes.{Goes, IsGood, change_reaches, goes_by, goes_none}
-
-same_key : (x y : List ℕ) → name_cmp x y ≡ Equal → x ≡ y
-same_key x y e = same_name x y (ap is_eq e)
+use Rattle.vt_spec.proofs.NodeChanges.{entries_in-no_directory, node_with_parent-no_directory, same_name-Equal}
 
 sorted_without : (w : List ℕ) (es : Entries ℕ) → is_sorted name_cmp es ≡ true
     → Rattle.std.proofs.Common.T (is_sorted name_cmp (without_entry w es))
@@ -30,7 +25,7 @@ sorted_without w es h = is_sorted-where_key name_cmp (λ x. not (bytes_eq x w)) 
 pub with_over_without : (w : List ℕ) (k : ℕ) (es : Entries ℕ) → is_sorted name_cmp es ≡ true
     → with_entry w k (without_entry w es) ≡ with_entry w k es
 with_over_without w k es h =
-    same_entries name_cmp nat_list_cmp_total same_key _ _
+    same_entries name_cmp nat_list_cmp_total same_name-Equal _ _
     (is_sorted-put name_cmp nat_list_cmp_total w k (without_entry w es) (sorted_without w es h))
     (is_sorted-put name_cmp nat_list_cmp_total w k es (T_from_true _ h))
     (λ q. entry_named-with_entry q w k (without_entry w es) ∙ by q (eq_by_cmp name_cmp q w) refl
@@ -53,7 +48,7 @@ with_over_without w k es h =
 pub without_none : (w : List ℕ) (es : Entries ℕ) → is_sorted name_cmp es ≡ true → entry_named w es ≡ None
     → without_entry w es ≡ es
 without_none w es h none =
-    same_entries name_cmp nat_list_cmp_total same_key _ _ (sorted_without w es h) (T_from_true _ h)
+    same_entries name_cmp nat_list_cmp_total same_name-Equal _ _ (sorted_without w es h) (T_from_true _ h)
     (λ q. entry_named-without_entry q w es ∙ by q (bytes_eq q w) refl)
   where
     by : (q : List ℕ) (b : Bool) → bytes_eq q w ≡ b → cond (not b) (entry_named q es) None ≡ entry_named q es
@@ -88,16 +83,6 @@ node_without_none w (Some node) h none =
     by (Regular b) h none = refl
     by (Symlink b) h none = refl
     by Whiteout h none = refl
-
-pub no_parent : (p : ℕ) (o : Option (Node ℕ)) → is_directory_node o ≡ false → node_with_parent p o ≡ o
-no_parent p None h = refl
-no_parent p (Some node) h = ap (λ c. Some (record { attr = node.attr; content = c })) (by node.content h)
-  where
-    by : (c : Content ℕ) → is_directory (kind_of c) ≡ false → content_with_parent p c ≡ c
-    by (Directory q n o) h = absurd (true≢false h)
-    by (Regular b) h = refl
-    by (Symlink b) h = refl
-    by Whiteout h = refl
 
 -- trees with the same inodes are the same
 pub same_tree : (one other : FileTree ℕ) → one.tree.root ≡ other.tree.root → one.numbers ≡ other.numbers
@@ -170,7 +155,7 @@ pub without_name_free : (files : FileTree ℕ) (d : ℕ) (w : List ℕ)
 without_name_free files d w =
     ap (entry_named w)
     (ap entries_in (Rattle.vt_tree_laws.proofs.ChangesNodes.there files d (node_without_entry w))
-    ∙ Rattle.vt_tree_laws.proofs.ChangesNodes.entries-node_without_entry w (files.tree.node d))
+    ∙ Rattle.vt_spec.proofs.NodeChanges.entries-node_without_entry w (files.tree.node d))
     ∙ entry_named-without_entry w w (entries_in (files.tree.node d))
     ∙ ap (λ b. cond (not b) (entry_named w (entries_in (files.tree.node d))) None) ((bytes_decides w w).1 refl)
 
@@ -222,17 +207,17 @@ module _ (top : ℕ) (files : FileTree ℕ) (good : IsGood top files) (d : ℕ) 
   pub freed_kind : (k : ℕ) → is_directory_node (freed.tree.node k) ≡ is_directory_node (files.tree.node k)
   freed_kind k =
       Rattle.vt_tree_laws.proofs.ChangesNodes.part_stays files d (node_without_entry w) is_directory_node
-      (Rattle.vt_tree_laws.proofs.ChangesNodes.kind-node_without_entry w) k
+      (Rattle.vt_spec.proofs.NodeChanges.is_directory-node_without_entry w) k
 
   pub freed_used : (k : ℕ) → is_some (freed.tree.node k) ≡ is_some (files.tree.node k)
   freed_used k =
       Rattle.vt_tree_laws.proofs.ChangesNodes.part_stays files d (node_without_entry w) is_some
-      (Rattle.vt_tree_laws.proofs.ChangesNodes.used-node_without_entry w) k
+      (Rattle.vt_spec.proofs.NodeChanges.is_some-node_without_entry w) k
 
   -- it is a removal, or nothing
   as_removed : (r : ℕ) → entry_at files.tree d w ≡ Some r → changed nat_eq files (Remove d w r) ≡ freed
   as_removed r e =
-      unchanged_node freed r (node_with_parent r) (no_parent r (freed.tree.node r) (freed_kind r ∙ plain r e))
+      unchanged_node freed r (node_with_parent r) (node_with_parent-no_directory r (freed.tree.node r) (freed_kind r ∙ plain r e))
 
   as_before : entry_at files.tree d w ≡ None → freed ≡ files
   as_before none = unchanged_node files d (node_without_entry w) (node_without_none w (files.tree.node d) in_order none)
@@ -245,7 +230,7 @@ module _ (top : ℕ) (files : FileTree ℕ) (good : IsGood top files) (d : ℕ) 
       by (Some r) e =
           subst (Goes top files) (as_removed r e)
           (goes_by top files (Remove d w r) good
-          (record { named = e; empty = file_is_empty (files.tree.node r) (plain r e) })
+          (record { named = e; empty = entries_in-no_directory (files.tree.node r) (plain r e) })
           (λ same. true≢false (sym good.directory ∙ ap (λ n. is_directory_node (files.tree.node n)) same ∙ plain r e)))
 
   -- directories are still reached
@@ -258,7 +243,7 @@ module _ (top : ℕ) (files : FileTree ℕ) (good : IsGood top files) (d : ℕ) 
       by (Some r) e =
           subst (λ f. IsReached f.tree number) (as_removed r e)
           ((change_reaches files (Remove d w r) good.tree
-          (record { named = e; empty = file_is_empty (files.tree.node r) (plain r e) }) number
+          (record { named = e; empty = entries_in-no_directory (files.tree.node r) (plain r e) }) number
           (λ same. true≢false (sym is ∙ ap (λ n. is_directory_node (files.tree.node n)) same
           ∙ plain r e)) is reached).1)
 

@@ -14,7 +14,6 @@ use Rattle.vt_spec.proofs.Nodes.{directory_used, entries-node_with_bytes}
 use Rattle.vt_tree_laws.proofs.ChangesNodes.{attr_keeps_place}
 use Rattle.vt_layer_laws.specs.Layers.ChangesUpper.{StandsInUpper}
 use Rattle.vt_layer_laws.specs.Layers.Upper.{IsThere}
-use Rattle.vt_layer_laws.proofs.ShownAtPath.{some_is_one}
 use Rattle.vt_layer_laws.proofs.UpperLine.{has_entries, is_reached_in}
 use Rattle.vt_layer_laws.proofs.UpperShown.{way_to}
 use Rattle.vt_overlay_laws.specs.WhatIsShown.{IsWhole}
@@ -26,6 +25,7 @@ use Rattle.vt_overlay_laws.proofs.WholeLines.{object_copied}
 use Rattle.vt_overlay_laws.proofs.WholeMade.{new_bare}
 use Rattle.vt_overlay_laws.proofs.WholeNames.{directory_above, named_above}
 use Rattle.vt_overlay_laws.proofs.WholeTogether.{both_copied, copied, is_copied, new_of_evens, new_of_odds, odd_distinct, stands_now, still_unused, twice}
+use Rattle.std.proofs.lemmas.Option.{same_Some}
 
 bare_above : (p : ℕ) (c : Content ℕ) → entries_of c ≡ [] → entries_of (content_with_parent p c) ≡ []
 bare_above p (Directory q n o) e = e
@@ -181,7 +181,7 @@ module _ (fresh : Fresh ℕ) (stack : Stack ℕ) (merge : Merge ℕ) (whole : Is
       by : (b : Bool)
           → cond b (Some (Upper (odds fresh 0))) ((copied_up nat_eq (evens fresh) merge d).real n) ≡ Some (Upper object)
           → (merge.real n ≡ Some (Upper object)) ⊎ IsNewBy fresh object
-      by true e = inr (1, sym (some_is_one (odds fresh 0) object (ap upper_object e)))
+      by true e = inr (1, sym (same_Some (odds fresh 0) object (ap upper_object e)))
       by false e =
           ⊎_elim inl (λ g. inr (new_of_evens fresh object g))
           ((is_copied fresh stack merge whole distinct unused d

@@ -13,10 +13,7 @@ use Rattle.vt_spec.specs.TreeLaws.{IsDirectory, IsReached, entry_at}
 use Rattle.vt_spec.proofs.Nodes.{directory_used}
 use Rattle.vt_spec.proofs.Trees.{led-append}
 use Rattle.vt_tree_laws.specs.Trees.{MayRemove}
-use Rattle.vt_tree_laws.proofs.TreesWalked.{no_some}
 use Rattle.vt_layer_laws.specs.Layers.ChangesUpper.{StandsInUpper}
-use Rattle.vt_layer_laws.proofs.ShownAtPath.{none_is_some, some_is_one}
-use Rattle.vt_layer_laws.proofs.ShownDirectories.{no_white_directory}
 use Rattle.vt_layer_laws.proofs.UpperLine.{has_entries, is_reached_in}
 use Rattle.vt_layer_laws.proofs.UpperShown.{way_to}
 use Rattle.vt_layer_laws.proofs.ViewsMoves.{no_way_up}
@@ -28,6 +25,9 @@ use Rattle.vt_overlay_laws.proofs.UpperNames.{freed_goes, freed_made, inode_chan
 use Rattle.vt_overlay_laws.proofs.WholeAttributes.{top_open, upper_real}
 use Rattle.vt_overlay_laws.proofs.WholeLeft.{named_in_upper, own_upper}
 use Rattle.vt_overlay_laws.proofs.WholeNames.{above_named, directory_above, is_fine, top_good}
+use Rattle.std.proofs.lemmas.Option.{same_Some}
+use Rattle.vt_spec.proofs.NodeChanges.{directory_no_whiteout}
+use Rattle.vt_spec.proofs.Options.{none_from_not_some, none_is_some}
 
 -- what has a name in the overlay is not the upper layer's directory
 pub named_no_top : (stack : Stack ℕ) (merge : Merge ℕ) → IsWhole stack merge → (d : ℕ) (w : List ℕ) (object uo : ℕ)
@@ -35,11 +35,11 @@ pub named_no_top : (stack : Stack ℕ) (merge : Merge ℕ) → IsWhole stack mer
 named_no_top stack merge whole d w object uo named real same =
     let top_directory = (top_open stack merge whole).1 in
     let root = above_named stack merge whole [] stack.directory refl
-    (no_white_directory (merge.upper.tree.node stack.directory) top_directory) in
+    (directory_no_whiteout (merge.upper.tree.node stack.directory) top_directory) in
     whole.tree.root_unnamed d w (named ∙ ap Some
     ((is_fine stack merge whole).one object merge.files.tree.root (ap is_some real)
     (real ∙ ap (λ n. Some (Upper n)) (sym same) ∙ sym root.2
-    ∙ ap merge.real (sym (some_is_one merge.files.tree.root root.0 root.1)))))
+    ∙ ap merge.real (sym (same_Some merge.files.tree.root root.0 root.1)))))
 
 -- A name in a directory of the overlay that names lead to
 module _ (stack : Stack ℕ) (merge : Merge ℕ) (whole : IsWhole stack merge) (d ud : ℕ)
@@ -50,7 +50,7 @@ module _ (stack : Stack ℕ) (merge : Merge ℕ) (whole : IsWhole stack merge) (
       → upper_directory_named merge d w ≡ Some k
   own_named k e is =
       let found = named_below stack merge whole d ud real_d way there w k e
-      (no_white_directory (merge.upper.tree.node k) is) in
+      (directory_no_whiteout (merge.upper.tree.node k) is) in
       ap (λ o. then_some o (λ n. cond (is_directory_node (merge.files.tree.node n))
       (upper_object (merge.real n)) None)) found.1
       ∙ ap (λ b. cond b (upper_object (merge.real found.0)) None)
@@ -86,7 +86,7 @@ module _ (stack : Stack ℕ) (merge : Merge ℕ) (whole : IsWhole stack merge) (
         by true dir =
             let found = named_below stack merge whole own.0 r own.2 (way ++ w ∷ [])
             (led-append merge.files.tree merge.files.tree.root way w d own.0 there own.1) word k e
-            (no_white_directory (merge.upper.tree.node k) dir) in
+            (directory_no_whiteout (merge.upper.tree.node k) dir) in
             none_is_some found.0 (sym (no_entries merge.files.tree own.0 (empty own.0 own.1) word) ∙ found.1)
         by false dir = dir
 
@@ -150,12 +150,12 @@ module _ (top : ℕ) (files : FileTree ℕ) (good : IsGood top files) (d : ℕ) 
 
     gone_vacant : gone.tree.node c ≡ None
     gone_vacant =
-        no_some (gone.tree.node c)
+        none_from_not_some (gone.tree.node c)
         (Rattle.vt_tree_laws.proofs.ChangesNodes.part_stays (without_name nat_eq emptied_first d w) r
         (node_with_parent r) is_some
-        (Rattle.vt_tree_laws.proofs.ChangesNodes.used-node_with_parent r) c
+        (Rattle.vt_spec.proofs.NodeChanges.is_some-node_with_parent r) c
         ∙ Rattle.vt_tree_laws.proofs.ChangesNodes.part_stays emptied_first d (node_without_entry w) is_some
-        (Rattle.vt_tree_laws.proofs.ChangesNodes.used-node_without_entry w) c
+        (Rattle.vt_spec.proofs.NodeChanges.is_some-node_without_entry w) c
         ∙ bare_used files r good.tree leaves c ∙ ap is_some vacant)
 
     gone_free : (k : ℕ) → entry_at gone.tree d w ≡ Some k → is_directory_node (gone.tree.node k) ≡ false
@@ -163,7 +163,7 @@ module _ (top : ℕ) (files : FileTree ℕ) (good : IsGood top files) (d : ℕ) 
         none_is_some k (sym (ap (entry_named w)
         (Rattle.vt_tree_laws.proofs.ChangesNodes.part_stays (without_name nat_eq emptied_first d w) r
         (node_with_parent r) entries_in
-        (Rattle.vt_tree_laws.proofs.ChangesNodes.entries-node_with_parent r) d)
+        (Rattle.vt_spec.proofs.NodeChanges.entries-node_with_parent r) d)
         ∙ Rattle.vt_overlay_laws.proofs.UpperNames.without_name_free emptied_first d w) ∙ e)
 
     abbrev whited : FileTree ℕ → FileTree ℕ
@@ -220,7 +220,7 @@ removed_goes fresh stack merge d w object whole stands vacant may =
         ∙ has_entries merge.files.tree d w object may.named
 
     empty : (n : ℕ) → entry_at merge.files.tree d w ≡ Some n → entries_in (merge.files.tree.node n) ≡ []
-    empty n e = ap (λ k. entries_in (merge.files.tree.node k)) (some_is_one n object (sym e ∙ may.named)) ∙ may.empty
+    empty n e = ap (λ k. entries_in (merge.files.tree.node k)) (same_Some n object (sym e ∙ may.named)) ∙ may.empty
 
     by : (o : Option ℕ) → upper_directory_named merge d w ≡ o → (b : Bool)
         → Goes stack.directory merge.upper

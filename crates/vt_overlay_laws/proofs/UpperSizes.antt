@@ -1,5 +1,5 @@
 -- Names, texts and files of a plain tree stay within their limits in each part of a change.
-use Rattle.std.proofs.Common.{◌≡◌, refl, sym, ap, ◌∙◌, true≢false, eq-eqb, eqb-true, ℕ, nat_eq, Bool, true, false, cond, ◌&&◌, List, [], ◌∷◌, map, Option, Some, None, is_some}
+use Rattle.std.proofs.Common.{◌≡◌, refl, ap, ◌∙◌, eqb-true, ℕ, nat_eq, Bool, true, false, cond, ◌&&◌, List, [], ◌∷◌, map, Option, Some, None, is_some}
 use Rattle.std.specs.List.{list_all}
 use Rattle.std.specs.Ordering.{eq_by_cmp}
 use Rattle.vt_spec.specs.declared.attributes.Attr.{Attr}
@@ -12,12 +12,13 @@ use Rattle.vt_spec.specs.Machine.Invariants.{ListsNumbers, has_fit_names, has_fi
 use Rattle.vt_spec.specs.Tree.{Content, Entries, Node, entries_in, entry_named, name_cmp}
 use Rattle.vt_spec.specs.Tree.Content.{Directory, Regular, Symlink, Whiteout}
 use Rattle.vt_spec.specs.TreeLaws.{entry_at}
-use Rattle.vt_spec.proofs.Lists.{Among, among_from_list_all, among_numbers, list_all_from_among}
+use Rattle.vt_spec.proofs.Lists.{among_from_list_all, among_numbers}
 use Rattle.vt_spec.proofs.Nodes.{directory_used, same_name}
 use Rattle.vt_tree_laws.specs.Trees.Sizes.{is_fit_name, is_fit_node, is_fit_tree}
-use Rattle.vt_tree_laws.proofs.ChangesOfSizes.{changed_fits_there, changes_keep_sizes, fits}
-use Rattle.vt_layer_laws.proofs.ShownAtPath.{none_is_some}
-use Rattle.vt_layer_laws.proofs.UpperLine.{and_first, and_second, has_entries}
+use Rattle.vt_tree_laws.proofs.ChangesOfSizes.{changed_fits_there, changes_keep_sizes, fits, inode_fits}
+use Rattle.vt_layer_laws.proofs.UpperLine.{has_entries}
+use Rattle.vt_spec.proofs.Options.{none_is_some}
+use Rattle.vt_spec.proofs.Truths.{and_true_left, and_true_right}
 
 -- one that is there
 pub fits_here : (files : FileTree ℕ) → ListsNumbers nat_eq files → is_fit_tree files ≡ true → (n : ℕ)
@@ -39,18 +40,18 @@ name_fits files numbers h d w object e =
     of_node : (o : Option (Node ℕ)) → fits o ≡ true → list_all is_fit_name (map (λ x. x.0) (entries_in o)) ≡ true
     of_node o k =
         let files : FileTree ℕ = record { tree = record { root = 0; node = λ n. o }; numbers = [] } in
-        and_second (is_no_larger files 0) (has_fit_names files 0)
-        (and_first (is_no_larger files 0 && has_fit_names files 0) (has_fit_text files 0) k)
+        and_true_right (is_no_larger files 0) (has_fit_names files 0)
+        (and_true_left (is_no_larger files 0 && has_fit_names files 0) (has_fit_text files 0) k)
 
     by : (entries : Entries ℕ) → list_all is_fit_name (map (λ x. x.0) entries) ≡ true
         → entry_named w entries ≡ Some object → is_fit_name w ≡ true
     by [] k e = none_is_some object e
     by (entry ∷ entries) k e = at (eq_by_cmp name_cmp w entry.0) refl e
-        (by entries (and_second (is_fit_name entry.0) _ k))
+        (by entries (and_true_right (is_fit_name entry.0) _ k))
       where
         at : (b : Bool) → eq_by_cmp name_cmp w entry.0 ≡ b → cond b (Some entry.1) (entry_named w entries) ≡ Some object
             → (entry_named w entries ≡ Some object → is_fit_name w ≡ true) → is_fit_name w ≡ true
-        at true f g rest = ap is_fit_name (same_name w entry.0 f) ∙ and_first (is_fit_name entry.0) _ k
+        at true f g rest = ap is_fit_name (same_name w entry.0 f) ∙ and_true_left (is_fit_name entry.0) _ k
         at false f g rest = rest g
 
 -- the parts of a change
@@ -68,23 +69,10 @@ pub moved_sized : (files : FileTree ℕ) (from : ℕ) (old : List ℕ) (to : ℕ
     → is_fit_tree (with_moved nat_eq files from old to new object) ≡ true
 moved_sized files from old to new object fit h = changes_keep_sizes files (Move from old to new object) h fit
 
-pub inode_sized : (files : FileTree ℕ) (c : ℕ) (node : Node ℕ) → is_fit_node node ≡ true → is_fit_tree files ≡ true
-    → is_fit_tree (with_inode nat_eq files c node) ≡ true
-inode_sized files c node fit h =
-    list_all_from_among (λ n. fits ((with_inode nat_eq files c node).tree.node n)) (c ∷ files.numbers)
-    (λ n m. by n m (nat_eq n c) refl)
-  where
-    by : (n : ℕ) → Among n (c ∷ files.numbers) → (b : Bool) → nat_eq n c ≡ b
-        → fits (cond b (Some node) (files.tree.node n)) ≡ true
-    by n m true e = fit
-    by n m false e =
-        Rattle.std.proofs.Common.⊎_elim (λ same. absurd (true≢false (sym (eq-eqb n c same) ∙ e)))
-        (λ l. among_from_list_all (λ k. fits (files.tree.node k)) files.numbers h n l) m
-
 -- an entry less: what a removal does to a tree of one inode
 without_fits : (w : List ℕ) (o : Option (Node ℕ)) → fits o ≡ true → fits (node_without_entry w o) ≡ true
 without_fits w o k =
-    and_first (fits (node_without_entry w o)) true
+    and_true_left (fits (node_without_entry w o)) true
     (changes_keep_sizes (record { tree = record { root = 0; node = λ n. o }; numbers = 0 ∷ [] }) (Remove 0 w 1)
     (ap (λ b. b && true) k) tt)
 
@@ -127,7 +115,7 @@ pub left_sized : (fresh : Fresh ℕ) (stack : Stack ℕ) (files : FileTree ℕ) 
     → is_fit_tree (name_left_by nat_eq b fresh stack files d w) ≡ true
 left_sized fresh stack files d w true fit h =
     let white = with_inode nat_eq files (fresh 0) (whiteout_of stack.mounter) in
-    name_sized white d w (fresh 0) fit (inode_sized files (fresh 0) (whiteout_of stack.mounter) refl h)
+    name_sized white d w (fresh 0) fit (inode_fits files (fresh 0) (whiteout_of stack.mounter) refl h)
 left_sized fresh stack files d w false fit h = without_sized files d w h
 
 -- a copy, and an inode in another directory

@@ -5,16 +5,14 @@ use Rattle.vt_spec.specs.FileTree.{FileTree}
 use Rattle.vt_spec.specs.Language.Changes.{changed_node, node_with_mark, node_with_parent, node_without_entries, with_inode, with_moved, with_name, without_name, without_parent}
 use Rattle.vt_spec.specs.Lists.{Fresh}
 use Rattle.vt_spec.specs.Machine.CopyUp.{Stack, emptied, marked, name_left_by, whiteout_of}
-use Rattle.vt_spec.specs.Tree.{Content, Node, entries_in, entries_of, entry_named, is_directory_node, node_with_entry, with_entries}
-use Rattle.vt_spec.specs.Tree.Content.{Directory, Regular, Symlink, Whiteout}
+use Rattle.vt_spec.specs.Tree.{Node, entries_in, entries_of, entry_named, is_directory_node, node_with_entry}
 use Rattle.vt_spec.specs.TreeLaws.{entry_at}
 use Rattle.vt_spec.proofs.Nodes.{is_directory-node_with_entry, node_other, node_set}
 use Rattle.vt_tree_laws.proofs.ChangesNames.{given_told, untaken_told}
-use Rattle.vt_tree_laws.proofs.ChangesNodes.{elsewhere, entries-node_with_parent, there}
-use Rattle.vt_layer_laws.proofs.ShownAtPath.{none_is_some}
+use Rattle.vt_tree_laws.proofs.ChangesNodes.{elsewhere, there}
 use Rattle.vt_layer_laws.proofs.ViewsEntries.{entries_stay}
-use Rattle.vt_layer_laws.proofs.ViewsNames.{file_is_empty}
-use Rattle.vt_layer_laws.proofs.ViewsStay.{mark_entries}
+use Rattle.vt_spec.proofs.NodeChanges.{entries-node_with_mark, entries-node_with_parent, entries-node_without_entries, entries_in-no_directory}
+use Rattle.vt_spec.proofs.Options.{none_is_some}
 
 -- each name leads where it led, or to one of these
 abbrev pub Told : (ℕ → Type 0) → FileTree ℕ → FileTree ℕ → Type 0
@@ -54,7 +52,7 @@ told_name P files d w k p x n y e = by (is_directory_node (files.tree.node d)) r
         here : (nat_eq x d ≡ true) × (x ≡ d) → (entry_at files.tree x n ≡ Some y) ⊎ P y
         here t =
             none_is_some y (sym (ap (λ m. entry_at (with_name nat_eq files d w k).tree m n) t.1
-            ∙ ap (entry_named n) (file_is_empty ((with_name nat_eq files d w k).tree.node d)
+            ∙ ap (entry_named n) (entries_in-no_directory ((with_name nat_eq files d w k).tree.node d)
             (ap is_directory_node (there files d (node_with_entry w k))
             ∙ is_directory-node_with_entry w k (files.tree.node d) ∙ is))) ∙ e)
 
@@ -84,21 +82,11 @@ pub told_bare : (P : ℕ → Type 0) (files : FileTree ℕ) (r : ℕ)
     → Told P files (changed_node nat_eq files r node_without_entries)
 told_bare P files r x n y e = ⊎_elim here other (eqb_tells x r)
   where
-    none_of : (o : Option (Node ℕ)) → entries_in (node_without_entries o) ≡ []
-    none_of None = refl
-    none_of (Some node) = by node.content
-      where
-        by : (content : Content ℕ) → entries_of (with_entries content []) ≡ []
-        by (Directory parent entries opaque) = refl
-        by (Regular bytes) = refl
-        by (Symlink text) = refl
-        by Whiteout = refl
-
     here : (nat_eq x r ≡ true) × (x ≡ r) → (entry_at files.tree x n ≡ Some y) ⊎ P y
     here t =
         none_is_some y (sym (ap (λ m. entry_at (changed_node nat_eq files r node_without_entries).tree m n) t.1
         ∙ ap (λ o. entry_named n (entries_in o)) (there files r node_without_entries)
-        ∙ ap (entry_named n) (none_of (files.tree.node r))) ∙ e)
+        ∙ ap (entry_named n) (entries-node_without_entries (files.tree.node r))) ∙ e)
 
     other : (nat_eq x r ≡ false) × (x ≢ r) → (entry_at files.tree x n ≡ Some y) ⊎ P y
     other t = inl (sym (ap (λ o. entry_named n (entries_in o)) (elsewhere files r node_without_entries x t.1)) ∙ e)
@@ -117,7 +105,7 @@ told_unparented P files (Some r) = told_stay P files r (node_with_parent r) (ent
 
 pub told_marked : (P : ℕ → Type 0) (files : FileTree ℕ) (b : Bool) (object : ℕ)
     → Told P files (marked nat_eq b files object)
-told_marked P files true object = told_stay P files object (node_with_mark true) (mark_entries true)
+told_marked P files true object = told_stay P files object (node_with_mark true) (entries-node_with_mark true)
 told_marked P files false object = told_none P files
 
 -- a name that is left, with a whiteout or without one

@@ -11,7 +11,6 @@ use Rattle.vt_spec.proofs.Nodes.{directory_used}
 use Rattle.vt_tree_laws.specs.Trees.{IsFileTree, IsProper, MayAddName, MayMake, MayRemove}
 use Rattle.vt_tree_laws.proofs.ChangesKeepTrees.{changes_keep_numbers, changes_keep_own_parents, changes_keep_trees}
 use Rattle.vt_layer_laws.specs.Layers.Upper.{IsThere}
-use Rattle.vt_layer_laws.proofs.ShownAtPath.{some_is_one}
 use Rattle.vt_layer_laws.proofs.UpperLine.{has_entries}
 use Rattle.vt_overlay_laws.specs.WhatIsShown.{IsWhatIsShown, IsWhole, layers_under}
 use Rattle.vt_overlay_laws.specs.WholeChanges.{IsAskedWell}
@@ -26,6 +25,7 @@ use Rattle.vt_overlay_laws.proofs.WholeMade.{make_keeps_shown}
 use Rattle.vt_overlay_laws.proofs.WholeMoved.{move_keeps_shown}
 use Rattle.vt_overlay_laws.proofs.WholeRemoved.{remove_keeps_shown}
 use Rattle.vt_overlay_laws.proofs.WholeTogether.{both_copied, changes_keep_shown, copied, is_copied, odd_distinct, stands_now, still_unused, twice}
+use Rattle.std.proofs.lemmas.Option.{same_Some}
 
 -- it is whole after a change of its tree, if the upper layer is good and it is what the layers show
 whole_by : (stack : Stack ℕ) (merge later : Merge ℕ) (change : Change ℕ) → IsWhole stack merge
@@ -42,7 +42,7 @@ whole_by stack merge later change whole files may good is = record {
   where
     by : (depth : ℕ) (layer : OpenLayer ℕ) → slice_get (layers_under stack later) depth ≡ Some layer
         → IsTree layer.tree × IsDirectory layer.tree layer.directory
-    by zero layer e = subst (λ l. IsTree l.tree × IsDirectory l.tree l.directory) (some_is_one _ layer e)
+    by zero layer e = subst (λ l. IsTree l.tree × IsDirectory l.tree l.directory) (same_Some _ layer e)
         (good.tree, good.directory)
     by (suc depth) layer e = whole.layers (suc depth) layer e
 

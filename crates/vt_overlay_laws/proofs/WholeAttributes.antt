@@ -1,5 +1,5 @@
 -- Bytes and attributes of what stands in the upper layer are set: the tree is still what the layers show.
-use Rattle.std.proofs.Common.{◌≡◌, refl, sym, ap, subst, ◌∙◌, true≢false, eqb-true, eq-eqb, ℕ, zero, suc, nat_eq, Bool, true, false, cond, ◌&&◌, List, [], ◌∷◌, map, Option, Some, None, is_some, slice_get, unwrap_or}
+use Rattle.std.proofs.Common.{◌≡◌, refl, sym, ap, subst, ◌∙◌, true≢false, eqb-true, eq-eqb, ℕ, zero, suc, nat_eq, Bool, true, false, cond, List, map, Option, Some, None, is_some, slice_get, unwrap_or}
 use Rattle.vt_spec.specs.declared.attributes.Attr.{Attr}
 use Rattle.vt_spec.specs.declared.attributes.Kind.TheVariants.{White}
 use Rattle.vt_spec.specs.FileTree.{is_kind, is_kind_in, is_opaque_in, opaque_of}
@@ -14,15 +14,16 @@ use Rattle.vt_spec.specs.Machine.Invariants.{ListsNumbers, SameObject, number_at
 use Rattle.vt_spec.specs.Tree.{Content, Node, kind_of, node_with_bytes, with_bytes}
 use Rattle.vt_spec.specs.Tree.Content.{Directory, Regular, Symlink, Whiteout}
 use Rattle.vt_spec.specs.TreeLaws.{IsTree}
-use Rattle.std.specs.Str.{bytes_eq}
 use Rattle.vt_tree_laws.proofs.ChangesKeepTrees.{changes_keep_numbers, changes_keep_trees}
 use Rattle.vt_layer_laws.specs.Layers.ChangesUpper.{StandsInUpper}
 use Rattle.vt_overlay_laws.specs.WhatIsShown.{AttrKeepsWhole, BytesKeepWhole, IsWhole, inode_behind, layers_under, real_seen}
-use Rattle.vt_layer_laws.proofs.CopyingParts.{kept_part}
-use Rattle.vt_layer_laws.proofs.ShownAtPath.{none_is_some, some_is_one}
 use Rattle.vt_layer_laws.proofs.ViewsAfter.{shown_elsewhere_stays}
 use Rattle.vt_layer_laws.proofs.ViewsStay.{attr_changes_one_inode, bytes_change_one_inode}
 use Rattle.vt_overlay_laws.proofs.WholeParts.{IsFine, fine, real_by, what_is_shown}
+use Rattle.std.proofs.lemmas.Option.{same_Some}
+use Rattle.vt_spec.proofs.NodeChanges.{part-changed_node}
+use Rattle.vt_spec.proofs.Options.{none_is_some}
+use Rattle.vt_spec.proofs.Truths.{bytes_eq_itself}
 
 -- the object that an inode of the upper layer has there
 pub upper_real : (merge : Merge ℕ) (number : ℕ) → StandsInUpper merge number
@@ -56,10 +57,6 @@ attr_shape attr = record {
     by (Some a) None s = absurd s
     by (Some a) (Some b) s = (refl, s.1)
 
-pub bytes_same : (bytes : List ℕ) → bytes_eq bytes bytes ≡ true
-bytes_same [] = refl
-bytes_same (b ∷ bytes) = ap (λ x. x && bytes_eq bytes bytes) (eq-eqb b b refl) ∙ bytes_same bytes
-
 bytes_shape : (bytes : List ℕ) → KeepsShape (node_with_bytes bytes)
 bytes_shape bytes = record {
   there = λ o. elim o as (λ o. is_some (node_with_bytes bytes o) ≡ is_some o) [ None ↦ refl | Some node ↦ refl ];
@@ -89,7 +86,7 @@ bytes_shape bytes = record {
     content (Directory p e o) (Symlink b) s = s
     content (Directory p e o) Whiteout s = s
     content (Regular a) (Directory q f r) s = s
-    content (Regular a) (Regular b) s = bytes_same bytes
+    content (Regular a) (Regular b) s = bytes_eq_itself bytes
     content (Regular a) (Symlink b) s = s
     content (Regular a) Whiteout s = s
     content (Symlink a) (Directory q f r) s = s
@@ -142,7 +139,7 @@ module _ (stack : Stack ℕ) (merge : Merge ℕ) (whole : IsWhole stack merge) (
           ∙ eq-eqb (upper_of merge file) (upper_of merge file) refl) ∙ v))
         where
           upper_one : (a b : ℕ) → Some (Upper a) ≡ Some (Upper b) → a ≡ b
-          upper_one a b e = some_is_one a b (ap upper_object e)
+          upper_one a b e = same_Some a b (ap upper_object e)
       at_upper u r false n true v same =
           absurd (true≢false (sym (ap (λ k. nat_eq k file)
           (is_fine.one number file (ap is_some r)
@@ -173,11 +170,11 @@ module _ (stack : Stack ℕ) (merge : Merge ℕ) (whole : IsWhole stack merge) (
     objects = object_same;
     there = λ number none. is_fine.there number
         (not_there (later.files.tree.node number) (merge.files.tree.node number)
-        (kept_part is_some merge.files file change shape.there number) none);
-    whiteout = λ number. kept_part (is_kind_in White) merge.files file change shape.white number
+        (part-changed_node is_some merge.files file change shape.there number) none);
+    whiteout = λ number. part-changed_node (is_kind_in White) merge.files file change shape.white number
         ∙ is_fine.whiteout number;
-    mark = λ number. kept_part is_opaque_in merge.files file change shape.mark number ∙ is_fine.mark number;
-    upper = λ number object r. kept_part is_some merge.upper (upper_of merge file) change shape.there object
+    mark = λ number. part-changed_node is_opaque_in merge.files file change shape.mark number ∙ is_fine.mark number;
+    upper = λ number object r. part-changed_node is_some merge.upper (upper_of merge file) change shape.there object
         ∙ is_fine.upper number object r;
     one = is_fine.one;
   }
@@ -196,7 +193,7 @@ module _ (stack : Stack ℕ) (merge : Merge ℕ) (whole : IsWhole stack merge) (
       by : (depth : ℕ) (layer : OpenLayer ℕ) → slice_get (layers_under stack later) depth ≡ Some layer
           → IsTree layer.tree × Rattle.vt_spec.specs.TreeLaws.IsDirectory layer.tree layer.directory
       by zero layer e = subst (λ l. IsTree l.tree × Rattle.vt_spec.specs.TreeLaws.IsDirectory l.tree l.directory)
-          (some_is_one _ layer e) (upper, directory)
+          (same_Some _ layer e) (upper, directory)
       by (suc depth) layer e = whole.layers (suc depth) layer e
 
 -- the upper layer of a whole overlay
@@ -214,7 +211,7 @@ attr_keeps_whole stack merge object attr whole stands =
     (changes_keep_trees merge.files (SetAttr object attr) whole.tree tt)
     (changes_keep_numbers merge.files (SetAttr object attr) whole.numbers)
     (changes_keep_trees merge.upper (SetAttr (upper_of merge object) attr) top.0 tt)
-    (kept_part Rattle.vt_spec.specs.Tree.is_directory_node merge.upper (upper_of merge object) (node_with_attr attr)
+    (part-changed_node Rattle.vt_spec.specs.Tree.is_directory_node merge.upper (upper_of merge object) (node_with_attr attr)
     (λ o. elim o as (λ o. Rattle.vt_spec.specs.Tree.is_directory_node (node_with_attr attr o)
     ≡ Rattle.vt_spec.specs.Tree.is_directory_node o) [ None ↦ refl | Some node ↦ refl ]) stack.directory ∙ top.1) (
       whole.reached.0,
@@ -232,7 +229,7 @@ bytes_keep_whole stack merge file bytes whole stands =
     (changes_keep_trees merge.files (SetBytes file bytes) whole.tree tt)
     (changes_keep_numbers merge.files (SetBytes file bytes) whole.numbers)
     (changes_keep_trees merge.upper (SetBytes (upper_of merge file) bytes) top.0 tt)
-    (kept_part Rattle.vt_spec.specs.Tree.is_directory_node merge.upper (upper_of merge file) (node_with_bytes bytes)
+    (part-changed_node Rattle.vt_spec.specs.Tree.is_directory_node merge.upper (upper_of merge file) (node_with_bytes bytes)
     (Rattle.vt_spec.proofs.Nodes.is_directory-node_with_bytes bytes) stack.directory ∙ top.1) (
       whole.reached.0,
       (bytes_change_one_inode merge.upper merge.upper.tree.root

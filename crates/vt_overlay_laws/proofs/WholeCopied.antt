@@ -26,8 +26,7 @@ use Rattle.vt_layer_laws.specs.Layers.Mounted.{IsAlike}
 use Rattle.vt_layer_laws.specs.Layers.Views.{TakesName, goes_through, names_entry, view_in}
 use Rattle.vt_overlay_laws.specs.WhatIsShown.{CopyKeepsWhole, IsWhole, layers_under, real_seen}
 use Rattle.vt_layer_laws.proofs.ShownAlike.{white_alike}
-use Rattle.vt_layer_laws.proofs.ShownAtPath.{none_is_some, some_is_one}
-use Rattle.vt_layer_laws.proofs.ShownDirectories.{last_of, led_is_there, no_white_directory}
+use Rattle.vt_layer_laws.proofs.ShownDirectories.{last_of, led_is_there}
 use Rattle.vt_layer_laws.proofs.ShownFronts.{front_found, front_passes}
 use Rattle.vt_layer_laws.proofs.ShownNames.{last_name}
 use Rattle.vt_layer_laws.proofs.UpperLine.{has_entries, is_reached_in, named_so}
@@ -36,33 +35,25 @@ use Rattle.vt_layer_laws.proofs.ViewsAfter.{new_name_is_shown, on_top, shown_els
 use Rattle.vt_layer_laws.proofs.ViewsFronts.{fronts_agree, hides_so, hiding_alike}
 use Rattle.vt_layer_laws.proofs.ViewsMoves.{led_parts}
 use Rattle.vt_layer_laws.proofs.ShownPaths.{not_empty}
-use Rattle.vt_layer_laws.proofs.ViewsNames.{alike_same, file_is_empty, inode_entries, make_adds_inode, make_adds_path, make_is_seen, no_entries}
+use Rattle.vt_layer_laws.proofs.ViewsNames.{alike_same, inode_entries, make_adds_inode, make_adds_path, make_is_seen, no_entries}
 use Rattle.vt_layer_laws.proofs.ViewsStay.{inode_moves_no_path}
 use Rattle.vt_overlay_laws.proofs.UpperGoes.{Goes, goes_by}
-use Rattle.vt_overlay_laws.proofs.WholeAttributes.{bytes_same, top_open, upper_real}
+use Rattle.vt_overlay_laws.proofs.WholeAttributes.{top_open, upper_real}
 use Rattle.vt_overlay_laws.proofs.WholeGrown.{directory_alike, grown_is_fine}
 use Rattle.vt_overlay_laws.proofs.WholeNames.{above_named, cut_shows_none, named_led, through_bare, through_free, whole_again, directory_above, entry_named_so, is_fine, named_above, over_same, same_entry, same_through, top_good}
 use Rattle.vt_overlay_laws.proofs.WholeParts.{IsFine, real_by, real_by_none}
+use Rattle.std.proofs.lemmas.Option.{same_Some}
+use Rattle.vt_spec.proofs.NodeChanges.{directory_no_whiteout, entries_in-no_directory, entries_of-copied_content, kind_of-copied_content}
+use Rattle.vt_spec.proofs.Options.{none_is_some}
+use Rattle.vt_spec.proofs.Truths.{bytes_eq_itself}
 
 -- the content of a copy
 copy_same : (parent : ℕ) (content : Content ℕ) → is_kind White (kind_of content) ≡ false
     → same_content content (copied_content parent content) ≡ true
 copy_same parent (Directory old entries opaque) white = refl
-copy_same parent (Regular bytes) white = bytes_same bytes
-copy_same parent (Symlink text) white = bytes_same text
+copy_same parent (Regular bytes) white = bytes_eq_itself bytes
+copy_same parent (Symlink text) white = bytes_eq_itself text
 copy_same parent Whiteout white = absurd (true≢false white)
-
-copy_kind : (parent : ℕ) (content : Content ℕ) → kind_of (copied_content parent content) ≡ kind_of content
-copy_kind parent (Directory old entries opaque) = refl
-copy_kind parent (Regular bytes) = refl
-copy_kind parent (Symlink text) = refl
-copy_kind parent Whiteout = refl
-
-pub copy_bare : (parent : ℕ) (content : Content ℕ) → entries_of (copied_content parent content) ≡ []
-copy_bare parent (Directory old entries opaque) = refl
-copy_bare parent (Regular bytes) = refl
-copy_bare parent (Symlink text) = refl
-copy_bare parent Whiteout = refl
 
 copy_fits : (parent : ℕ) (node : Node ℕ) (content : Content ℕ)
     → IsNewIn parent (record { attr = node.attr; content = copied_content parent content })
@@ -153,11 +144,11 @@ module _ (stack : Stack ℕ) (merge : Merge ℕ) (whole : IsWhole stack merge) (
       → entry_at apart.tree directory name ≡ entry_at merge.upper.tree directory name
   apart_entry directory name =
       ap (entry_named name) (inode_entries merge.upper copy (copy_node copy) vacant
-      (copy_bare copy node.content) directory)
+      (entries_of-copied_content copy node.content) directory)
 
   apart_led : (start : ℕ) (path : List (List ℕ)) → led apart.tree start path ≡ led merge.upper.tree start path
   apart_led start path = inode_moves_no_path merge.upper copy (copy_node copy) vacant
-      (copy_bare copy node.content) start path
+      (entries_of-copied_content copy node.content) start path
 
   was_directory : (k : ℕ) → IsDirectory apart.tree k → (k ≡ copy) ⊎ IsDirectory merge.upper.tree k
   was_directory k d =
@@ -188,7 +179,7 @@ module _ (stack : Stack ℕ) (merge : Merge ℕ) (whole : IsWhole stack merge) (
     root_unnamed = λ directory name e. top_tree.root_unnamed directory name (sym (apart_entry directory name) ∙ e);
     in_order = λ directory.
         ap (Rattle.std.specs.FinMap.Entries.is_sorted name_cmp)
-        (inode_entries merge.upper copy (copy_node copy) vacant (copy_bare copy node.content) directory)
+        (inode_entries merge.upper copy (copy_node copy) vacant (entries_of-copied_content copy node.content) directory)
         ∙ top_tree.in_order directory;
     alive = λ directory name k e.
         let there = top_tree.alive directory name k (sym (apart_entry directory name) ∙ e) in
@@ -216,8 +207,8 @@ module _ (stack : Stack ℕ) (merge : Merge ℕ) (whole : IsWhole stack merge) (
     unnamed_empty = λ k d no_root unnamed.
         ⊎_elim
         (λ same. ap (λ n. entries_in (apart.tree.node n)) same
-        ∙ ap entries_in (node_set merge.upper.tree copy (Some (copy_node copy))) ∙ copy_bare copy node.content)
-        (λ old. inode_entries merge.upper copy (copy_node copy) vacant (copy_bare copy node.content) k
+        ∙ ap entries_in (node_set merge.upper.tree copy (Some (copy_node copy))) ∙ entries_of-copied_content copy node.content)
+        (λ old. inode_entries merge.upper copy (copy_node copy) vacant (entries_of-copied_content copy node.content) k
         ∙ top_tree.unnamed_empty k old no_root
         (λ named. unnamed (named.0, named.1, apart_entry named.0 named.1 ∙ named.2)))
         (was_directory k d);
@@ -227,9 +218,9 @@ module _ (stack : Stack ℕ) (merge : Merge ℕ) (whole : IsWhole stack merge) (
     no_path : (path : List (List ℕ)) → number_at_path merge.files path ≢ Some object
     no_path [] e =
         let found = above_named stack merge whole [] stack.directory refl
-        (no_white_directory (merge.upper.tree.node stack.directory) top_directory) in
+        (directory_no_whiteout (merge.upper.tree.node stack.directory) top_directory) in
         none_is_some stack.directory (sym low
-        ∙ ap (λ n. upper_object (merge.real n)) (sym (some_is_one found.0 object (sym found.1 ∙ e)))
+        ∙ ap (λ n. upper_object (merge.real n)) (sym (same_Some found.0 object (sym found.1 ∙ e)))
         ∙ ap upper_object found.2)
     no_path (word ∷ path) e =
         let last = last_of (word ∷ path) (not_empty word path) in
@@ -372,7 +363,7 @@ module _ (stack : Stack ℕ) (merge : Merge ℕ) (whole : IsWhole stack merge) (
     takes = record { in_directory = ud_directory; bare = λ r e. none_is_some r (sym free ∙ e) }
 
     bare : entries_of (copied_content ud node.content) ≡ []
-    bare = copy_bare ud node.content
+    bare = entries_of-copied_content ud node.content
 
     leads_same : (path : List (List ℕ)) → names_entry before ud w path ≡ false
         → led with_copy.tree stack.directory path ≡ led merge.upper.tree stack.directory path
@@ -431,7 +422,7 @@ module _ (stack : Stack ℕ) (merge : Merge ℕ) (whole : IsWhole stack merge) (
     number_none not_dir path through other =
         through_bare merge.files merge.files.tree.root d object w has
         (no_entries merge.files.tree object
-        (file_is_empty (merge.files.tree.node object) (ap is_directory_node is ∙ not_dir))) path
+        (entries_in-no_directory (merge.files.tree.node object) (ap is_directory_node is ∙ not_dir))) path
         (same_through stack merge whole d ud real_d ud_directory w path ∙ through)
         (same_entry stack merge whole d ud real_d ud_directory w path ∙ other)
 
@@ -483,7 +474,7 @@ module _ (stack : Stack ℕ) (merge : Merge ℕ) (whole : IsWhole stack merge) (
             ∙ sym (ap (real_by path)
             (new_name_is_shown merge.upper stack.directory ud copy w (copy_node ud) lowers takes vacant bare path e
             ∙ ap (λ b. when (not b) (record { layer = 0; object = copy }))
-            (ap (is_kind White) (copy_kind ud node.content) ∙ not_white)))
+            (ap (is_kind White) (kind_of-copied_content ud node.content) ∙ not_white)))
         by false e = other e (number_at_path merge.files path) refl ∙ fine_before.paths path
             ∙ sym (ap (real_by path) (shown_same path e))
 

@@ -16,8 +16,10 @@ use Rattle.vt_spec.specs.Tree.Content.{Directory, Regular, Symlink, Whiteout}
 use Rattle.vt_layer_laws.specs.Layers.Mounted.{IsAlike}
 use Rattle.vt_overlay_laws.specs.WhatIsShown.{inode_behind, real_seen}
 use Rattle.vt_layer_laws.proofs.ShownAlike.{white_alike}
-use Rattle.vt_layer_laws.proofs.ShownAtPath.{some_is_one}
 use Rattle.vt_overlay_laws.proofs.WholeParts.{IsFine}
+use Rattle.std.proofs.lemmas.Option.{same_Some}
+use Rattle.vt_layer_laws.proofs.ViewsNames.{make_seen}
+use Rattle.vt_spec.proofs.Options.{none_before}
 
 -- Objects that are alike are the same objects
 same_by : Kind → Kind → List ℕ → List ℕ → Bool
@@ -93,24 +95,17 @@ module _ (stack : Stack ℕ) (merge : Merge ℕ) (is_fine : IsFine stack merge) 
       (sym (eqb-true n number e)) new
   object_same n false e = by (merge.real n) refl (is_fine.objects n)
     where
-      itself : (o : Option (Node ℕ)) → IsAlike o o
-      itself o = record { there = refl; kind = refl; attr = refl; bytes = refl; mark = refl }
-
       by : (o : Option (Real ℕ)) → merge.real n ≡ o
           → SameObject (merge.files.tree.node n) (then_some o (inode_behind stack merge))
           → SameObject (files.tree.node n) (then_some o (inode_behind stack grown))
       by None r same = alike_objects (merge.files.tree.node n) None (files.tree.node n) None same
-          (others n (differs n e)) (itself None)
+          (others n (differs n e)) (make_seen None)
       by (Some (Upper u)) r same =
           alike_objects (merge.files.tree.node n) (merge.upper.tree.node u) (files.tree.node n)
           (upper.tree.node u) same (others n (differs n e)) (above u (not_new n u r))
       by (Some (Below layer path)) r same =
           alike_objects (merge.files.tree.node n) (inode_behind stack merge (Below layer path)) (files.tree.node n)
-          (inode_behind stack merge (Below layer path)) same (others n (differs n e)) (itself _)
-
-  none_before : (a b : Option (Node ℕ)) → is_some b ≡ is_some a → b ≡ None → a ≡ None
-  none_before None b e n = refl
-  none_before (Some a) b e n = absurd (true≢false (sym e ∙ ap is_some n))
+          (inode_behind stack merge (Below layer path)) same (others n (differs n e)) (make_seen _)
 
   real_there : (n : ℕ) (b : Bool) → nat_eq n number ≡ b → files.tree.node n ≡ None
       → cond b (Some (Upper copy)) (merge.real n) ≡ None
@@ -122,7 +117,7 @@ module _ (stack : Stack ℕ) (merge : Merge ℕ) (is_fine : IsFine stack merge) 
   upper_there : (n object : ℕ) (b : Bool) → cond b (Some (Upper copy)) (merge.real n) ≡ Some (Upper object)
       → is_some (upper.tree.node object) ≡ true
   upper_there n object true r = subst (λ k. is_some (upper.tree.node k) ≡ true)
-      (some_is_one copy object (ap upper_object r)) (by (files.tree.node number) (upper.tree.node copy) there new)
+      (same_Some copy object (ap upper_object r)) (by (files.tree.node number) (upper.tree.node copy) there new)
     where
       by : (a b : Option (Node ℕ)) → is_some a ≡ true → SameObject a b → is_some b ≡ true
       by None b t s = absurd (true≢false (sym t))

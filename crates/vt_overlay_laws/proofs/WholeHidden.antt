@@ -16,7 +16,7 @@ use Rattle.vt_layer_laws.specs.Layers.ChangesUpper.{StandsInUpper}
 use Rattle.vt_layer_laws.specs.Layers.Shown.{IsShown}
 use Rattle.vt_layer_laws.specs.Layers.Upper.{IsThere}
 use Rattle.vt_layer_laws.specs.Layers.Views.{names_entry, view_in}
-use Rattle.vt_layer_laws.proofs.ShownAtPath.{computed, none_is_some, some_is_one}
+use Rattle.vt_layer_laws.proofs.ShownAtPath.{computed}
 use Rattle.vt_layer_laws.proofs.ShownDirectories.{led_is_there}
 use Rattle.vt_layer_laws.proofs.UpperLine.{has_entries}
 use Rattle.vt_layer_laws.proofs.ViewsNames.{add_name_adds_path, make_adds_path, remove_takes_path}
@@ -28,6 +28,8 @@ use Rattle.vt_overlay_laws.proofs.WholeMade.{new_bare}
 use Rattle.vt_overlay_laws.proofs.WholeMoved.{below_stays}
 use Rattle.vt_overlay_laws.proofs.WholeParts.{real_by}
 use Rattle.vt_overlay_laws.proofs.WholeTogether.{both_copied, twice, changes_keep_shown, copied, is_copied, odd_distinct, stands_now, still_unused}
+use Rattle.std.proofs.lemmas.Option.{same_Some}
+use Rattle.vt_spec.proofs.Options.{none_is_some}
 
 -- nothing comes to lie below, and what lies below gets no name
 pub record Uncovers (merge later : Merge ℕ) : Type 0 where
@@ -67,9 +69,9 @@ shown_before stack merge later whole after uncovers path layer object e =
         → shown (layers_under stack merge) path ≡ Some (record { layer = suc layer; object = found }) → found ≡ object
     same_object old found f =
         let was = (computed (layers_under stack merge) path (record { layer = suc layer; object = found })).0 f in
-        some_is_one found object
+        same_Some found object
         (sym was.has_uncut.0.2
-        ∙ ap (λ l. at_path l path) (some_is_one was.has_uncut.0.0 is.has_uncut.0.0
+        ∙ ap (λ l. at_path l path) (same_Some was.has_uncut.0.0 is.has_uncut.0.0
         (sym was.has_uncut.0.1 ∙ is.has_uncut.0.1))
         ∙ is.has_uncut.0.2)
 
@@ -147,7 +149,7 @@ module _ (fresh : Fresh ℕ) (stack : Stack ℕ) (merge : Merge ℕ) (whole : Is
       by path n layer way one files true f e =
           none_is_some (odds fresh 0)
           (sym (ap upper_object (sym (ap (λ b. cond b (Some (Upper (odds fresh 0))) (one.real n))
-          (eq-eqb n number (sym (some_is_one number n f)))) ∙ e)))
+          (eq-eqb n number (sym (same_Some number n f)))) ∙ e)))
       by path n layer way one files false f e = sym (ap (λ fs. number_at_path fs path) files) ∙ f
   uncovers (AddName d w object) may =
       let first = is_copied fresh stack merge whole distinct unused object may.is_there in
@@ -179,7 +181,7 @@ module _ (fresh : Fresh ℕ) (stack : Stack ℕ) (merge : Merge ℕ) (whole : Is
           → cond b (Some object) (number_at_path two.files path) ≡ Some n → two.real n ≡ Some (Below layer way)
           → number_at_path merge.files path ≡ Some n
       by path n layer way two files stands true f e =
-          absurd (no_below two object layer way stands (ap two.real (some_is_one object n f) ∙ e))
+          absurd (no_below two object layer way stands (ap two.real (same_Some object n f) ∙ e))
       by path n layer way two files stands false f e = sym (ap (λ fs. number_at_path fs path) files) ∙ f
   uncovers (Remove d w object) may =
       let there = directory_used merge.files.tree d (has_entries merge.files.tree d w object may.named) in

@@ -22,15 +22,17 @@ use Rattle.vt_layer_laws.proofs.LockedApart.{layer_among, layer_plain, no_lower}
 use Rattle.vt_layer_laws.proofs.LockedPaths.{leads_as_before, no_new}
 use Rattle.vt_layer_laws.proofs.LowersKept.{kept_same}
 use Rattle.vt_layer_laws.proofs.LowersWorld.{filesystem_elsewhere, filesystem_there, number_of_filesystem, others_elsewhere}
-use Rattle.vt_layer_laws.proofs.ShownAtPath.{none_is_some, some_is_one}
 use Rattle.vt_layer_laws.proofs.ShownObjects.{Among}
-use Rattle.vt_layer_laws.proofs.UpperLine.{and_second, has_entries}
+use Rattle.vt_layer_laws.proofs.UpperLine.{has_entries}
 use Rattle.vt_layer_laws.proofs.UpperWorld.{upper_elsewhere, upper_filesystem_keeps}
 use Rattle.vt_overlay_laws.specs.WhatIsShown.{IsWhatIsShown}
 use Rattle.vt_overlay_laws.specs.WholeChanges.{ChangedOverlayIsMerged, IsAskedWell}
 use Rattle.vt_overlay_laws.proofs.WholeLowers.{shown_alike}
 use Rattle.vt_overlay_laws.proofs.WholeTogether.{changes_keep_shown}
 use Rattle.vt_overlay_laws.proofs.WholeWorlds.{overlays_are_whole, shown_is_merged}
+use Rattle.std.proofs.lemmas.Option.{same_Some}
+use Rattle.vt_spec.proofs.Options.{none_is_some}
+use Rattle.vt_spec.proofs.Truths.{and_true_right}
 
 -- what is asked well speaks of what is there
 pub spoken : (stack : Stack ℕ) (merge : Merge ℕ) (change : Change ℕ)
@@ -108,7 +110,7 @@ module _ (fresh : Fresh ℕ) (world : World ℕ) (location : Location ℕ) (chan
       (with_filesystem nat_eq world changed_filesystem) changed_upper upper.filesystem
       (sym (number_of_filesystem world upper.filesystem)) refl
       (λ no. absurd (true≢false (sym
-      (and_second (not (is_overlay (filesystem_numbered nat_eq world upper.filesystem))) _
+      (and_true_right (not (is_overlay (filesystem_numbered nat_eq world upper.filesystem))) _
       (plain upper (subst (λ o. Among (option_to_list o ++ option_to_list overlay.work ++ overlay.lowers) upper)
       (sym has) (inl refl))))
       ∙ ap (λ f. is_directory_node (f.files.tree.node upper.directory))
@@ -154,8 +156,8 @@ module _ (fresh : Fresh ℕ) (world : World ℕ) (location : Location ℕ) (chan
           (others_elsewhere fresh world location change lower.filesystem
           (λ s. none_is_some overlay (sym no_overlay ∙ ap (λ n. (filesystem_numbered nat_eq world n).overlay) s ∙ is))
           (λ o u f g s. true≢false (sym (eq-eqb lower.filesystem upper.filesystem
-          (s ∙ ap (λ l. l.filesystem) (some_is_one u upper
-          (sym g ∙ ap (λ v. v.upper) (some_is_one o overlay (sym f ∙ is)) ∙ has)))) ∙ e))))
+          (s ∙ ap (λ l. l.filesystem) (same_Some u upper
+          (sym g ∙ ap (λ v. v.upper) (same_Some o overlay (sym f ∙ is)) ∙ has)))) ∙ e))))
 
   -- so it is what they show
   shown_later : IsWhatIsShown (stack_of nat_eq later changed_overlay upper) merge
@@ -175,7 +177,7 @@ module _ (fresh : Fresh ℕ) (world : World ℕ) (location : Location ℕ) (chan
       → IsMerged nat_eq (with_change nat_eq fresh world location change)
       (filesystem_numbered nat_eq (with_change nat_eq fresh world location change) number) after
   later_is_merged after e =
-      let same : changed_overlay ≡ after = some_is_one changed_overlay after
+      let same : changed_overlay ≡ after = same_Some changed_overlay after
       (sym (ap (λ f. f.overlay) overlay_later) ∙ ap (λ w. (filesystem_numbered nat_eq w number).overlay) (sym later_is)
       ∙ e) in
       subst (λ w. IsMerged nat_eq w (filesystem_numbered nat_eq w number) after) (sym later_is)

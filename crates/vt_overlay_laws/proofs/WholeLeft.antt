@@ -18,8 +18,7 @@ use Rattle.vt_layer_laws.specs.Layers.Mounted.{IsAlike}
 use Rattle.vt_layer_laws.specs.Layers.Views.{names_entry, view_in}
 use Rattle.vt_layer_laws.proofs.CopyingParts.{parent_keeps, without_entries_keeps}
 use Rattle.vt_layer_laws.proofs.LowersKept.{kept_elsewhere}
-use Rattle.vt_layer_laws.proofs.ShownAtPath.{none_is_some, some_is_one}
-use Rattle.vt_layer_laws.proofs.ShownDirectories.{last_of, no_white_directory}
+use Rattle.vt_layer_laws.proofs.ShownDirectories.{last_of}
 use Rattle.vt_layer_laws.proofs.ShownNames.{last_name}
 use Rattle.vt_layer_laws.proofs.ShownPaths.{not_empty}
 use Rattle.vt_layer_laws.proofs.UpperLine.{is_reached_in}
@@ -30,6 +29,10 @@ use Rattle.vt_layer_laws.proofs.ViewsWalks.{passes}
 use Rattle.vt_overlay_laws.specs.WhatIsShown.{IsWhole}
 use Rattle.vt_overlay_laws.proofs.WholeAttributes.{top_open}
 use Rattle.vt_overlay_laws.proofs.WholeNames.{above_named, directory_above, entry_named_so, is_fine, named_above}
+use Rattle.std.proofs.lemmas.Bool.{or_left, or_right}
+use Rattle.std.proofs.lemmas.Option.{same_Some}
+use Rattle.vt_spec.proofs.NodeChanges.{directory_no_whiteout}
+use Rattle.vt_spec.proofs.Options.{none_is_some}
 
 -- a path that does not go through the one entry that changes
 module _ (before after : Tree ℕ) (to : ℕ) (new : List ℕ) (value : Option ℕ)
@@ -77,21 +80,13 @@ lowers_have [] depth place object layer path there is at d = none_is_some layer 
 lowers_have (first ∷ lowers) depth place object layer path there is at d =
     by place there is (at_path first path) refl (λ k f e. lowers_have lowers (depth + 1) k object layer path f e at d)
   where
-    left : (a b : Bool) → a ≡ true → (a || b) ≡ true
-    left true b e = refl
-    left false b e = absurd (true≢false (sym e))
-
-    right : (a b : Bool) → b ≡ true → (a || b) ≡ true
-    right true b e = refl
-    right false b e = e
-
     here : slice_get (first ∷ lowers) 0 ≡ Some layer
         → Views.lowers_have_directory (map view_of (first ∷ lowers)) path ≡ true
     here f =
-        left (is_directory_node (node_led (view_of first) path)) _
+        or_left (is_directory_node (node_led (view_of first) path)) _
         (ap (λ o. is_directory_node (then_some o first.tree.node))
-        (ap (λ l. at_path l path) (some_is_one first layer f) ∙ at)
-        ∙ ap (λ l. is_directory_node (l.tree.node object)) (some_is_one first layer f) ∙ d)
+        (ap (λ l. at_path l path) (same_Some first layer f) ∙ at)
+        ∙ ap (λ l. is_directory_node (l.tree.node object)) (same_Some first layer f) ∙ d)
 
     below : (cut : Bool) → cuts (view_of first) path ≡ cut → (k : ℕ) → slice_get lowers k ≡ Some layer
         → shown_over (view_of first) depth None cut (shown_from (depth + 1) lowers path)
@@ -102,7 +97,7 @@ lowers_have (first ∷ lowers) depth place object layer path there is at d =
         → Views.lowers_have_directory (map view_of (first ∷ lowers)) path ≡ true
     below true c k f e rest = none_is_some _ e
     below false c k f e rest =
-        right (is_directory_node (node_led (view_of first) path)) _
+        or_right (is_directory_node (node_led (view_of first) path)) _
         (ap (λ b. not b && Views.lowers_have_directory (map view_of lowers) path) c
         ∙ rest k f (e ∙ ap (λ n. Some (record { layer = n; object = object }))
         (let h : depth + suc k ≡ depth + 1 + k = omega arith in h)))
@@ -158,11 +153,11 @@ module _ (stack : Stack ℕ) (merge : Merge ℕ) (whole : IsWhole stack merge) (
   one_named is_dir [] l =
       let top_directory = (top_open stack merge whole).1 in
       let root = above_named stack merge whole [] stack.directory refl
-      (no_white_directory (merge.upper.tree.node stack.directory) top_directory) in
+      (directory_no_whiteout (merge.upper.tree.node stack.directory) top_directory) in
       absurd (whole.tree.root_unnamed d w (named ∙ ap Some
       ((is_fine stack merge whole).one object merge.files.tree.root (ap is_some real_o)
-      (real_o ∙ ap (λ n. Some (Upper n)) (sym (some_is_one stack.directory uo l)) ∙ sym root.2
-      ∙ ap merge.real (sym (some_is_one merge.files.tree.root root.0 root.1))))))
+      (real_o ∙ ap (λ n. Some (Upper n)) (sym (same_Some stack.directory uo l)) ∙ sym root.2
+      ∙ ap merge.real (sym (same_Some merge.files.tree.root root.0 root.1))))))
   one_named is_dir (word ∷ rest) l =
       let last = last_of (word ∷ rest) (not_empty word rest) in
       subst (λ p. names_entry (view_in merge.upper stack.directory) ud w p ≡ true) last.2
@@ -196,7 +191,7 @@ own_upper merge d w uo e = by (entry_at merge.files.tree d w) refl e
   where
     upper_is : (r : Option (Real ℕ)) → upper_object r ≡ Some uo → r ≡ Some (Upper uo)
     upper_is None e = none_is_some uo e
-    upper_is (Some (Upper k)) e = ap (λ n. Some (Upper n)) (some_is_one k uo e)
+    upper_is (Some (Upper k)) e = ap (λ n. Some (Upper n)) (same_Some k uo e)
     upper_is (Some (Below layer path)) e = none_is_some uo e
 
     at : (object : ℕ) → entry_at merge.files.tree d w ≡ Some object → (b : Bool)

@@ -12,25 +12,25 @@ use Rattle.vt_spec.specs.Machine.Invariants.{ListsNumbers}
 use Rattle.vt_spec.specs.Tree.{entries_of, Node, is_directory_node, node_with_entry}
 use Rattle.vt_spec.specs.TreeLaws.{IsDirectory, IsTree}
 use Rattle.vt_spec.proofs.Nodes.{directory_used, is_some-node_with_entry, node_other}
-use Rattle.vt_tree_laws.proofs.TreesWalked.{no_some}
 use Rattle.vt_layer_laws.specs.Layers.ChangesUpper.{StandsInUpper}
 use Rattle.vt_layer_laws.specs.Layers.Upper.{IsThere}
 use Rattle.vt_layer_laws.specs.Layers.Views.{view_in}
 use Rattle.vt_spec.specs.Machine.Views.{cuts}
 use Rattle.vt_overlay_laws.specs.WhatIsShown.{CopiesKeepWhole, IsWhole}
-use Rattle.vt_layer_laws.proofs.CopyingParts.{kept_part}
-use Rattle.vt_layer_laws.proofs.ShownAtPath.{none_is_some, some_is_one}
 use Rattle.vt_layer_laws.proofs.ShownObjects.{Among}
 use Rattle.vt_layer_laws.proofs.UpperChain.{depth_bound, up_at_root, up_from}
 use Rattle.vt_layer_laws.proofs.UpperLine.{ReachedIn, has_entries, is_reached_in, named_so, reached_directory}
 use Rattle.vt_overlay_laws.proofs.UpperGoes.{Goes, goes_both, goes_none}
 use Rattle.vt_tree_laws.specs.Trees.Sizes.{is_fit_node, is_fit_tree}
-use Rattle.vt_tree_laws.proofs.ChangesOfSizes.{fits}
-use Rattle.vt_overlay_laws.proofs.UpperSizes.{copy_fits_limits, fits_here, inode_sized, name_fits, name_sized}
+use Rattle.vt_tree_laws.proofs.ChangesOfSizes.{fits, inode_fits}
+use Rattle.vt_overlay_laws.proofs.UpperSizes.{copy_fits_limits, fits_here, name_fits, name_sized}
 use Rattle.vt_overlay_laws.proofs.UpperTold.{Told, told_both, told_inode, told_name, told_none}
 use Rattle.vt_overlay_laws.specs.WholeStays.{IsNewBy}
-use Rattle.vt_overlay_laws.proofs.WholeCopied.{copy_bare, copy_cuts, copy_goes, copy_keeps_whole}
+use Rattle.vt_overlay_laws.proofs.WholeCopied.{copy_cuts, copy_goes, copy_keeps_whole}
 use Rattle.vt_overlay_laws.proofs.WholeNames.{top_good}
+use Rattle.std.proofs.lemmas.Option.{same_Some}
+use Rattle.vt_spec.proofs.NodeChanges.{entries_of-copied_content, part-changed_node}
+use Rattle.vt_spec.proofs.Options.{none_from_not_some, none_is_some}
 
 -- each object of a list comes after the directory of its name
 abbrev pub IsLine : FileTree ℕ → List ℕ → List ℕ → Type 0
@@ -132,7 +132,7 @@ module _ (files : FileTree ℕ) (tree : IsTree files.tree) (numbers : ListsNumbe
           (to_directory reached.0 (length files.numbers) name.0 reached.1
           (depth_bound files tree numbers reached.0 name.0 reached.1))
           (has_entries files.tree name.0 name.1 object (named_so files tree object name e)) there
-          (λ other is. ap (λ n. n.0) (some_is_one other name (sym is ∙ e)))
+          (λ other is. ap (λ n. n.0) (same_Some other name (sym is ∙ e)))
 
 -- The copies of a line
 pub record IsCopied (stack : Stack ℕ) (fresh : Fresh ℕ) (merge later : Merge ℕ) : Type 0 where
@@ -162,7 +162,7 @@ module _ (stack : Stack ℕ) (fresh : Fresh ℕ) (distinct : (j k : ℕ) → fre
       → (copy_named nat_eq merge copy o (with_inode nat_eq merge.upper copy node)).tree.node x ≡ None
   still_vacant merge copy node None x none differ = node_other merge.upper.tree copy (Some node) x differ ∙ none
   still_vacant merge copy node (Some name) x none differ =
-      no_some _ (kept_part is_some (with_inode nat_eq merge.upper copy node) (upper_of merge name.0)
+      none_from_not_some _ (part-changed_node is_some (with_inode nat_eq merge.upper copy node) (upper_of merge name.0)
       (node_with_entry name.1 copy) (is_some-node_with_entry name.1 copy) x
       ∙ ap is_some (node_other merge.upper.tree copy (Some node) x differ ∙ none))
 
@@ -185,7 +185,7 @@ module _ (stack : Stack ℕ) (fresh : Fresh ℕ) (distinct : (j k : ℕ) → fre
     where
       by : (b : Bool) → cond b (Some (Upper (fresh k))) (merge.real n) ≡ Some (Upper y)
           → (merge.real n ≡ Some (Upper y)) ⊎ IsNewBy fresh y
-      by true e = inr (k, some_is_one y (fresh k) (sym (ap upper_object e)))
+      by true e = inr (k, same_Some y (fresh k) (sym (ap upper_object e)))
       by false e = inl e
 
   -- names lead where they led after a copy, or to the copy
@@ -217,7 +217,7 @@ module _ (stack : Stack ℕ) (fresh : Fresh ℕ) (distinct : (j k : ℕ) → fre
           → is_fit_tree (copy_named nat_eq merge copy o
           (with_inode nat_eq merge.upper copy
           (record { attr = node.attr; content = copied_content (copy_parent merge copy o) node.content }))) ≡ true
-      by None e = inode_sized merge.upper copy
+      by None e = inode_fits merge.upper copy
           (record { attr = node.attr; content = copied_content copy node.content }) (limits copy) h
       by (Some name) e =
           let inode : Node ℕ = record {
@@ -227,7 +227,7 @@ module _ (stack : Stack ℕ) (fresh : Fresh ℕ) (distinct : (j k : ℕ) → fre
           } in
           name_sized (with_inode nat_eq merge.upper copy inode) (upper_of merge name.0) name.1 copy
           (name_fits merge.files whole.numbers f name.0 name.1 object (named_so merge.files whole.tree object name e))
-          (inode_sized merge.upper copy inode (limits (upper_of merge name.0)) h)
+          (inode_fits merge.upper copy inode (limits (upper_of merge name.0)) h)
 
   grown_still : (merge : Merge ℕ) (object copy n : ℕ) → StandsInUpper merge n
       → is_some (upper_object (with_real nat_eq merge.real object (Upper copy) n)) ≡ true
@@ -291,7 +291,7 @@ module _ (stack : Stack ℕ) (fresh : Fresh ℕ) (distinct : (j k : ℕ) → fre
       goes node is low later =
           let one = copy_of_node nat_eq merge object (fresh k) node in
           let now = copy_keeps_whole stack merge object (fresh k) node whole is
-          (no_some (upper_object (merge.real object)) low) (unused k (omega arith))
+          (none_from_not_some (upper_object (merge.real object)) low) (unused k (omega arith))
           (λ name e. up name.0 (line.0 name e)) in
           let grows : (n : ℕ) → StandsInUpper merge n
           → StandsInUpper one n = λ n h. grown_still merge object (fresh k) n h in
@@ -319,7 +319,7 @@ module _ (stack : Stack ℕ) (fresh : Fresh ℕ) (distinct : (j k : ℕ) → fre
                   (next.copied.lower n layer path e);
               upper = goes_both stack.directory merge.upper one.upper (copied_each nat_eq fresh (k + 1) one rest).upper
                   (copy_goes stack merge object (fresh k) node whole is
-                  (no_some (upper_object (merge.real object)) low) (unused k (omega arith))
+                  (none_from_not_some (upper_object (merge.real object)) low) (unused k (omega arith))
                   (λ name e. up name.0 (line.0 name e)))
                   next.copied.upper;
               names = told_both (IsNewBy fresh) merge.upper one.upper (copied_each nat_eq fresh (k + 1) one rest).upper
@@ -328,7 +328,7 @@ module _ (stack : Stack ℕ) (fresh : Fresh ℕ) (distinct : (j k : ℕ) → fre
                     content = copied_content
                         (copy_parent merge (fresh k) (a_name nat_eq merge.files object)) node.content;
                   })
-                  (copy_bare (copy_parent merge (fresh k) (a_name nat_eq merge.files object)) node.content)
+                  (entries_of-copied_content (copy_parent merge (fresh k) (a_name nat_eq merge.files object)) node.content)
                   (a_name nat_eq merge.files object) (k, refl))
                   next.copied.names;
               objects = λ n o e. ⊎_elim (λ f. own_before merge object k n o f) inr (next.copied.objects n o e);
@@ -339,7 +339,7 @@ module _ (stack : Stack ℕ) (fresh : Fresh ℕ) (distinct : (j k : ℕ) → fre
                 (next.copied.grows object stands)) (λ l. next.all n l) m;
             cut = λ d path.
                 next.cut (λ x m. d x (inr m)) path
-                ∙ copy_cuts stack merge object (fresh k) node whole is (no_some (upper_object (merge.real object)) low)
+                ∙ copy_cuts stack merge object (fresh k) node whole is (none_from_not_some (upper_object (merge.real object)) low)
                 (unused k (omega arith)) (λ name e. up name.0 (line.0 name e))
                 (ap is_directory_node (sym is) ∙ d object (inl refl)) path;
           }

@@ -19,7 +19,6 @@ use Rattle.vt_layer_laws.specs.Layers.ChangesUpper.{StandsInUpper}
 use Rattle.vt_layer_laws.specs.Layers.Mounted.{IsAlike}
 use Rattle.vt_layer_laws.specs.Layers.Views.{TakesName, goes_through, names_entry, view_in}
 use Rattle.vt_overlay_laws.specs.WhatIsShown.{IsWhole, LinkKeepsShown, layers_under, real_seen}
-use Rattle.vt_layer_laws.proofs.ShownAtPath.{none_is_some}
 use Rattle.vt_layer_laws.proofs.ShownFronts.{front_found, front_passes}
 use Rattle.vt_layer_laws.proofs.ShownNames.{last_name}
 use Rattle.vt_layer_laws.proofs.ViewsAfter.{link_is_shown, on_top, shown_elsewhere_stays}
@@ -30,6 +29,7 @@ use Rattle.vt_overlay_laws.proofs.WholeMade.{white_bare}
 use Rattle.vt_overlay_laws.proofs.WholeNames.{cut_shows_none, directory_above, is_fine, named_above, object_above, same_entry, same_through, through_bare, through_free}
 use Rattle.vt_overlay_laws.proofs.WholeParts.{IsFine, real_by, real_by_none, what_is_shown}
 use Rattle.vt_overlay_laws.proofs.WholeStill.{rearranged_is_fine}
+use Rattle.vt_spec.proofs.Options.{none_is_some}
 
 -- what is the same object as another is no whiteout
 pub no_white_object : (a b : Option (Node ℕ)) → SameObject a b → is_kind_in White b ≡ false

@@ -1,6 +1,6 @@
 -- Lower layers that lead alike show the same.
 use Rattle.std.proofs.Common.{◌≡◌, refl, sym, ap, subst, ◌∙◌, inl, inr, ℕ, zero, suc, List, [], ◌∷◌, map, Option, Some, None, slice_get}
-use Rattle.std.proofs.lemmas.Option.{slice_get-map}
+use Rattle.std.proofs.lemmas.Option.{slice_get-map, same_Some}
 use Rattle.std.specs.Prelude.{option_map}
 use Rattle.vt_spec.specs.Lists.{then_some}
 use Rattle.vt_spec.specs.Machine.CopyUp.{Merge, Stack}
@@ -10,23 +10,18 @@ use Rattle.vt_spec.specs.Machine.World.{Layer, Real}
 use Rattle.vt_spec.specs.Machine.World.Real.{Below, Upper}
 use Rattle.vt_spec.specs.Machine.Invariants.{SameObject, number_at_path}
 use Rattle.vt_spec.specs.Rights.{Credentials}
-use Rattle.vt_spec.specs.Tree.{Node}
 use Rattle.vt_layer_laws.specs.Layers.Mounted.{IsAlike}
 use Rattle.vt_layer_laws.specs.Layers.Shown.{IsShown}
 use Rattle.vt_layer_laws.specs.Layers.Untouched.{IsKept}
 use Rattle.vt_layer_laws.specs.Layers.Views.{AllLeadAlike}
-use Rattle.vt_layer_laws.proofs.ShownAtPath.{computed, some_is_one}
+use Rattle.vt_layer_laws.proofs.ShownAtPath.{computed}
 use Rattle.vt_layer_laws.proofs.ShownObjects.{Among}
 use Rattle.vt_layer_laws.proofs.ViewsFronts.{shown_by_views}
-use Rattle.vt_layer_laws.proofs.ViewsNames.{alike_kept, alike_same}
+use Rattle.vt_layer_laws.proofs.ViewsNames.{alike_kept, alike_same, make_seen}
 use Rattle.vt_overlay_laws.specs.WhatIsShown.{IsWhatIsShown, inode_behind, layers_under}
 use Rattle.vt_overlay_laws.proofs.WholeGrown.{alike_objects}
 use Rattle.vt_overlay_laws.proofs.WholeParts.{real_by}
-
-among_slice : (list : List (Layer ℕ)) (k : ℕ) (layer : Layer ℕ) → slice_get list k ≡ Some layer → Among list layer
-among_slice [] k layer e = Rattle.vt_layer_laws.proofs.ShownAtPath.none_is_some layer e
-among_slice (first ∷ list) zero layer e = inl (some_is_one first layer e)
-among_slice (first ∷ list) (suc k) layer e = inr (among_slice list k layer e)
+use Rattle.vt_layer_laws.proofs.DirectoriesStill.{among_slice}
 
 module _ (one other : Layer ℕ → OpenLayer ℕ) where
   abbrev pub LeadsAlike : Layer ℕ → Type 0
@@ -89,7 +84,7 @@ module _ (one other : Layer ℕ → OpenLayer ℕ) where
             (then_some x (λ l. l.tree.node object))) (sym (slice_get-map other layers k))
             (below k object (slice_get layers k) refl
             (λ layer f. ap (λ l. at_path l path)
-            (some_is_one layer is.has_uncut.0.0 (sym f ∙ sym (slice_get-map one layers k) ∙ is.has_uncut.0.1))
+            (same_Some layer is.has_uncut.0.0 (sym f ∙ sym (slice_get-map one layers k) ∙ is.has_uncut.0.1))
             ∙ is.has_uncut.0.2)))
 
     behind_alike : (r : Option (Real ℕ))
@@ -109,9 +104,6 @@ module _ (one other : Layer ℕ → OpenLayer ℕ) where
         by None s = alike_same None None refl
         by (Some layer) s = alike_kept _ _ (alike layer (among_slice layers k layer s) path).1
 
-    itself : (o : Option (Node ℕ)) → IsAlike o o
-    itself o = alike_same o o refl
-
     pub shown_alike : IsWhatIsShown stack_one merge → IsWhatIsShown stack_other merge
     shown_alike is = record {
       shows = λ path.
@@ -120,7 +112,7 @@ module _ (one other : Layer ℕ → OpenLayer ℕ) where
           (by path (shown (layers_under stack_one merge) path) refl (is.shows path));
       names = λ path number e. is.names path number e ∙ ap (real_by path) (sym (shown_same path));
       real_objects = λ number. alike_objects (merge.files.tree.node number) _ (merge.files.tree.node number) _
-          (is.real_objects number) (itself _) (behind_alike (merge.real number));
+          (is.real_objects number) (make_seen _) (behind_alike (merge.real number));
       real_there = is.real_there;
       no_whiteout = is.no_whiteout;
       no_mark = is.no_mark;
@@ -135,5 +127,5 @@ module _ (one other : Layer ℕ → OpenLayer ℕ) where
             (then_some o (layer_node (layers_under stack_other merge)))
         by path None e same = same
         by path (Some seen) e same = alike_objects
-            (then_some (number_at_path merge.files path) merge.files.tree.node) _ _ _ same (itself _)
+            (then_some (number_at_path merge.files path) merge.files.tree.node) _ _ _ same (make_seen _)
             (node_alike path seen e)

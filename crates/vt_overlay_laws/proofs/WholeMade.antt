@@ -21,7 +21,6 @@ use Rattle.vt_tree_laws.specs.Trees.{MayMake}
 use Rattle.vt_layer_laws.specs.Layers.ChangesUpper.{StandsInUpper}
 use Rattle.vt_layer_laws.specs.Layers.Views.{TakesName, goes_through, names_entry, view_in}
 use Rattle.vt_overlay_laws.specs.WhatIsShown.{IsWhole, MakeKeepsShown, layers_under, real_seen}
-use Rattle.vt_layer_laws.proofs.ShownAtPath.{none_is_some}
 use Rattle.vt_layer_laws.proofs.ShownDirectories.{append_assoc, led_is_there}
 use Rattle.vt_layer_laws.proofs.ShownFronts.{front_found, front_passes}
 use Rattle.vt_layer_laws.proofs.ShownNames.{last_name}
@@ -29,12 +28,15 @@ use Rattle.vt_layer_laws.proofs.UpperShown.{front_of_longer}
 use Rattle.vt_layer_laws.proofs.ViewsAfter.{fails, new_name_is_shown, on_top, shown_elsewhere_stays}
 use Rattle.vt_layer_laws.proofs.ViewsMoves.{through_is_split}
 use Rattle.vt_layer_laws.proofs.ViewsNames.{make_adds_inode, make_adds_path, no_entries}
-use Rattle.vt_overlay_laws.proofs.WholeAttributes.{bytes_same, top_open, upper_real}
+use Rattle.vt_overlay_laws.proofs.WholeAttributes.{top_open, upper_real}
 use Rattle.vt_overlay_laws.proofs.WholeGrown.{grown_is_fine}
 use Rattle.vt_overlay_laws.proofs.WholeNames.{cut_shows_none, directory_above, entry_named_so, is_fine, named_above, same_entry, same_holds, same_is, same_place, same_through, through_bare, through_free}
 use Rattle.vt_overlay_laws.proofs.WholeNew
 use Rattle.vt_overlay_laws.proofs.WholeParts.{IsFine, real_by, real_by_none, what_is_shown}
 use Rattle.vt_overlay_laws.proofs.WholePlaces.{directory_below_top, path_to_is, shown_longer}
+use Rattle.vt_spec.proofs.NodeChanges.{entries_of-content_with_parent, entries_of-no_directory, kind_of-content_with_parent}
+use Rattle.vt_spec.proofs.Options.{none_is_some}
+use Rattle.vt_spec.proofs.Truths.{bytes_eq_itself}
 
 -- a whiteout has no names in it
 pub white_bare : (o : Option (Node ℕ)) → is_kind_in White o ≡ true → entries_in o ≡ []
@@ -50,13 +52,7 @@ white_bare (Some node) e = by node.content e
 -- a new inode has no names in it and no mark
 pub new_bare : (d : ℕ) (node : Node ℕ) → IsNewIn d node → entries_of node.content ≡ []
 new_bare d node (inl e) = ap entries_of e
-new_bare d node (inr e) = by node.content e
-  where
-    by : (c : Content ℕ) → is_directory (kind_of c) ≡ false → entries_of c ≡ []
-    by (Directory p n o) e = absurd (true≢false e)
-    by (Regular b) e = refl
-    by (Symlink b) e = refl
-    by Whiteout e = refl
+new_bare d node (inr e) = entries_of-no_directory node.content e
 
 new_unmarked : (d : ℕ) (node : Node ℕ) → IsNewIn d node → opaque_of node.content ≡ false
 new_unmarked d node (inl e) = ap opaque_of e
@@ -354,34 +350,22 @@ module _ (files : FileTree ℕ) (ud c : ℕ) (w : List ℕ) (new : Node ℕ) (is
 parent_same : (p : ℕ) (c : Content ℕ) → is_kind White (kind_of c) ≡ false
     → same_content c (content_with_parent p c) ≡ true
 parent_same p (Directory q n o) e = refl
-parent_same p (Regular b) e = bytes_same b
-parent_same p (Symlink b) e = bytes_same b
+parent_same p (Regular b) e = bytes_eq_itself b
+parent_same p (Symlink b) e = bytes_eq_itself b
 parent_same p Whiteout e = absurd (true≢false e)
 
 mark_same : (p : ℕ) (c : Content ℕ) → is_kind White (kind_of c) ≡ false
     → same_content c (content_with_mark true (content_with_parent p c)) ≡ true
 mark_same p (Directory q n o) e = refl
-mark_same p (Regular b) e = bytes_same b
-mark_same p (Symlink b) e = bytes_same b
+mark_same p (Regular b) e = bytes_eq_itself b
+mark_same p (Symlink b) e = bytes_eq_itself b
 mark_same p Whiteout e = absurd (true≢false e)
-
-parent_kind : (p : ℕ) (c : Content ℕ) → kind_of (content_with_parent p c) ≡ kind_of c
-parent_kind p (Directory q n o) = refl
-parent_kind p (Regular b) = refl
-parent_kind p (Symlink b) = refl
-parent_kind p Whiteout = refl
 
 mark_kind : (p : ℕ) (c : Content ℕ) → kind_of (content_with_mark true (content_with_parent p c)) ≡ kind_of c
 mark_kind p (Directory q n o) = refl
 mark_kind p (Regular b) = refl
 mark_kind p (Symlink b) = refl
 mark_kind p Whiteout = refl
-
-parent_names : (p : ℕ) (c : Content ℕ) → entries_of (content_with_parent p c) ≡ entries_of c
-parent_names p (Directory q n o) = refl
-parent_names p (Regular b) = refl
-parent_names p (Symlink b) = refl
-parent_names p Whiteout = refl
 
 mark_names : (p : ℕ) (c : Content ℕ) → entries_of (content_with_mark true (content_with_parent p c)) ≡ entries_of c
 mark_names p (Directory q n o) = refl
@@ -417,8 +401,8 @@ make_keeps_shown fresh stack merge d w number node whole stands vacant may white
         later_is_fine stack merge whole d w number node stands may (fresh 0) vacant
         (record { attr = node.attr; content = content_with_parent (upper_of merge d) node.content })
         (refl, parent_same (upper_of merge d) node.content white)
-        (parent_names (upper_of merge d) node.content ∙ new_bare d node may.fits)
-        white (ap (is_kind White) (parent_kind (upper_of merge d) node.content) ∙ white) (λ shows. h)
+        (entries_of-content_with_parent (upper_of merge d) node.content ∙ new_bare d node may.fits)
+        white (ap (is_kind White) (kind_of-content_with_parent (upper_of merge d) node.content) ∙ white) (λ shows. h)
     by true h =
         subst (λ u. IsFine stack (record {
           files = changed nat_eq merge.files

@@ -17,7 +17,7 @@ use Rattle.vt_tree_laws.proofs.ChangesKeepTrees.{changes_keep_trees}
 use Rattle.vt_layer_laws.specs.Layers.ChangesUpper.{StandsInUpper}
 use Rattle.vt_layer_laws.specs.Layers.ShownAfter.{leads_over}
 use Rattle.vt_layer_laws.specs.Layers.Views.{view_in}
-use Rattle.vt_layer_laws.proofs.CopyingParts.{kept_part}
+use Rattle.vt_spec.proofs.NodeChanges.{part-changed_node}
 use Rattle.vt_layer_laws.proofs.ShownAtPath.{none_is_some}
 use Rattle.vt_layer_laws.proofs.ShownFronts.{front_found}
 use Rattle.vt_layer_laws.proofs.ViewsAfter.{on_top, shown_elsewhere_stays}
@@ -139,7 +139,7 @@ module _ (stack : Stack ℕ) (merge : Merge ℕ) (whole : IsWhole stack merge) (
       → shown_from 0 (after ∷ lowers) path ≡ shown_from 0 (before ∷ lowers) path
   on_top_same path object e =
       on_top after lowers path object (is_kind_in White (before.node object)) (leads path ∙ e)
-      (kept_part (is_kind_in White) merge.upper above (node_with_mark opaque) (mark_white opaque) object)
+      (part-changed_node (is_kind_in White) merge.upper above (node_with_mark opaque) (mark_white opaque) object)
       ∙ sym (on_top before lowers path object (is_kind_in White (before.node object)) e refl)
 
   -- and where neither it nor lower layers show anything, nothing is
@@ -222,7 +222,7 @@ module _ (stack : Stack ℕ) (merge : Merge ℕ) (whole : IsWhole stack merge) (
     whiteout = fine.whiteout;
     mark = fine.mark;
     upper = λ number object r.
-        kept_part is_some merge.upper above (node_with_mark opaque) (mark_there opaque) object
+        part-changed_node is_some merge.upper above (node_with_mark opaque) (mark_there opaque) object
         ∙ fine.upper number object r;
     one = fine.one;
   }
@@ -232,7 +232,7 @@ module _ (stack : Stack ℕ) (merge : Merge ℕ) (whole : IsWhole stack merge) (
       let top = top_open stack merge whole in
       whole_again stack merge later whole whole.tree whole.numbers
       (changes_keep_trees merge.upper (SetMark above opaque) top.0 tt)
-      (kept_part is_directory_node merge.upper above (node_with_mark opaque) (mark_directory opaque) stack.directory
+      (part-changed_node is_directory_node merge.upper above (node_with_mark opaque) (mark_directory opaque) stack.directory
       ∙ top.1) (
         whole.reached.0,
         (mark_changes_one_inode merge.upper merge.upper.tree.root above opaque).0 whole.reached.0 ∙ whole.reached.1,

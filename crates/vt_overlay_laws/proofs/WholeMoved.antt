@@ -26,7 +26,6 @@ use Rattle.vt_layer_laws.specs.Layers.Views.{CanMove, goes_through, names_entry,
 use Rattle.vt_layer_laws.proofs.CopyingParts.{entry_keeps}
 use Rattle.vt_layer_laws.proofs.LowersKept.{kept_elsewhere}
 use Rattle.vt_layer_laws.proofs.ShownAlike.{white_alike}
-use Rattle.vt_layer_laws.proofs.ShownAtPath.{none_is_some, some_is_one}
 use Rattle.vt_layer_laws.proofs.ShownDirectories.{append_assoc, led_is_there, longer_is_not_empty}
 use Rattle.vt_layer_laws.proofs.ShownFronts.{front_found, front_passes}
 use Rattle.vt_layer_laws.proofs.UpperLine.{has_entries}
@@ -34,7 +33,7 @@ use Rattle.vt_layer_laws.proofs.ViewsAfter.{fails, fronts_fail, itself_fails, on
 use Rattle.vt_layer_laws.proofs.ViewsBelow.{way_goes_elsewhere}
 use Rattle.vt_layer_laws.proofs.ViewsFronts.{fronts_agree, hides_so, hiding_alike}
 use Rattle.vt_layer_laws.proofs.ViewsMoves.{moved_leads_on, old_leads_nowhere, through_is_split}
-use Rattle.vt_layer_laws.proofs.ViewsNames.{alike_after, file_is_empty, names_leave_inodes, no_entries}
+use Rattle.vt_layer_laws.proofs.ViewsNames.{alike_after, names_leave_inodes, no_entries}
 use Rattle.vt_overlay_laws.specs.WhatIsShown.{IsWhole, MoveKeepsShown, inode_behind, layers_under, real_seen}
 use Rattle.vt_overlay_laws.proofs.WholeAttributes.{top_open}
 use Rattle.vt_overlay_laws.proofs.WholeGrown.{alike_objects}
@@ -46,6 +45,9 @@ use Rattle.vt_overlay_laws.proofs.WholeNames.{cut_shows_none, directory_above, i
 use Rattle.vt_overlay_laws.proofs.WholeParts.{IsFine, real_by, what_is_shown}
 use Rattle.vt_overlay_laws.proofs.WholePlaces.{directory_below_top, path_to_is, shown_longer}
 use Rattle.vt_overlay_laws.proofs.WholeRemoved.{white_hides}
+use Rattle.std.proofs.lemmas.Option.{same_Some}
+use Rattle.vt_spec.proofs.NodeChanges.{entries_in-no_directory}
+use Rattle.vt_spec.proofs.Options.{none_before, none_is_some}
 
 -- An inode as another, which may hide more
 record HidesMore (one other : Option (Node ℕ)) : Type 0 where
@@ -366,7 +368,7 @@ module _ (fresh : Fresh ℕ) (stack : Stack ℕ) (merge : Merge ℕ) (whole : Is
   white_left : (b : Bool) → left ≡ b → (k : ℕ) → value b ≡ Some k → is_kind_in White (upper.tree.node k) ≡ true
   white_left false l k e = none_is_some k e
   white_left true l k e =
-      ap (λ n. is_kind_in White (upper.tree.node n)) (sym (some_is_one c k e))
+      ap (λ n. is_kind_in White (upper.tree.node n)) (sym (same_Some c k e))
       ∙ ap (is_kind_in White) (marked_other marks c
       (ne_eqb c uo (λ same. true≢false
       (sym uo_there ∙ ap (λ n. is_some (merge.upper.tree.node n)) (sym same) ∙ ap is_some vacant))))
@@ -607,7 +609,7 @@ module _ (fresh : Fresh ℕ) (stack : Stack ℕ) (merge : Merge ℕ) (whole : Is
               (WholeMovedTree.number_behind fresh stack merge whole f old t new o stands_f stands_t stands_o may vacant
               (word ∷ rest)
               ∙ ap (option_and_then (λ n. led merge.files.tree n rest))
-              (no_entries merge.files.tree o (file_is_empty (merge.files.tree.node o) d) word))
+              (no_entries merge.files.tree o (entries_in-no_directory (merge.files.tree.node o) d) word))
 
       by : (x : Option ℕ) → led merge.upper.tree uo rest ≡ x
           → real_seen stack merge (from_way ++ old ∷ rest) ≡ real_seen stack later (to ++ new ∷ rest)
@@ -736,10 +738,6 @@ module _ (fresh : Fresh ℕ) (stack : Stack ℕ) (merge : Merge ℕ) (whole : Is
       alike_objects (merge.files.tree.node n) (inode_behind stack merge (Below layer way)) (files.tree.node n)
       (inode_behind stack merge (Below layer way)) same (others n)
       (record { there = refl; kind = refl; attr = refl; bytes = refl; mark = refl })
-
-  none_before : (a b : Option (Node ℕ)) → is_some b ≡ is_some a → b ≡ None → a ≡ None
-  none_before None b e n = refl
-  none_before (Some a) b e n = absurd (true≢false (sym e ∙ ap is_some n))
 
   pub later_is_fine : IsFine stack later
   later_is_fine = record {

@@ -12,13 +12,11 @@ use Rattle.vt_spec.specs.Tree.{entries_in, entry_named, is_directory_node, node_
 use Rattle.vt_spec.specs.TreeLaws.{IsDirectory, IsTree, entry_at, led}
 use Rattle.vt_spec.proofs.Nodes.{node_other, node_set}
 use Rattle.vt_tree_laws.specs.Trees.{MayMove}
-use Rattle.vt_tree_laws.proofs.TreesWalked.{no_some}
 use Rattle.vt_layer_laws.specs.Layers.ChangesUpper.{StandsInUpper}
 use Rattle.vt_layer_laws.specs.Layers.Mounted.{IsAlike}
 use Rattle.vt_layer_laws.specs.Layers.Views.{goes_through, names_entry, view_in}
 use Rattle.vt_layer_laws.proofs.CopyingParts.{entry_keeps, without_entry_keeps}
-use Rattle.vt_layer_laws.proofs.ShownAtPath.{none_is_some, some_is_one}
-use Rattle.vt_layer_laws.proofs.ShownDirectories.{led_is_there, no_white_directory}
+use Rattle.vt_layer_laws.proofs.ShownDirectories.{led_is_there}
 use Rattle.vt_layer_laws.proofs.ShownFronts.{front_passes}
 use Rattle.vt_layer_laws.proofs.UpperLine.{has_entries}
 use Rattle.vt_layer_laws.proofs.ViewsAfter.{fails}
@@ -26,7 +24,7 @@ use Rattle.vt_layer_laws.proofs.ViewsBelow.{is_named}
 use Rattle.vt_layer_laws.proofs.ViewsEntries.{entries_stay, given, is_entry, is_that_entry, taken}
 use Rattle.vt_layer_laws.proofs.ViewsMoves.{led_parts, move_told, no_way_up, through_is_split}
 use Rattle.vt_layer_laws.proofs.ViewsNames.{alike_after, alike_both, alike_same, inode_entries, names_leave_inodes}
-use Rattle.vt_layer_laws.proofs.ViewsStay.{led_where, mark_entries}
+use Rattle.vt_layer_laws.proofs.ViewsStay.{led_where}
 use Rattle.vt_layer_laws.proofs.ViewsWalks.{entry_over, goes_through_it, names_it}
 use Rattle.vt_overlay_laws.specs.WhatIsShown.{IsWhole}
 use Rattle.vt_overlay_laws.proofs.WholeAttributes.{top_open, upper_real}
@@ -34,6 +32,9 @@ use Rattle.vt_overlay_laws.proofs.WholeGrown.{directory_alike}
 use Rattle.vt_overlay_laws.proofs.WholeLeft.{beside_led, emptied_alike, emptied_entries, named_in_upper, one_named, own_upper, up_way, way}
 use Rattle.vt_overlay_laws.proofs.WholeNames.{above_named, directory_above, is_fine, named_above, named_led}
 use Rattle.vt_overlay_laws.proofs.WholeParts.{IsFine}
+use Rattle.std.proofs.lemmas.Option.{same_Some}
+use Rattle.vt_spec.proofs.NodeChanges.{directory_no_whiteout, entries-node_with_mark}
+use Rattle.vt_spec.proofs.Options.{none_from_not_some, none_is_some}
 
 module _ (fresh : Fresh ℕ) (stack : Stack ℕ) (merge : Merge ℕ) (whole : IsWhole stack merge) (f : ℕ) (old : List ℕ)
     (t : ℕ) (new : List ℕ) (o : ℕ)
@@ -110,7 +111,7 @@ module _ (fresh : Fresh ℕ) (stack : Stack ℕ) (merge : Merge ℕ) (whole : Is
   pub not_under : (names : List (List ℕ)) → led merge.upper.tree uo names ≢ Some ut
   not_under names e =
       let found = above_named stack merge whole (from_way ++ old ∷ names) ut (led_behind names ∙ e)
-      (no_white_directory (merge.upper.tree.node ut) ut_directory) in
+      (directory_no_whiteout (merge.upper.tree.node ut) ut_directory) in
       may.not_under names (sym (number_behind names) ∙ found.1
       ∙ ap Some (fine_before.one found.0 t (ap is_some found.2) (found.2 ∙ sym real_t)))
 
@@ -148,7 +149,7 @@ module _ (fresh : Fresh ℕ) (stack : Stack ℕ) (merge : Merge ℕ) (whole : Is
         (names_leave_inodes base (Move uf old ut new uo) stack.directory u refl)
 
     moved_vacant : moved_base.tree.node c ≡ None
-    moved_vacant = no_some (moved_base.tree.node c) ((moved_alike c).there ∙ ap is_some vacant)
+    moved_vacant = none_from_not_some (moved_base.tree.node c) ((moved_alike c).there ∙ ap is_some vacant)
 
     not_c : (u : ℕ) → is_some (merge.upper.tree.node u) ≡ true → u ≢ c
     not_c u there same = true≢false (sym there ∙ ap (λ n. is_some (merge.upper.tree.node n)) same ∙ ap is_some vacant)
@@ -174,7 +175,7 @@ module _ (fresh : Fresh ℕ) (stack : Stack ℕ) (merge : Merge ℕ) (whole : Is
     told_marked : (m : Bool) (other : ℕ) (word : List ℕ)
         → entry_at (marked nat_eq m left_base uo).tree other word ≡ entry_at left_base.tree other word
     told_marked true other word = ap (entry_named word)
-        (entries_stay left_base uo (node_with_mark true) (mark_entries true) other)
+        (entries_stay left_base uo (node_with_mark true) (entries-node_with_mark true) other)
     told_marked false other word = refl
 
     pub told : (other : ℕ) (word : List ℕ) → entry_at final.tree other word
@@ -248,7 +249,7 @@ module _ (fresh : Fresh ℕ) (stack : Stack ℕ) (merge : Merge ℕ) (whole : Is
         → entry_at (name_left_by nat_eq b fresh stack merge.upper uf old).tree k word ≡ None
     leaf false k e word = none_is_some k e
     leaf true k e word = ap (λ n. entry_at (name_left_by nat_eq true fresh stack merge.upper uf old).tree n word)
-        (sym (some_is_one c k e)) ∙ told_between true c word ∙ by (is_entry uf old c word) refl
+        (sym (same_Some c k e)) ∙ told_between true c word ∙ by (is_entry uf old c word) refl
       where
         by : (x : Bool) → is_entry uf old c word ≡ x → cond x (Some c) (entry_at merge.upper.tree c word) ≡ None
         by true x =
@@ -276,7 +277,7 @@ module _ (fresh : Fresh ℕ) (stack : Stack ℕ) (merge : Merge ℕ) (whole : Is
             → led merge.upper.tree start path ≡ Some ut
         by true true b e =
             absurd (true≢false (sym (Rattle.vt_spec.proofs.Nodes.directory_used merge.upper.tree ut ut_directory)
-            ∙ ap (λ n. is_some (merge.upper.tree.node n)) (sym (some_is_one c ut e)) ∙ ap is_some vacant))
+            ∙ ap (λ n. is_some (merge.upper.tree.node n)) (sym (same_Some c ut e)) ∙ ap is_some vacant))
         by false true b e = none_is_some ut e
         by l false true e = none_is_some ut e
         by l false false e = e
@@ -381,7 +382,7 @@ module _ (fresh : Fresh ℕ) (stack : Stack ℕ) (merge : Merge ℕ) (whole : Is
       where
         itself : is_entry ut new ut new ≡ true
         itself = ap (λ b. b && Rattle.std.specs.Str.bytes_eq new new) (eq-eqb ut ut refl)
-            ∙ Rattle.vt_overlay_laws.proofs.WholeAttributes.bytes_same new
+            ∙ Rattle.vt_spec.proofs.Truths.bytes_eq_itself new
 
     -- A replaced directory is not reached
     unreached : (r : ℕ) → upper_directory_named merge t new ≡ Some r → (path : List (List ℕ))
@@ -403,7 +404,7 @@ module _ (fresh : Fresh ℕ) (stack : Stack ℕ) (merge : Merge ℕ) (whole : Is
         behind : (rest : List (List ℕ)) → led merge.upper.tree uo rest ≡ Some r → ⊥
         behind [] l = may.replaced_other
             (own.1 ∙ ap Some (fine_before.one own.0 o (ap is_some own.2)
-            (own.2 ∙ ap (λ n. Some (Upper n)) (sym (some_is_one uo r l)) ∙ sym real_o)))
+            (own.2 ∙ ap (λ n. Some (Upper n)) (sym (same_Some uo r l)) ∙ sym real_o)))
         behind (word ∷ rest) l =
             let named = is_named merge.upper stack.directory ut new (from_way ++ old ∷ word ∷ rest)
             (named_so (from_way ++ old ∷ word ∷ rest) (led_behind (word ∷ rest) ∙ l)) in
@@ -422,7 +423,7 @@ module _ (fresh : Fresh ℕ) (stack : Stack ℕ) (merge : Merge ℕ) (whole : Is
         at : (l a b : Bool) → names_entry before uf old path ≡ a → goes_through before ut new path ≡ false
             → cond a (value l) (cond b None (led merge.upper.tree stack.directory path)) ≡ Some r → ⊥
         at true true b n g e = true≢false
-            (sym there ∙ ap (λ k. is_some (merge.upper.tree.node k)) (sym (some_is_one c r e)) ∙ ap is_some vacant)
+            (sym there ∙ ap (λ k. is_some (merge.upper.tree.node k)) (sym (same_Some c r e)) ∙ ap is_some vacant)
         at false true b n g e = none_is_some r e
         at l false true n g e = none_is_some r e
         at l false false n g e = true≢false (sym (named_so path e) ∙ named_not ut new path g)

@@ -16,8 +16,7 @@ use Rattle.vt_spec.specs.TreeLaws.{IsDirectory, IsReached, IsTree, entry_at, led
 use Rattle.vt_layer_laws.specs.Layers.Shown.{IsShown}
 use Rattle.vt_layer_laws.specs.Layers.Views.{goes_through, names_entry, view_in}
 use Rattle.vt_overlay_laws.specs.WhatIsShown.{IsWhole, inode_behind, layers_under}
-use Rattle.vt_layer_laws.proofs.ShownAtPath.{computed, none_is_some, some_is_one}
-use Rattle.vt_layer_laws.proofs.ShownDirectories.{no_white_directory}
+use Rattle.vt_layer_laws.proofs.ShownAtPath.{computed}
 use Rattle.vt_layer_laws.proofs.ShownPaths.{last_of_longer}
 use Rattle.vt_layer_laws.proofs.UpperFit.{same_directory}
 use Rattle.vt_layer_laws.proofs.UpperShown.{front_of_longer}
@@ -27,8 +26,12 @@ use Rattle.vt_layer_laws.proofs.ViewsBelow.{is_named}
 use Rattle.vt_layer_laws.proofs.ViewsFronts.{fronts_agree}
 use Rattle.vt_layer_laws.proofs.ViewsMoves.{led_parts, through_is_split}
 use Rattle.vt_overlay_laws.proofs.UpperGoes.{IsGood}
-use Rattle.vt_overlay_laws.proofs.WholeAttributes.{bytes_same, top_open}
+use Rattle.vt_overlay_laws.proofs.WholeAttributes.{top_open}
 use Rattle.vt_overlay_laws.proofs.WholeParts.{IsFine, fine, real_by, what_is_shown}
+use Rattle.std.proofs.lemmas.Option.{same_Some}
+use Rattle.vt_spec.proofs.NodeChanges.{directory_no_whiteout}
+use Rattle.vt_spec.proofs.Options.{none_is_some}
+use Rattle.vt_spec.proofs.Truths.{bytes_eq_itself}
 
 pub same_is : (o : Option ℕ) (n : ℕ) → same_option nat_eq o (Some n) ≡ true → o ≡ Some n
 same_is None n e = absurd (true≢false (sym e))
@@ -47,7 +50,7 @@ entry_named_so files top directory name way e =
     ∙ ap (λ b. b && bytes_eq (last_or [] (way ++ name ∷ [])) name)
     (ap (λ p. same_option nat_eq (led files.tree top p) (Some directory)) (front_of_longer way name)
     ∙ same_holds (led files.tree top way) directory e)
-    ∙ ap (λ w. bytes_eq w name) (last_of_longer way name []) ∙ bytes_same name
+    ∙ ap (λ w. bytes_eq w name) (last_of_longer way name []) ∙ bytes_eq_itself name
   where
     longer : (way : List (List ℕ)) → is_empty_list (way ++ name ∷ []) ≡ false
     longer [] = refl
@@ -139,8 +142,8 @@ module _ (stack : Stack ℕ) (merge : Merge ℕ) (whole : IsWhole stack merge) w
           (record { path = path; seen = record { layer = layer; object = object } }))
           → led merge.upper.tree stack.directory path ≡ Some u
       at zero object is q =
-          ap (λ l. at_path l path) (some_is_one top is.has_uncut.0.0 is.has_uncut.0.1) ∙ is.has_uncut.0.2
-          ∙ ap Some (sym (some_is_one u object (ap upper_object q)))
+          ap (λ l. at_path l path) (same_Some top is.has_uncut.0.0 is.has_uncut.0.1) ∙ is.has_uncut.0.2
+          ∙ ap Some (sym (same_Some u object (ap upper_object q)))
       at (suc layer) object is q = none_is_some u (sym (ap upper_object q))
 
       by : (o : Option (Shown ℕ)) → shown layers path ≡ o → Some (Upper u) ≡ real_by path o
@@ -184,7 +187,7 @@ module _ (stack : Stack ℕ) (merge : Merge ℕ) (whole : IsWhole stack merge) w
       where
         back : led merge.upper.tree stack.directory path ≡ Some ud → number_at_path merge.files path ≡ Some d
         back e =
-            let found = above_named path ud e (no_white_directory (merge.upper.tree.node ud) is_directory) in
+            let found = above_named path ud e (directory_no_whiteout (merge.upper.tree.node ud) is_directory) in
             found.1 ∙ ap Some (is_fine.one found.0 d (ap is_some found.2) (found.2 ∙ sym r))
 
         by : (a : Bool) → same_option nat_eq (number_at_path merge.files path) (Some d) ≡ a → (b : Bool)
@@ -224,6 +227,6 @@ whole_again stack merge later whole tree numbers upper directory reached is = re
   where
     by : (depth : ℕ) (layer : OpenLayer ℕ) → slice_get (layers_under stack later) depth ≡ Some layer
         → IsTree layer.tree × IsDirectory layer.tree layer.directory
-    by zero layer e = subst (λ l. IsTree l.tree × IsDirectory l.tree l.directory) (some_is_one _ layer e)
+    by zero layer e = subst (λ l. IsTree l.tree × IsDirectory l.tree l.directory) (same_Some _ layer e)
         (upper, directory)
     by (suc depth) layer e = whole.layers (suc depth) layer e

@@ -1,6 +1,6 @@
 -- Every other overlay of a world, after a change through one.
 use Rattle.std.proofs.Common.{◌≡◌, ◌≢◌, refl, sym, ap, subst, ◌∙◌, true≢false, eqb-true, eq-eqb, ⊎_elim, inl, inr, ℕ, zero, suc, nat_eq, Bool, true, false, map, List, [], ◌∷◌, ◌++◌, Option, Some, None, is_some, slice_get}
-use Rattle.std.proofs.lemmas.Option.{slice_get-map}
+use Rattle.std.proofs.lemmas.Option.{slice_get-map, same_Some}
 use Rattle.std.specs.Prelude.{option_map, option_to_list}
 use Rattle.vt_spec.specs.Language.Calls.{Call}
 use Rattle.vt_spec.specs.Language.Changes.{Change}
@@ -25,12 +25,13 @@ use Rattle.vt_layer_laws.proofs.LockedApart.{layer_among, layer_plain, no_lower,
 use Rattle.vt_layer_laws.proofs.LockedPaths.{leads_as_before, lower_paths_are_locked, no_new, other_paths_stay}
 use Rattle.vt_layer_laws.proofs.LowersKept.{kept_same}
 use Rattle.vt_layer_laws.proofs.LowersWorld.{others_elsewhere}
-use Rattle.vt_layer_laws.proofs.ShownAtPath.{computed, none_is_some, some_is_one}
+use Rattle.vt_layer_laws.proofs.ShownAtPath.{computed}
 use Rattle.vt_layer_laws.proofs.ViewsFronts.{shown_by_views}
 use Rattle.vt_layer_laws.proofs.ViewsNames.{alike_kept, alike_same}
 use Rattle.vt_layer_laws.proofs.UpperWorld.{overlay_merges, upper_filesystem_keeps}
 use Rattle.vt_overlay_laws.specs.WholeChanges.{CallsKeepOtherOverlays, OtherOverlaysStayMerged}
 use Rattle.vt_overlay_laws.proofs.WholeGrown.{alike_objects}
+use Rattle.vt_spec.proofs.Options.{none_is_some}
 
 -- An overlay whose layers lead as they did, and whose upper objects are as they were
 module _ (world later : World ℕ) (filesystem : Filesystem ℕ) (other : Overlay ℕ)
@@ -64,7 +65,7 @@ module _ (world later : World ℕ) (filesystem : Filesystem ℕ) (other : Overla
   among_slice : (list : List (Layer ℕ)) (k : ℕ) (layer : Layer ℕ) → slice_get list k ≡ Some layer
       → Lists.Among layer list
   among_slice [] k layer e = none_is_some layer e
-  among_slice (first ∷ list) zero layer e = inl (sym (some_is_one first layer e))
+  among_slice (first ∷ list) zero layer e = inl (sym (same_Some first layer e))
   among_slice (first ∷ list) (suc k) layer e = inr (among_slice list k layer e)
 
   node_alike : (path : List (List ℕ)) (seen : Shown ℕ) → shown (map one (shown_layers other)) path ≡ Some seen
@@ -79,7 +80,7 @@ module _ (world later : World ℕ) (filesystem : Filesystem ℕ) (other : Overla
       (sym (slice_get-map two (shown_layers other) seen.layer))
       (by (slice_get (shown_layers other) seen.layer) refl
       (λ layer f. ap (λ l. at_path l path)
-      (some_is_one layer is.has_uncut.0.0
+      (same_Some layer is.has_uncut.0.0
       (sym f ∙ sym (slice_get-map one (shown_layers other) seen.layer) ∙ is.has_uncut.0.1)) ∙ is.has_uncut.0.2)))
     where
       by : (x : Option (Layer ℕ)) → slice_get (shown_layers other) seen.layer ≡ x
@@ -180,8 +181,8 @@ module _ (fresh : Fresh ℕ) (world : World ℕ) (location : Location ℕ) (chan
           (λ s. none_is_some overlay (sym (no_overlay_in world conditions layer plain)
           ∙ ap (λ n. (filesystem_numbered nat_eq world n).overlay) s ∙ is))
           (λ o u f g s. true≢false (sym (eq-eqb layer.filesystem upper.filesystem
-          (s ∙ ap (λ l. l.filesystem) (some_is_one u upper
-          (sym g ∙ ap (λ v. v.upper) (some_is_one o overlay (sym f ∙ is)) ∙ has)))) ∙ e))))
+          (s ∙ ap (λ l. l.filesystem) (same_Some u upper
+          (sym g ∙ ap (λ v. v.upper) (same_Some o overlay (sym f ∙ is)) ∙ has)))) ∙ e))))
 
   module _ (number : ℕ) (other : Overlay ℕ) (differ : number ≢ (mount_at nat_eq world location).filesystem)
       (is_other : (filesystem_numbered nat_eq world number).overlay ≡ Some other) where
@@ -246,8 +247,8 @@ module _ (fresh : Fresh ℕ) (world : World ℕ) (location : Location ℕ) (chan
         (subst (λ x. Lists.Among upper (option_to_list x ++ option_to_list overlay.work ++ overlay.lowers)) (sym has)
         (inl refl))))
         ∙ ap (λ n. (filesystem_numbered nat_eq world n).overlay)
-        (ap (λ l. l.filesystem) (some_is_one upper u
-        (sym has ∙ ap (λ v. v.upper) (some_is_one overlay o (sym is ∙ f)) ∙ g)) ∙ sym s) ∙ is_other))
+        (ap (λ l. l.filesystem) (same_Some upper u
+        (sym has ∙ ap (λ v. v.upper) (same_Some overlay o (sym is ∙ f)) ∙ g)) ∙ sym s) ∙ is_other))
 
     pub other_merged : (filesystem_numbered nat_eq later number ≡ filesystem_numbered nat_eq world number)
         × IsMerged nat_eq later (filesystem_numbered nat_eq world number) other

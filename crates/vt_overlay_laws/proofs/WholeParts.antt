@@ -13,8 +13,9 @@ use Rattle.vt_spec.specs.Machine.Invariants.{SameObject, number_at_path}
 use Rattle.vt_spec.specs.Tree.{Node}
 use Rattle.vt_layer_laws.specs.Layers.Shown.{IsShown}
 use Rattle.vt_overlay_laws.specs.WhatIsShown.{IsWhatIsShown, inode_behind, layers_under, real_seen}
-use Rattle.vt_layer_laws.proofs.ShownAtPath.{computed, none_is_some}
+use Rattle.vt_layer_laws.proofs.ShownAtPath.{computed}
 use Rattle.vt_layer_laws.proofs.ShownDirectories.{AreOpen, led_is_there}
+use Rattle.vt_spec.proofs.Options.{none_is_some}
 
 -- the real object of something that is shown
 abbrev pub real_by : List (List ℕ) → Option (Shown ℕ) → Option (Real ℕ)

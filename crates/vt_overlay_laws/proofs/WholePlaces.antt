@@ -12,12 +12,15 @@ use Rattle.vt_spec.specs.Machine.Invariants.{ListsNumbers}
 use Rattle.vt_spec.specs.Tree.{Tree, entries_in, is_directory_node}
 use Rattle.vt_spec.proofs.Trees.{led-append}
 use Rattle.vt_spec.specs.TreeLaws.{IsDirectory, IsTree, entry_at, led}
-use Rattle.vt_layer_laws.proofs.ShownAtPath.{none_is_some, some_is_one}
 use Rattle.vt_layer_laws.proofs.ShownDirectories.{AreOpen, ShowsDirectory, append_assoc, last_of, shown_in_directory}
 use Rattle.vt_layer_laws.proofs.ShownNames.{last_name}
 use Rattle.vt_layer_laws.proofs.ShownPaths.{not_empty, one_path}
 use Rattle.vt_layer_laws.proofs.UpperChain.{depth_bound, up_at_root, up_from}
-use Rattle.vt_layer_laws.proofs.UpperLine.{ReachedIn, entry_to, found_is_named, is_reached_in}
+use Rattle.vt_layer_laws.proofs.UpperLine.{ReachedIn, is_reached_in}
+use Rattle.std.proofs.lemmas.Bool.{or_right}
+use Rattle.std.proofs.lemmas.Option.{same_Some}
+use Rattle.vt_spec.proofs.NodeChanges.{entry_to, found_is_named}
+use Rattle.vt_spec.proofs.Options.{none_is_some}
 
 -- the names that lead to what is reached
 abbrev names_to : (tree : Tree ℕ) (steps directory : ℕ) → ReachedIn tree steps directory → List (List ℕ)
@@ -87,7 +90,7 @@ module _ (files : FileTree ℕ) (tree : IsTree files.tree) (numbers : ListsNumbe
       let rest = up_names most steps r.0 r.2 (omega arith) in
       let up = up_from files tree most steps directory r in
       let above = chain most (named_parent nat_eq files.tree) r.0 in (
-        ap (is_among nat_eq files.tree.root) up ∙ right (nat_eq files.tree.root directory) _ rest.0,
+        ap (is_among nat_eq files.tree.root) up ∙ or_right (nat_eq files.tree.root directory) _ rest.0,
         ap (λ l. reverse (map (own_name nat_eq files) (before_first (nat_eq files.tree.root) l))) up
             ∙ ap (λ l. reverse (map (own_name nat_eq files) l))
             (take_while-cons (λ a. not (nat_eq files.tree.root a)) directory above
@@ -98,15 +101,11 @@ module _ (files : FileTree ℕ) (tree : IsTree files.tree) (numbers : ListsNumbe
             ∙ ap (λ l. l ++ own_name nat_eq files directory ∷ []) rest.1
             ∙ ap (λ n. names_to files.tree steps r.0 r.2 ++ n ∷ []) (own_is r.0 r.1 directory r.3 r.4),
       )
-    where
-      right : (a b : Bool) → b ≡ true → (a || b) ≡ true
-      right true b e = refl
-      right false b e = e
 
   reached_of : (path : List (List ℕ)) (directory : ℕ) → led files.tree files.tree.root path ≡ Some directory
       → IsDirectory files.tree directory
       → (steps : ℕ) × ReachedIn files.tree steps directory
-  reached_of [] directory e d = (zero, sym (some_is_one files.tree.root directory e))
+  reached_of [] directory e d = (zero, sym (same_Some files.tree.root directory e))
   reached_of (word ∷ path) directory e d =
       let last = last_of (word ∷ path) (not_empty word path) in
       by last.1 (led files.tree files.tree.root last.0) refl

@@ -25,8 +25,7 @@ use Rattle.vt_overlay_laws.specs.WhatIsShown.{IsWhole, RemoveKeepsShown, real_se
 use Rattle.vt_layer_laws.proofs.CopyingParts.{parent_keeps, without_entries_keeps, without_entry_keeps}
 use Rattle.vt_layer_laws.proofs.LowersKept.{kept_elsewhere}
 use Rattle.vt_layer_laws.proofs.ShownAlike.{white_alike}
-use Rattle.vt_layer_laws.proofs.ShownAtPath.{none_is_some, some_is_one}
-use Rattle.vt_layer_laws.proofs.ShownDirectories.{append_assoc, last_of, led_is_there, no_white_directory}
+use Rattle.vt_layer_laws.proofs.ShownDirectories.{append_assoc, last_of, led_is_there}
 use Rattle.vt_layer_laws.proofs.ShownFronts.{front_found, front_passes}
 use Rattle.vt_layer_laws.proofs.ShownNames.{last_name}
 use Rattle.vt_layer_laws.proofs.ShownPaths.{not_empty}
@@ -46,6 +45,10 @@ use Rattle.vt_overlay_laws.proofs.WholeNames.{above_named, cut_shows_none, direc
 use Rattle.vt_overlay_laws.proofs.WholeParts.{IsFine, real_by, what_is_shown}
 use Rattle.vt_overlay_laws.proofs.WholePlaces.{shown_longer}
 use Rattle.vt_overlay_laws.proofs.WholeStill.{rearranged_is_fine}
+use Rattle.std.proofs.lemmas.List.{append-nil}
+use Rattle.std.proofs.lemmas.Option.{same_Some}
+use Rattle.vt_spec.proofs.NodeChanges.{directory_no_whiteout}
+use Rattle.vt_spec.proofs.Options.{none_is_some}
 
 pub white_hides : (o : Option (Node ℕ)) → is_kind_in White o ≡ true → hides o ≡ true
 white_hides None e = absurd (true≢false (sym e))
@@ -304,11 +307,11 @@ module _ (stack : Stack ℕ) (merge : Merge ℕ) (whole : IsWhole stack merge) (
             → names_entry before ud w path ≡ true
         old [] l =
             let root = above_named stack merge whole [] stack.directory refl
-            (no_white_directory (merge.upper.tree.node stack.directory) top_directory) in
+            (directory_no_whiteout (merge.upper.tree.node stack.directory) top_directory) in
             absurd (whole.tree.root_unnamed d w (may.named ∙ ap Some
             (fine_before.one object merge.files.tree.root (ap is_some r)
-            (r ∙ ap (λ n. Some (Upper n)) (sym (some_is_one stack.directory uo l)) ∙ sym root.2
-            ∙ ap merge.real (sym (some_is_one merge.files.tree.root root.0 root.1))))))
+            (r ∙ ap (λ n. Some (Upper n)) (sym (same_Some stack.directory uo l)) ∙ sym root.2
+            ∙ ap merge.real (sym (same_Some merge.files.tree.root root.0 root.1))))))
         old (word ∷ rest) l =
             let last = last_of (word ∷ rest) (not_empty word rest) in
             subst (λ p. names_entry before ud w p ≡ true) last.2
@@ -375,7 +378,7 @@ module _ (stack : Stack ℕ) (merge : Merge ℕ) (whole : IsWhole stack merge) (
     where
       upper_is : (r : Option (Real ℕ)) → upper_object r ≡ Some uo → r ≡ Some (Upper uo)
       upper_is None e = none_is_some uo e
-      upper_is (Some (Upper k)) e = ap (λ n. Some (Upper n)) (some_is_one k uo e)
+      upper_is (Some (Upper k)) e = ap (λ n. Some (Upper n)) (same_Some k uo e)
       upper_is (Some (Below layer path)) e = none_is_some uo e
 
       by : (b : Bool) → is_directory_node (merge.files.tree.node object) ≡ b
@@ -398,14 +401,10 @@ module _ (stack : Stack ℕ) (merge : Merge ℕ) (whole : IsWhole stack merge) (
       through : names_entry before ud w path ≡ true → goes_through before ud w path ≡ true
       through n = at path n
         where
-          nil : (p : List (List ℕ)) → p ++ [] ≡ p
-          nil [] = refl
-          nil (a ∷ p) = ap (λ l. a ∷ l) (nil p)
-
           at : (p : List (List ℕ)) → names_entry before ud w p ≡ true → goes_through before ud w p ≡ true
           at [] n = absurd (true≢false (sym n))
           at (word ∷ rest) n = front_passes (names_entry before ud w) (word ∷ rest) (word ∷ rest) []
-              (nil (word ∷ rest)) (not_empty word rest) n
+              (append-nil (word ∷ rest)) (not_empty word rest) n
 
       by : (b : Bool) → names_entry before ud w path ≡ b
           → cond b None (cond (goes_through before ud w path) None (led merge.upper.tree stack.directory path))
@@ -444,7 +443,7 @@ module _ (stack : Stack ℕ) (merge : Merge ℕ) (whole : IsWhole stack merge) (
         (λ replaced names e. no_way_up merge.upper top_tree ud w replaced e names) path
 
     new_number : (k : ℕ) → Some c ≡ Some k → merge.upper.tree.node k ≡ None
-    new_number k e = ap merge.upper.tree.node (sym (some_is_one c k e)) ∙ vacant
+    new_number k e = ap merge.upper.tree.node (sym (same_Some c k e)) ∙ vacant
 
     pub white_is_fine : IsFine stack
         (record merge { files = files; upper = emptied nat_eq whited (upper_directory_named merge d w) })

@@ -1,17 +1,18 @@
 -- An overlay in which all inodes and their real objects are as they were, but for names.
-use Rattle.std.proofs.Common.{◌≡◌, refl, sym, ap, ◌∙◌, true≢false, ℕ, List, Option, Some, None, is_some}
+use Rattle.std.proofs.Common.{◌≡◌, refl, ◌∙◌, ℕ, List, Option, Some, None}
 use Rattle.vt_spec.specs.FileTree.{FileTree}
 use Rattle.vt_spec.specs.Lists.{then_some}
 use Rattle.vt_spec.specs.Machine.CopyUp.{Merge, Stack}
 use Rattle.vt_spec.specs.Machine.World.{Real}
 use Rattle.vt_spec.specs.Machine.World.Real.{Below, Upper}
 use Rattle.vt_spec.specs.Machine.Invariants.{SameObject, number_at_path}
-use Rattle.vt_spec.specs.Tree.{Node}
 use Rattle.vt_layer_laws.specs.Layers.Mounted.{IsAlike}
 use Rattle.vt_overlay_laws.specs.WhatIsShown.{inode_behind, real_seen}
 use Rattle.vt_layer_laws.proofs.ShownAlike.{white_alike}
 use Rattle.vt_overlay_laws.proofs.WholeGrown.{alike_objects}
 use Rattle.vt_overlay_laws.proofs.WholeParts.{IsFine}
+use Rattle.vt_layer_laws.proofs.ViewsNames.{make_seen}
+use Rattle.vt_spec.proofs.Options.{none_before}
 
 module _ (stack : Stack ℕ) (merge : Merge ℕ) (is_fine : IsFine stack merge) (files upper : FileTree ℕ)
     (others : (n : ℕ) → IsAlike (merge.files.tree.node n) (files.tree.node n))
@@ -19,24 +20,17 @@ module _ (stack : Stack ℕ) (merge : Merge ℕ) (is_fine : IsFine stack merge) 
   abbrev pub rearranged : Merge ℕ
   rearranged = record merge { files = files; upper = upper }
 
-  itself : (o : Option (Node ℕ)) → IsAlike o o
-  itself o = record { there = refl; kind = refl; attr = refl; bytes = refl; mark = refl }
-
   object_same : (n : ℕ) (o : Option (Real ℕ)) → merge.real n ≡ o
       → SameObject (merge.files.tree.node n) (then_some o (inode_behind stack merge))
       → SameObject (files.tree.node n) (then_some o (inode_behind stack rearranged))
   object_same n None r same = alike_objects (merge.files.tree.node n) None (files.tree.node n) None same (others n)
-      (itself None)
+      (make_seen None)
   object_same n (Some (Upper u)) r same =
       alike_objects (merge.files.tree.node n) (merge.upper.tree.node u) (files.tree.node n) (upper.tree.node u) same
       (others n) (above n u r)
   object_same n (Some (Below layer path)) r same =
       alike_objects (merge.files.tree.node n) (inode_behind stack merge (Below layer path)) (files.tree.node n)
-      (inode_behind stack merge (Below layer path)) same (others n) (itself _)
-
-  none_before : (a b : Option (Node ℕ)) → is_some b ≡ is_some a → b ≡ None → a ≡ None
-  none_before None b e n = refl
-  none_before (Some a) b e n = absurd (true≢false (sym e ∙ ap is_some n))
+      (inode_behind stack merge (Below layer path)) same (others n) (make_seen _)
 
   pub rearranged_is_fine : ((path : List (List ℕ))
       → then_some (number_at_path files path) merge.real ≡ real_seen stack rearranged path) → IsFine stack rearranged

@@ -10,8 +10,6 @@ use Rattle.vt_layer_laws.specs.Layers.Upper.{IsThere}
 use Rattle.vt_layer_laws.proofs.UpperLine.{has_entries, is_reached_in}
 use Rattle.vt_layer_laws.proofs.UpperShown.{way_to}
 use Rattle.vt_layer_laws.proofs.ShownNames.{last_name}
-use Rattle.vt_layer_laws.proofs.ShownDirectories.{no_white_directory}
-use Rattle.vt_layer_laws.proofs.ShownAtPath.{none_is_some, some_is_one}
 use Rattle.vt_spec.proofs.Trees.{led-append}
 use Rattle.vt_spec.specs.FileTree.{path_down}
 use Rattle.vt_spec.specs.Machine.Layers.{has_lower_directory, view_of}
@@ -33,6 +31,9 @@ use Rattle.vt_overlay_laws.proofs.WholeNames.{above_named, named_above}
 use Rattle.vt_overlay_laws.proofs.WholeLinked.{link_keeps_shown}
 use Rattle.vt_overlay_laws.proofs.WholeMade.{make_keeps_shown}
 use Rattle.vt_overlay_laws.proofs.WholeRemoved.{remove_keeps_shown}
+use Rattle.std.proofs.lemmas.Option.{same_Some}
+use Rattle.vt_spec.proofs.NodeChanges.{directory_no_whiteout}
+use Rattle.vt_spec.proofs.Options.{none_is_some}
 
 module _ (fresh : Fresh ℕ) (distinct : (j k : ℕ) → fresh j ≡ fresh k → j ≡ k) where
   pub even_distinct : (j k : ℕ) → evens fresh j ≡ evens fresh k → j ≡ k
@@ -81,9 +82,9 @@ stands_above stack merge whole d w object named stands =
     by None l e = none_is_some _ e
     by (Some u) l e =
         let found = above_named stack merge whole way.0 u l
-        (no_white_directory (merge.upper.tree.node u)
+        (directory_no_whiteout (merge.upper.tree.node u)
         (has_entries merge.upper.tree u w (upper_of merge object) e)) in
-        subst (StandsInUpper merge) (some_is_one found.0 d (sym found.1 ∙ way.1))
+        subst (StandsInUpper merge) (same_Some found.0 d (sym found.1 ∙ way.1))
         (ap (λ r. is_some (upper_object r)) found.2)
 
 -- what is new by some of the numbers is so by all

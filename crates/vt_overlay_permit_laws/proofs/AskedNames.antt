@@ -9,7 +9,7 @@ use Rattle.vt_spec.specs.Language.Calls.{Access, Creation}
 use Rattle.vt_spec.specs.Language.Calls.Creation.{Exclusive, NoCreation, OrCreate}
 use Rattle.vt_spec.specs.Language.Limits.{largest_file, longest_path}
 use Rattle.vt_spec.specs.Laws.Trees.{IsNewIn}
-use Rattle.vt_spec.specs.Lists.{Fresh, evens, is_empty_list}
+use Rattle.vt_spec.specs.Lists.{Fresh, evens}
 use Rattle.vt_spec.specs.Machine.Invariants.{IsWorld, ListsNumbers}
 use Rattle.vt_spec.specs.Machine.Judge.{Judgement, create_file_permit, hard_link_permit, made_permit, mkdir_permit, open_by_permit, open_file_permit, open_permit, opened_or_created_permit, rename_permit, renamed_permit, rmdir_permit, symlink_permit, unlink_permit, unnumbered, whiteout_permit, write_permit, written_permit}
 use Rattle.vt_spec.specs.Machine.Looks.{Looks, looks_of}
@@ -17,27 +17,24 @@ use Rattle.vt_spec.specs.Machine.Mounts.{Location}
 use Rattle.vt_spec.specs.Machine.Outcome.Descriptors.{is_copied_up}
 use Rattle.vt_spec.specs.Machine.Outcome.Making.{directory_mode, file_mode, linking, new_file, symlink_mode}
 use Rattle.vt_spec.specs.Machine.Permits.{Permit}
-use Rattle.vt_spec.specs.Machine.Rightful.{node_allows}
 use Rattle.vt_spec.specs.Machine.Rows.{exact_attr, new_attr}
 use Rattle.vt_spec.specs.Machine.Rules.Descriptors.{descriptor_rules, exclusive_word_rules, open_rules}
 use Rattle.vt_spec.specs.Machine.Rules.Making.{file_word_rules, hard_link_rules, symlink_text_rules, make_rules, new_word_rules, rewrite_rules, whiteout_rules}
 use Rattle.vt_spec.specs.Machine.Rules.Removing.{is_one_object, object_there, old_word_rules, rename_new_walk, rename_rules, rmdir_rules, rmdir_word_rules, same_object_rules, unlink_rules}
 use Rattle.vt_spec.specs.Machine.Run.{Serves}
-use Rattle.vt_spec.specs.Machine.Walk.{LastWord, Place, is_dot, is_dot_dot, is_no_word, is_special, name_of, new_name_rules}
-use Rattle.vt_spec.specs.Machine.Walk.LastWord.{Dot, DotDot, Named, NoWord}
+use Rattle.vt_spec.specs.Machine.Walk.{Place, is_special, name_of, new_name_rules}
 use Rattle.vt_spec.specs.Machine.Walking.{file_walk, is_directory_there, new_leaf_walk, new_walk, object_walk, old_leaf_walk, old_walk, symlink_walk}
 use Rattle.vt_spec.specs.Machine.World.{Filesystem, Task, World, files_at, filesystem_at, is_directory_at, is_overlay, mount_at, node_at, task_called}
 use Rattle.vt_spec.specs.PathText.{is_empty}
-use Rattle.vt_spec.specs.Rights.{Credentials}
-use Rattle.vt_spec.specs.Tree.{Entries, Node, entries_in, entry_named, is_directory_node, kind_of, new_directory}
+use Rattle.vt_spec.specs.Tree.{Node, entries_in, entry_named, is_directory_node, kind_of, new_directory}
 use Rattle.vt_spec.specs.Tree.Content.{Symlink, Whiteout}
 use Rattle.vt_spec.specs.TreeLaws.{HasOwnParents, IsTree}
 use Rattle.vt_tree_laws.specs.Trees.{IsFileTree, MayMake}
 use Rattle.vt_tree_laws.proofs.ChangesByLinks.{may_link}
-use Rattle.vt_tree_laws.proofs.ChangesByRemoving.{may_move, no_directory_empty, old_removable}
+use Rattle.vt_tree_laws.proofs.ChangesByRemoving.{may_move, old_removable}
 use Rattle.vt_tree_laws.proofs.ChangesOfCalls.{place_is_free}
 use Rattle.vt_tree_laws.proofs.TreesOfWorlds.{new_at, numbered_all}
-use Rattle.vt_tree_laws.proofs.TreesWalked.{Ends, IsFilePlace, IsNewFilePlace, IsNewPlace, IsOldPlace, Passed, ends_anyhow, ends_file_walk, ends_new_leaf_walk, ends_new_walk, ends_old_leaf_walk, ends_old_walk, ends_then, ends_unless, file_named, first_false, place_is_file, place_named}
+use Rattle.vt_tree_laws.proofs.TreesWalked.{Ends, IsFilePlace, IsNewFilePlace, IsNewPlace, IsOldPlace, Passed, ends_anyhow, ends_file_walk, ends_new_leaf_walk, ends_new_walk, ends_old_leaf_walk, ends_old_walk, ends_then, ends_unless, file_named, place_is_file, place_named}
 use Rattle.vt_world_laws.proofs.CallsKept.{new_numbers}
 use Rattle.vt_world_laws.proofs.ReachedWalks.{Found, link_walk_found}
 use Rattle.vt_tree_laws.specs.Trees.Sizes.{is_fit_node}
@@ -45,24 +42,9 @@ use Rattle.vt_tree_laws.proofs.TreesSizes.{HasFitLast, IsFitWord, fit_file_walk,
 use Rattle.vt_tree_laws.proofs.TreesTasks.{both}
 use Rattle.vt_permit_laws.proofs.SeesGiven.{Gives, ends_both, gives_unless, gives_walk}
 use Rattle.vt_overlay_permit_laws.specs.Asked.{AsksWellIf, change_asked}
-
--- a word that is no word that stands for a directory is a name
-pub no_special : (last : LastWord) → is_dot_dot last ≡ false → is_dot last ≡ false → is_no_word last ≡ false
-    → is_special last ≡ false
-no_special NoWord a b c = c
-no_special Dot a b c = b
-no_special DotDot a b c = a
-no_special (Named name) a b c = refl
-
-empty_list : (entries : Entries ℕ) → not (is_empty_list entries) ≡ false → entries ≡ []
-empty_list [] e = refl
-empty_list (entry ∷ entries) e = absurd (true≢false e)
-
--- who may do something to an inode may do it to one that is there
-pub allowed_there : (who : Credentials) (wanted : ℕ) (node : Option (Node ℕ))
-    → not (node_allows who wanted node) ≡ false → is_some node ≡ true
-allowed_there who wanted None e = absurd (true≢false e)
-allowed_there who wanted (Some node) e = refl
+use Rattle.vt_spec.proofs.NodeChanges.{allowed_is_there, entries_in-no_directory, nil_from_not_some}
+use Rattle.vt_spec.proofs.Truths.{or_false_left}
+use Rattle.vt_spec.proofs.Worlds.{special_word}
 
 -- where a directory is, there is a tree
 pub tree_here : (world : World ℕ) → IsWorld nat_eq world → (location : Location ℕ)
@@ -198,7 +180,7 @@ module _ (world : World ℕ) (whole : IsWorld nat_eq world) (task : Task ℕ)
       → Asked (written_permit nat_eq looks task place bytes object)
   written_asked place bytes is named (Some file) e =
       gives_unless Asks (rewrite_rules looks task file bytes) _
-      (λ passed. (allowed_there _ _ _ passed.1.1.1.1.1.1.0, no_longer largest_file bytes passed.1.0))
+      (λ passed. (allowed_is_there _ _ _ passed.1.1.1.1.1.1.0, no_longer largest_file bytes passed.1.0))
   written_asked place bytes is named None e =
       gives_unless Asks ((nat_lt largest_file (length bytes), E6) ∷ []) _ (λ small.
       gives_unless Asks (make_rules looks task place (unnumbered place (new_file task file_mode bytes))) _ (λ passed. (
@@ -215,13 +197,13 @@ module _ (world : World ℕ) (whole : IsWorld nat_eq world) (task : Task ℕ)
   write_asked path bytes =
       gives_walk Asks NewFilePlace (file_walk nat_eq looks task path) _ (file_ends path) (λ place is.
       gives_unless Asks (file_word_rules place) _ (λ passed.
-      written_asked place bytes is (first_false (is_special place.last) place.slash passed.0) place.object refl))
+      written_asked place bytes is (or_false_left (is_special place.last) place.slash passed.0) place.object refl))
 
   -- open(2)
   opened_asked : (file : Location ℕ) (access : Access) → Asked (open_file_permit nat_eq looks task file access)
   opened_asked file access =
       gives_unless Asks (open_rules looks task file access) _
-      (λ passed. by (is_copied_up nat_eq world file access) (allowed_there _ _ _ passed.1.1.1.1.1.0))
+      (λ passed. by (is_copied_up nat_eq world file access) (allowed_is_there _ _ _ passed.1.1.1.1.1.0))
     where
       by : (b : Bool) → is_some (node_at nat_eq world file) ≡ true
           → AsksWellIf world (Rattle.vt_spec.specs.Lists.when b
@@ -257,7 +239,7 @@ module _ (world : World ℕ) (whole : IsWorld nat_eq world) (task : Task ℕ)
       gives_walk Asks NewFilePlace (file_walk nat_eq looks task path) _ (file_ends path) (λ place is.
       gives_unless Asks (file_word_rules place) _ (λ passed.
       opened_or_created_asked place access mode is
-      (first_false (is_special place.last) place.slash passed.0) place.object refl))
+      (or_false_left (is_special place.last) place.slash passed.0) place.object refl))
   open_by_asked path access (Exclusive mode) =
       gives_walk Asks NewPlace (new_walk nat_eq looks task path) _ (new_ends path) (λ place is.
       gives_unless Asks (exclusive_word_rules place) _ (λ passed.
@@ -279,7 +261,7 @@ module _ (world : World ℕ) (whole : IsWorld nat_eq world) (task : Task ℕ)
       gives_unless Asks ((is_special place.last, E2) ∷ []) _ (λ named.
       gives_unless Asks (unlink_rules looks task place (object_there place)) _ (λ passed. (
         old_removable world place named.0 is.0 is.1
-            (no_directory_empty (node_at nat_eq world (object_there place)) passed.0),
+            (entries_in-no_directory (node_at nat_eq world (object_there place)) passed.0),
         tt,
       ))))
 
@@ -290,8 +272,8 @@ module _ (world : World ℕ) (whole : IsWorld nat_eq world) (task : Task ℕ)
       (λ place is.
       gives_unless Asks (rmdir_word_rules place) _ (λ word.
       gives_unless Asks (rmdir_rules nat_eq looks task place (object_there place)) _ (λ passed. (
-        old_removable world place (no_special place.last word.0 word.1.0 word.1.1.0) is.0 is.1
-            (empty_list (entries_in (node_at nat_eq world (object_there place))) passed.1.0),
+        old_removable world place (special_word place.last word.0 word.1.0 word.1.1.0) is.0 is.1
+            (nil_from_not_some (entries_in (node_at nat_eq world (object_there place))) passed.1.0),
         tt,
       ))))
 

@@ -45,7 +45,10 @@ use Rattle.vt_spec.specs.Machine.Invariants.{IsWorld, ListsNumbers, has_regular_
 use Rattle.vt_spec.specs.Rights.{cap_sys_admin, cap_sys_chroot, owns}
 use Rattle.vt_spec.specs.Tree.{Content, Node, bytes_in}
 use Rattle.vt_tree_laws.proofs.TreesWalked.{ends_anyhow}
-use Rattle.vt_world_laws.proofs.ReachedWalks.{End, FoundDirectory, directory_walk_end, found_among, object_end, task_among}
+use Rattle.vt_world_laws.proofs.ReachedWalks.{End, FoundDirectory, directory_walk_end, object_end, task_among}
+use Rattle.vt_spec.proofs.Found.{found_among}
+use Rattle.vt_spec.proofs.NodeChanges.{file_is_there}
+use Rattle.vt_spec.proofs.Truths.{and_true_first}
 
 module _ (world : World ℕ) (whole : IsWorld nat_eq world) (task : Task ℕ)
     (called : task_called world task.name ≡ Some task)
@@ -151,10 +154,6 @@ module _ (world : World ℕ) (whole : IsWorld nat_eq world) (task : Task ℕ)
       (task_among world whole task called))
       descriptor (found_among (λ (d : Descriptor ℕ). number == d.number) task.descriptors descriptor e)
 
-  regular_there : (o : Option (Node ℕ)) → is_kind_in File o ≡ true → is_some o ≡ true
-  regular_there None e = e
-  regular_there (Some node) e = refl
-
   -- whose bytes are within the limit
   bytes_small : (o : Option (Node ℕ)) → is_kind_in File o ≡ true → fits o ≡ true
       → nat_le (length (bytes_in o)) largest_file ≡ true
@@ -166,11 +165,7 @@ module _ (world : World ℕ) (whole : IsWorld nat_eq world) (task : Task ℕ)
           → fits (Some (record { attr = attr; content = content })) ≡ true
           → nat_le (length (bytes_in (Some (record { attr = attr; content = content })))) largest_file ≡ true
       by attr (Directory parent entries opaque) f g = absurd (true≢false (sym f))
-      by attr (Regular bytes) f g = first _ _ _ g
-        where
-          first : (a b c : Bool) → (a && b && c) ≡ true → a ≡ true
-          first true b c e = refl
-          first false b c e = e
+      by attr (Regular bytes) f g = and_true_first _ _ _ g
       by attr (Symlink text) f g = absurd (true≢false (sym f))
       by attr Whiteout f g = absurd (true≢false (sym f))
 
@@ -192,7 +187,7 @@ module _ (world : World ℕ) (whole : IsWorld nat_eq world) (task : Task ℕ)
   written_asked file offset [] kind short = tt
   written_asked file offset (byte ∷ bytes) kind short =
       let old = bytes_in (node_at nat_eq world file) in
-      let there = regular_there (node_at nat_eq world file) kind in
+      let there = file_is_there (node_at nat_eq world file) kind in
       let small = leb-true (length old) largest_file
       (bytes_small (node_at nat_eq world file) kind (file_fits file there)) in
       let room = ltb-false largest_file (offset + length (byte ∷ bytes)) short in (

@@ -28,9 +28,8 @@ use Rattle.vt_layer_laws.specs.Layers.Untouched.{changes_no_mount, inodes_change
 use Rattle.vt_layer_laws.specs.Layers.Upper.{SpeaksOfWhatIsThere}
 use Rattle.vt_layer_laws.proofs.LockedApart.{layer_among, layer_plain, no_other, no_overlay_in}
 use Rattle.vt_layer_laws.proofs.LockedChange.{IsChanged, changed_in, changed_stays}
-use Rattle.vt_layer_laws.proofs.LowersCalls.{both_fail, same_filesystem}
+use Rattle.vt_layer_laws.proofs.LowersCalls.{same_filesystem}
 use Rattle.vt_layer_laws.proofs.LowersWorld.{changed_elsewhere, number_of_filesystem}
-use Rattle.vt_layer_laws.proofs.ShownAtPath.{none_is_some}
 use Rattle.vt_layer_laws.proofs.UpperLine.{has_entries}
 use Rattle.vt_overlay_permit_laws.specs.Asked.{AsksWell, AsksWellIf, change_asked}
 use Rattle.vt_overlay_permit_laws.specs.Changed.{numbers_left}
@@ -39,6 +38,8 @@ use Rattle.vt_overlay_permit_laws.specs.Unlocked.{SparesInode, SparesLocked, Spa
 use Rattle.vt_overlay_permit_laws.proofs.AskedOverlays.{permits_ask_well}
 use Rattle.vt_overlay_permit_laws.proofs.KeptOverlays.{permits_make_their_change}
 use Rattle.vt_overlay_permit_laws.proofs.UnlockedOthers.{permits_spare_what_is_locked}
+use Rattle.std.proofs.lemmas.Bool.{or_from}
+use Rattle.vt_spec.proofs.Options.{none_is_some}
 
 -- A change of a filesystem goes through it
 goes_by_change : (fresh : Fresh ℕ) (world later : World ℕ) → IsWorld nat_eq world
@@ -193,21 +194,21 @@ unlocked : (fresh : Fresh ℕ) (files : FileTree ℕ) (change : Change ℕ) (ino
     → MakesNew fresh change
     → ((k : ℕ) → inode ≢ fresh k) → is_among nat_eq inode (inodes_changed change) ≡ false
 unlocked fresh files (Make directory name number node) inode spares made new =
-    both_fail (nat_eq inode number) _ (ne_eqb inode number (λ e. new 0 (e ∙ made)))
-    (both_fail (nat_eq inode directory) false (ne_eqb inode directory spares) refl)
+    or_from (nat_eq inode number) _ (ne_eqb inode number (λ e. new 0 (e ∙ made)))
+    (or_from (nat_eq inode directory) false (ne_eqb inode directory spares) refl)
 unlocked fresh files (AddName directory name object) inode spares made new =
-    both_fail (nat_eq inode directory) false (ne_eqb inode directory spares) refl
+    or_from (nat_eq inode directory) false (ne_eqb inode directory spares) refl
 unlocked fresh files (Remove directory name object) inode spares made new =
-    both_fail (nat_eq inode directory) false (ne_eqb inode directory spares.0) refl
+    or_from (nat_eq inode directory) false (ne_eqb inode directory spares.0) refl
 unlocked fresh files (Move from old to name object) inode spares made new =
-    both_fail (nat_eq inode from) _ (ne_eqb inode from spares.0)
-    (both_fail (nat_eq inode to) false (ne_eqb inode to spares.1) refl)
-unlocked fresh files (SetBytes file bytes) inode spares made new = both_fail (nat_eq inode file) false
+    or_from (nat_eq inode from) _ (ne_eqb inode from spares.0)
+    (or_from (nat_eq inode to) false (ne_eqb inode to spares.1) refl)
+unlocked fresh files (SetBytes file bytes) inode spares made new = or_from (nat_eq inode file) false
     (ne_eqb inode file spares) refl
-unlocked fresh files (SetAttr object attr) inode spares made new = both_fail (nat_eq inode object) false
+unlocked fresh files (SetAttr object attr) inode spares made new = or_from (nat_eq inode object) false
     (ne_eqb inode object spares) refl
 unlocked fresh files (SetMark directory opaque) inode spares made new =
-    both_fail (nat_eq inode directory) false (ne_eqb inode directory spares) refl
+    or_from (nat_eq inode directory) false (ne_eqb inode directory spares) refl
 unlocked fresh files (CopyUp object) inode spares made new = refl
 
 -- What is asked of an overlay is of what is there

@@ -29,8 +29,6 @@ use Rattle.vt_tree_laws.specs.Trees.Calls.{mounts_overlay}
 use Rattle.vt_tree_laws.specs.Trees.Limits.{names_few_groups}
 use Rattle.vt_tree_laws.proofs.TreesEntered.{found_all}
 use Rattle.vt_tree_laws.proofs.TreesLimits.{outcome_small}
-use Rattle.vt_tree_laws.proofs.TreesOfWorlds.{taken_filesystems}
-use Rattle.vt_layer_laws.proofs.ShownAtPath.{none_is_some}
 use Rattle.vt_world_laws.specs.Worlds.Kept.{IsUnderWay, MountsShow}
 use Rattle.vt_world_laws.specs.Worlds.Permits.{IsFitPermit, NamesWhatIsThere}
 use Rattle.vt_world_laws.specs.Worlds.Tasks.{LocationsAreThere, OneTaskAName, OpenFilesAreRegular, TasksStandOnDirectories}
@@ -52,6 +50,8 @@ use Rattle.vt_overlay_permit_laws.proofs.PolicyLeads.{policy_leads}
 use Rattle.vt_overlay_permit_laws.proofs.PlainChanges.{plain_change_keeps_overlays, plain_change_keeps_trees}
 use Rattle.vt_overlay_permit_laws.proofs.SweptWorlds.{settled_is_a_world}
 use Rattle.vt_overlay_permit_laws.proofs.UnlockedOthers.{permits_spare_what_is_locked}
+use Rattle.vt_spec.proofs.Options.{none_is_some}
+use Rattle.vt_spec.proofs.Worlds.{filesystems-taken_away}
 
 -- what is made in an overlay is made in its upper layer
 writes : (world : World ℕ) (fresh : Fresh ℕ) (permit : Permit ℕ)
@@ -128,17 +128,17 @@ module _ (world : World ℕ) (fresh : Fresh ℕ) (task : Task ℕ) where
   unchanged (ToSetUmask umask) e = as_they_were refl
   unchanged (ToSetCredentials credentials) e = as_they_were refl
   unchanged (ToFork credentials) e = as_they_were refl
-  unchanged ToExit e = as_they_were (taken_filesystems (without_task world task.name) _)
-  unchanged ToUnshare e = as_they_were (taken_filesystems (unshared nat_eq world fresh task) _)
+  unchanged ToExit e = as_they_were (filesystems-taken_away (without_task world task.name) _)
+  unchanged ToUnshare e = as_they_were (filesystems-taken_away (unshared nat_eq world fresh task) _)
   unchanged (ToEnterNamespace namespace) e = as_they_were
-      (taken_filesystems (namespace_entered nat_eq world task namespace) _)
+      (filesystems-taken_away (namespace_entered nat_eq world task namespace) _)
   unchanged (ToMountPlain place flags) e = with_plain refl
   unchanged (ToMountOverlay place overlay flags) e = with_overlay (λ names. names)
       (overlay_filesystem nat_eq (evens fresh) world overlay) refl
   unchanged (ToBind source place recursive) e = as_they_were refl
   unchanged (ToMove mount place) e = as_they_were refl
   unchanged (ToUnmount mount) e = as_they_were
-      (taken_filesystems world (going nat_eq world (mount_numbered nat_eq world mount)))
+      (filesystems-taken_away world (going nat_eq world (mount_numbered nat_eq world mount)))
   unchanged (ToUnmountLazily mount) e = as_they_were (lazy_is_of_mounts world mount).filesystems
   unchanged (ToSetFlags mount flags) e = as_they_were refl
   unchanged (ToSetType mount word recursive) e = as_they_were

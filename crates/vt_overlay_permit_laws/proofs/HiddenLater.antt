@@ -26,7 +26,6 @@ use Rattle.vt_tree_laws.specs.Trees.Limits.{names_few_groups}
 use Rattle.vt_layer_laws.specs.Layers.Locked.{AreNoInodes, LeadsAsBefore}
 use Rattle.vt_layer_laws.specs.Layers.Views.{AllLeadAlike}
 use Rattle.vt_layer_laws.proofs.LowersCalls.{same_filesystem}
-use Rattle.vt_layer_laws.proofs.ShownAtPath.{some_is_one}
 use Rattle.vt_layer_laws.proofs.ViewsFronts.{shown_by_views}
 use Rattle.vt_layer_laws.proofs.ViewsNames.{alike_kept, alike_same}
 use Rattle.vt_overlay_laws.specs.WhatIsShown.{layers_under}
@@ -53,6 +52,7 @@ use Rattle.vt_overlay_permit_laws.proofs.LowersGoOn.{leads_both, leads_by_files,
 use Rattle.vt_overlay_permit_laws.proofs.LowersOverScripts.{line_stays}
 use Rattle.vt_overlay_permit_laws.proofs.PolicyLeads.{named_leads}
 use Rattle.vt_overlay_permit_laws.proofs.SweptOverlays.{leads_same, shown_among}
+use Rattle.std.proofs.lemmas.Option.{same_Some}
 
 -- Layers that lead alike show the same
 module _ (world later : World ℕ) where
@@ -217,7 +217,7 @@ module _ (world : World ℕ) (is : IsWorld nat_eq world) (number : ℕ) (overlay
       at made e false f = elsewhere (λ location change g same.
           true≢false (sym (eq-eqb number (mount_at nat_eq world made.0).filesystem
           (same ∙ ap (λ (m : Location ℕ × Change ℕ). (mount_at nat_eq world m.0).filesystem)
-          (some_is_one (location, change) made (sym g ∙ e)))) ∙ f))
+          (same_Some (location, change) made (sym g ∙ e)))) ∙ f))
 
       by : (o : Option (Location ℕ × Change ℕ)) → change_asked fresh world permit ≡ o → Hides world called_world overlay
       by None e = elsewhere (λ location change g. absurd (true≢false (sym (ap is_some (sym e ∙ g)))))
@@ -253,7 +253,7 @@ pub every_call_uncovers_nothing : EveryCallUncoversNothing
 every_call_uncovers_nothing world fresh name call number overlay is serves few was live after path seen now low e =
     let stays = every_call_leaves_lowers world fresh name call number overlay is serves few was live in
     let later = (policy nat_eq fresh world name call).world in
-    let same = some_is_one after stays.after (sym now ∙ stays.is) in
+    let same = same_Some after stays.after (sym now ∙ stays.is) in
     named_leads (λ w. is_live w number ≡ true → Hides world w overlay) world fresh name call
     (λ there. alike_hides world world overlay (λ layer m. leads_by_files world world layer refl))
     (λ task found permit changed granted.
@@ -269,7 +269,7 @@ every_call_uncovers_nothing world fresh name call number overlay is serves few w
 uncovers_itself : (world : World ℕ) (number : ℕ) (overlay : Overlay ℕ)
     → (filesystem_numbered nat_eq world number).overlay ≡ Some overlay → UncoversNothing world world number overlay
 uncovers_itself world number overlay was after path seen now low e =
-    ap (λ (o : Overlay ℕ). shown_in world o path) (some_is_one overlay after (sym was ∙ now)) ∙ e
+    ap (λ (o : Overlay ℕ). shown_in world o path) (same_Some overlay after (sym was ∙ now)) ∙ e
 
 uncovers_both : (a b c : World ℕ) (number : ℕ) (overlay : Overlay ℕ) (stays : LowersStay a b number overlay)
     → UncoversNothing a b number overlay → UncoversNothing b c number stays.after → UncoversNothing a c number overlay

@@ -22,8 +22,6 @@ use Rattle.vt_tree_laws.specs.Trees.Limits.{names_few_groups}
 use Rattle.vt_layer_laws.specs.Layers.Locked.{LeadsAsBefore}
 use Rattle.vt_layer_laws.proofs.LockedApart.{layer_plain}
 use Rattle.vt_layer_laws.proofs.LowersCalls.{same_filesystem}
-use Rattle.vt_layer_laws.proofs.ShownAtPath.{some_is_one}
-use Rattle.vt_layer_laws.proofs.UpperLine.{and_second}
 use Rattle.vt_merge_laws.proofs.MountedAgain.{files_raised}
 use Rattle.vt_merge_laws.proofs.MountedWorlds.{mounting_leaves_a_world}
 use Rattle.vt_world_laws.specs.Worlds.Kept.{IsUnderWay}
@@ -43,6 +41,8 @@ use Rattle.vt_overlay_permit_laws.proofs.PolicyLeads.{named_leads}
 use Rattle.vt_overlay_permit_laws.proofs.SweptInodes.{file_trees_are, files_later, first_goes, one_later, second_goes}
 use Rattle.vt_overlay_permit_laws.proofs.SweptOverlays.{leads_same, living_goes}
 use Rattle.vt_overlay_permit_laws.proofs.SweptWorlds.{files_living, mounted_overlays, one_living, overlays_first, overlays_living}
+use Rattle.std.proofs.lemmas.Option.{same_Some}
+use Rattle.vt_spec.proofs.Truths.{and_true_right}
 
 -- An overlay that goes on has its layers
 layers_before : (world later : World ℕ) (number : ℕ) (after : Overlay ℕ) (on : GoesOn world later number after)
@@ -73,7 +73,7 @@ module _ (world : World ℕ) (way : IsUnderWay world) (are : OverlayInvariants n
       let begins = living_goes mounted (file_trees_are mounted (trees_under_way world way) way.files.one_filesystem)
       (mounted_overlays world way are) number second.before second.is in
       let at_first : Among layer (layers_of begins.before) =
-      subst (λ o. Among layer (layers_of o)) (sym (some_is_one begins.before overlay (sym begins.is ∙ was))) m in
+      subst (λ o. Among layer (layers_of o)) (sym (same_Some begins.before overlay (sym begins.is ∙ was))) m in
       let at_second : Among layer (layers_of second.before) =
       subst (Among layer) (sym (layers_before mounted living number second.before begins)) at_first in
       let at_third : Among layer (layers_of third.before) =
@@ -103,7 +103,7 @@ module _ (world : World ℕ) (is : IsWorld nat_eq world) (number : ℕ) (overlay
       leads_same world left layer
       (shown_still world left new more layer.filesystem layer.directory
       (directory_used (filesystem_numbered nat_eq world layer.filesystem).files.tree layer.directory
-      (and_second (not (is_overlay (filesystem_numbered nat_eq world layer.filesystem))) _
+      (and_true_right (not (is_overlay (filesystem_numbered nat_eq world layer.filesystem))) _
       (layer_plain world is number overlay was layer m))))
 
   pub left_leads : ((location : Location ℕ) (change : Change ℕ) → change_asked fresh world permit ≡ Some (location, change)

@@ -12,7 +12,7 @@ use Rattle.vt_spec.specs.Machine.Filesystems.{with_change}
 use Rattle.vt_spec.specs.Machine.Invariants.{IsWorld, live_lowers}
 use Rattle.vt_spec.specs.Machine.Judge.{judge_in}
 use Rattle.vt_spec.specs.Machine.Looks.{looks_of}
-use Rattle.vt_spec.specs.Machine.Locked.{counts_in_layer, is_object_of, is_real_upper, lies_in_layer, lies_or_counts_under, overlay_or, overlays, upper_and_work}
+use Rattle.vt_spec.specs.Machine.Locked.{counts_in_layer, is_object_of, is_real_upper, lies_in_layer, lies_or_counts_under, overlay_or, overlays}
 use Rattle.vt_spec.specs.Machine.Mounts.{Location}
 use Rattle.vt_spec.specs.Machine.Outcome.Mounting.{plain_filesystem}
 use Rattle.vt_spec.specs.Machine.Outcomes.{Outcome, after}
@@ -21,11 +21,10 @@ use Rattle.vt_spec.specs.Machine.Permits.Permit.{ToChange, ToMake, ToOpen, ToOpe
 use Rattle.vt_spec.specs.Machine.Policy.{call_outcome, finished_by, policy}
 use Rattle.vt_spec.specs.Machine.Run.{Serves}
 use Rattle.vt_spec.specs.Machine.Settled.{settled}
-use Rattle.vt_spec.specs.Machine.World.{Filesystem, Layer, Overlay, Real, Task, World, filesystem_numbered, is_overlay, layers_of, no_filesystem, task_called, upper_object}
-use Rattle.vt_spec.specs.Machine.World.Real.{Below, Upper}
+use Rattle.vt_spec.specs.Machine.World.{Filesystem, Layer, Overlay, Task, World, filesystem_numbered, is_overlay, no_filesystem, task_called}
 use Rattle.vt_spec.specs.Tree.{is_directory_node}
 use Rattle.vt_spec.specs.TreeLaws.{led}
-use Rattle.vt_spec.proofs.Lists.{Among, among-append_right, among-from_filter, among_from_contains, any_among, contains_from_among}
+use Rattle.vt_spec.proofs.Lists.{Among, among-from_filter, among_from_contains, any_among, contains_from_among}
 use Rattle.vt_spec.proofs.Nodes.{directory_used}
 use Rattle.vt_laws.specs.Given.{IsFor, makes_a_name}
 use Rattle.vt_laws.proofs.CallsJudged.{call_is_judged_then_applied}
@@ -38,10 +37,8 @@ use Rattle.vt_layer_laws.specs.Layers.Untouched.{IsKept, changes_no_mount, inode
 use Rattle.vt_layer_laws.proofs.LockedApart.{layer_among, layer_plain, no_lower}
 use Rattle.vt_layer_laws.proofs.LockedPaths.{layer_tree, led_lies, lower_paths_are_locked}
 use Rattle.vt_layer_laws.proofs.LowersCalls.{same_filesystem}
-use Rattle.vt_layer_laws.proofs.UpperLine.{and_first, and_second}
 use Rattle.vt_layer_laws.proofs.UpperWorld.{overlay_found}
 use Rattle.vt_merge_laws.proofs.MountedWorlds.{mounting_leaves_a_world}
-use Rattle.vt_overlay_laws.proofs.ApartLater.{or_cases}
 use Rattle.vt_overlay_laws.proofs.ApartPaths.{under_led}
 use Rattle.vt_world_laws.proofs.SeenTrees.{unused_inode}
 use Rattle.vt_overlay_permit_laws.specs.Asked.{change_asked}
@@ -54,6 +51,9 @@ use Rattle.vt_overlay_permit_laws.proofs.LowersGoOn.{OverlayStays, changed_layer
 use Rattle.vt_overlay_permit_laws.proofs.NewPlain.{found_first}
 use Rattle.vt_overlay_permit_laws.proofs.PolicyLeads.{policy_leads}
 use Rattle.vt_overlay_permit_laws.proofs.SweptOverlays.{leads_same}
+use Rattle.std.proofs.lemmas.Bool.{or_cases}
+use Rattle.vt_spec.proofs.Truths.{and_true_left, and_true_right}
+use Rattle.vt_spec.proofs.Worlds.{lower_is_layer, upper_real}
 
 -- a call that asks for a change is one on files
 makes_files : (call : Call) → makes_a_name call ≡ true → changes_no_mount call ≡ true
@@ -107,18 +107,14 @@ module _ (world later : World ℕ) (new : Filesystem ℕ)
           (sym there ∙ ap (λ o. is_some ((unwrap_or o (no_filesystem number)).files.tree.node inode)) e))
       by (Some f) e = found_still number f e
 
-lower_in_layers : (overlay : Overlay ℕ) (lower : Layer ℕ) → Among lower overlay.lowers → Among lower (layers_of overlay)
-lower_in_layers overlay lower m =
-    among-append_right (upper_and_work overlay) overlay.lowers lower m
-
 -- An overlay of a world
 module _ (world : World ℕ) (is : IsWorld nat_eq world) (number : ℕ) (overlay : Overlay ℕ)
     (was : (filesystem_numbered nat_eq world number).overlay ≡ Some overlay) where
   layer_directory : (lower : Layer ℕ) → Among lower overlay.lowers
       → is_directory_node (inode_in world lower.filesystem lower.directory) ≡ true
   layer_directory lower m =
-      and_second (not (is_overlay (filesystem_numbered nat_eq world lower.filesystem))) _
-      (layer_plain world is number overlay was lower (lower_in_layers overlay lower m))
+      and_true_right (not (is_overlay (filesystem_numbered nat_eq world lower.filesystem))) _
+      (layer_plain world is number overlay was lower (lower_is_layer overlay lower m))
 
   grown_stays : (later : World ℕ) (new : Filesystem ℕ) → later.filesystems ≡ world.filesystems ++ (new ∷ [])
       → OverlayStays world later number overlay
@@ -217,13 +213,6 @@ module _ (world : World ℕ) (is : IsWorld nat_eq world) (number : ℕ) (overlay
             (stays_both left (settled nat_eq left) _ number call_stays.after sweeps
             (raised_stays world name changed (settled nat_eq left) number sweeps.after sweeps.is))
 
-  -- What lies or counts under a lower layer is led to from it
-  upper_of_real : (o : Option (Real ℕ)) (object : ℕ) → holds_of (nat_eq object) (upper_object o) ≡ true
-      → o ≡ Some (Upper object)
-  upper_of_real None object e = absurd (true≢false (sym e))
-  upper_of_real (Some (Upper other)) object e = ap (λ n. Some (Upper n)) (sym (eqb-true object other e))
-  upper_of_real (Some (Below depth path)) object e = absurd (true≢false (sym e))
-
   module _ (lower : Layer ℕ) (m : Among lower overlay.lowers) (inode : ℕ) where
     abbrev Led : Type 0
     Led = (path : List (List ℕ)) ×
@@ -236,8 +225,8 @@ module _ (world : World ℕ) (is : IsWorld nat_eq world) (number : ℕ) (overlay
     lies_led e =
         under_led (filesystem_numbered nat_eq world lower.filesystem).files
         (layer_tree world is lower (layer_plain world is number overlay was lower
-        (lower_in_layers overlay lower m))) lower.directory inode
-        (and_second (nat_eq lower.filesystem lower.filesystem) _ e)
+        (lower_is_layer overlay lower m))) lower.directory inode
+        (and_true_right (nat_eq lower.filesystem lower.filesystem) _ e)
 
     -- no upper object counts under it
     counts_never : lies_or_counts_under nat_eq world lower.filesystem inode lower ≡ true
@@ -257,13 +246,13 @@ module _ (world : World ℕ) (is : IsWorld nat_eq world) (number : ℕ) (overlay
             && list_any (is_real_upper nat_eq v inode) f.files.numbers)) ≡ true → ⊥
         at f v of None g h = true≢false (sym h)
         at f v of (Some top) g h =
-            let rest = and_second (lies_in_layer nat_eq world top.filesystem top.directory lower) _ h in
+            let rest = and_true_right (lies_in_layer nat_eq world top.filesystem top.directory lower) _ h in
             let found = any_among (is_real_upper nat_eq v inode) f.files.numbers
-            (and_second (nat_eq lower.filesystem top.filesystem) _ rest) in
+            (and_true_right (nat_eq lower.filesystem top.filesystem) _ rest) in
             no_lower world is f.number v of top g inode
-            (found.0, upper_of_real (v.real found.0) inode found.2) lower live_lower
+            (found.0, upper_real (v.real found.0) inode found.2) lower live_lower
             (subst (λ n. lies_or_counts_under nat_eq world n inode lower ≡ true)
-            (eqb-true lower.filesystem top.filesystem (and_first (nat_eq lower.filesystem top.filesystem) _ rest)) lies)
+            (eqb-true lower.filesystem top.filesystem (and_true_left (nat_eq lower.filesystem top.filesystem) _ rest)) lies)
 
         by : (f : Filesystem ℕ) → filesystem_numbered nat_eq world f.number ≡ f → (o : Option (Overlay ℕ))
             → f.overlay ≡ o
@@ -300,7 +289,7 @@ module _ (world : World ℕ) (is : IsWorld nat_eq world) (number : ℕ) (overlay
               (stays.leads lower m way.0).1),
           led_lies later is_later lower
               (layer_plain later is_later number stays.after stays.is lower
-              (lower_in_layers stays.after lower (subst (Among lower) (sym stays.lowers) m)))
+              (lower_is_layer stays.after lower (subst (Among lower) (sym stays.lowers) m)))
               way.0 inode leads,
         );
   }

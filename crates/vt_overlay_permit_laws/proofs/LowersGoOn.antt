@@ -9,17 +9,15 @@ use Rattle.vt_spec.specs.Lists.{Fresh, then_some}
 use Rattle.vt_spec.specs.Machine.CopyUp.{Merge, merge_changed}
 use Rattle.vt_spec.specs.Machine.Filesystems.{filesystem_changed, merge_of, overlay_changed, raised, raised_if_changed, stack_of, with_change, with_files}
 use Rattle.vt_spec.specs.Machine.Invariants.{OverlayInvariants}
-use Rattle.vt_spec.specs.Machine.Locked.{upper_and_work}
 use Rattle.vt_spec.specs.Machine.Mounts.{Location}
 use Rattle.vt_spec.specs.Machine.Policy.{numbers_raised}
 use Rattle.vt_spec.specs.Machine.Settled.{settled, without_dead_filesystems, without_dead_in, without_dead_mounts}
-use Rattle.vt_spec.specs.Machine.World.{Filesystem, Layer, Overlay, World, filesystem_at, filesystem_numbered, is_overlay, layers_of, mount_at, no_filesystem, with_filesystem}
+use Rattle.vt_spec.specs.Machine.World.{Filesystem, Layer, Overlay, World, filesystem_at, filesystem_numbered, is_overlay, mount_at, no_filesystem, with_filesystem}
 use Rattle.vt_spec.specs.TreeLaws.{led}
-use Rattle.vt_spec.proofs.Lists.{Among, among-append_right}
+use Rattle.vt_spec.proofs.Lists.{Among}
 use Rattle.vt_layer_laws.specs.Layers.Locked.{LeadsAsBefore}
 use Rattle.vt_layer_laws.proofs.LowersKept.{kept_both, kept_same}
 use Rattle.vt_layer_laws.proofs.LowersWorld.{filesystem_elsewhere, filesystem_there, number_of_filesystem}
-use Rattle.vt_layer_laws.proofs.ShownAtPath.{some_is_one}
 use Rattle.vt_merge_laws.proofs.MountedAgain.{files_raised}
 use Rattle.vt_world_laws.specs.Worlds.Kept.{IsUnderWay}
 use Rattle.vt_world_laws.proofs.SettledTasks.{trees_under_way}
@@ -27,6 +25,8 @@ use Rattle.vt_overlay_permit_laws.proofs.OverlaysGoOn.{GoesOn}
 use Rattle.vt_overlay_permit_laws.proofs.SweptInodes.{file_trees_are, files_later, first_goes, one_later, second_goes}
 use Rattle.vt_overlay_permit_laws.proofs.SweptOverlays.{living_goes}
 use Rattle.vt_overlay_permit_laws.proofs.SweptWorlds.{files_living, mounted_overlays, one_living, overlays_first, overlays_living}
+use Rattle.std.proofs.lemmas.Option.{same_Some}
+use Rattle.vt_spec.proofs.Worlds.{lower_is_layer}
 
 -- an overlay is there later, over the same layers, and paths lead from the lower ones where they led
 pub record OverlayStays (world later : World ℕ) (number : ℕ) (overlay : Overlay ℕ) : Type 0 where
@@ -99,7 +99,7 @@ stays_over world later number overlay is same leads =
         → OverlayStays world later number overlay
     by None e f = absurd (true≢false (sym (ap is_some f)))
     by (Some after) e f =
-        let parts = some_is_one (layers after) (layers overlay) f in
+        let parts = same_Some (layers after) (layers overlay) f in
         record {
           after = after;
           is = e;
@@ -212,11 +212,6 @@ module _ (before : World ℕ) (name : TaskName) (changed : List ℕ) (world : Wo
       (λ lower m. leads_by_files world (numbers_raised nat_eq before name changed world) lower
       (files_raised changed lower.filesystem world.filesystems))
 
--- In the sweep it is one that was there
-lowers_of_layers : (overlay : Overlay ℕ) (lower : Layer ℕ) → Among lower overlay.lowers
-    → Among lower (layers_of overlay)
-lowers_of_layers overlay lower m = among-append_right (upper_and_work overlay) overlay.lowers lower m
-
 module _ (world : World ℕ) (under : IsUnderWay world) (are : OverlayInvariants nat_eq world) (number : ℕ) where
   abbrev mounted : World ℕ
   mounted = without_dead_mounts nat_eq world
@@ -236,7 +231,7 @@ module _ (world : World ℕ) (under : IsUnderWay world) (are : OverlayInvariants
     upper = on.upper;
     work = on.work;
     lowers = on.lowers;
-    leads = λ lower m. on.leads lower (lowers_of_layers on.before lower m);
+    leads = λ lower m. on.leads lower (lower_is_layer on.before lower m);
   }
 
   from_living : (after : Overlay ℕ) (on : GoesOn living first number after)
@@ -248,7 +243,7 @@ module _ (world : World ℕ) (under : IsUnderWay world) (are : OverlayInvariants
     upper = on.upper;
     work = on.work;
     lowers = on.lowers;
-    leads = λ lower m. on.leads lower (lowers_of_layers on.before lower m);
+    leads = λ lower m. on.leads lower (lower_is_layer on.before lower m);
   }
 
   from_first : (after : Overlay ℕ)
@@ -261,7 +256,7 @@ module _ (world : World ℕ) (under : IsUnderWay world) (are : OverlayInvariants
     upper = on.upper;
     work = on.work;
     lowers = on.lowers;
-    leads = λ lower m. on.leads lower (lowers_of_layers on.before lower m);
+    leads = λ lower m. on.leads lower (lower_is_layer on.before lower m);
   }
 
   pub swept_stays : (after : Overlay ℕ)
@@ -277,7 +272,7 @@ module _ (world : World ℕ) (under : IsUnderWay world) (are : OverlayInvariants
       let second = first_goes living files one (overlays_living world under are) number third.before third.is in
       let begins = living_goes mounted (file_trees_are mounted (trees_under_way world under) under.files.one_filesystem)
       (mounted_overlays world under are) number second.before second.is in
-      subst (OverlayStays world (settled nat_eq world) number) (some_is_one begins.before overlay (sym begins.is ∙ was))
+      subst (OverlayStays world (settled nat_eq world) number) (same_Some begins.before overlay (sym begins.is ∙ was))
       (stays_both world living (settled nat_eq world) number begins.before (from_mounted second.before begins second.is)
       (stays_both living first (settled nat_eq world) number second.before (from_living third.before second third.is)
       (from_first after third e)))

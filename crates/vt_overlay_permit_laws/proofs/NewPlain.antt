@@ -14,18 +14,17 @@ use Rattle.vt_spec.specs.Tree.{new_directory}
 use Rattle.vt_spec.specs.TreeLaws.{HasOwnParents, IsReached, IsTree}
 use Rattle.vt_spec.proofs.Lists.{Among}
 use Rattle.vt_spec.proofs.Nodes.{directory_used}
-use Rattle.vt_mount_laws.proofs.MountsReplaced.{apart}
 use Rattle.vt_tree_laws.proofs.ChangesByCalls.{new_tree_is}
 use Rattle.vt_tree_laws.proofs.ChangesOfSizes.{fits}
 use Rattle.vt_tree_laws.proofs.TreesTasks.{all_appended, both}
 use Rattle.vt_layer_laws.proofs.LowersKept.{kept_same}
-use Rattle.vt_layer_laws.proofs.ShownAtPath.{none_is_some}
-use Rattle.vt_layer_laws.proofs.UpperLine.{and_second}
 use Rattle.vt_overlay_laws.proofs.WholeOthers.{stays_merged}
 use Rattle.vt_world_laws.proofs.PermitsFilesystems.{appended_apart}
 use Rattle.vt_world_laws.proofs.SeenTrees.{unused_by_filesystem}
 use Rattle.vt_overlay_permit_laws.proofs.OverlaysGoOn.{GoesOn, are_trees, overlays_go_on, plain_layer}
 use Rattle.vt_overlay_permit_laws.proofs.SweptOverlays.{leads_same, shown_among, upper_among}
+use Rattle.vt_spec.proofs.Options.{none_is_some}
+use Rattle.vt_spec.proofs.Truths.{and_true_right, nat_eq_false_turned}
 
 -- a filesystem that is found is found in front of another one
 pub found_first : (number : ℕ) (last : Filesystem ℕ) (list : List (Filesystem ℕ)) (f : Filesystem ℕ)
@@ -63,7 +62,7 @@ module _ (world : World ℕ) (fresh : Fresh ℕ) (conditions : IsWorld nat_eq wo
         own_parents = All-push (λ (f : Filesystem ℕ). HasOwnParents f.files.tree) world.filesystems new conditions.files.own_parents is.own_parents;
         numbers = All-push (λ (f : Filesystem ℕ). ListsNumbers nat_eq f.files) world.filesystems new conditions.files.numbers is.numbers;
         one_filesystem = appended_apart world.filesystems new conditions.files.one_filesystem
-            (λ old m. apart (evens fresh 0) old.number
+            (λ old m. nat_eq_false_turned (evens fresh 0) old.number
             (unused_by_filesystem world fresh serves 0 old m old.number (inl refl)));
         fit_filesystems = all_appended is_fit_filesystem world.filesystems new conditions.files.fit_filesystems new_fits;
       }
@@ -123,7 +122,7 @@ module _ (world : World ℕ) (fresh : Fresh ℕ) (conditions : IsWorld nat_eq wo
     layer_stays layer m =
         inode_stays layer.filesystem layer.directory
         (directory_used (filesystem_numbered nat_eq world layer.filesystem).files.tree layer.directory
-        (and_second (Rattle.std.specs.Prelude.not (is_overlay (filesystem_numbered nat_eq world layer.filesystem))) _
+        (and_true_right (Rattle.std.specs.Prelude.not (is_overlay (filesystem_numbered nat_eq world layer.filesystem))) _
         (plain_layer world (are_trees world conditions.files) conditions.overlays number after was layer m)))
 
     goes : GoesOn world later number after

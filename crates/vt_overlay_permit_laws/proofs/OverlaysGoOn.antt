@@ -8,8 +8,8 @@ use Rattle.vt_spec.specs.FileTree.{is_under}
 use Rattle.vt_spec.specs.Lists.{any_pair, holds_of}
 use Rattle.vt_spec.specs.Machine.Invariants.{IsMerged, ListsNumbers, OverlayInvariants, TreeInvariants, has_fit_layers, is_plain_layer, is_there, live_lowers, overlap}
 use Rattle.vt_spec.specs.Machine.Locked.{counts_in_layer, is_object_of, is_real_upper, lies_in_layer, lies_or_counts_under, live_upper_and_work, of_overlay, overlaps_one_of, overlay_or, overlays, upper_and_work}
-use Rattle.vt_spec.specs.Machine.World.{Filesystem, Layer, Overlay, Real, World, filesystem_numbered, is_overlay, layers_of, open_layer, upper_object}
-use Rattle.vt_spec.specs.Machine.World.Real.{Below, Upper}
+use Rattle.vt_spec.specs.Machine.World.{Filesystem, Layer, Overlay, World, filesystem_numbered, is_overlay, layers_of, open_layer, upper_object}
+use Rattle.vt_spec.specs.Machine.World.Real.{Upper}
 use Rattle.vt_spec.specs.Tree.{Node, is_directory_node}
 use Rattle.vt_spec.specs.TreeLaws.{IsReached, IsTree, led}
 use Rattle.vt_spec.proofs.Lists.{Among, among-append_left, among-append_right, among-filter, among-flat_map, among-from_filter, among-from_flat_map, among_from_list_all, among_numbers, any_among, any_from_among, list_all_from_among, none_among, none_from_among}
@@ -17,15 +17,17 @@ use Rattle.vt_letting_go.proofs.OfWorlds.{found_filesystem}
 use Rattle.vt_tree_laws.proofs.TreesOfWorlds.{numbered_all, numbered_anyhow}
 use Rattle.vt_layer_laws.specs.Layers.Locked.{LeadsAsBefore}
 use Rattle.vt_layer_laws.specs.Layers.Untouched.{inode_in}
-use Rattle.vt_layer_laws.proofs.LockedApart.{both_hold, found_among, left_holds, right_holds}
-use Rattle.vt_layer_laws.proofs.ShownAtPath.{none_is_some}
+use Rattle.vt_layer_laws.proofs.LockedApart.{found_among}
 use Rattle.vt_layer_laws.proofs.ShownDirectories.{led_is_there}
-use Rattle.vt_layer_laws.proofs.UpperLine.{and_first, and_second}
 use Rattle.vt_layer_laws.proofs.UpperWorld.{overlay_found}
 use Rattle.vt_layer_laws.proofs.ViewsNames.{alike_kept}
-use Rattle.vt_overlay_laws.proofs.ApartLater.{no_pair_later, or_cases}
+use Rattle.vt_overlay_laws.proofs.ApartLater.{no_pair_later}
 use Rattle.vt_overlay_laws.proofs.ApartPaths.{led_under, under_led}
 use Rattle.vt_overlay_laws.proofs.WholeGrown.{directory_alike}
+use Rattle.std.proofs.lemmas.Bool.{and_from, or_cases, or_left, or_right}
+use Rattle.vt_spec.proofs.Options.{none_is_some}
+use Rattle.vt_spec.proofs.Truths.{and_true_left, and_true_right}
+use Rattle.vt_spec.proofs.Worlds.{upper_real}
 
 -- what is asked of trees
 pub record AreTrees (world : World ℕ) : Type 0 where
@@ -164,7 +166,7 @@ module _ (world later : World ℕ) (files : AreTrees world) (are : OverlayInvari
 
   was_directory : (layer : Layer ℕ) → IsLive layer
       → is_directory_node (inode_in world layer.filesystem layer.directory) ≡ true
-  was_directory layer live = and_second
+  was_directory layer live = and_true_right
       (not (is_overlay (filesystem_numbered nat_eq world layer.filesystem))) _ live.plain
 
   is_directory : (layer : Layer ℕ) → IsLive layer
@@ -172,14 +174,14 @@ module _ (world later : World ℕ) (files : AreTrees world) (are : OverlayInvari
   is_directory layer live = directory_alike _ _ (alike_kept _ _ (live.leads []).1) ∙ was_directory layer live
 
   still_plain : (layer : Layer ℕ) → IsLive layer → is_plain_layer nat_eq later layer ≡ true
-  still_plain layer live = both_hold _ _ (by (filesystem_numbered nat_eq later layer.filesystem).overlay refl)
+  still_plain layer live = and_from _ _ (by (filesystem_numbered nat_eq later layer.filesystem).overlay refl)
       (is_directory layer live)
     where
       by : (o : Option (Overlay ℕ)) → (filesystem_numbered nat_eq later layer.filesystem).overlay ≡ o
           → not (is_overlay (filesystem_numbered nat_eq later layer.filesystem)) ≡ true
       by None e = ap (λ o. not (is_some o)) e
       by (Some after) e =
-          absurd (true≢false (sym (and_first
+          absurd (true≢false (sym (and_true_left
           (not (is_overlay (filesystem_numbered nat_eq world layer.filesystem))) _ live.plain)
           ∙ ap (λ o. not (is_some o)) (goes layer.filesystem after e).is))
 
@@ -191,13 +193,13 @@ module _ (world later : World ℕ) (files : AreTrees world) (are : OverlayInvari
   lay : (layer : Layer ℕ) → IsLive layer → (n object : ℕ) → lies_in_layer nat_eq later n object layer ≡ true
       → lies_in_layer nat_eq world n object layer ≡ true
   lay layer live n object e =
-      let same = eqb-true n layer.filesystem (and_first (nat_eq n layer.filesystem) _ e) in
+      let same = eqb-true n layer.filesystem (and_true_left (nat_eq n layer.filesystem) _ e) in
       let way = under_led (filesystem_numbered nat_eq later layer.filesystem).files
       (tree_of_directory later files_later layer.filesystem layer.directory
       (is_directory layer live)) layer.directory object
       (subst (λ k. is_under nat_eq (filesystem_numbered nat_eq later k).files layer.directory object ≡ true) same
-      (and_second (nat_eq n layer.filesystem) _ e)) in
-      both_hold _ _ (eq-eqb n layer.filesystem same)
+      (and_true_right (nat_eq n layer.filesystem) _ e)) in
+      and_from _ _ (eq-eqb n layer.filesystem same)
       (subst (λ k. is_under nat_eq (filesystem_numbered nat_eq world k).files layer.directory object ≡ true) (sym same)
       (led_under (filesystem_numbered nat_eq world layer.filesystem).files
       (tree_of_directory world files layer.filesystem layer.directory (was_directory layer live)) layer.directory
@@ -207,12 +209,6 @@ module _ (world later : World ℕ) (files : AreTrees world) (are : OverlayInvari
   -- What counts under it counted under it
   abbrev Lies : World ℕ → Layer ℕ → ℕ → ℕ → Type 0
   Lies w layer n object = lies_or_counts_under nat_eq w n object layer ≡ true
-
-  upper_of_real : (o : Option (Real ℕ)) (object : ℕ) → holds_of (nat_eq object) (upper_object o) ≡ true
-      → o ≡ Some (Upper object)
-  upper_of_real None object e = absurd (true≢false (sym e))
-  upper_of_real (Some (Upper other)) object e = ap (λ n. Some (Upper n)) (sym (eqb-true object other e))
-  upper_of_real (Some (Below depth path)) object e = absurd (true≢false (sym e))
 
   counted : (layer : Layer ℕ) → IsLive layer → (n object number : ℕ) (after : Overlay ℕ)
       → (filesystem_numbered nat_eq later number).overlay ≡ Some after
@@ -224,22 +220,22 @@ module _ (world later : World ℕ) (files : AreTrees world) (are : OverlayInvari
   counted layer live n object number after e None f h = absurd (true≢false (sym h))
   counted layer live n object number after e (Some top) f h =
       let on = goes number after e in
-      let lies = and_first (lies_in_layer nat_eq later top.filesystem top.directory layer) _ h in
-      let rest = and_second (lies_in_layer nat_eq later top.filesystem top.directory layer) _ h in
+      let lies = and_true_left (lies_in_layer nat_eq later top.filesystem top.directory layer) _ h in
+      let rest = and_true_right (lies_in_layer nat_eq later top.filesystem top.directory layer) _ h in
       let found = any_among (is_real_upper nat_eq after object) (filesystem_numbered nat_eq later number).files.numbers
-      (and_second (nat_eq n top.filesystem) _ rest) in
-      let real = on.objects found.0 object (upper_of_real (after.real found.0) object found.2) in
+      (and_true_right (nat_eq n top.filesystem) _ rest) in
+      let real = on.objects found.0 object (upper_real (after.real found.0) object found.2) in
       let top_is = sym on.upper ∙ f in
-      right_holds (lies_in_layer nat_eq world n object layer) _
+      or_right (lies_in_layer nat_eq world n object layer) _
       (any_from_among (counts_in_layer nat_eq world n object layer) (overlays world)
       (filesystem_numbered nat_eq world number)
       (overlay_among world files number on.before on.is)
       (ap (overlay_or false (λ v. holds_of (λ u. lies_in_layer nat_eq world u.filesystem u.directory layer) v.upper
       && is_object_of nat_eq n object (filesystem_numbered nat_eq world number) v)) on.is
-      ∙ both_hold _ _
+      ∙ and_from _ _
       (ap (holds_of (λ u. lies_in_layer nat_eq world u.filesystem u.directory layer)) top_is
       ∙ lay layer live top.filesystem top.directory lies)
-      (both_hold _ _ (ap (holds_of (λ u. nat_eq n u.filesystem)) top_is ∙ and_first (nat_eq n top.filesystem) _ rest)
+      (and_from _ _ (ap (holds_of (λ u. nat_eq n u.filesystem)) top_is ∙ and_true_left (nat_eq n top.filesystem) _ rest)
       (any_from_among (is_real_upper nat_eq on.before object)
       (filesystem_numbered nat_eq world number).files.numbers found.0
       (inode_listed world files number found.0 (there on.before on.is found.0 real))
@@ -258,7 +254,7 @@ module _ (world later : World ℕ) (files : AreTrees world) (are : OverlayInvari
   lay_or_counted : (layer : Layer ℕ) → IsLive layer → (n object : ℕ) → Lies later layer n object
       → Lies world layer n object
   lay_or_counted layer live n object e =
-      ⊎_elim (λ lies. left_holds (lies_in_layer nat_eq world n object layer) _
+      ⊎_elim (λ lies. or_left (lies_in_layer nat_eq world n object layer) _
       (lay layer live n object lies)) by_overlays
       (or_cases (lies_in_layer nat_eq later n object layer) _ e)
     where
@@ -296,10 +292,10 @@ module _ (world later : World ℕ) (files : AreTrees world) (are : OverlayInvari
 
       led_there : lies_in_layer nat_eq world n object layer ≡ true → is_some (inode_in world n object) ≡ true
       led_there f =
-          let same = eqb-true n layer.filesystem (and_first (nat_eq n layer.filesystem) _ f) in
+          let same = eqb-true n layer.filesystem (and_true_left (nat_eq n layer.filesystem) _ f) in
           let way = under_led (filesystem_numbered nat_eq world layer.filesystem).files tree layer.directory object
           (subst (λ k. is_under nat_eq (filesystem_numbered nat_eq world k).files layer.directory object ≡ true) same
-          (and_second (nat_eq n layer.filesystem) _ f)) in
+          (and_true_right (nat_eq n layer.filesystem) _ f)) in
           subst (λ k. is_some (inode_in world k object) ≡ true) (sym same)
           (led_is_there (open_layer nat_eq world layer) tree (was_directory layer live) way.0 object way.1)
 
@@ -319,14 +315,14 @@ module _ (world later : World ℕ) (files : AreTrees world) (are : OverlayInvari
               → is_some (inode_in world n object) ≡ true
           at f v is None g h = absurd (true≢false (sym h))
           at f v is (Some top) g h =
-              let rest = and_second (lies_in_layer nat_eq world top.filesystem top.directory layer) _ h in
+              let rest = and_true_right (lies_in_layer nat_eq world top.filesystem top.directory layer) _ h in
               let found = any_among (is_real_upper nat_eq v object) f.files.numbers
-              (and_second (nat_eq n top.filesystem) _ rest) in
+              (and_true_right (nat_eq n top.filesystem) _ rest) in
               subst (λ k. is_some (inode_in world k object) ≡ true)
-              (sym (eqb-true n top.filesystem (and_first (nat_eq n top.filesystem) _ rest)))
+              (sym (eqb-true n top.filesystem (and_true_left (nat_eq n top.filesystem) _ rest)))
               (sym (ap (holds_of (λ l. is_there nat_eq world l.filesystem object)) g)
               ∙ (are.overlays_merge f.number v is).upper_there found.0 object
-              (upper_of_real (v.real found.0) object found.2))
+              (upper_real (v.real found.0) object found.2))
 
           by : (f : Filesystem ℕ) → filesystem_numbered nat_eq world f.number ≡ f → (o : Option (Overlay ℕ))
               → f.overlay ≡ o
@@ -344,14 +340,14 @@ module _ (world later : World ℕ) (files : AreTrees world) (are : OverlayInvari
       && list_any (lies_or_counts_under nat_eq later a.filesystem o) others)
       (filesystem_numbered nat_eq later a.filesystem).files.numbers e in
       let in_a = lay_or_counted a live_a a.filesystem found.0
-      (and_first (lies_or_counts_under nat_eq later a.filesystem found.0 a) _ found.2) in
+      (and_true_left (lies_or_counts_under nat_eq later a.filesystem found.0 a) _ found.2) in
       let other = any_among (lies_or_counts_under nat_eq later a.filesystem found.0) others
-      (and_second (lies_or_counts_under nat_eq later a.filesystem found.0 a) _ found.2) in
+      (and_true_right (lies_or_counts_under nat_eq later a.filesystem found.0 a) _ found.2) in
       any_from_among (λ (o : ℕ). lies_or_counts_under nat_eq world a.filesystem o a
       && list_any (lies_or_counts_under nat_eq world a.filesystem o) others)
       (filesystem_numbered nat_eq world a.filesystem).files.numbers found.0
       (inode_listed world files a.filesystem found.0 (was_there a live_a a.filesystem found.0 in_a))
-      (both_hold _ _ in_a (any_from_among
+      (and_from _ _ in_a (any_from_among
       (lies_or_counts_under nat_eq world a.filesystem found.0) others other.0 other.1
       (lay_or_counted other.0 (live_others other.0 other.1) a.filesystem found.0 other.2)))
 
@@ -392,11 +388,11 @@ module _ (world later : World ℕ) (files : AreTrees world) (are : OverlayInvari
       && list_any (lies_or_counts_under nat_eq world a.filesystem o) some)
       (filesystem_numbered nat_eq world a.filesystem).files.numbers e in
       let other = any_among (lies_or_counts_under nat_eq world a.filesystem found.0) some
-      (and_second (lies_or_counts_under nat_eq world a.filesystem found.0 a) _ found.2) in
+      (and_true_right (lies_or_counts_under nat_eq world a.filesystem found.0 a) _ found.2) in
       any_from_among (λ (o : ℕ). lies_or_counts_under nat_eq world a.filesystem o a
       && list_any (lies_or_counts_under nat_eq world a.filesystem o) all)
       (filesystem_numbered nat_eq world a.filesystem).files.numbers found.0 found.1
-      (both_hold _ _ (and_first (lies_or_counts_under nat_eq world a.filesystem found.0 a) _ found.2)
+      (and_from _ _ (and_true_left (lies_or_counts_under nat_eq world a.filesystem found.0 a) _ found.2)
       (any_from_among (lies_or_counts_under nat_eq world a.filesystem found.0) all other.0
       (more other.0 other.1) other.2))
 

@@ -27,13 +27,13 @@ use Rattle.vt_layer_laws.proofs.LockedApart.{layer_among, layer_plain, object_co
 use Rattle.vt_layer_laws.proofs.LockedPaths.{layer_tree, leads_as_before, led_lies}
 use Rattle.vt_layer_laws.proofs.LowersKept.{kept_same, others_stay}
 use Rattle.vt_layer_laws.proofs.LowersWorld.{filesystem_elsewhere, filesystem_there, number_of_filesystem}
-use Rattle.vt_layer_laws.proofs.ShownAtPath.{none_is_some}
-use Rattle.vt_layer_laws.proofs.UpperLine.{and_second}
 use Rattle.vt_overlay_laws.proofs.ApartInvariants.{pair_same}
 use Rattle.vt_overlay_laws.proofs.UpperGoes.{Spares, change_reaches}
 use Rattle.vt_overlay_laws.proofs.WholeOthers.{stays_merged}
 use Rattle.vt_overlay_permit_laws.specs.Unlocked.{SparesInode, SparesLocked}
 use Rattle.vt_overlay_permit_laws.proofs.OverlaysGoOn.{GoesOn, are_trees, overlays_go_on}
+use Rattle.vt_spec.proofs.Options.{none_is_some}
+use Rattle.vt_spec.proofs.Truths.{and_true_right}
 
 -- an inode that a change spares is none of those that it writes to
 none_written : (files : FileTree ℕ) (change : Change ℕ) → IsProper files.tree change → (inode : ℕ)
@@ -258,7 +258,7 @@ module _ (fresh : Fresh ℕ) (world : World ℕ) (location : Location ℕ) (chan
         locked = locked_in top among top.directory (led_lies world conditions top top_plain [] top.directory refl)
 
         directory : Rattle.vt_spec.specs.Tree.is_directory_node (inode_in world top.filesystem top.directory) ≡ true
-        directory = and_second (not (is_overlay (filesystem_numbered nat_eq world top.filesystem))) _ top_plain
+        directory = and_true_right (not (is_overlay (filesystem_numbered nat_eq world top.filesystem))) _ top_plain
 
         here : (nat_eq top.filesystem place ≡ true) × (top.filesystem ≡ place)
             → IsReached (filesystem_numbered nat_eq later top.filesystem).files.tree top.directory

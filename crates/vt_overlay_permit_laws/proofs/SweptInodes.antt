@@ -18,7 +18,7 @@ use Rattle.vt_spec.proofs.Lists.{Among, among-filter, among-filter_map, among-fl
 use Rattle.vt_spec.proofs.Nodes.{directory_used}
 use Rattle.vt_tree_laws.specs.Trees.{IsFileTree}
 use Rattle.vt_tree_laws.specs.Trees.Settling.{HasFileTrees, HoldsTree}
-use Rattle.vt_tree_laws.proofs.TreesForgotten.{among_left, among_right, named_is_used, without_dead_in_is}
+use Rattle.vt_tree_laws.proofs.TreesForgotten.{named_is_used, without_dead_in_is}
 use Rattle.vt_tree_laws.proofs.TreesOfWorlds.{numbered_all}
 use Rattle.vt_letting_go.proofs.InUse.{overlay-left}
 use Rattle.vt_letting_go.proofs.Lists.{flat_map-map, is_among_numbers, or_second}
@@ -27,14 +27,18 @@ use Rattle.vt_layer_laws.specs.Layers.Untouched.{IsKept, inode_in}
 use Rattle.vt_layer_laws.specs.Layers.Upper.{IsUpperObject}
 use Rattle.vt_layer_laws.proofs.LowersKept.{kept_same}
 use Rattle.vt_layer_laws.proofs.LowersWorld.{number_of_filesystem}
-use Rattle.vt_layer_laws.proofs.ShownAtPath.{none_is_some, some_is_one}
-use Rattle.vt_layer_laws.proofs.UpperLine.{and_first, and_second}
 use Rattle.vt_overlay_laws.proofs.ApartInvariants.{pair_same}
 use Rattle.vt_overlay_laws.proofs.WholeOthers.{stays_merged}
-use Rattle.vt_world_laws.proofs.SettledSeen.{used_number}
 use Rattle.vt_overlay_permit_laws.proofs.OverlaysGoOn.{AreTrees, GoesOn, inode_listed, overlay_among, overlays_go_on, plain_layer}
-use Rattle.vt_overlay_permit_laws.proofs.SweptOverlays.{layers_of_all, leads_same, shown_among, upper_among}
+use Rattle.vt_overlay_permit_laws.proofs.SweptOverlays.{leads_same, shown_among, upper_among}
 use Rattle.vt_overlay_permit_laws.proofs.SweptTrees.{led_same, led_used, node_led_same, reached_still, used_node}
+use Rattle.std.proofs.lemmas.Bool.{not-true}
+use Rattle.std.proofs.lemmas.Option.{same_Some}
+use Rattle.vt_overlay_permit_laws.proofs.SweptOverlays.{layers_of_all}
+use Rattle.vt_spec.proofs.Found.{is_among_left, is_among_right}
+use Rattle.vt_spec.proofs.Options.{none_is_some}
+use Rattle.vt_spec.proofs.Truths.{and_true_left, and_true_right}
+use Rattle.vt_spec.proofs.Worlds.{number-only_used}
 
 -- trees of which each filesystem is one
 pub file_trees_are : (world : World ℕ) → HasFileTrees world
@@ -61,7 +65,7 @@ module _ (chosen : Filesystem ℕ → Bool) (world : World ℕ) (files : HasFile
   files_later = without_dead_in_is chosen world files
 
   pub one_later : any_pair (λ (a b : Filesystem ℕ). nat_eq a.number b.number) later.filesystems ≡ false
-  one_later = pair_same swept world.filesystems (λ f. used_number world (chosen f) f) ∙ one
+  one_later = pair_same swept world.filesystems (λ f. number-only_used world (chosen f) f) ∙ one
 
   trees : AreTrees world
   trees = file_trees_are world files one
@@ -78,7 +82,7 @@ module _ (chosen : Filesystem ℕ → Bool) (world : World ℕ) (files : HasFile
   found_swept number [] = refl
   found_swept number (first ∷ rest) =
       ap (λ n. cond (nat_eq number n) (Some (swept first)) (looked_up number (map swept rest)))
-      (used_number world (chosen first) first)
+      (number-only_used world (chosen first) first)
       ∙ by (nat_eq number first.number) (found_swept number rest)
     where
       by : (b : Bool) → looked_up number (map swept rest) ≡ option_map swept (looked_up number rest)
@@ -267,15 +271,11 @@ module _ (world : World ℕ) (files : HasFileTrees world)
   plain_stays : (layer : Layer ℕ) → is_plain_layer nat_eq world layer ≡ true
       → filesystem_numbered nat_eq first_later layer.filesystem ≡ filesystem_numbered nat_eq world layer.filesystem
   plain_stays layer plain =
-      let directory = and_second (not (is_overlay (filesystem_numbered nat_eq world layer.filesystem))) _ plain in
+      let directory = and_true_right (not (is_overlay (filesystem_numbered nat_eq world layer.filesystem))) _ plain in
       let f = filesystem_numbered nat_eq world layer.filesystem in
       (found_by_inode is_overlay world files one layer.filesystem layer.directory
       (directory_used f.files.tree layer.directory directory)).is_swept
-      ∙ ap (λ b. only_used nat_eq world b f) (no_overlay (is_overlay f) (and_first (not (is_overlay f)) _ plain))
-    where
-      no_overlay : (b : Bool) → not b ≡ true → b ≡ false
-      no_overlay true e = absurd (true≢false (sym e))
-      no_overlay false e = refl
+      ∙ ap (λ b. only_used nat_eq world b f) (not-true (is_overlay f) (and_true_left (not (is_overlay f)) _ plain))
 
   module _ (number : ℕ) (before : Overlay ℕ)
       (was : (filesystem_numbered nat_eq world number).overlay ≡ Some before) where
@@ -301,7 +301,7 @@ module _ (world : World ℕ) (files : HasFileTrees world)
     by_used found b same after e =
         let holds = named_is_used world f found.file_tree in
         let left = left_by first_later f before (used_in nat_eq world f) holds found.file_tree still_merged b in
-        let left_is : left ≡ after = some_is_one left after
+        let left_is : left ≡ after = same_Some left after
         (sym (ap (λ (g : Filesystem ℕ). g.overlay) same
         ∙ overlay_by first_later f before (used_in nat_eq world f) holds found.file_tree still_merged was b) ∙ e) in
         subst (GoesOn world first_later number) left_is
@@ -400,7 +400,7 @@ module _ (world : World ℕ) (files : HasFileTrees world)
       layer_is_plain = plain_layer world all_trees are number overlay is layer m
 
       there : is_some (g.files.tree.node layer.directory) ≡ true
-      there = directory_used g.files.tree layer.directory (and_second (not (is_overlay g)) _ layer_is_plain)
+      there = directory_used g.files.tree layer.directory (and_true_right (not (is_overlay g)) _ layer_is_plain)
 
       found : IsFound is_plain world files one layer.filesystem
       found = found_by_inode is_plain world files one layer.filesystem layer.directory there
@@ -410,7 +410,7 @@ module _ (world : World ℕ) (files : HasFileTrees world)
 
       swept_is : filesystem_numbered nat_eq second_later layer.filesystem
           ≡ only_used_by nat_eq (list_all (λ n. is_among nat_eq n used) g.files.numbers) used g
-      swept_is = found.is_swept ∙ ap (λ b. only_used nat_eq world b g) (and_first (not (is_overlay g)) _ layer_is_plain)
+      swept_is = found.is_swept ∙ ap (λ b. only_used nat_eq world b g) (and_true_left (not (is_overlay g)) _ layer_is_plain)
 
       directory_is_used : is_among nat_eq layer.directory used ≡ true
       directory_is_used =
@@ -418,10 +418,10 @@ module _ (world : World ℕ) (files : HasFileTrees world)
           (is_among nat_eq layer.directory
           (named_in g.files ++ located_in nat_eq world g.number ++ layers_in nat_eq world g.number
           ++ flat_map (objects_of_overlay nat_eq g.number) world.filesystems))
-          (among_left layer.directory (named_in g.files ++ located_in nat_eq world g.number
+          (is_among_left layer.directory (named_in g.files ++ located_in nat_eq world g.number
           ++ layers_in nat_eq world g.number)
           (flat_map (objects_of_overlay nat_eq g.number) world.filesystems)
-          (among_right layer.directory (named_in g.files ++ located_in nat_eq world g.number)
+          (is_among_right layer.directory (named_in g.files ++ located_in nat_eq world g.number)
           (layers_in nat_eq world g.number)
           (is_among_numbers layer.directory (layers_in nat_eq world g.number)
           (among-map (λ (l : Layer ℕ). l.directory)
@@ -441,7 +441,7 @@ module _ (world : World ℕ) (files : HasFileTrees world)
           (is_among nat_eq object (named_in g.files ++ located_in nat_eq world g.number
           ++ layers_in nat_eq world g.number
           ++ flat_map (objects_of_overlay nat_eq g.number) world.filesystems))
-          (among_right object (named_in g.files ++ located_in nat_eq world g.number ++ layers_in nat_eq world g.number)
+          (is_among_right object (named_in g.files ++ located_in nat_eq world g.number ++ layers_in nat_eq world g.number)
           (flat_map (objects_of_overlay nat_eq g.number) world.filesystems)
           (is_among_numbers object (flat_map (objects_of_overlay nat_eq g.number) world.filesystems)
           (among-flat_map (objects_of_overlay nat_eq g.number) world.filesystems
@@ -546,7 +546,7 @@ module _ (world : World ℕ) (files : HasFileTrees world)
           let same = found_it.is_swept ∙ ap (λ b. only_used nat_eq world b (filesystem_numbered nat_eq world number))
           (ap (λ o. not (is_some o)) was) in
           subst (GoesOn world second_later number)
-          (some_is_one before after (sym (ap (λ (x : Filesystem ℕ). x.overlay) same ∙ was) ∙ e))
+          (same_Some before after (sym (ap (λ (x : Filesystem ℕ). x.overlay) same ∙ was) ∙ e))
           (goes_as_it_was number before was same)
 
   pub second_overlays : OverlayInvariants nat_eq second_later

@@ -19,7 +19,7 @@ use Rattle.vt_layer_laws.specs.Layers.Untouched.{inode_in}
 use Rattle.vt_layer_laws.proofs.LockedApart.{found_among}
 use Rattle.vt_layer_laws.proofs.LowersKept.{kept_same}
 use Rattle.vt_layer_laws.proofs.LowersWorld.{number_of_filesystem}
-use Rattle.vt_layer_laws.proofs.UpperLine.{and_first, and_second}
+use Rattle.vt_spec.proofs.Truths.{and_true_left, and_true_right}
 use Rattle.vt_overlay_laws.proofs.WholeOthers.{stays_merged}
 use Rattle.vt_overlay_permit_laws.proofs.OverlaysGoOn.{AreTrees, GoesOn, overlay_among, overlays_go_on, plain_layer}
 
@@ -193,7 +193,7 @@ module _ (world : World ℕ) (files : AreTrees world) (are : OverlayInvariants n
             (filesystem_numbered nat_eq living number).number layer.filesystem) (layers_of v) h in
             let plain = plain_layer world files are f.number v
             (ap (λ (x : Filesystem ℕ). x.overlay) itself ∙ e) found.0 found.1 in
-            true≢false (sym (and_first (not (is_overlay (filesystem_numbered nat_eq world found.0.filesystem))) _ plain)
+            true≢false (sym (and_true_left (not (is_overlay (filesystem_numbered nat_eq world found.0.filesystem))) _ plain)
             ∙ ap (λ n. not (is_overlay (filesystem_numbered nat_eq world n)))
             (sym (sym (number_of_filesystem living number)
             ∙ eqb-true (filesystem_numbered nat_eq living number).number found.0.filesystem found.2))
@@ -207,14 +207,14 @@ module _ (world : World ℕ) (files : AreTrees world) (are : OverlayInvariants n
             (filesystem_numbered nat_eq living number).number f
             && is_mounted nat_eq world f.number) world.filesystems h in
             absurd (in_overlay found.0 (found_filesystem world.filesystems files.one_filesystem found.0 found.1) found.0.overlay refl
-            (and_first (has_layer_on nat_eq (filesystem_numbered nat_eq living number).number found.0) _ found.2))
+            (and_true_left (has_layer_on nat_eq (filesystem_numbered nat_eq living number).number found.0) _ found.2))
 
     -- so the filesystems of its layers live
     layer_same : (layer : Layer ℕ) → Among layer (layers_of overlay)
         → filesystem_numbered nat_eq living layer.filesystem ≡ filesystem_numbered nat_eq world layer.filesystem
     layer_same layer m =
         let plain = plain_layer world files are number overlay was layer m in
-        let directory = and_second (not (is_overlay (filesystem_numbered nat_eq world layer.filesystem))) _ plain in
+        let directory = and_true_right (not (is_overlay (filesystem_numbered nat_eq world layer.filesystem))) _ plain in
         let f = filesystem_numbered nat_eq world layer.filesystem in
         ap (filesystem_numbered nat_eq living) (sym (number_of_filesystem world layer.filesystem))
         ∙ lives_still f

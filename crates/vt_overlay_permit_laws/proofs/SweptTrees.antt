@@ -10,7 +10,7 @@ use Rattle.vt_spec.proofs.Trees.{found}
 use Rattle.vt_tree_laws.specs.Trees.{IsFileTree}
 use Rattle.vt_tree_laws.specs.Trees.Settling.{HoldsTree}
 use Rattle.vt_tree_laws.proofs.TreesForgotten.{entry_used}
-use Rattle.vt_layer_laws.proofs.ShownAtPath.{some_is_one}
+use Rattle.std.proofs.lemmas.Option.{same_Some}
 
 module _ (used : List ℕ) (files : FileTree ℕ) (holds : HoldsTree used files) (is : IsFileTree files) where
   abbrev left : Tree ℕ
@@ -49,7 +49,7 @@ module _ (used : List ℕ) (files : FileTree ℕ) (holds : HoldsTree used files)
 
   pub led_used : (path : List (List ℕ)) (from number : ℕ) → IsUsed from → led files.tree from path ≡ Some number
       → IsUsed number
-  led_used [] from number e f = subst IsUsed (some_is_one from number f) e
+  led_used [] from number e f = subst IsUsed (same_Some from number f) e
   led_used (name ∷ path) from number e f =
       let step = found (λ next. led files.tree next path) (entry_at files.tree from name) number f in
       led_used path step.0 number (holds.named step.0 (from, name, step.1)) step.2

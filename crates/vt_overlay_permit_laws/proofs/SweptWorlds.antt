@@ -13,7 +13,6 @@ use Rattle.vt_tree_laws.specs.Trees.Settling.{HasFileTrees}
 use Rattle.vt_letting_go.specs.InUse.{UppersArePlain, has_upper_in}
 use Rattle.vt_letting_go.proofs.InUse.{one_sweep_is_enough}
 use Rattle.vt_letting_go.proofs.OfWorlds.{found_filesystem}
-use Rattle.vt_layer_laws.proofs.UpperLine.{and_first}
 use Rattle.vt_world_laws.specs.Worlds.Kept.{IsUnderWay}
 use Rattle.vt_world_laws.proofs.SettledMounts.{settled_mounts, settled_namespaces}
 use Rattle.vt_world_laws.proofs.SettledTasks.{listed_trees, settled_roots, settled_tasks, settled_trees, trees_under_way}
@@ -22,6 +21,7 @@ use Rattle.vt_overlay_permit_laws.proofs.KeptOverlays.{overlays_in}
 use Rattle.vt_overlay_permit_laws.proofs.OverlaysGoOn.{are_trees, plain_layer}
 use Rattle.vt_overlay_permit_laws.proofs.SweptInodes.{file_trees_are, files_later, first_overlays, one_later, second_overlays}
 use Rattle.vt_overlay_permit_laws.proofs.SweptOverlays.{living_files, living_overlays}
+use Rattle.vt_spec.proofs.Truths.{and_true_left}
 
 module _ (world : World ℕ) (under : IsUnderWay world) (are : OverlayInvariants nat_eq world) where
   abbrev mounted : World ℕ
@@ -87,7 +87,7 @@ module _ (world : World ℕ) (under : IsUnderWay world) (are : OverlayInvariants
           tested false e = e
           tested true e =
               absurd (true≢false
-              (sym (and_first (not (is_overlay (filesystem_numbered nat_eq world top.filesystem))) _
+              (sym (and_true_left (not (is_overlay (filesystem_numbered nat_eq world top.filesystem))) _
               (plain_layer world (are_trees world under.files) are merged.number v is top
               (subst (λ o. Among top (option_to_list o ++ option_to_list v.work ++ v.lowers)) (sym u) (inl refl))))
               ∙ ap (λ k. not (is_overlay (filesystem_numbered nat_eq world k)))

@@ -31,9 +31,10 @@ use Rattle.vt_spec.specs.Language.Changes.{Change}
 use Rattle.vt_spec.specs.Machine.Locked.{is_locked, is_locked_at}
 use Rattle.vt_spec.specs.TreeLaws.{entry_at}
 use Rattle.vt_tree_laws.proofs.TreesWalked.{not_true}
-use Rattle.vt_layer_laws.proofs.LowersKept.{first_fails, second_fails}
-use Rattle.vt_overlay_permit_laws.proofs.AskedNames.{no_special, through}
+use Rattle.vt_overlay_permit_laws.proofs.AskedNames.{through}
 use Rattle.vt_overlay_permit_laws.specs.Unlocked.{SparesLockedIf}
+use Rattle.vt_spec.proofs.Truths.{or_false_left, or_false_right}
+use Rattle.vt_spec.proofs.Worlds.{special_word}
 
 module _ (world : World ℕ) (whole : IsWorld nat_eq world) (task : Task ℕ)
     (called : task_called world task.name ≡ Some task)
@@ -95,7 +96,7 @@ module _ (world : World ℕ) (whole : IsWorld nat_eq world) (task : Task ℕ)
       (λ passed.
       record {
         spares = λ inode locked.
-            differs place.parent (second_fails (is_locked_at nat_eq world from.location)
+            differs place.parent (or_false_right (is_locked_at nat_eq world from.location)
             (is_locked_at nat_eq world place.parent) passed.1.1.1.1.0) _ refl inode locked;
         layer = tt;
       }))))
@@ -175,9 +176,9 @@ module _ (world : World ℕ) (whole : IsWorld nat_eq world) (task : Task ℕ)
       gives_unless Spares (unlink_rules looks task place (object_there place)) _ (λ passed.
       record {
         spares = λ inode locked. (
-          differs place.parent (second_fails (is_locked_at nat_eq world (object_there place))
+          differs place.parent (or_false_right (is_locked_at nat_eq world (object_there place))
               (is_locked_at nat_eq world place.parent) passed.1.1.1.0) _ refl inode locked,
-          differs (object_there place) (first_fails (is_locked_at nat_eq world (object_there place))
+          differs (object_there place) (or_false_left (is_locked_at nat_eq world (object_there place))
               (is_locked_at nat_eq world place.parent) passed.1.1.1.0) _
               (in_it place named.0 is) inode locked,
         );
@@ -193,11 +194,11 @@ module _ (world : World ℕ) (whole : IsWorld nat_eq world) (task : Task ℕ)
       gives_unless Spares (rmdir_rules nat_eq looks task place (object_there place)) _ (λ passed.
       record {
         spares = λ inode locked. (
-          differs place.parent (second_fails (is_locked_at nat_eq world (object_there place))
+          differs place.parent (or_false_right (is_locked_at nat_eq world (object_there place))
               (is_locked_at nat_eq world place.parent) passed.1.1.1.1.0) _ refl inode locked,
-          differs (object_there place) (first_fails (is_locked_at nat_eq world (object_there place))
+          differs (object_there place) (or_false_left (is_locked_at nat_eq world (object_there place))
               (is_locked_at nat_eq world place.parent) passed.1.1.1.1.0) _
-              (in_it place (no_special place.last word.0 word.1.0 word.1.1.0) is) inode locked,
+              (in_it place (special_word place.last word.0 word.1.0 word.1.1.0) is) inode locked,
         );
         layer = tt;
       })))
@@ -217,7 +218,7 @@ module _ (world : World ℕ) (whole : IsWorld nat_eq world) (task : Task ℕ)
       → (inode : ℕ) → is_locked nat_eq world (mount_at nat_eq world to.parent).filesystem inode ≡ true
       → entry_at (files_at nat_eq world to.parent).tree to.parent.node (name_of to.last) ≢ Some inode
   not_replaced to named is unlocked inode locked e =
-      true≢false (sym locked ∙ first_fails
+      true≢false (sym locked ∙ or_false_left
       (is_locked_at nat_eq world (record { mount = to.parent.mount; node = inode })) false
       (ap (λ o. list_any (is_locked_at nat_eq world) (Rattle.std.specs.Prelude.option_to_list o))
       (sym ((place_named world to.parent to.last to.object named is.0).1
@@ -239,15 +240,15 @@ module _ (world : World ℕ) (whole : IsWorld nat_eq world) (task : Task ℕ)
       let locked_to = is_locked_at nat_eq world to.parent in
       let locked_old = is_locked_at nat_eq world (object_there from) in
       let others = list_any (is_locked_at nat_eq world) (Rattle.std.specs.Prelude.option_to_list to.object) in
-      let after_from = second_fails locked_from (locked_to || (locked_old || others)) locks in
-      let after_to = second_fails locked_to (locked_old || others) after_from in
+      let after_from = or_false_right locked_from (locked_to || (locked_old || others)) locks in
+      let after_to = or_false_right locked_to (locked_old || others) after_from in
       record {
         spares = λ inode locked. (
-          differs from.parent (first_fails locked_from (locked_to || (locked_old || others)) locks) _ refl inode locked,
-          differs to.parent (first_fails locked_to (locked_old || others) after_from) _ at_to inode locked,
-          differs (object_there from) (first_fails locked_old others after_to) _
+          differs from.parent (or_false_left locked_from (locked_to || (locked_old || others)) locks) _ refl inode locked,
+          differs to.parent (or_false_left locked_to (locked_old || others) after_from) _ at_to inode locked,
+          differs (object_there from) (or_false_left locked_old others after_to) _
               (in_it from from_named from_is) inode locked,
-          λ e. not_replaced to to_named to_is (second_fails locked_old others after_to) inode
+          λ e. not_replaced to to_named to_is (or_false_right locked_old others after_to) inode
               (ap (λ n. is_locked nat_eq world n inode) at_to ∙ locked)
               (ap (λ m. entry_at (files_at nat_eq world (record { mount = m; node = 0 })).tree to.parent.node
               (name_of to.last)) (sym one_mount) ∙ e),

@@ -23,7 +23,8 @@ use Rattle.vt_layer_laws.proofs.UpperLine.{has_entries, named_so}
 use Rattle.vt_letting_go.specs.FileChanges.{MayChange}
 use Rattle.vt_letting_go.proofs.Lists.{Among, among_numbers}
 use Rattle.vt_overlays_let_go.specs.OverlayChanges.{NameIsThere}
-use Rattle.vt_overlays_let_go.proofs.Copied.{Grows, grows_twice, grows_up, numbers_emptied, numbers_marked, numbers_moved, numbers_stay, root_emptied, root_left, root_marked, root_moved}
+use Rattle.vt_overlays_let_go.proofs.Copied.{Grows, grows_twice, grows_up, numbers_emptied, numbers_marked, numbers_moved, numbers_stay, root_moved}
+use Rattle.vt_spec.proofs.Worlds.{root-emptied, root-marked, root-name_left_by}
 
 -- a change of an overlay
 pub record Adds (change : Change ℕ) (before later : Merge ℕ) : Type 0 where
@@ -145,7 +146,7 @@ module _ (fresh : Fresh ℕ) (stack : Stack ℕ) (before : Merge ℕ) (fit : IsF
       → Adds change before (merge_changed nat_eq fresh stack before change)
   adds (Make directory name number node) may named = record {
     files = files_so;
-    root = root_marked mark _ (odds fresh 0) ∙ grown.root;
+    root = root-marked mark _ (odds fresh 0) ∙ grown.root;
     grows = λ other object e.
         ⊎_elim
         (λ same. absurd (true≢false (sym
@@ -227,8 +228,8 @@ module _ (fresh : Fresh ℕ) (stack : Stack ℕ) (before : Merge ℕ) (fit : IsF
       adds_no_object (Remove directory name object) (copied_up nat_eq (evens fresh) before directory)
       (merge_changed nat_eq fresh stack before (Remove directory name object))
       (grows_up (evens fresh) before directory) refl refl
-      (root_emptied _ (upper_directory_named (copied_up nat_eq (evens fresh) before directory) directory name)
-      ∙ root_left (is_some (shown_below nat_eq stack (copied_up nat_eq (evens fresh) before directory) directory name))
+      (root-emptied _ (upper_directory_named (copied_up nat_eq (evens fresh) before directory) directory name)
+      ∙ root-name_left_by (is_some (shown_below nat_eq stack (copied_up nat_eq (evens fresh) before directory) directory name))
       (odds fresh) stack
       (copied_up nat_eq (evens fresh) before directory).upper
       (upper_of (copied_up nat_eq (evens fresh) before directory) directory) name)
@@ -259,12 +260,12 @@ module _ (fresh : Fresh ℕ) (stack : Stack ℕ) (before : Merge ℕ) (fit : IsF
       (merge_changed nat_eq fresh stack before (Move from old to new object))
       (grows_twice before first copied (grows_up (evens fresh) before object)
       (grows_up (evens (odds fresh)) first to)) refl refl
-      (root_marked (hides_directory nat_eq stack copied to new) _ (upper_of copied object)
-      ∙ root_left (is_some (shown_below nat_eq stack copied from old)) (odds (odds fresh)) stack _
+      (root-marked (hides_directory nat_eq stack copied to new) _ (upper_of copied object)
+      ∙ root-name_left_by (is_some (shown_below nat_eq stack copied from old)) (odds (odds fresh)) stack _
       (upper_of copied from) old
       ∙ root_moved (emptied nat_eq copied.upper (upper_directory_named copied to new)) (upper_of copied from) old
       (upper_of copied to) new (upper_of copied object)
-      ∙ root_emptied copied.upper (upper_directory_named copied to new))
+      ∙ root-emptied copied.upper (upper_directory_named copied to new))
       (subst (λ m. (inode : ℕ) → Among inode
       (moved nat_eq (odds (odds fresh)) stack m from old to new object).upper.numbers
       → Among inode m.upper.numbers ⊎ HasName

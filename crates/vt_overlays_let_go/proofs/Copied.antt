@@ -5,11 +5,12 @@ use Rattle.vt_spec.specs.FileTree.{FileTree, a_name}
 use Rattle.vt_spec.specs.Language.Changes.{Change, changed, with_inode, with_moved, without_parent}
 use Rattle.vt_spec.specs.Language.Changes.Change.{AddName, CopyUp, Make, Move, Remove, SetAttr, SetBytes, SetMark}
 use Rattle.vt_spec.specs.Lists.{Fresh, evens, odds}
-use Rattle.vt_spec.specs.Machine.CopyUp.{Merge, Stack, copied_content, copied_each, copied_up, copy_named, copy_of, copy_of_node, copy_parent, emptied, is_in_upper, line_to, marked, name_left_by, with_real}
+use Rattle.vt_spec.specs.Machine.CopyUp.{Merge, copied_content, copied_each, copied_up, copy_named, copy_of, copy_of_node, copy_parent, emptied, is_in_upper, line_to, marked, with_real}
 use Rattle.vt_spec.specs.Machine.World.{Real, upper_object}
 use Rattle.vt_spec.specs.Machine.World.Real.{Upper}
 use Rattle.vt_spec.specs.Tree.{Node, entry_named, entries_in}
 use Rattle.vt_letting_go.proofs.Lists.{Among}
+use Rattle.vt_spec.proofs.Worlds.{root-without_parent}
 
 -- one half of some numbers that are no number twice, and the other
 pub even_distinct : (fresh : Fresh ℕ) → ((j k : ℕ) → fresh j ≡ fresh k → j ≡ k) → (j k : ℕ)
@@ -133,33 +134,14 @@ pub numbers_parted : (files : FileTree ℕ) (object : Option ℕ)
 numbers_parted files None = refl
 numbers_parted files (Some object) = refl
 
-pub root_parted : (files : FileTree ℕ) (object : Option ℕ)
-    → (without_parent nat_eq files object).tree.root ≡ files.tree.root
-root_parted files None = refl
-root_parted files (Some object) = refl
-
 pub numbers_emptied : (upper : FileTree ℕ) (object : Option ℕ) → (emptied nat_eq upper object).numbers ≡ upper.numbers
 numbers_emptied upper None = refl
 numbers_emptied upper (Some object) = refl
-
-pub root_emptied : (upper : FileTree ℕ) (object : Option ℕ) → (emptied nat_eq upper object).tree.root ≡ upper.tree.root
-root_emptied upper None = refl
-root_emptied upper (Some object) = refl
 
 pub numbers_marked : (mark : Bool) (upper : FileTree ℕ) (object : ℕ)
     → (marked nat_eq mark upper object).numbers ≡ upper.numbers
 numbers_marked true upper object = refl
 numbers_marked false upper object = refl
-
-pub root_marked : (mark : Bool) (upper : FileTree ℕ) (object : ℕ)
-    → (marked nat_eq mark upper object).tree.root ≡ upper.tree.root
-root_marked true upper object = refl
-root_marked false upper object = refl
-
-pub root_left : (hidden : Bool) (fresh : Fresh ℕ) (stack : Stack ℕ) (upper : FileTree ℕ) (directory : ℕ) (name : List ℕ)
-    → (name_left_by nat_eq hidden fresh stack upper directory name).tree.root ≡ upper.tree.root
-root_left true fresh stack upper directory name = refl
-root_left false fresh stack upper directory name = refl
 
 pub numbers_moved : (files : FileTree ℕ) (from : ℕ) (old : List ℕ) (to : ℕ) (new : List ℕ) (object : ℕ)
     → (with_moved nat_eq files from old to new object).numbers ≡ files.numbers
@@ -167,7 +149,7 @@ numbers_moved files from old to new object = numbers_parted files (entry_named n
 
 pub root_moved : (files : FileTree ℕ) (from : ℕ) (old : List ℕ) (to : ℕ) (new : List ℕ) (object : ℕ)
     → (with_moved nat_eq files from old to new object).tree.root ≡ files.tree.root
-root_moved files from old to new object = root_parted files (entry_named new (entries_in (files.tree.node to)))
+root_moved files from old to new object = root-without_parent files (entry_named new (entries_in (files.tree.node to)))
 
 -- a change of a tree takes no inode away
 pub numbers_stay : (files : FileTree ℕ) (change : Change ℕ) (inode : ℕ) → Among inode files.numbers → Among inode

@@ -12,16 +12,17 @@ use Rattle.vt_spec.specs.Machine.CopyUp.{Merge, copied_content, copied_each, cop
 use Rattle.vt_spec.specs.Machine.World.{Real, upper_object}
 use Rattle.vt_spec.specs.Machine.World.Real.{Upper}
 use Rattle.vt_spec.specs.Machine.Invariants.{ListsNumbers}
-use Rattle.vt_spec.specs.Tree.{Content, Node, entries_in, entries_of, entry_named, node_with_entry}
-use Rattle.vt_spec.specs.Tree.Content.{Directory, Regular, Symlink, Whiteout}
+use Rattle.vt_spec.specs.Tree.{Node, entries_in, entries_of, entry_named, node_with_entry}
 use Rattle.vt_spec.specs.TreeLaws.{IsTree, entry_at}
 use Rattle.vt_spec.proofs.Nodes.{directory_used, node_other, node_set}
 use Rattle.vt_layer_laws.proofs.CopyingNames.{name_stays_put, name_stays_without}
-use Rattle.vt_layer_laws.proofs.ShownAtPath.{none_is_some, some_is_one}
 use Rattle.vt_layer_laws.proofs.UpperChain.{depth_bound, up_at_root, up_from}
 use Rattle.vt_layer_laws.proofs.UpperCopies.{HasUpper}
 use Rattle.vt_layer_laws.proofs.UpperLine.{ReachedIn, is_reached_in, named_so, reached_directory}
-use Rattle.vt_letting_go.proofs.Lists.{decided}
+use Rattle.std.proofs.lemmas.Bool.{cases_Bool}
+use Rattle.std.proofs.lemmas.Option.{same_Some}
+use Rattle.vt_spec.proofs.NodeChanges.{entries_of-copied_content}
+use Rattle.vt_spec.proofs.Options.{none_is_some}
 
 -- a place of an entry is another, or is not
 pub one_place : (d directory : ℕ) (n name : List ℕ)
@@ -30,7 +31,7 @@ one_place d directory n name =
     ⊎_elim
     (λ same. ⊎_elim (λ e. inl (same.1, (bytes_decides n name).0 e))
     (λ f. inr (λ a b. true≢false (sym ((bytes_decides n name).1 b) ∙ f)))
-    (decided (bytes_eq n name)))
+    (cases_Bool (bytes_eq n name)))
     (λ other. inr (λ a b. other.1 a))
     (eqb_tells d directory)
 
@@ -62,13 +63,6 @@ take_same files directory name d n differ =
     (λ other. ap (λ o. entry_named n (entries_in o))
     (node_other files.tree directory (node_without_entry name (files.tree.node directory)) d other.1))
     (eqb_tells d directory)
-
--- a copy has no names in it
-copy_empty : (parent : ℕ) (content : Content ℕ) → entries_of (copied_content parent content) ≡ []
-copy_empty parent (Directory old entries opaque) = refl
-copy_empty parent (Regular bytes) = refl
-copy_empty parent (Symlink text) = refl
-copy_empty parent Whiteout = refl
 
 module _ (files : FileTree ℕ) (tree : IsTree files.tree) (numbers : ListsNumbers nat_eq files) (start : FileTree ℕ)
     (fresh : Fresh ℕ)
@@ -135,7 +129,7 @@ module _ (files : FileTree ℕ) (tree : IsTree files.tree) (numbers : ListsNumbe
         ⊎_elim
         (λ same. inl (
           same.1,
-          sym (some_is_one copy seen (ap (λ b. upper_object (cond b (Some (Upper copy)) (real number))) (sym same.0)
+          sym (same_Some copy seen (ap (λ b. upper_object (cond b (Some (Upper copy)) (real number))) (sym same.0)
               ∙ e)),
         ))
         (λ other. inr (ap (λ b. upper_object (cond b (Some (Upper copy)) (real number))) (sym other.0) ∙ e))
@@ -202,7 +196,7 @@ module _ (files : FileTree ℕ) (tree : IsTree files.tree) (numbers : ListsNumbe
             (λ n. put_same added parent name.1 copy copy n (λ a b. copy_clear.1 name.0 (u ∙ ap Some (sym a)))
             ∙ ap (entry_named n) (same_added copy ∙ copy_clear.0))
             (λ d n o seen f another above. put_same added parent name.1 copy seen n
-            (λ a b. another (some_is_one o object
+            (λ a b. another (same_Some o object
             (sym f ∙ ap (λ m. entry_at files.tree m n) (fine.one d name.0 parent (above ∙ ap Some a) u)
             ∙ ap (entry_at files.tree name.0) b ∙ named_so files tree object name e)))
             ∙ ap (entry_named n) (same_added seen))
@@ -252,7 +246,7 @@ module _ (files : FileTree ℕ) (tree : IsTree files.tree) (numbers : ListsNumbe
             content = copied_content (copy_parent (MergeOf real upper) (fresh k)
                 (a_name nat_eq files object)) node.content;
           })
-          (copy_empty (copy_parent (MergeOf real upper) (fresh k) (a_name nat_eq files object)) node.content) f
+          (entries_of-copied_content (copy_parent (MergeOf real upper) (fresh k) (a_name nat_eq files object)) node.content) f
           (a_name nat_eq files object) refl stand.0)
           (stand.1 (with_real nat_eq real object (Upper (fresh k)))
           (λ there. ap (λ b. is_some (upper_object (cond b (Some (Upper (fresh k))) (real object))))
@@ -295,7 +289,7 @@ module _ (files : FileTree ℕ) (tree : IsTree files.tree) (numbers : ListsNumbe
           (object ∷ [])
           (λ later has. (
             λ other is. subst (HasUpper later)
-                (ap (λ n. n.0) (some_is_one name other (sym e ∙ is))) has,
+                (ap (λ n. n.0) (same_Some name other (sym e ∙ is))) has,
             λ last there. tt,
           ))
 

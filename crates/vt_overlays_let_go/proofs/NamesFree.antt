@@ -11,11 +11,13 @@ use Rattle.vt_spec.specs.Machine.Invariants.{IsWorld}
 use Rattle.vt_spec.specs.TreeLaws.{IsTree, entry_at}
 use Rattle.vt_spec.proofs.Trees.{led-append}
 use Rattle.vt_layer_laws.specs.Layers.Shown.{IsShown}
-use Rattle.vt_layer_laws.proofs.ShownAtPath.{computed, none_is_some, some_is_one}
+use Rattle.vt_layer_laws.proofs.ShownAtPath.{computed}
 use Rattle.vt_layer_laws.proofs.ShownNames.{last_name}
 use Rattle.vt_layer_laws.proofs.UpperLine.{is_reached_in}
 use Rattle.vt_layer_laws.proofs.UpperShown.{real_at, way_to}
 use Rattle.vt_layer_laws.proofs.UpperWorld.{overlay_tree, real_named, shown_there}
+use Rattle.std.proofs.lemmas.Option.{same_Some}
+use Rattle.vt_spec.proofs.Options.{none_is_some}
 
 module _ (top : OpenLayer ℕ) (lower : List (OpenLayer ℕ)) (path : List (List ℕ)) where
   abbrev real_of_shown : Option (Shown ℕ) → Option ℕ
@@ -31,7 +33,7 @@ module _ (top : OpenLayer ℕ) (lower : List (OpenLayer ℕ)) (path : List (List
           → real_of_shown (Some (record { layer = layer; object = found })) ≡ Some object
           → at_path top path ≡ Some object
       seen_so zero found shows u =
-          ap (λ l. at_path l path) (some_is_one top shows.has_uncut.0.0 shows.has_uncut.0.1) ∙ shows.has_uncut.0.2 ∙ u
+          ap (λ l. at_path l path) (same_Some top shows.has_uncut.0.0 shows.has_uncut.0.1) ∙ shows.has_uncut.0.2 ∙ u
       seen_so (suc layer) found shows u = none_is_some object u
 
       by : (o : Option (Shown ℕ)) → shown (top ∷ lower) path ≡ o → real_of_shown o ≡ Some object

@@ -17,19 +17,17 @@ use Rattle.vt_spec.specs.Machine.Invariants.{IsWorld}
 use Rattle.vt_spec.specs.Tree.{Node, entries_in, entry_named, node_with_bytes}
 use Rattle.vt_spec.specs.TreeLaws.{HasName, entry_at}
 use Rattle.vt_spec.proofs.Lists.{among_from_contains}
-use Rattle.vt_spec.proofs.Nodes.{node_other}
+use Rattle.vt_spec.proofs.Nodes.{node_other, entries-node_with_bytes}
 use Rattle.vt_layer_laws.specs.Layers.ChangesUpper.{IsFitToChange, copied_for}
 use Rattle.vt_layer_laws.proofs.CopyingEach.{IsNew}
-use Rattle.vt_layer_laws.proofs.CopyingNames.{emptied_other, freed_entries, marked_entries, parent_entries}
-use Rattle.vt_layer_laws.proofs.CopyingParts.{kept_part}
-use Rattle.vt_layer_laws.proofs.ShownAtPath.{none_is_some, some_is_one}
+use Rattle.vt_layer_laws.proofs.CopyingNames.{emptied_other, marked_entries}
 use Rattle.vt_letting_go.specs.FileChanges.{names_lost}
 use Rattle.vt_letting_go.specs.InUse.{IsListedTree}
 use Rattle.vt_letting_go.specs.Overlays.{let_go_all_inodes}
 use Rattle.vt_letting_go.proofs.FilesChanged.{none_left}
 use Rattle.vt_letting_go.proofs.Lists.{Among, all_pass, among-append_left, among-append_right, among-from_filter, among-from_flat_map, among-from_map, among_from_all, among_numbers, is_among_numbers}
-use Rattle.vt_letting_go.proofs.NamesKept.{found_entry, same_entries_attr, same_entries_bytes, same_entries_mark}
-use Rattle.vt_letting_go.proofs.Trees.{among_targets, named_among}
+use Rattle.vt_letting_go.proofs.NamesKept.{found_entry}
+use Rattle.vt_letting_go.proofs.Trees.{named_among}
 use Rattle.vt_overlays_let_go.specs.OverlayChanges.{CanChange, inodes_lost_with_upper, merge_after, merge_at, unnamed_by}
 use Rattle.vt_overlays_let_go.specs.OverlayNames.{OnlyTheseLoseNames, OpenedCopiesKeepAll, OverlayChangesKeepAll, names_under, under_name, upper_names_lost}
 use Rattle.vt_overlays_let_go.proofs.Copied.{even_distinct, odd_distinct}
@@ -37,6 +35,10 @@ use Rattle.vt_overlays_let_go.proofs.NamesCopied.{Fine, IsFine, line_fine, one_p
 use Rattle.vt_overlays_let_go.proofs.NamesFree.{names_free}
 use Rattle.vt_overlays_let_go.proofs.OverlayCalls.{goes_with_task}
 use Rattle.vt_overlays_let_go.proofs.OverlaysChanged.{fit, layer_there, overlay_changes_let_go, settles}
+use Rattle.std.proofs.lemmas.Option.{same_Some}
+use Rattle.vt_spec.proofs.Found.{among_targets}
+use Rattle.vt_spec.proofs.NodeChanges.{entries-node_with_attr, entries-node_with_mark, entries-node_with_parent, entries-without_parent, part-changed_node}
+use Rattle.vt_spec.proofs.Options.{none_is_some}
 
 -- an entry that is at this place
 at_place : (files : FileTree ℕ) (d directory : ℕ) (n name : List ℕ) (k : ℕ) → entry_at files.tree d n ≡ Some k
@@ -53,7 +55,7 @@ emptied_out files None d n k e = inl e
 emptied_out files (Some object) d n k e =
     ⊎_elim (λ same. inr (ap Some (sym same.1)))
     (λ other. inl (ap (λ o. entry_named n (entries_in o))
-    (emptied_other files (Some object) d (λ s. other.1 (sym (some_is_one object d s)))) ∙ e))
+    (emptied_other files (Some object) d (λ s. other.1 (sym (same_Some object d s)))) ∙ e))
     (eqb_tells d object)
 
 -- Changes of an overlay of which all that they ask for is copied
@@ -160,14 +162,14 @@ module _ (fresh : Fresh ℕ) (stack : Stack ℕ) (merge : Merge ℕ)
             (name_left_by nat_eq hidden fresh stack away (upper_of merge from) old) (upper_of merge object) d)
             ∙ left_same hidden away (upper_of merge from) old d n (not_new d n k e) left
             ∙ ap (entry_named n)
-            (kept_part entries_in (with_name nat_eq (without_name nat_eq apart (upper_of merge from) old)
+            (part-changed_node entries_in (with_name nat_eq (without_name nat_eq apart (upper_of merge from) old)
             (upper_of merge to) new
             (upper_of merge object))
-            (upper_of merge object) (node_with_parent (upper_of merge to)) (parent_entries (upper_of merge to)) d)
+            (upper_of merge object) (node_with_parent (upper_of merge to)) (entries-node_with_parent (upper_of merge to)) d)
             ∙ put_same (without_name nat_eq apart (upper_of merge from) old) (upper_of merge to) new
             (upper_of merge object) d n put
             ∙ take_same apart (upper_of merge from) old d n left
-            ∙ ap (entry_named n) (freed_entries empty
+            ∙ ap (entry_named n) (entries-without_parent empty
             (entry_named new (entries_in (empty.tree.node (upper_of merge to)))) d)
             ∙ freed,
       ))
@@ -332,24 +334,24 @@ module _ (fresh : Fresh ℕ) (stack : Stack ℕ) (before : Merge ℕ) (fit : IsF
       inl (
         d,
         n,
-        ap (entry_named n) (kept_part entries_in copied.upper (upper_of copied file) (node_with_bytes bytes)
-            (same_entries_bytes bytes) d) ∙ all_copied file d n k e,
+        ap (entry_named n) (part-changed_node entries_in copied.upper (upper_of copied file) (node_with_bytes bytes)
+            (entries-node_with_bytes bytes) d) ∙ all_copied file d n k e,
       )
   loses (SetAttr object attr) d n k e =
       let copied = copied_up nat_eq fresh before object in
       inl (
         d,
         n,
-        ap (entry_named n) (kept_part entries_in copied.upper (upper_of copied object) (node_with_attr attr)
-            (same_entries_attr attr) d) ∙ all_copied object d n k e,
+        ap (entry_named n) (part-changed_node entries_in copied.upper (upper_of copied object) (node_with_attr attr)
+            (entries-node_with_attr attr) d) ∙ all_copied object d n k e,
       )
   loses (SetMark directory opaque) d n k e =
       let copied = copied_up nat_eq fresh before directory in
       inl (
         d,
         n,
-        ap (entry_named n) (kept_part entries_in copied.upper (upper_of copied directory) (node_with_mark opaque)
-            (same_entries_mark opaque) d) ∙ all_copied directory d n k e,
+        ap (entry_named n) (part-changed_node entries_in copied.upper (upper_of copied directory) (node_with_mark opaque)
+            (entries-node_with_mark opaque) d) ∙ all_copied directory d n k e,
       )
   loses (CopyUp object) d n k e = inl (d, n, all_copied object d n k e)
 

@@ -11,7 +11,6 @@ use Rattle.vt_spec.specs.Machine.World.{Filesystem}
 use Rattle.vt_spec.specs.Tree.{Tree}
 use Rattle.vt_spec.specs.TreeLaws.{HasName, entry_at, led}
 use Rattle.vt_layer_laws.proofs.DirectoriesFit.{new_overlay_is_tree, new_overlay_lists_numbers}
-use Rattle.vt_layer_laws.proofs.ShownAtPath.{none_is_some, some_is_one}
 use Rattle.vt_layer_laws.proofs.ShownDirectories.{AreOpen, last_of}
 use Rattle.vt_layer_laws.proofs.ShownMerged.{inodes, number}
 use Rattle.vt_layer_laws.proofs.ShownMounted.{are_open, bounded, layers, odd_distinct, root_shown}
@@ -27,11 +26,13 @@ use Rattle.vt_letting_go.proofs.OfWorlds.{locations_of_worlds_stand, worlds_are_
 use Rattle.vt_letting_go.proofs.Trees.{named_among}
 use Rattle.vt_overlays_let_go.proofs.Copied.{even_distinct}
 use Rattle.vt_overlays_let_go.specs.NewOverlays.{NewMountsOfOverlaysKeepAll, NewOverlaysAreNamed}
+use Rattle.std.proofs.lemmas.Option.{same_Some}
+use Rattle.vt_spec.proofs.Options.{none_is_some}
 
 -- what names lead to from the root is the root or has a name
 named_if_led : (tree : Tree ℕ) (path : List (List ℕ)) (n : ℕ) → n ≢ tree.root → led tree tree.root path ≡ Some n
     → HasName tree n
-named_if_led tree [] n isnt e = absurd (isnt (sym (some_is_one tree.root n e)))
+named_if_led tree [] n isnt e = absurd (isnt (sym (same_Some tree.root n e)))
 named_if_led tree (name ∷ path) n isnt e =
     let last = last_of (name ∷ path) (not_empty name path) in
     by last.1 (led tree tree.root last.0)

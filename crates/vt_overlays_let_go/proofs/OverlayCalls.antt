@@ -24,13 +24,14 @@ use Rattle.vt_letting_go.proofs.FilesChanged.{none_left}
 use Rattle.vt_letting_go.proofs.Lists.{Among, among-filter, among-from_map, among-map, among_numbers, any_passes, one_passes, or_second, or_first, passes}
 use Rattle.vt_letting_go.proofs.MountingTaken.{after, hands_on, same_filesystem, same_namespace, same_number, shows_the_same, taken_is}
 use Rattle.vt_letting_go.proofs.MountingTaken
-use Rattle.vt_letting_go.proofs.PlacesLeft.{found_itself, mounts_but, number_found}
+use Rattle.vt_letting_go.proofs.PlacesLeft.{found_itself, mounts_but}
 use Rattle.vt_letting_go.proofs.TreesWithOverlays.{left_and_changed_lets_go, taken_and_changed_lets_go}
 use Rattle.vt_world_laws.specs.Worlds.Permits.{IsReached}
 use Rattle.vt_overlays_let_go.specs.OverlayCalls.{MadeInOverlaysLetsGo, OpenedNewInOverlaysLetsGo, RemovedFromOverlaysLetGo, ReplacedInOverlaysLetGo, TakenAndOverlayChangesLetGo, is_on_mount, keeps_a_mount}
 use Rattle.vt_overlays_let_go.specs.OverlayChanges.{CanChange, inodes_lost_with_upper}
 use Rattle.vt_overlays_let_go.proofs.MountsOfOthers.{from_reached, parent_reached, removing_keeps_the_mount, replacing_keeps_the_mount}
 use Rattle.vt_overlays_let_go.proofs.OverlaysChanged.{all_changed, becomes, is_swap, merged, merged_there, new_merged, overlay_changes_let_go, reals_then, settles, swap_both, trees_then, uppers_then}
+use Rattle.vt_spec.proofs.Worlds.{number-mount_in}
 
 -- the mount of a location is there
 mount_there : (world : World ℕ) → IsWorld nat_eq world → (location : Location ℕ) → is_on_mount world location ≡ true
@@ -52,7 +53,7 @@ keeps_its_mount world conditions gone location on stays =
     world.mounts (mount_at nat_eq world location) (mount_there world conditions location on)
     (ap (λ b. b && (not (is_among nat_eq (mount_at nat_eq world location).number gone)
     || is_located nat_eq world (mount_at nat_eq world location).number)) (eq-eqb number number refl)
-    ∙ ap (λ n. not (is_among nat_eq n gone) || is_located nat_eq world n) (number_found world.mounts location.mount)
+    ∙ ap (λ n. not (is_among nat_eq n gone) || is_located nat_eq world n) (number-mount_in world.mounts location.mount)
     ∙ ap (λ b. not b || is_located nat_eq world location.mount) stays)
   where
     number : ℕ

@@ -1,6 +1,6 @@
 -- What goes when an overlay changes.
 use Rattle.std.proofs.Common.{◌≡◌, refl, sym, ap, subst, ◌∙◌, ◌⊎◌, inl, inr, ⊎_elim, true≢false, ne_eqb, ℕ, nat_eq, eqb-true, eq-eqb, Bool, true, false, cond, not, ◌||◌, ◌&&◌, List, [], find, map, Option, Some, None, is_some, option_to_list, unwrap_or}
-use Rattle.std.proofs.lemmas.Bool.{and_parts, not-true, or_cases}
+use Rattle.std.proofs.lemmas.Bool.{and_parts, not-true, or_cases, cases_Bool}
 use Rattle.std.proofs.lemmas.List.Folds.{list_any-append}
 use Rattle.std.specs.List.{filter_map, list_all}
 use Rattle.std.specs.Prelude.{All}
@@ -28,7 +28,7 @@ use Rattle.vt_letting_go.specs.Overlays.{RealsAreThere, let_go_all_inodes, real_
 use Rattle.vt_letting_go.specs.TreeChanges.{ChangesTree}
 use Rattle.vt_letting_go.specs.TreesOverlays.{ChangesFilesystem, upper_objects, with_filesystems}
 use Rattle.vt_letting_go.proofs.InUse.{no_objects}
-use Rattle.vt_letting_go.proofs.Lists.{Among, all_from_among, all_pass, among-append_left, among-filter, among-filter_map, among-flat_map, among-from_filter_map, among-from_map, among-map, among_from_all, among_numbers, any_passes, decided, found_in, is_among_numbers, map_twice, or_first, or_second, passes}
+use Rattle.vt_letting_go.proofs.Lists.{Among, all_from_among, all_pass, among-append_left, among-filter, among-filter_map, among-flat_map, among-from_filter_map, among-from_map, among-map, among_from_all, among_numbers, any_passes, found_in, is_among_numbers, map_twice, or_first, or_second, passes}
 use Rattle.vt_letting_go.proofs.NamesKept.{changes_keep_names}
 use Rattle.vt_letting_go.proofs.OfWorlds.{found_filesystem, worlds_are_settled}
 use Rattle.vt_letting_go.proofs.Trees.{named_among}
@@ -348,7 +348,7 @@ module _ (fresh : Fresh ℕ) (world : World ℕ) (location : Location ℕ) (chan
           (λ gone. or_second (is_among nat_eq k (named_in later.upper)) (is_inode_among layer.number k lost)
           (lost_there k (among-filter (λ n. not (is_among nat_eq n (named_in later.upper))) (named_in layer.files) k m
           (ap not gone))))
-          (decided (is_among nat_eq k (named_in later.upper))));
+          (cases_Bool (is_among nat_eq k (named_in later.upper))));
       objects = λ target. ap (list_all (λ k.
           is_among nat_eq k (objects_of_overlay nat_eq target new_layer) || is_inode_among target k lost))
           (no_objects world target layer layer_plain);

@@ -3,11 +3,11 @@ use Rattle.std.proofs.Common.{◌≡◌, refl, sym, ap, ◌∙◌, ℕ, nat_eq, 
 use Rattle.std.specs.Prelude.{flat_map}
 use Rattle.std.proofs.lemmas.List.{map-append}
 use Rattle.vt_letting_go.proofs.Lists.{map_twice}
-use Rattle.vt_letting_go.proofs.PlacesLeft.{number_found}
 use Rattle.vt_spec.specs.Lists.{folded, rest_of}
 use Rattle.vt_spec.specs.Machine.Attach.{Copies, Graft, attached_by, copies_at, copy_at, graft_of, parts_of, pushed_onto, pushed_up, receiver_below, twig_of}
 use Rattle.vt_spec.specs.Machine.Mounts.{Location, Mount, group_of, with_mount}
 use Rattle.vt_spec.specs.Machine.World.{World, mount_at}
+use Rattle.vt_spec.proofs.Worlds.{number-mount_in}
 
 abbrev pub namespaces_in : List (Mount ℕ) → List (Option ℕ)
 namespaces_in mounts = map (λ (mount : Mount ℕ). mount.namespace) mounts
@@ -98,7 +98,7 @@ module _ (world : World ℕ) (place : Location ℕ) (moves : Bool) (tree : List 
             (new.copy destination.number number) ≡ number
         own number =
             (λ i. cond (moving i && eq-eqb destination.number place.mount
-            (number_found world.mounts place.mount) i) number (new.copy destination.number number))
+            (number-mount_in world.mounts place.mount) i) number (new.copy destination.number number))
 
         each : (list : List (Mount ℕ))
             → map (λ (mount : Mount ℕ). key_of

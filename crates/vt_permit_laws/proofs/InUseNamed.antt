@@ -5,10 +5,8 @@ use Rattle.std.specs.List.{list_all}
 use Rattle.std.proofs.lemmas.Bool.{and_parts}
 use Rattle.std.specs.Cmp.{tied_itself}
 use Rattle.std.specs.Cmp.Lexicographic.{nat_list_cmp_total}
-use Rattle.std.specs.declared.cmp.Ordering.{Ordering}
-use Rattle.std.specs.declared.cmp.Ordering.TheVariants.{Equal, Greater, Less}
 use Rattle.std.specs.FinMap.Entries.{below_all, is_sorted}
-use Rattle.std.specs.Ordering.{eq_by_cmp, is_eq, is_lt}
+use Rattle.std.specs.Ordering.{eq_by_cmp, is_eq}
 use Rattle.vt_laws.specs.Numbers.{FilesystemNamed, IsFoundAmong, OverlayIfAnyNamed, WorldNamed, content_named, descriptor_named, location_named, mount_named, namespace_named, node_named, none_or, propagation_named, task_named}
 use Rattle.vt_letting_go.proofs.Lists.{Among, all_from_among, all_pass, among-append_left, among-append_right, among-flat_map, among-from_map, among-map, among_from_all, among_numbers, is_among_numbers, one_passes, passes}
 use Rattle.vt_permit_laws.specs.InUse.{WorldsHaveNumbersInUse, is_in_use}
@@ -26,25 +24,12 @@ use Rattle.vt_spec.specs.TreeLaws.{IsTree}
 use Rattle.vt_spec.proofs.Nodes.{directory_used, same_name}
 use Rattle.vt_tree_laws.proofs.TreesOfWorlds.{number_numbered, numbered_all}
 use Rattle.vt_tree_laws.proofs.TreesTasks.{both}
-use Rattle.vt_tree_laws.proofs.TreesWalked.{no_some}
 use Rattle.vt_world_laws.proofs.Plain.{no_overlay}
-use Rattle.vt_world_laws.proofs.RaisedInUse.{worlds_are_in_use}
 use Rattle.vt_world_laws.proofs.Shows.{world_shows}
 use Rattle.vt_world_laws.specs.Worlds.Kept.{IsPlain}
-
--- An entry that stands in a sorted list is found by its name.
-below_none : (name : List ℕ) (entries : Entries ℕ) → below_all name_cmp name entries ≡ true
-    → entry_named name entries ≡ None
-below_none name [] e = refl
-below_none name (entry ∷ entries) e =
-    let parts = and_parts (is_lt (name_cmp name entry.0)) (below_all name_cmp name entries) e in
-    ap (λ b. cond b (Some entry.1) (entry_named name entries)) (apart (name_cmp name entry.0) parts.0)
-    ∙ below_none name entries parts.1
-  where
-    apart : (o : Ordering) → is_lt o ≡ true → is_eq o ≡ false
-    apart Less e = refl
-    apart Equal e = absurd (true≢false (sym e))
-    apart Greater e = refl
+use Rattle.vt_letting_go.proofs.OfWorlds.{all_in_use}
+use Rattle.vt_spec.proofs.NodeChanges.{directory_is_there, entry_named-below}
+use Rattle.vt_spec.proofs.Options.{none_from_not_some}
 
 found_by_name : (entries : Entries ℕ) (entry : List ℕ × ℕ) → is_sorted name_cmp entries ≡ true → Among entry entries
     → entry_named entry.0 entries ≡ Some entry.1
@@ -67,7 +52,7 @@ found_by_name (first ∷ entries) entry sorted (inr among) =
     by true t named =
         absurd (true≢false (ap there
         (sym named ∙ ap (λ n. entry_named n entries) (same_name entry.0 first.0 t)
-        ∙ below_none first.0 entries parts.0)))
+        ∙ entry_named-below first.0 entries parts.0)))
     by false t named = named
 
 -- A group that lives has a member, and so has its master.
@@ -156,10 +141,6 @@ module _ (world : World ℕ) (whole : IsWorld nat_eq world) (plain : IsPlain wor
         listed_used f there,
       ))))
 
-  directory_there : (o : Option (Node ℕ)) → is_directory_node o ≡ true → is_some o ≡ true
-  directory_there None e = e
-  directory_there (Some node) e = refl
-
   -- Locations
   located_named : (location : Location ℕ) → is_located_well nat_eq world location ≡ true
       → location_named (is_in_use world) location ≡ true
@@ -190,7 +171,7 @@ module _ (world : World ℕ) (whole : IsWorld nat_eq world) (plain : IsPlain wor
       source_used found.0 number found.1 found.2
 
   masterless : (number : ℕ) → has_members nat_eq world.mounts number ≡ false → world.master number ≡ None
-  masterless = (worlds_are_in_use world whole).groups
+  masterless = (all_in_use world whole).groups
 
   masters : IsFoundAmong (is_in_use world) (is_in_use world) world.master
   masters = record {
@@ -234,13 +215,13 @@ module _ (world : World ℕ) (whole : IsWorld nat_eq world) (plain : IsPlain wor
       let shown = (world_shows world whole mount there).mount_point place e in
       located_named place
       (both _ (is_some (node_at nat_eq world place)) shown.listed
-      (directory_there (node_at nat_eq world place) shown.directory))
+      (directory_is_there (node_at nat_eq world place) shown.directory))
 
   mount_is : (mount : Mount ℕ) → Among mount world.mounts → mount_named (is_in_use world) mount ≡ true
   mount_is mount there =
       let root =
       found_used mount.filesystem mount.root
-      (directory_there ((filesystem_numbered nat_eq world mount.filesystem).files.tree.node mount.root)
+      (directory_is_there ((filesystem_numbered nat_eq world mount.filesystem).files.tree.node mount.root)
       (and_parts _ _ (passes (has_its_root nat_eq world) world.mounts whole.roots mount there)).0) in
       both _ (propagation_named (is_in_use world) mount.propagation)
       (both _ (is_in_use world mount.root)
@@ -293,7 +274,7 @@ module _ (world : World ℕ) (whole : IsWorld nat_eq world) (plain : IsPlain wor
     node_out : (number : ℕ) → is_in_use world number ≡ false → (b : Bool) → is_some (tree.node number) ≡ b
         → tree.node number ≡ None
     node_out number out true e = absurd (true≢false (sym (listed_used filesystem there number e) ∙ out))
-    node_out number out false e = no_some (tree.node number) e
+    node_out number out false e = none_from_not_some (tree.node number) e
 
     overlay_is : (o : Option (Overlay ℕ)) → o ≡ None → OverlayIfAnyNamed (is_in_use world) o
     overlay_is None e = tt

@@ -1,5 +1,5 @@
 -- Which numbers a world keeps to, and which supplies serve it.
-use Rattle.std.proofs.Common.{eq-eqb, eqb-true, ne_eqb, ltb-true, ◌≡◌, ◌≢◌, refl, sym, ap, ◌∙◌, true≢false, ℕ, ◌+◌, ◌*◌, ◌%◌, ◌/◌, ◌==◌, ◌≤◌, nat_lt, Bool, true, false, cond, not, ◌&&◌, ◌||◌, arith}
+use Rattle.std.proofs.Common.{eq-eqb, eqb-true, ne_eqb, ◌≡◌, ◌≢◌, refl, sym, ap, ◌∙◌, true≢false, ℕ, ◌+◌, ◌*◌, ◌%◌, ◌/◌, ◌==◌, Bool, true, false, cond, not, ◌&&◌, ◌||◌, arith}
 use Rattle.vt_laws.proofs.NamedWorlds.{named_is_kept}
 use Rattle.vt_laws.proofs.Supports.{used_numbers_are_named}
 use Rattle.vt_laws.specs.Numbers.{KeepsTo, LeavesOutTwo}
@@ -7,6 +7,7 @@ use Rattle.vt_permit_laws.proofs.InUseNamed.{worlds_have_numbers_in_use}
 use Rattle.vt_permit_laws.specs.InUse.{CountsServeWorlds, HandedNumbersServeWorlds, WorldsKeepToNamedBefore, WorldsKeepToNumbersInUse, is_in_use}
 use Rattle.vt_run_laws.specs.Handed.{counts_from, handed_from, is_counted_before, is_named_before}
 use Rattle.vt_spec.specs.Machine.World.{World}
+use Rattle.std.proofs.lemmas.Bool.{le-ltb}
 
 pub worlds_keep_to_numbers_in_use : WorldsKeepToNumbersInUse
 worlds_keep_to_numbers_in_use named world whole plain among renaming leaves =
@@ -26,13 +27,6 @@ used_before : (next : ℕ) (world : World ℕ) → KeepsTo (is_counted_before ne
 used_before next world keeps number used =
     used_numbers_are_named (is_counted_before next) world keeps (leaves_two next) number used
 
-not_less : (a b : ℕ) → b ≤ a → nat_lt a b ≡ false
-not_less a b low = by (nat_lt a b) refl
-  where
-    by : (less : Bool) → nat_lt a b ≡ less → less ≡ false
-    by true e = let below = ltb-true a b e in absurd (omega arith)
-    by false e = refl
-
 -- a count from the next one on is not among them
 not_before : (next k : ℕ) → is_counted_before next (counts_from next k) ≡ false
 not_before next k =
@@ -41,7 +35,7 @@ not_before next k =
     let quarter : (4 * (next + k) + 1) / 4 ≡ next + k = omega arith in
     λ i.
     ne_eqb ((4 * (next + k) + 1) % 2) 0 (λ e. absurd (omega arith)) i
-    || (eq-eqb ((4 * (next + k) + 1) % 4) 1 rest i && not_less ((4 * (next + k) + 1) / 4) next (omega arith) i)
+    || (eq-eqb ((4 * (next + k) + 1) % 4) 1 rest i && le-ltb ((4 * (next + k) + 1) / 4) next (omega arith) i)
 
 unused_count : (next : ℕ) (world : World ℕ) → KeepsTo (is_counted_before next) world → (k : ℕ)
     → is_in_use world (counts_from next k) ≡ false

@@ -20,8 +20,9 @@ use Rattle.vt_spec.specs.Machine.Mounts.{Location, Mount, mount_in, root_of}
 use Rattle.vt_spec.specs.Machine.Settled.{filesystem_lives, has_layer_on, layers_in, located_in, objects_of_overlay, used_in}
 use Rattle.vt_spec.specs.Machine.World.{Filesystem, Overlay, World, layers_of, upper_object}
 use Rattle.vt_spec.specs.Machine.Invariants.{IsWorld}
-use Rattle.vt_world_laws.proofs.RaisedInUse.{unsettled_of, world_of, worlds_are_in_use}
+use Rattle.vt_world_laws.proofs.RaisedInUse.{unsettled_of, world_of}
 use Rattle.vt_world_laws.specs.Worlds.Kept.{IsPlain}
+use Rattle.vt_letting_go.proofs.OfWorlds.{all_in_use}
 
 -- the upper inodes that are real objects of an overlay
 abbrev objects_by : ℕ → Filesystem ℕ → Overlay ℕ → List ℕ
@@ -123,7 +124,7 @@ pub alike_worlds : (one other : World ℕ) → Alike one other → IsWorld nat_e
 alike_worlds one other same is =
     let unsettled = alike_under_way one other same (unsettled_of one is (plain_from_alike one other same)) in (
       world_of other unsettled (nothing_goes other
-          (alike_in_use one other same (worlds_are_in_use one is))),
+          (alike_in_use one other same (all_in_use one is))),
       unsettled.plain,
     )
 

@@ -22,8 +22,8 @@ use Rattle.vt_spec.specs.Machine.Invariants.{ForksAreCounted, ListsNumbers, Moun
 use Rattle.vt_spec.proofs.Lists.{among_from_contains, contains_from_among}
 use Rattle.vt_spec.specs.Tree.{Node, Tree, is_directory_node}
 use Rattle.vt_spec.specs.TreeLaws.{HasOwnParents, IsTree}
-use Rattle.vt_world_laws.proofs.Raised.{stands_alike}
 use Rattle.vt_world_laws.specs.Worlds.Kept.{IsWorldButForUse, MountsShow}
+use Rattle.vt_spec.proofs.Worlds.{stands_alike}
 
 -- the trees by the numbers of their filesystems
 abbrev TreesBy : Type 0

@@ -9,20 +9,15 @@ use Rattle.vt_run_laws.proofs.AlikeWorlds.{Alike, AlikeFilesystem, SameNamespace
 use Rattle.vt_run_laws.proofs.Each.{Each}
 use Rattle.vt_spec.specs.Machine.Renaming.{renamed, renamed_filesystem, renamed_mount, renamed_namespace, renamed_node, renamed_overlay, renamed_task}
 use Rattle.vt_spec.specs.Machine.World.{Filesystem, Namespace, Task, World}
-
-first_same : {A : Type 0} (a b : A) (ones others : List A) → (a ∷ ones) ≡ (b ∷ others) → a ≡ b
-first_same a b ones others e = cc
-
-rest_same : {A : Type 0} (a b : A) (ones others : List A) → (a ∷ ones) ≡ (b ∷ others) → ones ≡ others
-rest_same a b ones others e = cc
+use Rattle.vt_spec.proofs.Options.{cons-first, cons-rest}
 
 -- what stands in a list that a change leaves is left by it
 each_left : {A : Type 0} (f : A → A) (list : List A) → map f list ≡ list → (a : A) → Among a list → f a ≡ a
 each_left f [] same a among = absurd among
 each_left f (first ∷ rest) same a among =
     ⊎_elim
-    (λ e. ap f e ∙ first_same (f first) first (map f rest) rest same ∙ sym e)
-    (λ later. each_left f rest (rest_same (f first) first (map f rest) rest same) a later) among
+    (λ e. ap f e ∙ cons-first (f first) first (map f rest) rest same ∙ sym e)
+    (λ later. each_left f rest (cons-rest (f first) first (map f rest) rest same) a later) among
 
 -- a change that leaves each of one list leaves each of the other
 module _ {A : Type 0} (R : A → A → Type 0) (f : A → A) (goes : (a b : A) → R a b → f a ≡ a → f b ≡ b) where
@@ -31,8 +26,8 @@ module _ {A : Type 0} (R : A → A → Type 0) (f : A → A) (goes : (a b : A) �
   each_left_alike [] (b ∷ others) each same = absurd each
   each_left_alike (a ∷ ones) [] each same = absurd each
   each_left_alike (a ∷ ones) (b ∷ others) each same = λ i.
-      goes a b each.0 (first_same (f a) a (map f ones) ones same) i
-      ∷ each_left_alike ones others each.1 (rest_same (f a) a (map f ones) ones same) i
+      goes a b each.0 (cons-first (f a) a (map f ones) ones same) i
+      ∷ each_left_alike ones others each.1 (cons-rest (f a) a (map f ones) ones same) i
 
 module _ (renaming : Renaming ℕ ℕ) where
   abbrev there : ℕ → ℕ

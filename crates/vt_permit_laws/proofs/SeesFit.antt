@@ -1,5 +1,5 @@
 -- Each change of a tree that a permit asks for is proper, and fits whoever keeps that tree alone.
-use Rattle.std.proofs.Common.{eq-eqb, le-leb, leb-true, ltb-false, ne_eqb, ◌≡◌, ◌≢◌, refl, sym, ap, subst, ◌∙◌, ⊎_elim, true≢false, ℕ, zero, suc, ◌+◌, ◌*◌, nat_eq, nat_le, nat_lt, Bool, true, false, not, cond, List, [], ◌∷◌, ◌&&◌, ◌||◌, length, Option, Some, None, is_some, option_map, option_and_then}
+use Rattle.std.proofs.Common.{eq-eqb, le-leb, leb-true, ltb-false, ne_eqb, ◌≡◌, ◌≢◌, refl, sym, ap, subst, ◌∙◌, ⊎_elim, true≢false, ℕ, zero, suc, ◌+◌, ◌*◌, nat_eq, nat_le, nat_lt, Bool, true, false, not, cond, List, [], ◌∷◌, ◌&&◌, ◌||◌, length, Option, Some, None, option_map, option_and_then}
 use Rattle.std.specs.Prelude.{⊤}
 use Rattle.vt_call_laws.specs.Inodes.{change_of, written_if_some}
 use Rattle.vt_letting_go.proofs.Lists.{all_from_among, among_from_all, among_numbers, passes}
@@ -37,6 +37,8 @@ use Rattle.vt_world_laws.proofs.CallsKept.{new_numbers}
 use Rattle.vt_world_laws.proofs.FitPermitsNamed.{permits_fit}
 use Rattle.vt_world_laws.specs.Worlds.Kept.{IsPlain}
 use Rattle.vt_world_laws.specs.Worlds.Permits.{NamesWhatIsThere}
+use Rattle.vt_spec.proofs.NodeChanges.{file_is_there}
+use Rattle.vt_spec.proofs.Truths.{and_true_first}
 
 -- what a tree alone asks for beside that the change is proper
 abbrev More : Tree ℕ → Change ℕ → Type 0
@@ -153,10 +155,10 @@ module _ (world : World ℕ) (fresh : Fresh ℕ) (task : Task ℕ) (permit : Per
       (λ good.
       limit (is_kind_in File (node_at nat_eq world file))
       (nat_le (length (bytes_in (node_at nat_eq world file))) largest_file)
-      (first _ _ _
+      (and_true_first _ _ _
       (passes (fit_in (files_at nat_eq world file)) (files_at nat_eq world file).numbers good.0 file.node
       (among_numbers file.node (files_at nat_eq world file).numbers
-      (good.1 file.node ∙ there (node_at nat_eq world file) kind))))
+      (good.1 file.node ∙ file_is_there (node_at nat_eq world file) kind))))
       kind)
       (λ missing. absurd (true≢false
       (sym kind ∙ ap (λ (f : Filesystem ℕ). is_kind_in File (f.files.tree.node file.node)) missing.0)))
@@ -171,14 +173,6 @@ module _ (world : World ℕ) (fresh : Fresh ℕ) (task : Task ℕ) (permit : Per
 
       fit_in : FileTree ℕ → ℕ → Bool
       fit_in files number = is_no_larger files number && has_fit_names files number && has_fit_text files number
-
-      first : (a b c : Bool) → (a && b && c) ≡ true → a ≡ true
-      first true b c e = refl
-      first false b c e = e
-
-      there : (o : Option (Node ℕ)) → is_kind_in File o ≡ true → is_some o ≡ true
-      there None e = e
-      there (Some node) e = refl
 
       limit : (a b : Bool) → (not a || b) ≡ true → a ≡ true → b ≡ true
       limit true b e f = e

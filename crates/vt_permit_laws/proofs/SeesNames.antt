@@ -29,19 +29,21 @@ use Rattle.vt_tree_laws.specs.Trees.{IsFileTree}
 use Rattle.vt_tree_laws.specs.Trees.Calls.{IsWorldOfTrees}
 use Rattle.vt_tree_laws.specs.Trees.Sizes.{is_fit_node}
 use Rattle.vt_tree_laws.proofs.ChangesByLinks.{may_link}
-use Rattle.vt_tree_laws.proofs.ChangesByRemoving.{empty_list, may_move, no_directory_empty, old_removable}
+use Rattle.vt_tree_laws.proofs.ChangesByRemoving.{may_move, old_removable}
 use Rattle.vt_tree_laws.proofs.ChangesOfCalls.{place_is_free}
 use Rattle.vt_tree_laws.proofs.TreesEntered.{ends_link_walk}
 use Rattle.vt_tree_laws.proofs.TreesOfMounts.{worlds_are_standing}
 use Rattle.vt_tree_laws.proofs.TreesOfWorlds.{numbered_all}
 use Rattle.vt_tree_laws.proofs.TreesSizes.{HasFitLast, IsFitWord, fit_file_walk, fit_name_of, fit_new_leaf_walk, fit_new_walk, no_longer}
 use Rattle.vt_tree_laws.proofs.TreesTasks.{both}
-use Rattle.vt_tree_laws.proofs.TreesWalked.{Ends, IsFilePlace, IsNewFilePlace, IsNewPlace, IsOldPlace, Passed, ends_anyhow, ends_file_walk, ends_new_leaf_walk, ends_new_walk, ends_old_leaf_walk, ends_old_walk, ends_then, ends_unless, file_named, first_false, not_true, place_is_file, place_named}
+use Rattle.vt_tree_laws.proofs.TreesWalked.{Ends, IsFilePlace, IsNewFilePlace, IsNewPlace, IsOldPlace, Passed, ends_anyhow, ends_file_walk, ends_new_leaf_walk, ends_new_walk, ends_old_leaf_walk, ends_old_walk, ends_then, ends_unless, file_named, not_true, place_is_file, place_named}
 use Rattle.vt_world_laws.proofs.RaisedInUse.{unsettled_of}
 use Rattle.vt_world_laws.proofs.SettledTasks.{file_trees}
 use Rattle.vt_world_laws.specs.Worlds.Kept.{IsPlain}
 use Rattle.vt_call_laws.proofs.EffectsRights.{no_special}
 use Rattle.std.proofs.lemmas.Option.{same_Some}
+use Rattle.vt_spec.proofs.NodeChanges.{entries_in-no_directory, nil_from_not_some}
+use Rattle.vt_spec.proofs.Truths.{or_false_left}
 
 some_is : (o : Option (Location ℕ)) (default : Location ℕ) → is_some o ≡ true → o ≡ Some (unwrap_or o default)
 some_is None default e = absurd (true≢false (sym e))
@@ -175,7 +177,7 @@ module _ (world : World ℕ) (whole : IsWorld nat_eq world) (plain : IsPlain wor
   write_seen path bytes =
       gives_walk (SeesTo world task) NewFilePlace (file_walk nat_eq looks task path) _ (file_ends path) (λ place is.
       gives_unless (SeesTo world task) (file_word_rules place) _ (λ passed.
-      written_seen place bytes is (first_false (is_special place.last) place.slash passed.0) place.object refl))
+      written_seen place bytes is (or_false_left (is_special place.last) place.slash passed.0) place.object refl))
 
   -- open(2)
   opened_seen : (file : Location ℕ) (access : Access) → HasRoom task
@@ -209,7 +211,7 @@ module _ (world : World ℕ) (whole : IsWorld nat_eq world) (plain : IsPlain wor
   open_by_seen path access (OrCreate mode) room =
       gives_walk (SeesTo world task) NewFilePlace (file_walk nat_eq looks task path) _ (file_ends path) (λ place is.
       gives_unless (SeesTo world task) (file_word_rules place) _ (λ passed.
-      opened_or_created_seen place access mode room is (first_false (is_special place.last) place.slash passed.0)
+      opened_or_created_seen place access mode room is (or_false_left (is_special place.last) place.slash passed.0)
       place.object refl))
   open_by_seen path access (Exclusive mode) room =
       gives_walk (SeesTo world task) NewPlace (new_walk nat_eq looks task path) _ (new_ends path) (λ place is.
@@ -257,7 +259,7 @@ module _ (world : World ℕ) (whole : IsWorld nat_eq world) (plain : IsPlain wor
       gives_unless (SeesTo world task) (unlink_rules looks task place (object_there place)) _ (λ passed. (
         refl,
         old_removable world place named.0 is.0 is.1
-            (no_directory_empty (node_at nat_eq world (object_there place)) passed.0),
+            (entries_in-no_directory (node_at nat_eq world (object_there place)) passed.0),
         ap (λ mount. is_directory_node (shown_node mount (object_there place).node)) (sym (old_mount place is named.0))
             ∙ passed.0,
       ))))
@@ -272,7 +274,7 @@ module _ (world : World ℕ) (whole : IsWorld nat_eq world) (plain : IsPlain wor
       gives_unless (SeesTo world task) (rmdir_rules nat_eq looks task place (object_there place)) _ (λ passed. (
         old_mount place is named,
         old_removable world place named is.0 is.1
-            (empty_list (entries_in (node_at nat_eq world (object_there place))) passed.1.0),
+            (nil_from_not_some (entries_in (node_at nat_eq world (object_there place))) passed.1.0),
         not_true (is_directory_at nat_eq world (object_there place)) passed.0,
       ))))
 

@@ -37,10 +37,11 @@ use Rattle.vt_spec.specs.Tree.{Content, Node, is_directory_node, kind_of}
 use Rattle.vt_spec.specs.Tree.Content.{Directory, Regular, Symlink, Whiteout}
 use Rattle.vt_spec.specs.declared.attributes.Kind.TheVariants.{Symlink as SymlinkKind}
 use Rattle.vt_tree_laws.specs.Trees.Calls.{mounts_overlay}
-use Rattle.vt_tree_laws.proofs.TreesWalked.{ends_anyhow, first_false, not_true}
+use Rattle.vt_tree_laws.proofs.TreesWalked.{ends_anyhow, not_true}
 use Rattle.vt_world_laws.proofs.ReachedWalks.{FoundDirectory, directory_walk_end}
 use Rattle.vt_world_laws.specs.Worlds.Kept.{IsPlain}
 use Rattle.std.proofs.lemmas.Bool.{or_parts}
+use Rattle.vt_spec.proofs.Truths.{or_false_left}
 
 -- a symlink is no directory
 link_is_no_directory : (o : Option (Node ℕ)) → is_kind_in SymlinkKind o ≡ true → is_directory_node o ≡ false
@@ -181,7 +182,7 @@ module _ (world : World ℕ) (whole : IsWorld nat_eq world) (plain : IsPlain wor
   unfolding fork_permit
   fork_seen words =
       gives_unless (SeesTo world task) (fork_rules task (child_credentials task.credentials words)) _ (λ passed. (
-        first_false (nat_le most_forks task.forks) (nat_le deepest_name (length task.name)) passed.0,
+        or_false_left (nat_le most_forks task.forks) (nat_le deepest_name (length task.name)) passed.0,
         (or_parts (nat_le most_forks task.forks) (nat_le deepest_name (length task.name)) passed.0).1,
       ))
 

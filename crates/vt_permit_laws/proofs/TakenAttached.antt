@@ -1,12 +1,12 @@
 -- What is attached at a mount that is in no peer group: only the numbers of copies are taken.
 use Rattle.std.proofs.Common.{eq-eqb, ◌≡◌, refl, sym, ap, subst, ◌∙◌, ℕ, suc, ◌+◌, ◌*◌, ◌<◌, nat_eq, Bool, true, false, cond, not, ◌&&◌, List, [], ◌∷◌, ◌++◌, length, map, filter, filter_map, Option, Some, None, option_map, if◌then◌else◌, arith}
 use Rattle.std.specs.Prelude.{unwrap_or}
-use Rattle.vt_letting_go.proofs.PlacesLeft.{number_found}
 use Rattle.vt_spec.specs.Lists.{Fresh, folded, place_from, then_some, when}
 use Rattle.vt_spec.specs.Machine.Attach.{Copies, Graft, Twig, added_mounts, attach, attached_at, copies_from, copy_type, image, is_top, masters_with, nearest_image, numbered, takes_part, twig_master, twig_of, with_moved_mounts}
 use Rattle.vt_spec.specs.Machine.Mounts.{Location, Mount, Propagation, group_of, index_of, mount_in}
 use Rattle.vt_spec.specs.Machine.Receives.{is_member_of, receivers}
 use Rattle.vt_spec.specs.Machine.World.{World, mount_at}
+use Rattle.vt_spec.proofs.Worlds.{number-mount_in}
 
 -- an index in a list is less than its length
 place_bound : (test : Mount ℕ → Bool) (k : ℕ) (list : List (Mount ℕ)) (j : ℕ) → place_from test k list ≡ Some j
@@ -110,7 +110,7 @@ module _ (world : World ℕ) (place : Location ℕ) (mounts : List (Mount ℕ)) 
     at_destination fresh =
         at_one_part fresh
         ∙ ap (λ b. attached_alone b moves (copies_from nat_eq fresh (destination ∷ []) mounts))
-        (eq-eqb destination.number place.mount (number_found world.mounts place.mount))
+        (eq-eqb destination.number place.mount (number-mount_in world.mounts place.mount))
 
   -- the namespaces of the mounts do not go by the numbers
   abbrev pub namespace_of : Mount ℕ → Option ℕ

@@ -30,10 +30,10 @@ use Rattle.vt_spec.specs.Machine.World.{Filesystem, Namespace, Overlay, Task, Wo
 use Rattle.vt_spec.specs.Machine.Invariants.{IsWorld, has_one_root, is_listed, is_root_mount}
 use Rattle.vt_spec.specs.Tree.{Node, bytes_in}
 use Rattle.vt_spec.proofs.Lists.{among_from_list_all, among_numbers, among-from_map}
-use Rattle.vt_tree_laws.proofs.TreesOfWorlds.{taken_filesystems}
 use Rattle.vt_world_laws.proofs.Plain.{plain_numbered}
 use Rattle.vt_world_laws.proofs.ReachedWalks.{task_among}
 use Rattle.vt_world_laws.specs.Worlds.Kept.{IsPlain}
+use Rattle.vt_spec.proofs.Worlds.{filesystems-taken_away}
 
 -- the permit is not for the mount of an overlay
 abbrev pub IsNoOverlay : Permit ℕ → Type 0
@@ -136,7 +136,7 @@ module _ (world : World ℕ) (whole : IsWorld nat_eq world) (plain : IsPlain wor
         ≡ with_change nat_eq again (without_mounts_on nat_eq world gone) location change
     taken_same gone location change =
         change_same (without_mounts_on nat_eq world gone)
-        (taken_plain world (without_mounts_on nat_eq world gone) (taken_filesystems world _) plain) fresh again location
+        (taken_plain world (without_mounts_on nat_eq world gone) (filesystems-taken_away world _) plain) fresh again location
         change
 
     replaced_same : (replaced : Option (Location ℕ)) (location : Location ℕ) (change : Change ℕ)

@@ -12,7 +12,7 @@ use Rattle.vt_spec.specs.Machine.Receives.{is_member_of, regrouped}
 use Rattle.vt_spec.specs.Machine.Types.{master_after, named_mounts, retyped, retyped_mount, type_after, with_master, with_new_groups}
 use Rattle.vt_spec.specs.Machine.World.{World, mount_numbered}
 use Rattle.vt_spec.specs.Machine.Invariants.{IsWorld}
-use Rattle.vt_world_laws.proofs.RaisedInUse.{worlds_are_in_use}
+use Rattle.vt_letting_go.proofs.OfWorlds.{all_in_use}
 
 abbrev pub makes_groups : TypeWord → Bool
 makes_groups ToShared = true
@@ -90,7 +90,7 @@ module _ (world : World ℕ) (whole : IsWorld nat_eq world) (ungrouped : IsUngro
   -- no group has a master
   no_masters : (group : ℕ) → world.master group ≡ None
   no_masters group =
-      (worlds_are_in_use world whole).groups group
+      (all_in_use world whole).groups group
       (none_passes (is_member_of nat_eq group) world.mounts (λ mount among.
       no_member group mount.propagation (each_is mount among)))
 

@@ -15,8 +15,9 @@ use Rattle.vt_spec.specs.Machine.World.{Task}
 use Rattle.vt_spec.specs.Rights.{cap_sys_admin}
 use Rattle.vt_rules.specs.Tables.{move_table}
 use Rattle.vt_policy.proofs.MountLemmas.{Reaches, move_asked}
-use Rattle.vt_rules.proofs.Refusals.{unless-let_through, unless-stopped}
+use Rattle.vt_rules.proofs.Refusals.{unless-stopped}
 use Rattle.vt_rules.proofs.Rows.{one_by_one}
+use Rattle.vt_spec.proofs.Refusals.{unless-let_through}
 
 -- the rules after the receivers are asked for
 abbrev pub last_rows : Looks ℕ → Location ℕ → Bool → Rules

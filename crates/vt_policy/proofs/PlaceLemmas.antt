@@ -22,8 +22,9 @@ use Rattle.vt_location.specs.declared.locations.Location.{Location}
 use Rattle.vt_location.specs.Locations.{location_of}
 use Rattle.vt_looks.specs.Looking.{HasNoOverlays}
 use Rattle.vt_rules.specs.Tables.{remove_rules}
-use Rattle.vt_rules.proofs.PlainRows.{has_an_upper, mounter_may, neither}
+use Rattle.vt_rules.proofs.PlainRows.{has_an_upper, mounter_may}
 use Rattle.vt_rules.proofs.Rows.{kept, skipped}
+use Rattle.std.proofs.lemmas.Bool.{or_from}
 
 -- what comes after a walk that has ended
 pub went : {A B : Type 0} (end : Result A Deny) (a : A) (next : A → Result B Deny) → end ≡ Ok a
@@ -75,7 +76,7 @@ unlink_asked looks plain task path seen parent object walked named at there file
     ∙ skipped _ E2 _ answer (ap (is_directory_at looks) there ∙ file)
     ∙ skipped _ F1 _ answer (ap (is_read_only looks) at ∙ writable)
     ∙ skipped _ F2 _ answer (has_an_upper looks plain seen.parent)
-    ∙ skipped _ L1 _ answer (neither _ _ (plain.unlocked (object_there seen)) (plain.unlocked seen.parent))
+    ∙ skipped _ L1 _ answer (or_from _ _ (plain.unlocked (object_there seen)) (plain.unlocked seen.parent))
     ∙ rights (may_not looks task seen.parent write_right)
     (is_kept looks task seen.parent (object_there seen)) _ _ answer
     (mounter_may looks plain seen.parent write_right) (plain.mounter seen.parent (removing seen (object_there seen)))
@@ -102,7 +103,7 @@ rmdir_asked looks plain task path seen parent object name walked named at there 
     ∙ skipped _ E4 _ answer (ap (is_filled looks) there ∙ empty)
     ∙ skipped _ F1 _ answer (ap (is_read_only looks) at ∙ writable)
     ∙ skipped _ F2 _ answer (has_an_upper looks plain seen.parent)
-    ∙ skipped _ L1 _ answer (neither _ _ (plain.unlocked (object_there seen)) (plain.unlocked seen.parent))
+    ∙ skipped _ L1 _ answer (or_from _ _ (plain.unlocked (object_there seen)) (plain.unlocked seen.parent))
     ∙ skipped _ P1 _ answer (ap (is_point_in nat_eq looks task.namespace) there ∙ pointless)
     ∙ rights (may_not looks task seen.parent write_right)
     (is_kept looks task seen.parent (object_there seen)) _ _ answer
@@ -128,7 +129,7 @@ link_asked looks plain task old new from seen object parent walked_old there wal
     ∙ skipped _ E7 _ answer (ap (is_directory_at looks) there ∙ file)
     ∙ skipped _ F1 _ answer (ap (is_read_only looks) at ∙ writable)
     ∙ skipped _ F2 _ answer (has_an_upper looks plain seen.parent)
-    ∙ skipped _ L1 _ answer (neither _ _ (plain.unlocked from.location) (plain.unlocked seen.parent))
+    ∙ skipped _ L1 _ answer (or_from _ _ (plain.unlocked from.location) (plain.unlocked seen.parent))
     ∙ skipped _ P2 _ answer ((λ i. not (nat_eq (there i).mount (at i).mount)) ∙ together)
     ∙ skipped _ C1 _ answer (ap (λ place. may_not looks task place write_right) at ∙ rightful)
     ∙ skipped _ B1 _ answer (mounter_may looks plain seen.parent write_right)

@@ -22,10 +22,6 @@ none_locked looks plain [] = refl
 none_locked looks plain (place ∷ places) =
     ap (λ locked. locked || list_any looks.is_locked places) (plain.unlocked place) ∙ none_locked looks plain places
 
-pub neither : (one other : Bool) → one ≡ false → other ≡ false → (one || other) ≡ false
-neither true other e f = e
-neither false other e f = f
-
 pub not_both : (one other : Bool) → other ≡ false → (one && other) ≡ false
 not_both true other e = e
 not_both false other e = refl

@@ -1,26 +1,8 @@
 -- Tables of rules that refuse, and that let through.
-use Rattle.std.proofs.Common.{◌≡◌, true, false, [], ◌∷◌, Result, Ok, Err, refl, sym}
+use Rattle.std.proofs.Common.{◌≡◌, Result, Ok, Err, sym}
 use Rattle.vt_spec.specs.declared.errors.Deny.{Deny}
 use Rattle.vt_spec.specs.Errors.{Rules, unless}
-
--- rules that refuse one answer refuse any
-pub unless-refused : {A B : Type 0} (rows : Rules) (a : A) (other : Result B Deny) (deny : Deny)
-    → unless rows (Ok a) ≡ Err deny → unless rows other ≡ Err deny
-unless-refused [] a other deny e = absurd cc
-unless-refused ((true, rule) ∷ rows) a other deny e = cc
-unless-refused ((false, rule) ∷ rows) a other deny e = unless-refused rows a other deny e
-
--- rules that let one answer through let any
-pub unless-passed : {A B : Type 0} (rows : Rules) (a b : A) (other : Result B Deny) → unless rows (Ok a) ≡ Ok b
-    → unless rows other ≡ other
-unless-passed [] a b other e = refl
-unless-passed ((true, rule) ∷ rows) a b other e = absurd cc
-unless-passed ((false, rule) ∷ rows) a b other e = unless-passed rows a b other e
-
--- the same of rules that have no answer of their own
-pub unless-let_through : {B : Type 0} (rows : Rules) (other : Result B Deny)
-    → Ok tt ≡ unless {A = Unit {0}} rows (Ok tt) → unless rows other ≡ other
-unless-let_through rows other e = unless-passed rows tt tt other (sym e)
+use Rattle.vt_spec.proofs.Refusals.{unless-refused}
 
 pub unless-stopped : {B : Type 0} (rows : Rules) (other : Result B Deny) (deny : Deny)
     → Err deny ≡ unless {A = Unit {0}} rows (Ok tt) → unless rows other ≡ Err deny

@@ -15,9 +15,11 @@ use Rattle.vt_spec.specs.Machine.World.{Task}
 use Rattle.vt_spec.specs.Rights.{write_right}
 use Rattle.vt_looks.specs.Looking.{HasNoOverlays}
 use Rattle.vt_rules.specs.Tables.{kind_rules, right_rules, way_rules}
-use Rattle.vt_rules.proofs.PlainRows.{has_an_upper, mounter_may, neither, none_locked, not_both}
-use Rattle.vt_rules.proofs.Refusals.{unless-let_through, unless-stopped}
+use Rattle.vt_rules.proofs.PlainRows.{has_an_upper, mounter_may, none_locked, not_both}
+use Rattle.vt_rules.proofs.Refusals.{unless-stopped}
 use Rattle.vt_rules.proofs.Rows.{kept, skipped}
+use Rattle.std.proofs.lemmas.Bool.{or_from}
+use Rattle.vt_spec.proofs.Refusals.{unless-let_through}
 
 -- the caller's rights, and then what does not fail
 rights : {A : Type 0} (may_not moved kept_by stuck mounter mounter_of_moved : Bool)
@@ -58,13 +60,13 @@ pub rename_parts : {A : Type 0} (looks : Looks ℕ) → HasNoOverlays looks
 rename_parts looks plain task from to old answer =
     kinds _ _ _ _ _ answer _
     (way _ _ _ _ _ _ (right_rules nat_eq looks task from to old) answer
-    (neither _ _ (has_an_upper looks plain from.parent) (has_an_upper looks plain to.parent))
+    (or_from _ _ (has_an_upper looks plain from.parent) (has_an_upper looks plain to.parent))
     (none_locked looks plain (from.parent ∷ to.parent ∷ old ∷ option_to_list to.object))
     (rights (may_not looks task from.parent write_right || may_not looks task to.parent write_right)
     (changes_parent nat_eq looks from to old && may_not looks task old write_right)
     (is_kept looks task from.parent old || holds_of (is_kept looks task to.parent) to.object) _ _ _ _ answer
     (not_both (is_directory_at looks old) _ (plain.lower from.parent (name_of from.last)))
-    (neither _ _ (mounter_may looks plain from.parent write_right) (mounter_may looks plain to.parent write_right))
+    (or_from _ _ (mounter_may looks plain from.parent write_right) (mounter_may looks plain to.parent write_right))
     (not_both (changes_parent nat_eq looks from to old) _ (mounter_may looks plain old write_right))
     (plain.mounter from.parent (moving from to old))))
 

@@ -2,6 +2,7 @@
 use Rattle.std.proofs.Common.{◌≡◌, refl, subst, Bool, true, false, cond, ◌||◌, List, [], ◌∷◌, ◌++◌, map, filter, find, flat_map, Option, Some, None}
 use Rattle.std.specs.Prelude.{unwrap_or, ⊤}
 use Rattle.std.specs.List.{list_any}
+use Rattle.vt_spec.proofs.Options.{cons-first, cons-rest}
 
 module _ {A B : Type 0} (R : A → B → Type 0) where
   abbrev pub Each : List A → List B → Type 0
@@ -95,19 +96,13 @@ module _ {A B C : Type 0} (f : A → C) (g : B → C) where
   abbrev pub Tell : A → B → Type 0
   Tell a b = f a ≡ g b
 
-  first_same : (a c : C) (ones others : List C) → (a ∷ ones) ≡ (c ∷ others) → a ≡ c
-  first_same a c ones others same = cc
-
-  rest_same : (a c : C) (ones others : List C) → (a ∷ ones) ≡ (c ∷ others) → ones ≡ others
-  rest_same a c ones others same = cc
-
   pub each_told : (ones : List A) (others : List B) → map f ones ≡ map g others → Each Tell ones others
   each_told [] [] same = tt
   each_told [] (b ∷ others) same = cc
   each_told (a ∷ ones) [] same = cc
   each_told (a ∷ ones) (b ∷ others) same = (
-    first_same (f a) (g b) (map f ones) (map g others) same,
-    each_told ones others (rest_same (f a) (g b) (map f ones) (map g others) same),
+    cons-first (f a) (g b) (map f ones) (map g others) same,
+    each_told ones others (cons-rest (f a) (g b) (map f ones) (map g others) same),
   )
 
 module _ {A : Type 0} (R : A → A → Type 0) where

@@ -1,3 +1,11 @@
 pub mod Lists
 pub mod Nodes
 pub mod Trees
+pub mod Truths
+pub mod Options
+pub mod Refusals
+pub mod NodeChanges
+pub mod Inodes
+pub mod Descriptors
+pub mod Worlds
+pub mod Found

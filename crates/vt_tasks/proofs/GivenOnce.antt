@@ -1,37 +1,28 @@
 -- Names are given once, and no two tasks have one name.
-use Rattle.std.proofs.Common.{◌≡◌, ◌≢◌, ℕ, ◌+◌, ◌≤◌, ◌<◌, Bool, true, false, cond, ◌&&◌, ◌||◌, List, [], ◌∷◌, ◌++◌, filter, not, nat_eq, Option, Some, None, refl, sym, ap, ◌∙◌, true≢false, arith, eq-eqb, ne_eqb}
+use Rattle.std.proofs.Common.{◌≡◌, ◌≢◌, ℕ, ◌+◌, ◌≤◌, ◌<◌, Bool, true, false, cond, ◌&&◌, List, [], ◌∷◌, ◌++◌, filter, not, nat_eq, Option, Some, None, refl, sym, ap, ◌∙◌, true≢false, arith, eq-eqb, ne_eqb}
 use Rattle.std.specs.Prelude.{nat_le}
 use Rattle.std.specs.List.{list_all, list_any}
 use Rattle.std.specs.Cmp.Lexicographic.{pointwise}
-use Rattle.std.proofs.lemmas.Bool.{eqb-true, leb-true, le-leb, or_parts}
-use Rattle.vt_spec.proofs.Lists.{pair-filter, pair-map}
+use Rattle.std.proofs.lemmas.Bool.{eqb-true, leb-true, le-leb, or_parts, and_from, or_from}
+use Rattle.vt_spec.proofs.Lists.{pair-filter, pair-map, all-filter}
 use Rattle.vt_spec.specs.Language.Calls.{TaskName, same_name}
 use Rattle.vt_spec.specs.Machine.Outcome.Tasks.{child_name, child_of}
 use Rattle.vt_spec.specs.Machine.World.{Task, replaced_if_called}
 use Rattle.vt_spec.specs.Rights.{Credentials}
-use Rattle.vt_tasks.proofs.OpenLemmas.{both, both-first, both-second}
 use Rattle.vt_tasks.specs.TasksValue.{AreNamedApart, Tasks, are_given_once, called, forked_once, has_given, is_of_forks, names_of, replaced, with_child_behind, without_called}
-
--- names that are equal by their numbers are one
-pub same_names : (a b : TaskName) → same_name a b ≡ true → a ≡ b
-same_names [] [] e = refl
-same_names [] (y ∷ b) e = absurd (true≢false (sym e))
-same_names (x ∷ a) [] e = absurd (true≢false (sym e))
-same_names (x ∷ a) (y ∷ b) e = λ i. eqb-true x y (both-first _ _ e) i ∷ same_names a b (both-second _ _ e) i
-
-pub same_as_itself : (a : TaskName) → same_name a a ≡ true
-same_as_itself [] = refl
-same_as_itself (x ∷ a) = both _ _ (eq-eqb x x refl) (same_as_itself a)
+use Rattle.vt_spec.proofs.Truths.{and_true_left, and_true_right}
+use Rattle.vt_spec.proofs.Worlds.{name-replaced_if_called, same_name_itself, same_task_name}
+pub use Rattle.vt_spec.proofs.Worlds.{same_task_name as same_names}
 
 names_differ : (a b : TaskName) → same_name a b ≡ false → a ≢ b
-names_differ a b differs same = true≢false (sym (same_as_itself a) ∙ ap (same_name a) same ∙ differs)
+names_differ a b differs same = true≢false (sym (same_name_itself a) ∙ ap (same_name a) same ∙ differs)
 
 differ_back : (a b : TaskName) → same_name a b ≡ false → same_name b a ≡ false
 differ_back a b differs = by (same_name b a) refl
   where
     by : (r : Bool) → same_name b a ≡ r → r ≡ false
     by false e = refl
-    by true e = absurd (names_differ a b differs (sym (same_names b a e)))
+    by true e = absurd (names_differ a b differs (sym (same_task_name b a e)))
 
 -- a child's name is no name of the parent
 pub other-child : (name : TaskName) (number : ℕ) → same_name name (name ++ number ∷ []) ≡ false
@@ -39,42 +30,30 @@ other-child [] number = refl
 other-child (x ∷ name) number = ap (λ b. b && pointwise nat_eq name (name ++ number ∷ [])) (eq-eqb x x refl)
     ∙ other-child name number
 
-neither : (a b : Bool) → a ≡ false → b ≡ false → (a || b) ≡ false
-neither a b p q = ap (λ x. x || b) p ∙ q
-
 module _ {X : Type 0} where
   all-kept : (p q : X → Bool) (xs : List X) → ((x : X) → p x ≡ true → q x ≡ true) → list_all p xs ≡ true
       → list_all q xs ≡ true
   all-kept p q [] keeps e = refl
-  all-kept p q (x ∷ xs) keeps e = both _ _ (keeps x (both-first _ _ e)) (all-kept p q xs keeps (both-second _ _ e))
-
-  pub all-filter : (p test : X → Bool) (xs : List X) → list_all p xs ≡ true → list_all p (filter test xs) ≡ true
-  all-filter p test [] e = refl
-  all-filter p test (x ∷ xs) e = by (test x) (all-filter p test xs (both-second _ _ e))
-    where
-      by : (b : Bool) → list_all p (filter test xs) ≡ true
-          → list_all p (cond b (x ∷ filter test xs) (filter test xs)) ≡ true
-      by true rest = both _ _ (both-first _ _ e) rest
-      by false rest = rest
+  all-kept p q (x ∷ xs) keeps e = and_from _ _ (keeps x (and_true_left _ _ e)) (all-kept p q xs keeps (and_true_right _ _ e))
 
   pub all-behind : (p : X → Bool) (xs : List X) (y : X) → list_all p xs ≡ true → p y ≡ true
       → list_all p (xs ++ y ∷ []) ≡ true
-  all-behind p [] y e last = both _ _ last refl
-  all-behind p (x ∷ xs) y e last = both _ _ (both-first _ _ e) (all-behind p xs y (both-second _ _ e) last)
+  all-behind p [] y e last = and_from _ _ last refl
+  all-behind p (x ∷ xs) y e last = and_from _ _ (and_true_left _ _ e) (all-behind p xs y (and_true_right _ _ e) last)
 
   none-behind : (p : X → Bool) (xs : List X) (y : X) → list_any p xs ≡ false → p y ≡ false
       → list_any p (xs ++ y ∷ []) ≡ false
-  none-behind p [] y e last = neither (p y) false last refl
+  none-behind p [] y e last = or_from (p y) false last refl
   none-behind p (x ∷ xs) y e last =
       let parts = or_parts (p x) (list_any p xs) e in
-      neither (p x) _ parts.0 (none-behind p xs y parts.1 last)
+      or_from (p x) _ parts.0 (none-behind p xs y parts.1 last)
 
 -- the task of a name has that name
 pub name-of-called : (name : TaskName) (tasks : Tasks) (task : Task ℕ) → called name tasks ≡ Some task
     → task.name ≡ name
 name-of-called name [] task found = absurd cc
 name-of-called name (first ∷ tasks) task found =
-    by (same_name name first.name) (same_names name first.name) found (name-of-called name tasks task)
+    by (same_name name first.name) (same_task_name name first.name) found (name-of-called name tasks task)
   where
     by : (b : Bool) → (b ≡ true → name ≡ first.name) → cond b (Some first) (called name tasks) ≡ Some task
         → (called name tasks ≡ Some task → task.name ≡ name) → task.name ≡ name
@@ -86,11 +65,11 @@ pub all-called : (p : Task ℕ → Bool) (name : TaskName) (task : Task ℕ) (ta
     → list_all p tasks ≡ true → called name tasks ≡ Some task → p task ≡ true
 all-called p name task [] e found = absurd cc
 all-called p name task (first ∷ tasks) e found = by (same_name name first.name) found
-    (all-called p name task tasks (both-second _ _ e))
+    (all-called p name task tasks (and_true_right _ _ e))
   where
     by : (b : Bool) → cond b (Some first) (called name tasks) ≡ Some task
         → (called name tasks ≡ Some task → p task ≡ true) → p task ≡ true
-    by true here rest = (let is : first ≡ task = cc in λ i. p (sym is i)) ∙ both-first _ _ e
+    by true here rest = (let is : first ≡ task = cc in λ i. p (sym is i)) ∙ and_true_left _ _ e
     by false here rest = rest here
 
 -- and what holds of each name holds of its own
@@ -98,12 +77,12 @@ name-called : (p : TaskName → Bool) (name : TaskName) (task : Task ℕ) (tasks
     → list_all p (names_of tasks) ≡ true → called name tasks ≡ Some task → p name ≡ true
 name-called p name task [] e found = absurd cc
 name-called p name task (first ∷ tasks) e found =
-    by (same_name name first.name) (same_names name first.name) found
-    (name-called p name task tasks (both-second _ _ e))
+    by (same_name name first.name) (same_task_name name first.name) found
+    (name-called p name task tasks (and_true_right _ _ e))
   where
     by : (b : Bool) → (b ≡ true → name ≡ first.name) → cond b (Some first) (called name tasks) ≡ Some task
         → (called name tasks ≡ Some task → p name ≡ true) → p name ≡ true
-    by true same here rest = ap p (same refl) ∙ both-first _ _ e
+    by true same here rest = ap p (same refl) ∙ and_true_left _ _ e
     by false same here rest = rest here
 
 -- a task gives way to another of its name: what holds of that and of the others
@@ -112,23 +91,16 @@ pub all-replaced : (p q : Task ℕ → Bool) (new : Task ℕ) (tasks : Tasks) �
     → list_all q (replaced new tasks) ≡ true
 all-replaced p q new [] e here others = refl
 all-replaced p q new (first ∷ tasks) e here others =
-    both _ _ (by (same_name new.name first.name) refl) (all-replaced p q new tasks (both-second _ _ e) here others)
+    and_from _ _ (by (same_name new.name first.name) refl) (all-replaced p q new tasks (and_true_right _ _ e) here others)
   where
     by : (b : Bool) → same_name new.name first.name ≡ b → q (cond b new first) ≡ true
     by true is = here
-    by false is = others first (names_differ new.name first.name is) (both-first _ _ e)
-
-pub name-replaced : (new old : Task ℕ) → (replaced_if_called new old).name ≡ old.name
-name-replaced new old = by (same_name new.name old.name) refl
-  where
-    by : (b : Bool) → same_name new.name old.name ≡ b → (cond b new old).name ≡ old.name
-    by true e = same_names new.name old.name e
-    by false e = refl
+    by false is = others first (names_differ new.name first.name is) (and_true_left _ _ e)
 
 -- names stay where a task changes
 pub names-replaced : (new : Task ℕ) (tasks : Tasks) → names_of (replaced new tasks) ≡ names_of tasks
 names-replaced new [] = refl
-names-replaced new (first ∷ tasks) = λ i. name-replaced new first i ∷ names-replaced new tasks i
+names-replaced new (first ∷ tasks) = λ i. name-replaced_if_called new first i ∷ names-replaced new tasks i
 
 -- Names that go on from others
 
@@ -238,7 +210,7 @@ given-without name tasks given =
 pub apart-replaced : (new : Task ℕ) (tasks : Tasks) → AreNamedApart tasks → AreNamedApart (replaced new tasks)
 apart-replaced new tasks apart =
     pair-map (λ a b. same_name a.name b.name) (λ a b. same_name a.name b.name) (replaced_if_called new) tasks
-    (λ a b m n differs. (λ i. same_name (name-replaced new a i) (name-replaced new b i)) ∙ differs) apart
+    (λ a b m n differs. (λ i. same_name (name-replaced_if_called new a i) (name-replaced_if_called new b i)) ∙ differs) apart
 
 pub apart-without : (name : TaskName) (tasks : Tasks) → AreNamedApart tasks → AreNamedApart (without_called name tasks)
 apart-without name tasks apart =
@@ -258,7 +230,7 @@ apart-behind (first ∷ tasks) new apart none =
         → AreNamedApart ((first ∷ tasks) ++ new ∷ [])
     by true is here rest = absurd cc
     by false is here rest =
-        neither _ _ (none-behind (λ b. same_name first.name b.name) tasks new parts.0
+        or_from _ _ (none-behind (λ b. same_name first.name b.name) tasks new parts.0
         (differ_back new.name first.name is)) (rest here)
 
 -- where one forks

@@ -3,7 +3,6 @@ use Rattle.std.proofs.Common.{◌≡◌, ◌≢◌, ◌<◌, ℕ, ◌+◌, ◌||
 use Rattle.std.specs.Prelude.{count_by, find, nat_lt}
 use Rattle.std.specs.List.{list_any}
 use Rattle.std.proofs.lemmas.Bool.{eqb-false, eqb-true, leb-true, or_parts}
-use Rattle.std.proofs.lemmas.Bool.Decides.{nat_tests}
 use Rattle.std.proofs.lemmas.List.Concat.{flat_map-cons}
 use Rattle.std.proofs.lemmas.List.Recursion.{is_count_by}
 use Rattle.vt_location.specs.Numbers.{counted}
@@ -13,13 +12,14 @@ use Rattle.vt_spec.specs.Machine.Outcome.Descriptors.{free_number, inserted, wit
 use Rattle.vt_spec.specs.Machine.Outcome.Tasks.{child_of}
 use Rattle.vt_spec.specs.Machine.World.{Descriptor, Task, locations_of}
 use Rattle.vt_spec.specs.Machine.Invariants.{are_ascending_from}
-use Rattle.vt_tasks.proofs.GivenOnce.{name-of-called, same_names}
-use Rattle.vt_tasks.proofs.OpenLemmas.{both-first, both-second}
+use Rattle.vt_tasks.proofs.GivenOnce.{name-of-called}
 use Rattle.vt_tasks.proofs.TasksLemmas.{put}
 use Rattle.vt_tasks.specs.Counts.{ClosedUses, DirectoryUses, EnteredUses, ExitedTasks, ExitedUses, ForkedTasks, ForkedUses, HasTasksWhileCounted, MovedUses, OpenedUses, ReplacedTasks, ReplacedUses, RootUses, locations_in, one_if, tasks_in, times, uses}
 use Rattle.vt_tasks.specs.declared.task.Task.{Task as Held}
 use Rattle.vt_tasks.specs.TaskValue.{task_of}
 use Rattle.vt_tasks.specs.TasksValue.{AreNamedApart, Tasks, called, forked_once, replaced, without_called}
+use Rattle.vt_spec.proofs.Truths.{and_true_left, and_true_right, as_many_with_none, one_more_is_some}
+use Rattle.vt_spec.proofs.Worlds.{same_task_name}
 
 -- Where no task has a name
 
@@ -43,7 +43,7 @@ nobody-behind : (name : TaskName) (first : Task ℕ) (tasks : Tasks) → AreName
     → same_name name first.name ≡ true
     → list_any (λ task. same_name name task.name) tasks ≡ false
 nobody-behind name first tasks apart is =
-    ap (λ own. list_any (λ (task : Task ℕ). same_name own task.name) tasks) (same_names name first.name is)
+    ap (λ own. list_any (λ (task : Task ℕ). same_name own task.name) tasks) (same_task_name name first.name is)
     ∙ (or_parts (list_any (λ (task : Task ℕ). same_name first.name task.name) tasks) _ apart).0
 
 apart-behind-first : (first : Task ℕ) (tasks : Tasks) → AreNamedApart (first ∷ tasks) → AreNamedApart tasks
@@ -144,16 +144,10 @@ module _ {A : Type 0} (test : A → Bool) where
   any_counted [] = refl
   any_counted (a ∷ rest) = by (test a) (any_counted rest)
     where
-      one_more : (n : ℕ) → true ≡ nat_lt 0 (1 + n)
-      one_more n = grind (arith, nat_tests)
-
-      as_many : (n : ℕ) → nat_lt 0 n ≡ nat_lt 0 (0 + n)
-      as_many n = ap (nat_lt 0) (omega arith)
-
       by : (b : Bool) → list_any test rest ≡ nat_lt 0 (times test rest)
           → (b || list_any test rest) ≡ nat_lt 0 (one_if b + times test rest)
-      by true e = one_more (times test rest)
-      by false e = e ∙ as_many (times test rest)
+      by true e = one_more_is_some (times test rest)
+      by false e = e ∙ as_many_with_none (times test rest)
 
 module _ (test : Location ℕ → Bool) where
   abbrev pub weight : Task ℕ → ℕ
@@ -228,11 +222,11 @@ module _ (test : Location ℕ → Bool) where
       → filter (λ d. not (nat_eq number d.number)) ds ≡ ds
   others-above number least [] less rising = refl
   others-above number least (d ∷ ds) less rising =
-      let at = leb-true least d.number (both-first _ _ rising) in
+      let at = leb-true least d.number (and_true_left _ _ rising) in
       ap (λ b. cond (not b) (d ∷ filter (λ d. not (nat_eq number d.number)) ds)
       (filter (λ d. not (nat_eq number d.number)) ds))
       (ne_eqb number d.number (λ same. omega (arith, less, same, at)))
-      ∙ ap (λ rest. d ∷ rest) (others-above number (d.number + 1) ds (omega (arith, less, at)) (both-second _ _ rising))
+      ∙ ap (λ rest. d ∷ rest) (others-above number (d.number + 1) ds (omega (arith, less, at)) (and_true_right _ _ rising))
 
   files-closed : (number least : ℕ) (ds : List (Descriptor ℕ)) (descriptor : Descriptor ℕ)
       → are_ascending_from least ds ≡ true
@@ -241,7 +235,7 @@ module _ (test : Location ℕ → Bool) where
   files-closed number least [] descriptor rising found = absurd cc
   files-closed number least (d ∷ ds) descriptor rising found =
       by (nat_eq number d.number) (eqb-true number d.number) found
-      (files-closed number (d.number + 1) ds descriptor (both-second _ _ rising))
+      (files-closed number (d.number + 1) ds descriptor (and_true_right _ _ rising))
     where
       here_so : (a w u t : ℕ) → u ≡ w → a ≡ t → a + w ≡ u + t
       here_so a w u t first_is rest_is = omega (arith, first_is, rest_is)
@@ -261,7 +255,7 @@ module _ (test : Location ℕ → Bool) where
           let is : d ≡ descriptor = cc in
           here_so _ (one_if (test descriptor.location)) (one_if (test d.location)) (files ds)
           (ap (λ (e : Descriptor ℕ). one_if (test e.location)) is)
-          (ap files (others-above number (d.number + 1) ds (omega (arith, same refl)) (both-second _ _ rising)))
+          (ap files (others-above number (d.number + 1) ds (omega (arith, same refl)) (and_true_right _ _ rising)))
       by false same here rest = later_so _ (one_if (test d.location)) (one_if (test descriptor.location)) (files ds)
           (rest here)
 

@@ -1,11 +1,11 @@
 -- Open files in the order of their numbers.
-use Rattle.std.proofs.Common.{◌≡◌, ◌≢◌, ℕ, ◌+◌, ◌≤◌, ◌<◌, Bool, true, false, cond, ◌&&◌, List, [], ◌∷◌, ◌++◌, map, filter, length, not, nat_eq, nat_lt, Some, None, option_map, refl, sym, ap, ◌∙◌, true≢false, arith, lt-ltb, le-ltb, eq-eqb, ne_eqb}
+use Rattle.std.proofs.Common.{◌≡◌, ◌≢◌, ℕ, ◌+◌, ◌≤◌, ◌<◌, Bool, true, false, cond, List, [], ◌∷◌, ◌++◌, map, filter, length, not, nat_eq, nat_lt, Some, None, option_map, refl, sym, ap, ◌∙◌, true≢false, arith, lt-ltb, le-ltb, eq-eqb, ne_eqb}
 use Rattle.std.specs.Prelude.{find, nat_le, insert, remove, slice_get, suc, zero, if◌then◌else◌, ◌-◌}
 use Rattle.std.specs.Option.{option_map_or}
 use Rattle.indexmap.specs.IndexMap.{IndexMap, get, index_before, insert_entry, insert_index, move_index}
 use Rattle.indexmap.proofs.CallerLemmas.{insert_entry-new}
 use Rattle.indexmap.proofs.MapLemmas.{absent_from_lookup, or_len-absent}
-use Rattle.std.proofs.lemmas.Bool.{eqb-true, eqb-false, leb-true, le-leb}
+use Rattle.std.proofs.lemmas.Bool.{eqb-true, eqb-false, leb-true, le-leb, and_from}
 use Rattle.std.specs.Map.{keys_of, lookup, remove_entry, values_of}
 use Rattle.vt_spec.specs.Machine.Outcome.Descriptors.{free_from, inserted}
 use Rattle.vt_spec.specs.Machine.World.{Descriptor}
@@ -13,6 +13,7 @@ use Rattle.vt_tasks.specs.declared.descriptors.OpenFile.{OpenFile}
 use Rattle.vt_location.specs.Locations.{location_of}
 use Rattle.vt_request.specs.Requests.{access_of}
 use Rattle.vt_tasks.specs.Open.{are_ascending, descriptor_of, numbered}
+use Rattle.vt_spec.proofs.Truths.{and_true_left, and_true_right}
 
 abbrev pub opened : List (ℕ × OpenFile) → List (Descriptor ℕ)
 opened es = map descriptor_of es
@@ -30,40 +31,29 @@ find-opened number (e ∷ es) = by (nat_eq number e.0) (eqb-true number e.0) (fi
     by true same rest = ap (λ n. Some (numbered n e.1)) (same refl)
     by false same rest = rest
 
-pub both-first : (a b : Bool) → (a && b) ≡ true → a ≡ true
-both-first true b e = refl
-both-first false b e = e
-
-pub both-second : (a b : Bool) → (a && b) ≡ true → b ≡ true
-both-second true b e = e
-both-second false b e = absurd (true≢false (sym e))
-
-pub both : (a b : Bool) → a ≡ true → b ≡ true → (a && b) ≡ true
-both a b p q = ap (λ x. x && b) p ∙ q
-
 -- the first number of a list that rises
 first_number : (least : ℕ) (x : ℕ × OpenFile) (es : List (ℕ × OpenFile)) → are_ascending least (x ∷ es) ≡ true
     → least ≤ x.0
-first_number least x es e = leb-true least x.0 (both-first _ _ e)
+first_number least x es e = leb-true least x.0 (and_true_left _ _ e)
 
 -- what rises from a number on rises from a lower one on
 pub ascending_from : (low least : ℕ) (es : List (ℕ × OpenFile)) → low ≤ least → are_ascending least es ≡ true
     → are_ascending low es ≡ true
 ascending_from low least [] lower e = refl
 ascending_from low least (x ∷ es) lower e =
-    both (nat_le low x.0) _ (le-leb low x.0 (omega (arith, lower, first_number least x es e))) (both-second _ _ e)
+    and_from (nat_le low x.0) _ (le-leb low x.0 (omega (arith, lower, first_number least x es e))) (and_true_right _ _ e)
 
 -- one that is taken out leaves the others rising
 pub ascending-removed : (number least : ℕ) (es : List (ℕ × OpenFile)) → are_ascending least es ≡ true
     → are_ascending least (remove_entry (nat_eq number) es) ≡ true
 ascending-removed number least [] e = refl
 ascending-removed number least (x ∷ es) e = by (nat_eq number x.0)
-    (ascending-removed number (x.0 + 1) es (both-second _ _ e))
+    (ascending-removed number (x.0 + 1) es (and_true_right _ _ e))
   where
     by : (b : Bool) → are_ascending (x.0 + 1) (remove_entry (nat_eq number) es) ≡ true
         → are_ascending least (cond b es (x ∷ remove_entry (nat_eq number) es)) ≡ true
-    by true rest = ascending_from least (x.0 + 1) es (omega (arith, first_number least x es e)) (both-second _ _ e)
-    by false rest = both (nat_le least x.0) _ (both-first _ _ e) rest
+    by true rest = ascending_from least (x.0 + 1) es (omega (arith, first_number least x es e)) (and_true_right _ _ e)
+    by false rest = and_from (nat_le least x.0) _ (and_true_left _ _ e) rest
 
 -- greater numbers are all others
 filter-above : (number least : ℕ) (es : List (ℕ × OpenFile)) → number < least → are_ascending least es ≡ true
@@ -71,7 +61,7 @@ filter-above : (number least : ℕ) (es : List (ℕ × OpenFile)) → number < l
 filter-above number least [] less e = refl
 filter-above number least (x ∷ es) less e =
     by (nat_eq number x.0) (ne_eqb number x.0 (λ same. omega (arith, less, same, first_number least x es e)))
-    (filter-above number (x.0 + 1) es (omega (arith, less, first_number least x es e)) (both-second _ _ e))
+    (filter-above number (x.0 + 1) es (omega (arith, less, first_number least x es e)) (and_true_right _ _ e))
   where
     by : (b : Bool) → b ≡ false → filter (λ d. not (nat_eq number d.number)) (opened es) ≡ opened es
         → cond (not b) (descriptor_of x ∷ filter (λ d. not (nat_eq number d.number)) (opened es))
@@ -83,14 +73,14 @@ pub opened-removed : (number least : ℕ) (es : List (ℕ × OpenFile)) → are_
     → opened (remove_entry (nat_eq number) es) ≡ filter (λ d. not (nat_eq number d.number)) (opened es)
 opened-removed number least [] e = refl
 opened-removed number least (x ∷ es) e =
-    by (nat_eq number x.0) (eqb-true number x.0) (opened-removed number (x.0 + 1) es (both-second _ _ e))
+    by (nat_eq number x.0) (eqb-true number x.0) (opened-removed number (x.0 + 1) es (and_true_right _ _ e))
   where
     by : (b : Bool) → (b ≡ true → number ≡ x.0)
         → opened (remove_entry (nat_eq number) es) ≡ filter (λ d. not (nat_eq number d.number)) (opened es)
         → opened (cond b es (x ∷ remove_entry (nat_eq number) es))
         ≡ cond (not b) (descriptor_of x ∷ filter (λ d. not (nat_eq number d.number)) (opened es))
         (filter (λ d. not (nat_eq number d.number)) (opened es))
-    by true same rest = sym (filter-above number (x.0 + 1) es (omega (arith, same refl)) (both-second _ _ e))
+    by true same rest = sym (filter-above number (x.0 + 1) es (omega (arith, same refl)) (and_true_right _ _ e))
     by false same rest = ap (λ ds. descriptor_of x ∷ ds) rest
 
 -- An item behind all others that moves to an earlier place is put in there
@@ -149,7 +139,7 @@ opened-inserted held free least zero (x ∷ es) e here at =
         (lt-ltb free x.0 (omega (arith, other refl, at, first_number least x es e)))
 opened-inserted held free least (suc gap) (x ∷ es) e here at =
     by (nat_eq x.0 least) (eqb-true x.0 least) here
-    (λ same found. opened-inserted held free (x.0 + 1) gap es (both-second _ _ e)
+    (λ same found. opened-inserted held free (x.0 + 1) gap es (and_true_right _ _ e)
     (ap (λ n. free_from (n + 1) (opened es)) same ∙ found) (omega (arith, at, same)))
   where
     by : (b : Bool) → (b ≡ true → x.0 ≡ least) → cond b (free_from (least + 1) (opened es)) least ≡ free
@@ -165,9 +155,9 @@ opened-inserted held free least (suc gap) (x ∷ es) e here at =
 pub ascending-inserted : (held : OpenFile) (free least gap : ℕ) (es : List (ℕ × OpenFile))
     → are_ascending least es ≡ true
     → free_from least (opened es) ≡ free → free ≡ least + gap → are_ascending least (insert es gap (free, held)) ≡ true
-ascending-inserted held free least zero [] e here at = both (nat_le least free) true
+ascending-inserted held free least zero [] e here at = and_from (nat_le least free) true
     (le-leb least free (omega (arith, at))) refl
-ascending-inserted held free least (suc gap) [] e here at = both (nat_le least free) true
+ascending-inserted held free least (suc gap) [] e here at = and_from (nat_le least free) true
     (le-leb least free (omega (arith, at))) refl
 ascending-inserted held free least zero (x ∷ es) e here at =
     by (nat_eq x.0 least) (eqb-false x.0 least) here (free-least (least + 1) es)
@@ -177,19 +167,19 @@ ascending-inserted held free least zero (x ∷ es) e here at =
         → are_ascending least ((free, held) ∷ x ∷ es) ≡ true
     by true other found above = absurd (omega (arith, found, above, at))
     by false other found above =
-        both (nat_le least free) _ (le-leb least free (omega (arith, at)))
-        (both (nat_le (free + 1) x.0) _
-        (le-leb (free + 1) x.0 (omega (arith, other refl, at, first_number least x es e))) (both-second _ _ e))
+        and_from (nat_le least free) _ (le-leb least free (omega (arith, at)))
+        (and_from (nat_le (free + 1) x.0) _
+        (le-leb (free + 1) x.0 (omega (arith, other refl, at, first_number least x es e))) (and_true_right _ _ e))
 ascending-inserted held free least (suc gap) (x ∷ es) e here at =
     by (nat_eq x.0 least) (eqb-true x.0 least) here
-    (λ same found. ascending-inserted held free (x.0 + 1) gap es (both-second _ _ e)
+    (λ same found. ascending-inserted held free (x.0 + 1) gap es (and_true_right _ _ e)
     (ap (λ n. free_from (n + 1) (opened es)) same ∙ found) (omega (arith, at, same)))
   where
     by : (b : Bool) → (b ≡ true → x.0 ≡ least) → cond b (free_from (least + 1) (opened es)) least ≡ free
         → (x.0 ≡ least → free_from (least + 1) (opened es) ≡ free
         → are_ascending (x.0 + 1) (insert es gap (free, held)) ≡ true)
         → are_ascending least (x ∷ insert es gap (free, held)) ≡ true
-    by true same found rest = both (nat_le least x.0) _ (both-first _ _ e) (rest (same refl) found)
+    by true same found rest = and_from (nat_le least x.0) _ (and_true_left _ _ e) (rest (same refl) found)
     by false same found rest = absurd (omega (arith, found, at))
 
 -- The least free number: no more than there are open files, and under none of them
@@ -208,14 +198,14 @@ lookup-above number least [] less e = refl
 lookup-above number least (x ∷ es) less e =
     ap (λ b. cond b (Some x.1) (lookup (nat_eq number) es))
     (ne_eqb number x.0 (λ same. omega (arith, less, same, first_number least x es e)))
-    ∙ lookup-above number (x.0 + 1) es (omega (arith, less, first_number least x es e)) (both-second _ _ e)
+    ∙ lookup-above number (x.0 + 1) es (omega (arith, less, first_number least x es e)) (and_true_right _ _ e)
 
 pub lookup-free : (free least : ℕ) (es : List (ℕ × OpenFile)) → are_ascending least es ≡ true
     → free_from least (opened es) ≡ free → lookup (nat_eq free) es ≡ None
 lookup-free free least [] e here = refl
 lookup-free free least (x ∷ es) e here =
     by (nat_eq x.0 least) (eqb-true x.0 least) (eqb-false x.0 least) here (free-least (least + 1) es)
-    (λ same found. lookup-free free (x.0 + 1) es (both-second _ _ e)
+    (λ same found. lookup-free free (x.0 + 1) es (and_true_right _ _ e)
     (ap (λ n. free_from (n + 1) (opened es)) same ∙ found))
   where
     by : (b : Bool) → (b ≡ true → x.0 ≡ least) → (b ≡ false → x.0 ≢ least)
@@ -228,7 +218,7 @@ lookup-free free least (x ∷ es) e here =
     by false same other found above rest =
         ap (λ b. cond b (Some x.1) (lookup (nat_eq free) es))
         (ne_eqb free x.0 (λ is. omega (arith, is, other refl, found)))
-        ∙ lookup-above free (x.0 + 1) es (omega (arith, found, first_number least x es e)) (both-second _ _ e)
+        ∙ lookup-above free (x.0 + 1) es (omega (arith, found, first_number least x es e)) (and_true_right _ _ e)
 
 -- A file that is opened under the least free number and closed again leaves the others as they were
 
@@ -252,7 +242,7 @@ others-free : (free least : ℕ) (es : List (ℕ × OpenFile)) → are_ascending
 others-free free least [] e here = refl
 others-free free least (x ∷ es) e here =
     by (nat_eq x.0 least) (eqb-true x.0 least) (eqb-false x.0 least) here (free-least (least + 1) es)
-    (λ same found. others-free free (x.0 + 1) es (both-second _ _ e)
+    (λ same found. others-free free (x.0 + 1) es (and_true_right _ _ e)
     (ap (λ n. free_from (n + 1) (opened es)) same ∙ found))
   where
     kept : free ≢ x.0 → others free (opened es) ≡ opened es → others free (opened (x ∷ es)) ≡ opened (x ∷ es)
@@ -268,7 +258,7 @@ others-free free least (x ∷ es) e here =
         (rest (same refl) found)
     by false same other found above rest =
         kept (λ is. omega (arith, is, other refl, found))
-        (filter-above free (x.0 + 1) es (omega (arith, found, first_number least x es e)) (both-second _ _ e))
+        (filter-above free (x.0 + 1) es (omega (arith, found, first_number least x es e)) (and_true_right _ _ e))
 
 pub closed-again : (held : OpenFile) (free : ℕ) (es : List (ℕ × OpenFile)) (old new : List (Descriptor ℕ))
     → are_ascending 0 es ≡ true → opened es ≡ old

@@ -1,19 +1,12 @@
 -- How often tasks use locations and namespaces, where a pivot moves them.
 use Rattle.std.proofs.Common.{◌≡◌, ℕ, ◌+◌, Bool, true, false, cond, [], ◌∷◌, if◌then◌else◌, map, nat_eq, refl, sym, ap, ◌∙◌, arith}
-use Rattle.std.proofs.lemmas.Bool.{eqb-true}
 use Rattle.vt_spec.specs.Machine.Mounts.{Location, Mount, root_of, same_location}
 use Rattle.vt_spec.specs.Machine.Namespaces.{pivoted_location, pivoted_task}
 use Rattle.vt_spec.specs.Machine.World.{Task}
 use Rattle.vt_tasks.proofs.LocationLemmas.{files, total, uses-total, weight}
-use Rattle.vt_tasks.proofs.OpenLemmas.{both-first, both-second}
 use Rattle.vt_tasks.specs.Counts.{PivotedTasks, PivotedUses, all_places_at, one_if, places_at}
 use Rattle.vt_tasks.specs.TasksValue.{Tasks}
-
-same_locations : (a b : Location ℕ) → same_location nat_eq a b ≡ true → a ≡ b
-same_locations a b e =
-    let mount = eqb-true a.mount b.mount (both-first _ _ e) in
-    let node = eqb-true a.node b.node (both-second (nat_eq a.mount b.mount) _ e) in
-    λ i. record { mount = mount i; node = node i }
+use Rattle.vt_spec.proofs.Worlds.{same_location_is}
 
 -- so many, where a test passes
 abbrev if_so : Bool → ℕ → ℕ
@@ -34,7 +27,7 @@ module _ (test : Location ℕ → Bool) (namespace : ℕ) (root new : Mount ℕ)
       → one_if (test (pivoted_location nat_eq root new at)) + if_so (test first)
       (one_if (same_location nat_eq at first))
       ≡ one_if (test at) + if_so (test second) (one_if (same_location nat_eq at first))
-  one_moved at = by (same_location nat_eq at first) (same_locations at first)
+  one_moved at = by (same_location nat_eq at first) (same_location_is at first)
     where
       none : (b : Bool) → if_so b 0 ≡ 0
       none true = refl

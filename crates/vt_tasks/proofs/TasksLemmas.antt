@@ -17,13 +17,15 @@ use Rattle.vt_spec.specs.Machine.Outcome.Tasks.{child_name, child_of}
 use Rattle.vt_spec.specs.Machine.World.{Descriptor, Task, replaced_if_called}
 use Rattle.vt_spec.specs.Machine.Invariants.{are_ascending_from}
 use Rattle.vt_spec.specs.Rights.{Credentials}
-use Rattle.vt_tasks.proofs.GivenOnce.{all-behind, all-called, all-filter, all-replaced, apart-forked, apart-replaced, apart-without, child-new, given-changed, given-forked, given-without, name-of-called, other-child, same_names}
+use Rattle.vt_tasks.proofs.GivenOnce.{all-behind, all-called, all-replaced, apart-forked, apart-replaced, apart-without, child-new, given-changed, given-forked, given-without, name-of-called, other-child}
 use Rattle.vt_tasks.proofs.OrderLemmas.{rising-inserted}
 use Rattle.vt_tasks.specs.declared.descriptors.OpenFile.{OpenFile}
 use Rattle.vt_tasks.specs.declared.task.Task.{Task as Held}
 use Rattle.vt_tasks.specs.Open.{numbered}
 use Rattle.vt_tasks.specs.TaskValue.{task_of}
 use Rattle.vt_tasks.specs.TasksValue.{AreFit, AreKeyed, AreNamedApart, Tasks, are_given_once, called, changed_by, changed_called, forked, forked_by, forked_once, has_files_in_order, replaced, tasks_of, with_child_behind, without_called}
+use Rattle.vt_spec.proofs.Lists.{all-filter}
+use Rattle.vt_spec.proofs.Worlds.{same_task_name}
 
 -- the tasks with this one in the place of the one of a name
 abbrev pub put_if : TaskName → Task ℕ → Task ℕ → Task ℕ
@@ -103,7 +105,7 @@ module _ {A : Type 0} where
   keyed-set_value : (name : TaskName) (w : Held) (es : List (Vec ℕ A × Held)) → AreKeyed es → w.name ≡ name
       → AreKeyed (set_value (is_key name) es w)
   keyed-set_value name w [] keyed same = keyed
-  keyed-set_value name w (e ∷ es) keyed same = by (is_key name e.0) (same_names name e.0.items)
+  keyed-set_value name w (e ∷ es) keyed same = by (is_key name e.0) (same_task_name name e.0.items)
       (keyed-set_value name w es keyed.1 same)
     where
       by : (b : Bool) → (b ≡ true → name ≡ e.0.items) → AreKeyed (set_value (is_key name) es w)
@@ -254,7 +256,7 @@ put-twice name first second (task ∷ tasks) same = λ i. by (same_name name tas
     ∷ put-twice name first second tasks same i
   where
     itself : same_name name task.name ≡ true → same_name name first.name ≡ true
-    itself is = ap (same_name name) (same ∙ same_names name task.name is) ∙ is
+    itself is = ap (same_name name) (same ∙ same_task_name name task.name is) ∙ is
 
     by : (b : Bool) → same_name name task.name ≡ b → put_if name second (cond b first task) ≡ cond b second task
     by true is = ap (λ b. cond b second first) (itself is)
@@ -271,7 +273,7 @@ called-put name old new (task ∷ tasks) same found = by (same_name name task.na
         → called name (cond b new task ∷ put name new tasks) ≡ Some new
     by true is here rest =
         ap (λ b. cond b (Some new) (called name (put name new tasks)))
-        (ap (same_name name) (same ∙ same_names name task.name is) ∙ is)
+        (ap (same_name name) (same ∙ same_task_name name task.name is) ∙ is)
     by false is here rest = ap (λ b. cond b (Some task) (called name (put name new tasks))) is ∙ rest here
 
 module _ {A S : Type 0} (name : TaskName) (m n : IndexMap (Vec ℕ A) Held S) (fit : AreFit m.entries) where
@@ -299,10 +301,6 @@ if-ok P Q (Ok t) so e = so t e
 if-ok P Q (Err e) so _ = tt
 
 module _ {T E P Q : Type 0} where
-  pub on-ok : (r : Result T E) → (P → Q) → OnOk r P → OnOk r Q
-  on-ok (Ok t) so e = so e
-  on-ok (Err e) so _ = tt
-
   pub on-err : (r : Result T E) → (P → Q) → OnErr r P → OnErr r Q
   on-err (Ok t) so _ = tt
   on-err (Err e) so p = so p

@@ -4,7 +4,7 @@ use Rattle.std.proofs.lemmas.Bool.Decides.{eqb_tells}
 use Rattle.std.proofs.lemmas.Float.{T_from_true}
 use Rattle.std.specs.Str.{bytes_eq}
 use Rattle.std.specs.Cmp.Lexicographic.{bytes_decides, nat_list_cmp_total}
-use Rattle.std.specs.FinMap.Entries.{find-where_key, is_sorted, is_sorted-put, is_sorted-where_key, same_entries}
+use Rattle.std.specs.FinMap.Entries.{is_sorted, is_sorted-put, is_sorted-where_key, same_entries}
 use Rattle.std.specs.Ordering.{eq_by_cmp, is_eq}
 use Rattle.vt_spec.specs.Language.Changes.{node_with_parent, node_without_entry, without_entry}
 use Rattle.vt_spec.specs.Fits.{MayReplace}
@@ -12,14 +12,7 @@ use Rattle.vt_spec.specs.Inodes.{Inode, Inodes, inode_with_node, node_in, tree_o
 use Rattle.vt_spec.specs.TreeLaws.{entry_at}
 use Rattle.vt_spec.specs.Tree.{Content, Entries, Node, Tree, entries_in, entries_of, entry_named, name_cmp, node_with_entry, with_entries, with_entry}
 use Rattle.vt_spec.specs.Tree.Content.{Directory, Regular, Symlink, Whiteout}
-use Rattle.vt_spec.proofs.Nodes.{entry_named-with_entry, same_name}
-
--- entries without a name lead by the others where they led
-entry_named-without_entry : (q name : List ℕ) (entries : Entries ℕ)
-    → entry_named q (without_entry name entries) ≡ cond (not (bytes_eq q name)) (entry_named q entries) None
-entry_named-without_entry q name entries =
-    find-where_key name_cmp (λ x. not (bytes_eq x name)) q
-    (λ x tied. ap (λ y. not (bytes_eq y name)) (sym (same_name q x (ap is_eq tied)))) entries
+use Rattle.vt_spec.proofs.Nodes.{entry_named-with_entry, same_name, entry_named-without_entry}
 
 module _ (old new : List ℕ) (object : ℕ) (differ : old ≢ new) where
   other_name : (q : List ℕ) → q ≡ new → bytes_eq q old ≡ false

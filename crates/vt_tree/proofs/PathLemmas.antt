@@ -99,9 +99,6 @@ module _ (inodes : Inodes ℕ) (top : ℕ) where
 
 -- The name of a directory in its parent
 
-one_number : (a b : ℕ) → Some a ≡ Some b → a ≡ b
-one_number a b e = cc
-
 module _ (tree : Tree ℕ) (once : NamesDirectoriesOnce tree) (directory : ℕ) where
   abbrev parent : ℕ
   parent = parent_in directory (tree.node directory)
@@ -217,8 +214,3 @@ map-reverse f (x ∷ xs) =
     ap (map f) (reverse-append (x ∷ []) xs) ∙ map-append f (reverse xs) (x ∷ [])
     ∙ ap (λ rest. rest ++ f x ∷ []) (map-reverse f xs)
     ∙ sym (reverse-append (f x ∷ []) (map f xs))
-
--- the answer of a test, where it was negated
-pub negated : (b c : Bool) → c ≡ not b → b ≡ not c
-negated true c e = sym (ap not e)
-negated false c e = sym (ap not e)

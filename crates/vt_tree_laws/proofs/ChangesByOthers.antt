@@ -19,8 +19,8 @@ use Rattle.vt_spec.specs.Machine.Rows.{lacks}
 use Rattle.vt_spec.specs.Machine.Types.{named_mounts, retyped_mount, with_new_groups, with_type}
 use Rattle.vt_spec.specs.Machine.Walk.{directory_walk, symlink_walk, object_walk}
 use Rattle.vt_spec.specs.Machine.World.{Task, World, mount_at, mount_numbered, task_called, with_task, without_task}
-use Rattle.vt_tree_laws.proofs.TreesOfWorlds.{regrouped_filesystems, taken_filesystems}
 use Rattle.vt_tree_laws.proofs.TreesWalked.{after_any, after_holds, judged_holds}
+use Rattle.vt_spec.proofs.Worlds.{filesystems-regrouped, filesystems-taken_away}
 
 -- Mounts that go, or get another type, leave the filesystems
 
@@ -30,7 +30,7 @@ lazily_filesystems [] world = refl
 lazily_filesystems (mount ∷ mounts) world = lazily_filesystems mounts (unmounted_if_there nat_eq world mount) ∙ by _
   where
     by : (b : Bool) → (cond b (unmounted nat_eq world mount.number) world).filesystems ≡ world.filesystems
-    by true = taken_filesystems world _
+    by true = filesystems-taken_away world _
     by false = refl
 
 pub typed_filesystems : (fresh : Fresh ℕ) (world : World ℕ) (number : ℕ) (word : TypeWord) (recursive : Bool)
@@ -38,7 +38,7 @@ pub typed_filesystems : (fresh : Fresh ℕ) (world : World ℕ) (number : ℕ) (
 typed_filesystems fresh world number word recursive =
     let named = named_mounts nat_eq world number recursive in
     let group = numbers_by nat_eq fresh named in
-    regrouped_filesystems (record world {
+    filesystems-regrouped (record world {
       mounts = map (retyped_mount nat_eq group word named) world.mounts;
       master = with_new_groups nat_eq group world.master named;
     })
@@ -47,7 +47,7 @@ module _ (P : World ℕ → Type 0) (alike : (a b : World ℕ) → a.filesystems
     (fresh : Fresh ℕ) (world : World ℕ) (task : Task ℕ) (conditions : P world) where
   ended_keeps : (after_call : World ℕ) → P after_call → P (namespaces_ended nat_eq after_call)
   ended_keeps after_call kept = alike (namespaces_ended nat_eq after_call) after_call
-      (taken_filesystems after_call _) kept
+      (filesystems-taken_away after_call _) kept
 
   -- calls that look
   pub list_keeps : (path : List ℕ) → P (list_outcome nat_eq world task path).world
@@ -199,7 +199,7 @@ module _ (P : World ℕ → Type 0) (alike : (a b : World ℕ) → a.filesystems
       after_any P world (directory_walk nat_eq world task path) _ conditions (λ here.
       judged_holds P world (umount_rules nat_eq world task here.location)
       (granted Done (unmounted nat_eq world here.location.mount)) conditions
-      (λ passed. alike (unmounted nat_eq world here.location.mount) world (taken_filesystems world _) conditions)))
+      (λ passed. alike (unmounted nat_eq world here.location.mount) world (filesystems-taken_away world _) conditions)))
 
   pub lazy_keeps : (path : List ℕ) → P (lazy_outcome nat_eq world task path).world
   unfolding lazy_outcome

@@ -2,47 +2,32 @@
 use Rattle.std.proofs.Common.{eqb-true, ◌≡◌, ◌≢◌, refl, sym, ap, subst, ◌∙◌, true≢false, ℕ, nat_eq, eq-eqb, Bool, true, false, not, List, [], ◌∷◌, ◌&&◌, Option, Some, None, is_some, option_map}
 use Rattle.std.specs.Prelude.{unwrap_or}
 use Rattle.vt_spec.specs.declared.errors.Rule.TheVariants.{E2, W3}
-use Rattle.vt_spec.specs.Rights.{is_directory}
-use Rattle.vt_spec.specs.Tree.{Content, Entries, Node, entries_in, entries_of, entry_named, is_directory_node, kind_of}
-use Rattle.vt_spec.specs.Tree.Content.{Directory, Regular, Symlink, Whiteout}
+use Rattle.vt_spec.specs.Tree.{entries_in, entry_named, is_directory_node}
 use Rattle.vt_spec.specs.TreeLaws.{IsDirectory, IsReached, IsTree, entry_at, led}
 use Rattle.vt_spec.specs.Language.Changes.{Change}
 use Rattle.vt_spec.specs.Machine.Detach.{taken_away, without_mounts_on}
 use Rattle.vt_spec.specs.FileTree.{FileTree, is_directory_under}
 use Rattle.vt_spec.specs.Machine.Filesystems.{with_change}
-use Rattle.vt_spec.specs.Lists.{Fresh, holds_of, is_empty_list}
+use Rattle.vt_spec.specs.Lists.{Fresh, holds_of}
 use Rattle.vt_spec.specs.Machine.Mounts.{Location}
 use Rattle.vt_spec.specs.Machine.Outcome.Removing.{is_filled, is_one_object, moving, object_there, old_word_rules, removing, rename_new_walk, rename_outcome, rename_rules, renamed_by, rmdir_outcome, rmdir_rules, rmdir_word_rules, same_filesystem, same_object_rules, unlink_outcome, unlink_rules, without_replaced}
 use Rattle.vt_spec.specs.Machine.Outcomes.{granted}
 use Rattle.vt_spec.specs.Language.Answers.Answer.{Done}
-use Rattle.vt_spec.specs.Machine.Walk.{LastWord, Place, entry_location, is_directory_there, is_dot, is_dot_dot, is_no_word, is_special, name_of, new_name_rules, new_walk, old_leaf_walk, old_walk}
-use Rattle.vt_spec.specs.Machine.Walk.LastWord.{Dot, DotDot, Named, NoWord}
+use Rattle.vt_spec.specs.Machine.Walk.{Place, entry_location, is_directory_there, is_special, name_of, new_name_rules, new_walk, old_leaf_walk, old_walk}
 use Rattle.vt_spec.specs.Machine.World.{Task, World, files_at, is_directory_at, is_removed_at, mount_at, node_at}
 use Rattle.vt_spec.proofs.Nodes.{none_is_not}
 use Rattle.vt_spec.proofs.Trees.{found}
 use Rattle.vt_tree_laws.specs.Trees.{IsFileTree, IsProper, MayMove, MayRemove}
 use Rattle.vt_tree_laws.specs.Trees.Calls.{IsWorldOfTrees}
 use Rattle.vt_tree_laws.proofs.TreesAbove.{under_seen}
-use Rattle.vt_tree_laws.proofs.TreesOfWorlds.{change_keeps_world, same_filesystems, taken_files, taken_filesystems}
+use Rattle.vt_tree_laws.proofs.TreesOfWorlds.{change_keeps_world, same_filesystems, taken_files}
 use Rattle.vt_tree_laws.proofs.TreesReached.{filled_reached, not_removed_reached}
-use Rattle.vt_tree_laws.proofs.TreesRearranged.{node_with_entries}
 use Rattle.vt_tree_laws.proofs.TreesWalked.{Ends, IsNewPlace, IsOldPlace, IsPlace, Passed, after_ends, ends_new_walk, ends_old_leaf_walk, ends_old_walk, ends_then, ends_unless, judged_holds, place_named}
 use Rattle.std.proofs.lemmas.Option.{same_Some}
-
--- what is no directory has no entries
-pub no_directory_empty : (o : Option (Node ℕ)) → is_directory_node o ≡ false → entries_in o ≡ []
-no_directory_empty None e = refl
-no_directory_empty (Some node) e = by node.content e
-  where
-    by : (content : Content ℕ) → is_directory (kind_of content) ≡ false → entries_of content ≡ []
-    by (Directory parent entries opaque) h = absurd (true≢false h)
-    by (Regular bytes) h = refl
-    by (Symlink text) h = refl
-    by Whiteout h = refl
-
-pub empty_list : (entries : Entries ℕ) → not (is_empty_list entries) ≡ false → entries ≡ []
-empty_list [] e = refl
-empty_list (entry ∷ entries) e = absurd (true≢false e)
+use Rattle.std.proofs.lemmas.Bool.{and_from, not-false}
+use Rattle.vt_spec.proofs.NodeChanges.{directory_from_entry, entries_in-no_directory, nil_from_not_some}
+use Rattle.vt_spec.proofs.Truths.{and_from_three}
+use Rattle.vt_spec.proofs.Worlds.{filesystems-taken_away, special_word}
 
 -- the tree that a mount shows
 abbrev pub shown : World ℕ → ℕ → FileTree ℕ
@@ -101,14 +86,7 @@ module _ (fresh : Fresh ℕ) (world : World ℕ) (task : Task ℕ) (conditions :
       (λ passed.
       change_keeps_world fresh world place.parent (removing place (object_there place)) conditions (λ trees.
       old_removable world place plain.0 is.0 is.1
-      (no_directory_empty (node_at nat_eq world (object_there place)) passed.0)))))
-
-  no_special : (last : LastWord) → is_dot_dot last ≡ false → is_dot last ≡ false → is_no_word last ≡ false
-      → is_special last ≡ false
-  no_special NoWord a b c = c
-  no_special Dot a b c = b
-  no_special DotDot a b c = a
-  no_special (Named name) a b c = refl
+      (entries_in-no_directory (node_at nat_eq world (object_there place)) passed.0)))))
 
   -- a change after mounts were taken away
   change_after_keeps : (gone : List ℕ) (location : Location ℕ) (change : Change ℕ)
@@ -116,7 +94,7 @@ module _ (fresh : Fresh ℕ) (world : World ℕ) (task : Task ℕ) (conditions :
       → IsWorldOfTrees (with_change nat_eq fresh (taken_away nat_eq world gone) location change)
   change_after_keeps gone location change proper =
       change_keeps_world fresh (taken_away nat_eq world gone) location change
-      (same_filesystems (taken_away nat_eq world gone) world (taken_filesystems world gone) conditions)
+      (same_filesystems (taken_away nat_eq world gone) world (filesystems-taken_away world gone) conditions)
       (λ trees. subst (λ files. IsProper files.tree change) (sym (taken_files world gone location))
       (proper (subst IsFileTree (taken_files world gone location) trees)))
 
@@ -131,8 +109,8 @@ module _ (fresh : Fresh ℕ) (world : World ℕ) (task : Task ℕ) (conditions :
       (with_change nat_eq fresh (without_mounts_on nat_eq world (object_there place)) place.parent
       (removing place (object_there place)))) conditions (λ passed.
       change_after_keeps _ place.parent (removing place (object_there place)) (λ trees.
-      old_removable world place (no_special place.last plain.0 plain.1.0 plain.1.1.0) is.0 is.1
-      (empty_list (entries_in (node_at nat_eq world (object_there place))) passed.1.0)))))
+      old_removable world place (special_word place.last plain.0 plain.1.0 plain.1.1.0) is.0 is.1
+      (nil_from_not_some (entries_in (node_at nat_eq world (object_there place))) passed.1.0)))))
 
   -- rename(2)
   abbrev IsNewNamePlace : Place ℕ → Type 0
@@ -168,14 +146,9 @@ module _ (world : World ℕ) (task : Task ℕ) (from to : Place ℕ)
   old_is : (old.mount ≡ from.parent.mount) × (entry_at files.tree from.parent.node (name_of from.last) ≡ Some old.node)
   old_is = old_named world from from_plain from_is from_there
 
-  -- both names are in one tree
-  not_different : (b : Bool) → not b ≡ false → b ≡ true
-  not_different true e = refl
-  not_different false e = sym e
-
   one_mount : from.parent.mount ≡ to.parent.mount
   one_mount = eqb-true from.parent.mount to.parent.mount
-      (not_different (nat_eq from.parent.mount to.parent.mount) passed.1.1.1.1.1.1.1.1.0)
+      (not-false (nat_eq from.parent.mount to.parent.mount) passed.1.1.1.1.1.1.1.1.0)
 
   to_files : files_at nat_eq world to.parent ≡ files
   to_files = ap (shown world) (sym one_mount)
@@ -225,30 +198,24 @@ module _ (world : World ℕ) (task : Task ℕ) (from to : Place ℕ)
           ap (λ m. is_directory_under nat_eq (shown world m) old.node to.parent.node) old_is.0
           ∙ under_seen files trees to.parent.node to_directory to_reached old.node names e
 
-      three : (a b c : Bool) → a ≡ true → b ≡ true → c ≡ true → (a && b && c) ≡ true
-      three a b c x y z = ap (λ d. d && b && c) x ∙ ap (λ d. d && c) y ∙ z
-
       start_directory : (list : List (List ℕ)) → led files.tree old.node list ≡ Some to.parent.node
           → IsDirectory files.tree old.node
       start_directory [] h = subst (IsDirectory files.tree) (sym (same_Some old.node to.parent.node h)) to_directory
       start_directory (name ∷ list) h =
           let step = found (λ next. led files.tree next list) (entry_at files.tree old.node name) to.parent.node h in
-          node_with_entries name step.0 (files.tree.node old.node) step.1
+          directory_from_entry name step.0 (files.tree.node old.node) step.1
 
       by : (b : Bool) → is_directory_at nat_eq world old ≡ b → ⊥
-      by true is = true≢false (sym (three _ _ _ is same under) ∙ passed.1.1.1.0)
+      by true is = true≢false (sym (and_from_three _ _ _ is same under) ∙ passed.1.1.1.0)
       by false is = true≢false (sym (start_directory names e) ∙ ap is_directory_node (sym old_node_in) ∙ is)
 
   moves_other : entry_at files.tree to.parent.node (name_of to.last) ≢ Some old.node
   moves_other entry =
-      true≢false (sym (both _ _
+      true≢false (sym (and_from _ _
       (eq-eqb _ _ (ap (λ m. (mount_at nat_eq world (record { mount = m; node = 0 })).filesystem)
       (old_is.0 ∙ one_mount)))
       (eq-eqb old.node old.node refl))
       ∙ ap (is_one_object nat_eq world old) (sym (new_object old.node entry)) ∙ other)
-    where
-      both : (a b : Bool) → a ≡ true → b ≡ true → (a && b) ≡ true
-      both a b x y = ap (λ c. c && b) x ∙ y
 
   moves_empty : (number : ℕ) → entry_at files.tree to.parent.node (name_of to.last) ≡ Some number
       → entries_in (files.tree.node number) ≡ []
@@ -263,12 +230,12 @@ module _ (world : World ℕ) (task : Task ℕ) (from to : Place ℕ)
       by : (b : Bool) → is_directory_at nat_eq world old ≡ b → entries_in (files.tree.node number) ≡ []
       by true is =
           ap entries_in (sym seen)
-          ∙ empty_list (entries_in (node_at nat_eq world (record { mount = to.parent.mount; node = number })))
+          ∙ nil_from_not_some (entries_in (node_at nat_eq world (record { mount = to.parent.mount; node = number })))
           (ap (λ b. b && is_filled nat_eq world (record { mount = to.parent.mount; node = number })) (sym is)
           ∙ ap (λ o. is_directory_at nat_eq world old && holds_of (is_filled nat_eq world) o) (sym here) ∙ passed.1.1.0)
       by false is =
           ap entries_in (sym seen)
-          ∙ no_directory_empty (node_at nat_eq world (record { mount = to.parent.mount; node = number }))
+          ∙ entries_in-no_directory (node_at nat_eq world (record { mount = to.parent.mount; node = number }))
           (ap (λ b. not b && is_directory_at nat_eq world (record { mount = to.parent.mount; node = number })) (sym is)
           ∙ ap (λ o. not (is_directory_at nat_eq world old) && holds_of (is_directory_at nat_eq world) o) (sym here)
           ∙ passed.0)

@@ -11,10 +11,11 @@ use Rattle.vt_spec.specs.Machine.Invariants.{ListsNumbers}
 use Rattle.vt_spec.proofs.Nodes.{directory_used, entries-node_with_bytes, is_directory-node_with_bytes, is_directory-node_with_entry, is_some-node_with_bytes, is_some-node_with_entry, parent-node_with_bytes}
 use Rattle.vt_spec.proofs.Trees.{entry_kept, entry_new, is_tree-with_object, kept_beside, parent_beside, used_differs}
 use Rattle.vt_tree_laws.specs.Trees.{ChangesKeepNumbers, ChangesKeepOwnParents, ChangesKeepTrees, HasOwnParents, MayMake}
-use Rattle.vt_tree_laws.proofs.ChangesNodes.{KeepsPlace, attr_keeps_place, mark_keeps_place, part_stays, used-node_with_parent, used-node_without_entry}
+use Rattle.vt_tree_laws.proofs.ChangesNodes.{KeepsPlace, attr_keeps_place, mark_keeps_place, part_stays}
 use Rattle.vt_tree_laws.proofs.ChangesOfNames.{Nobody, Nowhere, linked_rearranged, removed_rearranged, still_rearranged}
 use Rattle.vt_tree_laws.proofs.ChangesOfPlace.{moved_alike, moved_rearranged}
 use Rattle.vt_tree_laws.proofs.TreesRearranged.{is_tree-rearranged, own_parent-rearranged}
+use Rattle.vt_spec.proofs.NodeChanges.{is_some-node_with_parent, is_some-node_without_entry}
 
 pub bytes_keep_place : (bytes : List ℕ) → KeepsPlace (node_with_bytes bytes)
 bytes_keep_place bytes = record {
@@ -160,7 +161,7 @@ pub numbers_unparented : (files : FileTree ℕ) (o : Option ℕ) → ListsNumber
     → ListsNumbers nat_eq (without_parent nat_eq files o)
 numbers_unparented files None lists = lists
 numbers_unparented files (Some object) lists =
-    numbers_stay files object (node_with_parent object) (used-node_with_parent object) lists
+    numbers_stay files object (node_with_parent object) (is_some-node_with_parent object) lists
 
 pub numbers_with_inode : (files : FileTree ℕ) (number : ℕ) (node : Node ℕ) → ListsNumbers nat_eq files
     → ListsNumbers nat_eq (with_inode nat_eq files number node)
@@ -179,13 +180,13 @@ changes_keep_numbers files (AddName directory name object) lists =
     numbers_stay files directory (node_with_entry name object) (is_some-node_with_entry name object) lists
 changes_keep_numbers files (Remove directory name object) lists =
     numbers_unparented (without_name nat_eq files directory name) (Some object)
-    (numbers_stay files directory (node_without_entry name) (used-node_without_entry name) lists)
+    (numbers_stay files directory (node_without_entry name) (is_some-node_without_entry name) lists)
 changes_keep_numbers files (Move from old to new object) lists =
     let unparented = without_parent nat_eq files (entry_at files.tree to new) in
     let untaken = without_name nat_eq unparented from old in
-    numbers_stay (with_name nat_eq untaken to new object) object (node_with_parent to) (used-node_with_parent to)
+    numbers_stay (with_name nat_eq untaken to new object) object (node_with_parent to) (is_some-node_with_parent to)
     (numbers_stay untaken to (node_with_entry new object) (is_some-node_with_entry new object)
-    (numbers_stay unparented from (node_without_entry old) (used-node_without_entry old)
+    (numbers_stay unparented from (node_without_entry old) (is_some-node_without_entry old)
     (numbers_unparented files (entry_at files.tree to new) lists)))
 changes_keep_numbers files (SetBytes file bytes) lists =
     numbers_stay files file (node_with_bytes bytes) (is_some-node_with_bytes bytes) lists

@@ -12,7 +12,8 @@ use Rattle.vt_spec.specs.TreeLaws.{entry_at, IsDirectory}
 use Rattle.vt_spec.specs.Language.Changes.{node_without_entry, with_name, without_entry, without_name}
 use Rattle.vt_spec.specs.FileTree.{FileTree}
 use Rattle.vt_spec.proofs.Nodes.{entries-node_with_entry, entry_named-with_entry, entry_named-without_entry, none_is_not, passes, same_name}
-use Rattle.vt_tree_laws.proofs.ChangesNodes.{elsewhere, entries-node_without_entry, there}
+use Rattle.vt_tree_laws.proofs.ChangesNodes.{elsewhere, there}
+use Rattle.vt_spec.proofs.NodeChanges.{entries-node_without_entry}
 
 -- A name taken away
 module _ (files : FileTree ℕ) (directory : ℕ) (name : List ℕ) where

@@ -1,10 +1,10 @@
 -- What an inode keeps when it loses an entry, its entries, or gets another parent, attributes or mark.
-use Rattle.std.proofs.Common.{◌≡◌, ◌≢◌, refl, sym, true≢false, ℕ, nat_eq, Bool, true, List, Option, Some, None, is_some}
+use Rattle.std.proofs.Common.{◌≡◌, ◌≢◌, refl, ℕ, nat_eq, Bool, List, Option, Some, None, is_some}
 use Rattle.vt_spec.specs.declared.attributes.Attr.{Attr}
 use Rattle.vt_spec.specs.Rights.{is_directory}
-use Rattle.vt_spec.specs.Tree.{Node, Content, kind_of, entries_of, with_entries, is_directory_node, entries_in, parent_of, parent_in}
+use Rattle.vt_spec.specs.Tree.{Node, Content, kind_of, entries_of, is_directory_node, entries_in, parent_of, parent_in}
 use Rattle.vt_spec.specs.Tree.Content.{Directory, Regular, Symlink, Whiteout}
-use Rattle.vt_spec.specs.Language.Changes.{changed_node, content_with_mark, content_with_parent, node_with_attr, node_with_mark, node_with_parent, node_without_entry, without_entry}
+use Rattle.vt_spec.specs.Language.Changes.{changed_node, content_with_mark, content_with_parent, node_with_attr, node_with_mark, node_with_parent}
 use Rattle.vt_spec.specs.FileTree.{FileTree}
 use Rattle.vt_spec.proofs.Nodes.{node_other, node_set, part_kept}
 
@@ -94,47 +94,6 @@ module _ (opaque : Bool) where
       parent own None = refl
       parent own (Some node) = mark_parent own node.content
 
--- another parent
-module _ (parent : ℕ) where
-  pub kind-node_with_parent : (o : Option (Node ℕ))
-      → is_directory_node (node_with_parent parent o) ≡ is_directory_node o
-  kind-node_with_parent None = refl
-  kind-node_with_parent (Some node) = by node.content
-    where
-      by : (content : Content ℕ) → is_directory (kind_of (content_with_parent parent content))
-          ≡ is_directory (kind_of content)
-      by (Directory old entries opaque) = refl
-      by (Regular bytes) = refl
-      by (Symlink text) = refl
-      by Whiteout = refl
-
-  pub used-node_with_parent : (o : Option (Node ℕ)) → is_some (node_with_parent parent o) ≡ is_some o
-  used-node_with_parent None = refl
-  used-node_with_parent (Some node) = refl
-
-  pub entries-node_with_parent : (o : Option (Node ℕ)) → entries_in (node_with_parent parent o) ≡ entries_in o
-  entries-node_with_parent None = refl
-  entries-node_with_parent (Some node) = by node.content
-    where
-      by : (content : Content ℕ) → entries_of (content_with_parent parent content) ≡ entries_of content
-      by (Directory old entries opaque) = refl
-      by (Regular bytes) = refl
-      by (Symlink text) = refl
-      by Whiteout = refl
-
-  -- a directory has it
-  pub parent-node_with_parent : (own : ℕ) (o : Option (Node ℕ)) → is_directory_node o ≡ true
-      → parent_in own (node_with_parent parent o) ≡ parent
-  parent-node_with_parent own None is = absurd (true≢false (sym is))
-  parent-node_with_parent own (Some node) is = by node.content is
-    where
-      by : (content : Content ℕ) → is_directory (kind_of content) ≡ true
-          → parent_of own (content_with_parent parent content) ≡ parent
-      by (Directory old entries opaque) d = refl
-      by (Regular bytes) d = absurd (true≢false (sym d))
-      by (Symlink text) d = absurd (true≢false (sym d))
-      by Whiteout d = absurd (true≢false (sym d))
-
 -- with itself as the parent, it is its own
 pub own_parent-node_with_parent : (own : ℕ) (o : Option (Node ℕ)) → parent_in own (node_with_parent own o) ≡ own
 own_parent-node_with_parent own None = refl
@@ -145,47 +104,3 @@ own_parent-node_with_parent own (Some node) = by node.content
     by (Regular bytes) = refl
     by (Symlink text) = refl
     by Whiteout = refl
-
--- an entry less
-module _ (name : List ℕ) where
-  pub kind-node_without_entry : (o : Option (Node ℕ))
-      → is_directory_node (node_without_entry name o) ≡ is_directory_node o
-  kind-node_without_entry None = refl
-  kind-node_without_entry (Some node) = by node.content
-    where
-      by : (content : Content ℕ)
-          → is_directory (kind_of (with_entries content (without_entry name (entries_of content))))
-          ≡ is_directory (kind_of content)
-      by (Directory parent entries opaque) = refl
-      by (Regular bytes) = refl
-      by (Symlink text) = refl
-      by Whiteout = refl
-
-  pub used-node_without_entry : (o : Option (Node ℕ)) → is_some (node_without_entry name o) ≡ is_some o
-  used-node_without_entry None = refl
-  used-node_without_entry (Some node) = refl
-
-  pub parent-node_without_entry : (own : ℕ) (o : Option (Node ℕ))
-      → parent_in own (node_without_entry name o) ≡ parent_in own o
-  parent-node_without_entry own None = refl
-  parent-node_without_entry own (Some node) = by node.content
-    where
-      by : (content : Content ℕ) → parent_of own (with_entries content (without_entry name (entries_of content)))
-          ≡ parent_of own content
-      by (Directory parent entries opaque) = refl
-      by (Regular bytes) = refl
-      by (Symlink text) = refl
-      by Whiteout = refl
-
-  pub entries-node_without_entry : (o : Option (Node ℕ))
-      → entries_in (node_without_entry name o) ≡ without_entry name (entries_in o)
-  entries-node_without_entry None = refl
-  entries-node_without_entry (Some node) = by node.content
-    where
-      by : (content : Content ℕ)
-          → entries_of (with_entries content (without_entry name (entries_of content)))
-          ≡ without_entry name (entries_of content)
-      by (Directory parent entries opaque) = refl
-      by (Regular bytes) = refl
-      by (Symlink text) = refl
-      by Whiteout = refl

@@ -26,7 +26,9 @@ use Rattle.vt_tree_laws.specs.Trees.{IsFileTree, IsFree}
 use Rattle.vt_tree_laws.specs.Trees.Calls.{AreNew, IsWorldOfTrees}
 use Rattle.vt_tree_laws.proofs.TreesOfWorlds.{change_keeps_world, new_at, same_filesystems}
 use Rattle.vt_tree_laws.proofs.TreesReached.{not_removed_reached}
-use Rattle.vt_tree_laws.proofs.TreesWalked.{IsFilePlace, IsNewFilePlace, IsNewPlace, Passed, after_ends, after_holds, ends_anyhow, ends_file_walk, ends_new_leaf_walk, ends_new_walk, file_named, first_false, judged_holds, no_some, place_is_file}
+use Rattle.vt_tree_laws.proofs.TreesWalked.{IsFilePlace, IsNewFilePlace, IsNewPlace, Passed, after_ends, after_holds, ends_anyhow, ends_file_walk, ends_new_leaf_walk, ends_new_walk, file_named, judged_holds, place_is_file}
+use Rattle.vt_spec.proofs.Options.{none_from_not_some}
+use Rattle.vt_spec.proofs.Truths.{or_false_left}
 
 -- what is nothing after a step that always finds was nothing
 pub mapped_none : {A B : Type 0} (f : A → B) (o : Option A) → option_map f o ≡ None → o ≡ None
@@ -49,7 +51,7 @@ module _ (world : World ℕ) where
             (ap (λ b. not b && is_removed_at nat_eq world place.parent) (sym missing) ∙ passed.0);
         free = mapped_none (λ object. record { mount = place.parent.mount; node = object })
             (entry_named (name_of place.last) (entries_in (node_at nat_eq world place.parent)))
-            (named.1 (no_some place.object missing));
+            (named.1 (none_from_not_some place.object missing));
       }
 
 module _ (fresh : Fresh ℕ) (world : World ℕ) (task : Task ℕ) (conditions : IsWorldOfTrees world)
@@ -140,7 +142,7 @@ module _ (fresh : Fresh ℕ) (world : World ℕ) (task : Task ℕ) (conditions :
       (λ place is. judged_holds IsWorldOfTrees world (file_word_rules place)
       (written nat_eq fresh world task place bytes place.object) conditions
       (λ passed. written_keeps place bytes is
-      (first_false (is_special place.last) place.slash passed.0) place.object refl))
+      (or_false_left (is_special place.last) place.slash passed.0) place.object refl))
 
   -- open(2)
   copy_keeps : (b : Bool) (file : Location ℕ) → IsWorldOfTrees (with_copy nat_eq b fresh world file)
@@ -193,7 +195,7 @@ module _ (fresh : Fresh ℕ) (world : World ℕ) (task : Task ℕ) (conditions :
       (λ place is. judged_holds IsWorldOfTrees world (file_word_rules place)
       (opened_or_created nat_eq fresh world task place access mode place.object) conditions
       (λ passed. opened_or_created_keeps place access mode is
-      (first_false (is_special place.last) place.slash passed.0) place.object refl))
+      (or_false_left (is_special place.last) place.slash passed.0) place.object refl))
   open_by_keeps path access (Exclusive mode) =
       after_ends (IsNewPlace world task) IsWorldOfTrees world (new_walk nat_eq world task path) _ conditions
       (ends_new_walk world task path)

@@ -9,9 +9,10 @@ use Rattle.vt_spec.specs.Language.Changes.{changed_node, node_with_parent, node_
 use Rattle.vt_spec.specs.FileTree.{FileTree}
 use Rattle.vt_spec.proofs.Nodes.{is_directory-node_with_entry, is_some-node_with_entry, none_is_not, parent-node_with_entry}
 use Rattle.vt_tree_laws.specs.Trees.{MayAddName, MayRemove}
-use Rattle.vt_tree_laws.proofs.ChangesNodes.{KeepsPlace, elsewhere, entries-node_with_parent, kind-node_with_parent, kind-node_without_entry, own_parent-node_with_parent, parent-node_without_entry, part_stays, there, used-node_with_parent, used-node_without_entry}
+use Rattle.vt_tree_laws.proofs.ChangesNodes.{KeepsPlace, elsewhere, own_parent-node_with_parent, part_stays, there}
 use Rattle.vt_tree_laws.proofs.ChangesNames.{given_elsewhere, given_in_order, given_kept, given_told, untaken_empty, untaken_in_order, untaken_kept, untaken_told}
 use Rattle.vt_tree_laws.proofs.TreesRearranged.{IsRearranged, Vanishes}
+use Rattle.vt_spec.proofs.NodeChanges.{entries-node_with_parent, is_directory-node_with_parent, is_directory-node_without_entry, is_some-node_with_parent, is_some-node_without_entry, parent-node_without_entry}
 
 -- nobody leaves, nobody arrives
 abbrev pub Nobody : ℕ → Type 0
@@ -140,13 +141,13 @@ module _ (files : FileTree ℕ) (directory : ℕ) (name : List ℕ) (object : �
 
   removed_used : (k : ℕ) → is_some (removed.tree.node k) ≡ is_some (files.tree.node k)
   removed_used k =
-      part_stays untaken object (node_with_parent object) is_some (used-node_with_parent object) k
-      ∙ part_stays files directory (node_without_entry name) is_some (used-node_without_entry name) k
+      part_stays untaken object (node_with_parent object) is_some (is_some-node_with_parent object) k
+      ∙ part_stays files directory (node_without_entry name) is_some (is_some-node_without_entry name) k
 
   removed_kind : (k : ℕ) → is_directory_node (removed.tree.node k) ≡ is_directory_node (files.tree.node k)
   removed_kind k =
-      part_stays untaken object (node_with_parent object) is_directory_node (kind-node_with_parent object) k
-      ∙ part_stays files directory (node_without_entry name) is_directory_node (kind-node_without_entry name) k
+      part_stays untaken object (node_with_parent object) is_directory_node (is_directory-node_with_parent object) k
+      ∙ part_stays files directory (node_without_entry name) is_directory_node (is_directory-node_without_entry name) k
 
   removed_told : (d : ℕ) (n : List ℕ) (k : ℕ) → entry_at removed.tree d n ≡ Some k
       → (entry_at files.tree d n ≡ Some k) × ¬ ((d ≡ directory) × (n ≡ name))
@@ -203,27 +204,17 @@ module _ (files : FileTree ℕ) (directory : ℕ) (name : List ℕ) (object : �
 
 -- What loses its parent, if there is such an object
 module _ (files : FileTree ℕ) where
-  pub unparented_root : (o : Option ℕ) → (without_parent nat_eq files o).tree.root ≡ files.tree.root
-  unparented_root None = refl
-  unparented_root (Some object) = refl
-
   pub unparented_kind : (o : Option ℕ) (k : ℕ)
       → is_directory_node ((without_parent nat_eq files o).tree.node k) ≡ is_directory_node (files.tree.node k)
   unparented_kind None k = refl
   unparented_kind (Some object) k =
-      part_stays files object (node_with_parent object) is_directory_node (kind-node_with_parent object) k
+      part_stays files object (node_with_parent object) is_directory_node (is_directory-node_with_parent object) k
 
   pub unparented_used : (o : Option ℕ) (k : ℕ)
       → is_some ((without_parent nat_eq files o).tree.node k) ≡ is_some (files.tree.node k)
   unparented_used None k = refl
   unparented_used (Some object) k =
-      part_stays files object (node_with_parent object) is_some (used-node_with_parent object) k
-
-  pub unparented_entries : (o : Option ℕ) (k : ℕ)
-      → entries_in ((without_parent nat_eq files o).tree.node k) ≡ entries_in (files.tree.node k)
-  unparented_entries None k = refl
-  unparented_entries (Some object) k =
-      part_stays files object (node_with_parent object) entries_in (entries-node_with_parent object) k
+      part_stays files object (node_with_parent object) is_some (is_some-node_with_parent object) k
 
   pub unparented_own : (o : Option ℕ) (k : ℕ) → o ≡ Some k
       → parent_in k ((without_parent nat_eq files o).tree.node k) ≡ k

@@ -10,10 +10,12 @@ use Rattle.vt_spec.specs.FileTree.{FileTree}
 use Rattle.vt_spec.proofs.Nodes.{is_directory-node_with_entry, is_some-node_with_entry, parent-node_with_entry}
 use Rattle.vt_spec.proofs.Trees.{entry_reached, led-append, root_reached}
 use Rattle.vt_tree_laws.specs.Trees.{MayMove}
-use Rattle.vt_tree_laws.proofs.ChangesNodes.{elsewhere, entries-node_with_parent, kind-node_with_parent, kind-node_without_entry, parent-node_with_parent, parent-node_without_entry, part_stays, there, used-node_with_parent, used-node_without_entry}
+use Rattle.vt_tree_laws.proofs.ChangesNodes.{elsewhere, part_stays, there}
 use Rattle.vt_tree_laws.proofs.ChangesNames.{given_elsewhere, given_entry, given_in_order, given_kept, given_told, untaken_empty, untaken_in_order, untaken_kept, untaken_told}
-use Rattle.vt_tree_laws.proofs.ChangesOfNames.{decided_some, not_root, only_name, unparented_entries, unparented_kind, unparented_own, unparented_parent, unparented_root, unparented_used}
+use Rattle.vt_tree_laws.proofs.ChangesOfNames.{decided_some, not_root, only_name, unparented_kind, unparented_own, unparented_parent, unparented_used}
 use Rattle.vt_tree_laws.proofs.TreesRearranged.{IsRearranged, Vanishes, led_closed, no_entries}
+use Rattle.vt_spec.proofs.NodeChanges.{entries-node_with_parent, entries-without_parent, is_directory-node_with_parent, is_directory-node_without_entry, is_some-node_with_parent, is_some-node_without_entry, parent-node_with_parent, parent-node_without_entry}
+use Rattle.vt_spec.proofs.Worlds.{root-without_parent}
 
 module _ (files : FileTree ℕ) (from : ℕ) (old : List ℕ) (to : ℕ) (new : List ℕ) (object : ℕ)
     (conditions : IsTree files.tree) (may : MayMove files.tree from old to new object) where
@@ -40,7 +42,7 @@ module _ (files : FileTree ℕ) (from : ℕ) (old : List ℕ) (to : ℕ) (new : 
 
   pub moved_alike : moved.tree ≡ (with_moved nat_eq files from old to new object).tree
   moved_alike = λ i. record {
-    root = sym (unparented_root files replaced) i;
+    root = sym (root-without_parent files replaced) i;
     node =
         (with_moved nat_eq files from old to new object).tree.node;
   }
@@ -54,7 +56,7 @@ module _ (files : FileTree ℕ) (from : ℕ) (old : List ℕ) (to : ℕ) (new : 
 
   untaken_kind : (k : ℕ) → is_directory_node (untaken.tree.node k) ≡ is_directory_node (files.tree.node k)
   untaken_kind k =
-      part_stays unparented from (node_without_entry old) is_directory_node (kind-node_without_entry old) k
+      part_stays unparented from (node_without_entry old) is_directory_node (is_directory-node_without_entry old) k
       ∙ unparented_kind files replaced k
 
   to_there : IsDirectory untaken.tree to
@@ -62,15 +64,15 @@ module _ (files : FileTree ℕ) (from : ℕ) (old : List ℕ) (to : ℕ) (new : 
 
   moved_kind : (k : ℕ) → is_directory_node (moved.tree.node k) ≡ is_directory_node (files.tree.node k)
   moved_kind k =
-      part_stays given object (node_with_parent to) is_directory_node (kind-node_with_parent to) k
+      part_stays given object (node_with_parent to) is_directory_node (is_directory-node_with_parent to) k
       ∙ part_stays untaken to (node_with_entry new object) is_directory_node (is_directory-node_with_entry new object) k
       ∙ untaken_kind k
 
   moved_used : (k : ℕ) → is_some (moved.tree.node k) ≡ is_some (files.tree.node k)
   moved_used k =
-      part_stays given object (node_with_parent to) is_some (used-node_with_parent to) k
+      part_stays given object (node_with_parent to) is_some (is_some-node_with_parent to) k
       ∙ part_stays untaken to (node_with_entry new object) is_some (is_some-node_with_entry new object) k
-      ∙ part_stays unparented from (node_without_entry old) is_some (used-node_without_entry old) k
+      ∙ part_stays unparented from (node_without_entry old) is_some (is_some-node_without_entry old) k
       ∙ unparented_used files replaced k
 
   moved_entries : (d : ℕ) → entries_in (moved.tree.node d) ≡ entries_in (given.tree.node d)
@@ -80,7 +82,7 @@ module _ (files : FileTree ℕ) (from : ℕ) (old : List ℕ) (to : ℕ) (new : 
   moved_entry d n = ap (entry_named n) (moved_entries d)
 
   first_entry : (d : ℕ) (n : List ℕ) → entry_at unparented.tree d n ≡ entry_at files.tree d n
-  first_entry d n = ap (entry_named n) (unparented_entries files replaced d)
+  first_entry d n = ap (entry_named n) (entries-without_parent files replaced d)
 
   -- each entry is the new one, or was there, and is neither that of the old name nor of the new one
   moved_told : (d : ℕ) (n : List ℕ) (k : ℕ) → entry_at moved.tree d n ≡ Some k
@@ -161,7 +163,7 @@ module _ (files : FileTree ℕ) (from : ℕ) (old : List ℕ) (to : ℕ) (new : 
   moved_empty : (k : ℕ) → k ≢ to → entries_in (files.tree.node k) ≡ [] → entries_in (moved.tree.node k) ≡ []
   moved_empty k differ empty =
       moved_entries k ∙ given_elsewhere untaken to new object to_there k differ
-      ∙ untaken_empty unparented from old k (unparented_entries files replaced k ∙ empty)
+      ∙ untaken_empty unparented from old k (entries-without_parent files replaced k ∙ empty)
 
   moved_vanishes : (k : ℕ) → replaced ≡ Some k → Vanishes (files.tree.node k) (moved.tree.node k) k
   moved_vanishes k gone = record {
@@ -187,7 +189,7 @@ module _ (files : FileTree ℕ) (from : ℕ) (old : List ℕ) (to : ℕ) (new : 
     directories = moved_kind;
     in_order = λ d. ap (is_sorted name_cmp) (moved_entries d)
         ∙ given_in_order untaken to new object to_there
-        (untaken_in_order unparented from old (λ m. ap (is_sorted name_cmp) (unparented_entries files replaced m)
+        (untaken_in_order unparented from old (λ m. ap (is_sorted name_cmp) (entries-without_parent files replaced m)
         ∙ conditions.in_order m)) d;
     alive = λ d n k e. moved_used k
         ∙ ⊎_elim

@@ -172,7 +172,7 @@ unparented_fits : (files : FileTree ℕ) (o : Option ℕ) → is_fit_tree files 
 unparented_fits files None h = h
 unparented_fits files (Some object) h = changed_fits files object (node_with_parent object) (parent_fits object) h
 
-inode_fits : (files : FileTree ℕ) (number : ℕ) (node : Node ℕ) → is_fit_node node ≡ true → is_fit_tree files ≡ true
+pub inode_fits : (files : FileTree ℕ) (number : ℕ) (node : Node ℕ) → is_fit_node node ≡ true → is_fit_tree files ≡ true
     → is_fit_tree (with_inode nat_eq files number node) ≡ true
 inode_fits files number node k h =
     both (fits ((with_inode nat_eq files number node).tree.node number))

@@ -41,10 +41,13 @@ use Rattle.vt_tree_laws.specs.Trees.Sizes.{CallsKeepSizes, IsFitChange, IsFitWor
 use Rattle.vt_tree_laws.proofs.ChangesByCalls.{without_dead_plain}
 use Rattle.vt_tree_laws.proofs.ChangesByOthers.{bind_keeps, chdir_keeps, chroot_keeps, close_keeps, drop_keeps, exec_keeps, exit_keeps, fork_keeps, lazy_keeps, list_keeps, lstat_keeps, mount_plain_keeps, mounts_keeps, move_keeps, pivot_keeps, pread_keeps, read_keeps, readlink_keeps, remount_keeps, setns_keeps, stat_keeps, type_keeps, umask_keeps, umount_keeps, unshare_keeps}
 use Rattle.vt_tree_laws.proofs.ChangesOfSizes.{changed_fits_there, changes_keep_sizes, fits, settling_keeps_sizes}
-use Rattle.vt_tree_laws.proofs.TreesOfWorlds.{number_numbered, numbered_all, numbered_anyhow, raised_all, replaced_all, taken_filesystems}
+use Rattle.vt_tree_laws.proofs.TreesOfWorlds.{number_numbered, numbered_all, numbered_anyhow, raised_all, replaced_all}
 use Rattle.vt_tree_laws.proofs.TreesSizes.{HasFitLast, fit_file_walk, fit_name_of, fit_new_leaf_walk, fit_new_walk, no_longer}
 use Rattle.vt_tree_laws.proofs.TreesTasks.{all_appended, all_mapped, both}
-use Rattle.vt_tree_laws.proofs.TreesWalked.{Ends, Passed, after_any, after_ends, after_holds, ends_then, ends_unless, first_false, judged_holds, no_some}
+use Rattle.vt_tree_laws.proofs.TreesWalked.{Ends, Passed, after_any, after_ends, after_holds, ends_then, ends_unless, judged_holds}
+use Rattle.vt_spec.proofs.Options.{none_from_not_some}
+use Rattle.vt_spec.proofs.Truths.{or_false_left}
+use Rattle.vt_spec.proofs.Worlds.{filesystems-taken_away}
 
 -- a new tree
 new_plain_fits : (number root : ℕ) → is_fit_filesystem (new_plain nat_eq number root) ≡ true
@@ -70,7 +73,7 @@ module _ (fresh : Fresh ℕ) (world : World ℕ) (location : Location ℕ) (chan
 
   no_overlay : IsFitWorld world → old.overlay ≡ None
   no_overlay conditions =
-      no_some old.overlay
+      none_from_not_some old.overlay
       (numbered_anyhow (λ f. is_overlay f ≡ false)
       (mount_at nat_eq world location).filesystem world.filesystems conditions.plain refl)
 
@@ -225,11 +228,11 @@ module _ (fresh : Fresh ℕ) (world : World ℕ) (task : Task ℕ) (conditions :
       (with_change nat_eq fresh (without_mounts_on nat_eq world (object_there place)) place.parent
       (removing place (object_there place)))) conditions
       (λ passed. fit_change_after fresh (without_mounts_on nat_eq world (object_there place))
-      (taken_filesystems world _) place.parent (removing place (object_there place)) tt)))
+      (filesystems-taken_away world _) place.parent (removing place (object_there place)) tt)))
 
   replaced_filesystems : (o : Option (Location ℕ)) → (without_replaced nat_eq world o).filesystems ≡ world.filesystems
   replaced_filesystems None = refl
-  replaced_filesystems (Some place) = taken_filesystems world _
+  replaced_filesystems (Some place) = filesystems-taken_away world _
 
   fit_renamed : (from to : Place ℕ) → HasFitLast world task to → is_special to.last ≡ false → (b : Bool)
       → IsFitWorld (renamed_by nat_eq b fresh world task from to (object_there from)).world
@@ -320,7 +323,7 @@ module _ (fresh : Fresh ℕ) (world : World ℕ) (task : Task ℕ) (conditions :
       (fit_file_walk world task path) (λ place last.
       judged_holds IsFitWorld world (file_word_rules place)
       (written nat_eq fresh world task place bytes place.object) conditions
-      (λ passed. fit_written place bytes place.object last (first_false (is_special place.last) place.slash passed.0)))
+      (λ passed. fit_written place bytes place.object last (or_false_left (is_special place.last) place.slash passed.0)))
 
   fit_pwritten : (file : Location ℕ) (offset : ℕ) (bytes : List ℕ)
       → Passed (pwrite_rules nat_eq world file offset bytes)
@@ -393,7 +396,7 @@ module _ (fresh : Fresh ℕ) (world : World ℕ) (task : Task ℕ) (conditions :
       judged_holds IsFitWorld world (file_word_rules place)
       (opened_or_created nat_eq fresh world task place access mode place.object) conditions
       (λ passed. fit_opened_or_created place access mode place.object last
-      (first_false (is_special place.last) place.slash passed.0)))
+      (or_false_left (is_special place.last) place.slash passed.0)))
   fit_open_by path access (Exclusive mode) =
       after_ends (HasFitLast world task) IsFitWorld world (new_walk nat_eq world task path) _ conditions
       (fit_new_walk world task path) (λ place last.

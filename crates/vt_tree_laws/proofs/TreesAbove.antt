@@ -14,8 +14,8 @@ use Rattle.vt_spec.specs.Lists.{chain, is_among, when}
 use Rattle.vt_spec.proofs.Nodes.{directory_used, none_is_not}
 use Rattle.vt_spec.proofs.Trees.{found}
 use Rattle.vt_tree_laws.specs.Trees.{IsFileTree}
-use Rattle.vt_tree_laws.proofs.TreesForgotten.{among_targets}
-use Rattle.vt_tree_laws.proofs.TreesRearranged.{node_with_entries}
+use Rattle.vt_spec.proofs.Found.{among_targets}
+use Rattle.vt_spec.proofs.NodeChanges.{directory_from_entry}
 
 -- so many steps up
 pub up : Tree ℕ → ℕ → Option ℕ → Option ℕ
@@ -125,7 +125,7 @@ module _ (tree : Tree ℕ) (conditions : IsTree tree) where
   led_directory from [] to e is = subst (IsDirectory tree) (sym (same_Some from to e)) is
   led_directory from (name ∷ names) to e is =
       let step = found (λ next. led tree next names) (entry_at tree from name) to e in
-      node_with_entries name step.0 (tree.node from) step.1
+      directory_from_entry name step.0 (tree.node from) step.1
 
   -- names that lead down lead up
   up_led : (from : ℕ) (names : List (List ℕ)) (to : ℕ) → led tree from names ≡ Some to → IsDirectory tree to

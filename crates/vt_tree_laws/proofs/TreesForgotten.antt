@@ -1,40 +1,24 @@
 -- A tree without the inodes that are not used is a tree.
-use Rattle.std.proofs.Common.{eqb-true, ◌≡◌, refl, sym, ap, subst, ◌∙◌, true≢false, ℕ, nat_eq, eq-eqb, Bool, true, false, cond, List, [], ◌∷◌, ◌++◌, map, not, ◌&&◌, ◌||◌, ◌⊎◌, inl, inr, ⊎_elim, Option, Some, None, is_some}
+use Rattle.std.proofs.Common.{eqb-true, ◌≡◌, refl, sym, ap, subst, ◌∙◌, true≢false, ℕ, nat_eq, eq-eqb, Bool, true, false, cond, List, [], ◌∷◌, ◌++◌, not, ◌&&◌, ◌||◌, ⊎_elim, Some, None, is_some}
 use Rattle.std.specs.List.{filter, flat_map, list_all, list_any}
-use Rattle.std.proofs.lemmas.List.Folds.{list_any-append}
 use Rattle.std.proofs.lemmas.Map.Views.{any-filter_same}
 use Rattle.std.proofs.lemmas.List.Elements.{All-filter, All-map, All-weaker}
-use Rattle.std.proofs.lemmas.Bool.{or_right}
-use Rattle.std.proofs.lemmas.Option.{same_Some}
+use Rattle.std.proofs.lemmas.Bool.{or_right, cases_Bool}
 use Rattle.std.specs.FinMap.Entries.{is_sorted}
-use Rattle.std.specs.Ordering.{eq_by_cmp}
-use Rattle.vt_spec.specs.Tree.{Tree, Node, Entries, name_cmp, entry_named, is_directory_node, entries_in, parent_in}
+use Rattle.vt_spec.specs.Tree.{Tree, name_cmp, entry_named, is_directory_node, entries_in, parent_in}
 use Rattle.vt_spec.specs.TreeLaws.{entry_at, IsDirectory, HasName, IsTree}
 use Rattle.vt_spec.specs.FileTree.{FileTree, targets_in}
 use Rattle.vt_spec.specs.Lists.{is_among}
 use Rattle.vt_spec.specs.Machine.Settled.{filesystem_lives, layers_in, located_in, named_in, objects_of_overlay, only_among, only_used, only_used_by, only_used_of, used_in, without_dead_filesystems, without_dead_in, without_dead_mounts}
 use Rattle.vt_spec.specs.Machine.World.{Filesystem, World, is_overlay}
-use Rattle.vt_spec.proofs.Nodes.{directory_used, none_is_not}
+use Rattle.vt_spec.proofs.Nodes.{directory_used}
 use Rattle.vt_spec.proofs.Trees.{led_kept}
 use Rattle.vt_tree_laws.specs.Trees.{HasOwnParents, IsFileTree}
 use Rattle.vt_tree_laws.specs.Trees.Settling.{HasFileTrees, HoldsTree, SettlingKeepsTrees, UnusedIsGone, UsedStays}
-use Rattle.vt_tree_laws.proofs.TreesRearranged.{no_entries, node_with_entries}
-
--- a test is passed or not
-pub decided : (b : Bool) → (b ≡ true) ⊎ (b ≡ false)
-decided true = inl refl
-decided false = inr refl
-
--- a number among one list is among both
-pub among_left : (x : ℕ) (xs ys : List ℕ) → is_among nat_eq x xs ≡ true → is_among nat_eq x (xs ++ ys) ≡ true
-among_left x xs ys h = list_any-append (nat_eq x) xs ys ∙ ap (λ b. b || list_any (nat_eq x) ys) h
-
-pub among_right : (x : ℕ) (xs ys : List ℕ) → is_among nat_eq x ys ≡ true → is_among nat_eq x (xs ++ ys) ≡ true
-among_right x xs ys h = list_any-append (nat_eq x) xs ys ∙ by (list_any (nat_eq x) xs) (list_any (nat_eq x) ys) h
-  where
-    by : (a b : Bool) → b ≡ true → (a || b) ≡ true
-    by true b h = refl
-    by false b h = h
+use Rattle.vt_tree_laws.proofs.TreesRearranged.{no_entries}
+use Rattle.vt_spec.proofs.Found.{among_targets, is_among_left, is_among_right}
+use Rattle.vt_spec.proofs.NodeChanges.{directory_from_entry}
+use Rattle.vt_spec.proofs.Options.{none_from_not_some}
 
 pub among_flat_map : (f : ℕ → List ℕ) (xs : List ℕ) (x y : ℕ) → is_among nat_eq x xs ≡ true
     → is_among nat_eq y (f x) ≡ true
@@ -45,24 +29,9 @@ among_flat_map f (z ∷ zs) x y h k = by (nat_eq x z) refl (λ e. among_flat_map
     by : (b : Bool) → nat_eq x z ≡ b → (list_any (nat_eq x) zs ≡ true → is_among nat_eq y (flat_map f zs) ≡ true)
         → (b || list_any (nat_eq x) zs) ≡ true
         → is_among nat_eq y (f z ++ flat_map f zs) ≡ true
-    by true same rest e = among_left y (f z) (flat_map f zs)
+    by true same rest e = is_among_left y (f z) (flat_map f zs)
         (ap (λ n. is_among nat_eq y (f n)) (sym (eqb-true x z same)) ∙ k)
-    by false differ rest e = among_right y (f z) (flat_map f zs) (rest e)
-
--- where an entry leads is among the targets
-pub among_targets : (name : List ℕ) (entries : Entries ℕ) (number : ℕ) → entry_named name entries ≡ Some number
-    → is_among nat_eq number (map (λ e. e.1) entries) ≡ true
-among_targets name [] number e = none_is_not None number refl e
-among_targets name (entry ∷ entries) number e =
-    by (eq_by_cmp name_cmp name entry.0) (among_targets name entries number) e
-  where
-    by : (b : Bool) → (entry_named name entries ≡ Some number → is_among nat_eq number (map (λ e. e.1) entries) ≡ true)
-        → cond b (Some entry.1) (entry_named name entries) ≡ Some number
-        → (nat_eq number entry.1 || is_among nat_eq number (map (λ e. e.1) entries)) ≡ true
-    by true rest is =
-        ap (λ b. b || is_among nat_eq number (map (λ e. e.1) entries))
-        (eq-eqb number entry.1 (sym (same_Some entry.1 number is)))
-    by false rest is = or_right (nat_eq number entry.1) _ (rest is)
+    by false differ rest e = is_among_right y (f z) (flat_map f zs) (rest e)
 
 -- the named ones are those that have a name
 pub named_among : (files : FileTree ℕ) → IsFileTree files → (number : ℕ) → HasName files.tree number
@@ -70,7 +39,7 @@ pub named_among : (files : FileTree ℕ) → IsFileTree files → (number : ℕ)
 named_among files conditions number named =
     among_flat_map (λ directory. targets_in (files.tree.node directory)) files.numbers named.0 number
     (conditions.numbers named.0 ∙ directory_used files.tree named.0
-    (node_with_entries named.1 number (files.tree.node named.0) named.2))
+    (directory_from_entry named.1 number (files.tree.node named.0) named.2))
     (among_targets named.1 (entries_in (files.tree.node named.0)) number named.2)
 
 module _ (used : List ℕ) (files : FileTree ℕ) (holds : HoldsTree used files) (conditions : IsFileTree files) where
@@ -107,10 +76,10 @@ module _ (used : List ℕ) (files : FileTree ℕ) (holds : HoldsTree used files)
   entry_used directory name number e =
       ⊎_elim (λ is. is)
       (λ unused. no_entries files.tree directory name number
-      (conditions.tree.unnamed_empty directory (node_with_entries name number (files.tree.node directory) e)
+      (conditions.tree.unnamed_empty directory (directory_from_entry name number (files.tree.node directory) e)
       (λ root. true≢false (sym holds.root ∙ ap (λ n. is_among nat_eq n used) (sym root) ∙ unused))
       (λ named. true≢false (sym (holds.named directory named) ∙ unused))) e)
-      (decided (is_among nat_eq directory used))
+      (cases_Bool (is_among nat_eq directory used))
 
   entry_kept : (directory : ℕ) (name : List ℕ) (number : ℕ) → entry_at files.tree directory name ≡ Some number
       → entry_at kept directory name ≡ Some number
@@ -121,7 +90,7 @@ module _ (used : List ℕ) (files : FileTree ℕ) (holds : HoldsTree used files)
       → entry_at files.tree directory name ≡ Some number
   entry_was directory name number e =
       ap (λ o. entry_named name (entries_in o))
-      (sym (kept_node directory (kept_directory directory (node_with_entries name number (kept.node directory) e)))) ∙ e
+      (sym (kept_node directory (kept_directory directory (directory_from_entry name number (kept.node directory) e)))) ∙ e
 
   name_was : (number : ℕ) → HasName kept number → HasName files.tree number
   name_was number named = (named.0, named.1, entry_was named.0 named.1 number named.2)
@@ -150,7 +119,7 @@ module _ (used : List ℕ) (files : FileTree ℕ) (holds : HoldsTree used files)
       (sym (entry_used named.0 named.1 number named.2)
       ∙ ap (λ n. is_among nat_eq n used) (sym (conditions.tree.one_parent named.0 named.1 number named.2 is))
       ∙ unused)))) ∙ unused)))
-      (decided (is_among nat_eq (parent_in number (files.tree.node number)) used))
+      (cases_Bool (is_among nat_eq (parent_in number (files.tree.node number)) used))
 
   kept_tree : IsTree kept
   kept_tree = record {
@@ -208,17 +177,17 @@ module _ (world : World ℕ) (filesystem : Filesystem ℕ) where
       → is_among nat_eq number (used_in nat_eq world filesystem) ≡ true
   among_named_or_located number h =
       or_right (nat_eq number filesystem.files.tree.root) (is_among nat_eq number used_under_root)
-      (among_left number
+      (is_among_left number
       (named_in filesystem.files ++ located_in nat_eq world filesystem.number
       ++ layers_in nat_eq world filesystem.number)
       (flat_map (objects_of_overlay nat_eq filesystem.number) world.filesystems)
-      (among_left number (named_in filesystem.files ++ located_in nat_eq world filesystem.number)
+      (is_among_left number (named_in filesystem.files ++ located_in nat_eq world filesystem.number)
       (layers_in nat_eq world filesystem.number) h))
 
   pub among_located : (number : ℕ) → is_among nat_eq number (located_in nat_eq world filesystem.number) ≡ true
       → is_among nat_eq number (used_in nat_eq world filesystem) ≡ true
   among_located number h =
-      among_named_or_located number (among_right number (named_in filesystem.files)
+      among_named_or_located number (is_among_right number (named_in filesystem.files)
       (located_in nat_eq world filesystem.number) h)
 
   pub named_is_used : IsFileTree filesystem.files → HoldsTree (used_in nat_eq world filesystem) filesystem.files
@@ -227,7 +196,7 @@ module _ (world : World ℕ) (filesystem : Filesystem ℕ) where
         ap (λ b. b || is_among nat_eq filesystem.files.tree.root used_under_root)
         (eq-eqb filesystem.files.tree.root filesystem.files.tree.root refl);
     named = λ number named. among_named_or_located number
-        (among_left number (named_in filesystem.files) (located_in nat_eq world filesystem.number)
+        (is_among_left number (named_in filesystem.files) (located_in nat_eq world filesystem.number)
         (named_among filesystem.files conditions number named));
   }
 
@@ -288,16 +257,12 @@ all_pass test (y ∷ ys) x h k = by (nat_eq x y) refl (test y) refl (λ e. all_p
     by true e true f rest h = absurd (true≢false (sym f ∙ ap test (sym (eqb-true x y e)) ∙ k))
     by false e true f rest h = rest h
 
-none_there : (o : Option (Node ℕ)) → is_some o ≡ false → o ≡ None
-none_there None h = refl
-none_there (Some node) h = absurd (true≢false h)
-
 pub unused_is_gone : UnusedIsGone
 unused_is_gone world filesystem number conditions unused = by _ refl
   where
     by : (b : Bool) → list_all (λ m. is_among nat_eq m (used_in nat_eq world filesystem)) filesystem.files.numbers ≡ b
         → (only_used_by nat_eq b (used_in nat_eq world filesystem) filesystem).files.tree.node number ≡ None
-    by true all = none_there (filesystem.files.tree.node number)
+    by true all = none_from_not_some (filesystem.files.tree.node number)
         (sym (conditions.numbers number)
         ∙ all_pass (λ m. is_among nat_eq m
         (used_in nat_eq world filesystem)) filesystem.files.numbers number all unused)

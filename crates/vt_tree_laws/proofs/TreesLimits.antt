@@ -14,8 +14,8 @@ use Rattle.vt_spec.specs.Language.Calls.Call.{Bind, Chdir, Chmod, Chown, Chroot,
 use Rattle.vt_spec.specs.Language.Calls.Creation.{Exclusive, NoCreation, OrCreate}
 use Rattle.vt_spec.specs.Language.Changes.{Change}
 use Rattle.vt_spec.specs.Language.Changes.Change.{CopyUp, SetAttr, SetBytes, SetMark}
-use Rattle.vt_spec.specs.Machine.Detach.{after_going, deepest_first, lazily_unmounted, taken_away, unmounted, unmounted_if_there, without_mounts_on}
-use Rattle.vt_spec.specs.Machine.Filesystems.{raised, filesystem_changed, overlay_changed, with_change}
+use Rattle.vt_spec.specs.Machine.Detach.{deepest_first, lazily_unmounted, unmounted, unmounted_if_there, without_mounts_on}
+use Rattle.vt_spec.specs.Machine.Filesystems.{raised, with_change}
 use Rattle.vt_spec.specs.Machine.Listing.{mounts_outcome}
 use Rattle.vt_spec.specs.Lists.{Fresh, evens, folded, odds}
 use Rattle.vt_spec.specs.Machine.Mounts.{Location, Mount, mount_tree, numbers_by}
@@ -31,47 +31,23 @@ use Rattle.vt_spec.specs.Machine.Outcome.Tasks.{chdir_outcome, child_credentials
 use Rattle.vt_spec.specs.Machine.Outcomes.{Outcome, granted}
 use Rattle.vt_spec.specs.Language.Answers.Answer.{Done}
 use Rattle.vt_spec.specs.Machine.Policy.{call_outcome, finished_by, raised_task}
-use Rattle.vt_spec.specs.Machine.Receives.{regrouped, regrouped_by}
 use Rattle.vt_spec.specs.Machine.Rows.{exact_attr, lacks, making, new_attr}
 use Rattle.vt_spec.specs.Machine.Types.{named_mounts, retyped_mount, with_new_groups, with_type}
 use Rattle.vt_spec.specs.Machine.Walk.{Place, directory_walk, file_walk, is_directory_there, is_special, symlink_walk, new_leaf_walk, new_walk, object_walk, old_leaf_walk, old_walk}
-use Rattle.vt_spec.specs.Machine.World.{Layer, Overlay, Task, World, filesystem_at, mount_at, mount_numbered, replaced_if_called, task_called, with_mounts, with_task, without_task}
+use Rattle.vt_spec.specs.Machine.World.{Task, World, mount_at, mount_numbered, replaced_if_called, task_called, with_task, without_task}
 use Rattle.vt_spec.specs.Machine.Invariants.{is_within_limits}
 use Rattle.vt_spec.proofs.Nodes.{none_is_not}
 use Rattle.vt_spec.proofs.Lists.{all-filter}
 use Rattle.vt_tree_laws.specs.Trees.Limits.{CallsKeepSmallTasks, HasSmallTasks, OpeningHasSmallTasks, names_few_groups}
 use Rattle.vt_tree_laws.proofs.TreesTasks.{all_appended, all_mapped, child_within, closed_within, masked_within, opened_within, parent_within, replaced_within}
-use Rattle.vt_tree_laws.proofs.TreesWalked.{after_any, after_holds, first_false, judged_holds, ok_same}
+use Rattle.vt_tree_laws.proofs.TreesWalked.{after_any, after_holds, judged_holds, ok_same}
 use Rattle.std.proofs.lemmas.Bool.{and_parts, or_parts}
+use Rattle.vt_spec.proofs.Truths.{or_false_left}
+use Rattle.vt_spec.proofs.Worlds.{tasks-regrouped, tasks-taken_away, tasks-with_change}
 
 -- Worlds with the same tasks
 pub same_tasks : (a b : World ℕ) → a.tasks ≡ b.tasks → HasSmallTasks b → HasSmallTasks a
 same_tasks a b same is = ap (list_all is_within_limits) same ∙ is
-
-pub changed_tasks : (fresh : Fresh ℕ) (world : World ℕ) (location : Location ℕ) (change : Change ℕ)
-    → (with_change nat_eq fresh world location change).tasks ≡ world.tasks
-changed_tasks fresh world location change = by (filesystem_at nat_eq world location).overlay
-  where
-    by_upper : (overlay : Overlay ℕ) (o : Option (Layer ℕ))
-        → (overlay_changed nat_eq fresh world (filesystem_at nat_eq world location) overlay o change).tasks
-        ≡ world.tasks
-    by_upper overlay None = refl
-    by_upper overlay (Some upper) = refl
-
-    by : (o : Option (Overlay ℕ))
-        → (filesystem_changed nat_eq fresh world (filesystem_at nat_eq world location) o change).tasks ≡ world.tasks
-    by None = refl
-    by (Some overlay) = by_upper overlay overlay.upper
-
-pub regrouped_tasks : (world : World ℕ) → (regrouped nat_eq world).tasks ≡ world.tasks
-regrouped_tasks world = by _
-  where
-    by : (b : Bool) → (regrouped_by nat_eq b world).tasks ≡ world.tasks
-    by true = refl
-    by false = refl
-
-pub taken_tasks : (world : World ℕ) (gone : List ℕ) → (taken_away nat_eq world gone).tasks ≡ world.tasks
-taken_tasks world gone = regrouped_tasks (with_mounts world (map (after_going nat_eq world gone) world.mounts))
 
 pub lazily_tasks : (mounts : List (Mount ℕ)) (world : World ℕ)
     → (folded (unmounted_if_there nat_eq) world mounts).tasks ≡ world.tasks
@@ -79,7 +55,7 @@ lazily_tasks [] world = refl
 lazily_tasks (mount ∷ mounts) world = lazily_tasks mounts (unmounted_if_there nat_eq world mount) ∙ by _
   where
     by : (b : Bool) → (cond b (unmounted nat_eq world mount.number) world).tasks ≡ world.tasks
-    by true = taken_tasks world _
+    by true = tasks-taken_away world _
     by false = refl
 
 pub typed_tasks : (fresh : Fresh ℕ) (world : World ℕ) (number : ℕ) (word : TypeWord) (recursive : Bool)
@@ -87,7 +63,7 @@ pub typed_tasks : (fresh : Fresh ℕ) (world : World ℕ) (number : ℕ) (word :
 typed_tasks fresh world number word recursive =
     let named = named_mounts nat_eq world number recursive in
     let group = numbers_by nat_eq fresh named in
-    regrouped_tasks (record world {
+    tasks-regrouped (record world {
       mounts = map (retyped_mount nat_eq group word named) world.mounts;
       master = with_new_groups nat_eq group world.master named;
     })
@@ -99,7 +75,7 @@ task_keeps world task is small =
     all_mapped is_within_limits (replaced_if_called task) (λ old h. replaced_within task old is h) world.tasks small
 
 ended_keeps : (world : World ℕ) → HasSmallTasks world → HasSmallTasks (namespaces_ended nat_eq world)
-ended_keeps world small = same_tasks (namespaces_ended nat_eq world) world (taken_tasks world _) small
+ended_keeps world small = same_tasks (namespaces_ended nat_eq world) world (tasks-taken_away world _) small
 
 -- the task that is found is one of the world
 found_within : (world : World ℕ) (name : TaskName) (list : List (Task ℕ)) (task : Task ℕ)
@@ -126,7 +102,7 @@ module _ (fresh : Fresh ℕ) (world : World ℕ) (task : Task ℕ) (small : HasS
       → HasSmallTasks (with_change nat_eq any before location change)
   change_small any before same location change =
       same_tasks (with_change nat_eq any before location change) world
-      (changed_tasks any before location change ∙ same) small
+      (tasks-with_change any before location change ∙ same) small
 
   new_small : (place : Place ℕ) (node : Node ℕ) → HasSmallTasks (with_new nat_eq fresh world place node)
   new_small place node = change_small (odds fresh) world refl place.parent (making place (evens fresh 0) node)
@@ -242,12 +218,12 @@ module _ (fresh : Fresh ℕ) (world : World ℕ) (task : Task ℕ) (small : HasS
       (with_change nat_eq fresh (without_mounts_on nat_eq world (object_there place)) place.parent
       (removing place (object_there place)))) small
       (λ passed. change_small fresh (without_mounts_on nat_eq world (object_there place))
-      (taken_tasks world _) place.parent
+      (tasks-taken_away world _) place.parent
       (removing place (object_there place)))))
 
   replaced_tasks : (o : Option (Location ℕ)) → (without_replaced nat_eq world o).tasks ≡ world.tasks
   replaced_tasks None = refl
-  replaced_tasks (Some new) = taken_tasks world _
+  replaced_tasks (Some new) = tasks-taken_away world _
 
   renamed_small : (from to : Place ℕ) (b : Bool)
       → HasSmallTasks (renamed_by nat_eq b fresh world task from to (object_there from)).world
@@ -352,7 +328,7 @@ module _ (fresh : Fresh ℕ) (world : World ℕ) (task : Task ℕ) (small : HasS
       (same_tasks after_call world same small)
 
   copy_tasks : (b : Bool) (file : Location ℕ) → (with_copy nat_eq b fresh world file).tasks ≡ world.tasks
-  copy_tasks true file = changed_tasks fresh world file (CopyUp file.node)
+  copy_tasks true file = tasks-with_change fresh world file (CopyUp file.node)
   copy_tasks false file = refl
 
   open_file_small : HasRoom → (file : Location ℕ) (access : Access)
@@ -371,7 +347,7 @@ module _ (fresh : Fresh ℕ) (world : World ℕ) (task : Task ℕ) (small : HasS
       (opened (with_new nat_eq fresh world place (new_file task mode [])) task
       (record { mount = place.parent.mount; node = evens fresh 0 }) access) small
       (λ passed. opened_small room (with_new nat_eq fresh world place (new_file task mode []))
-      (changed_tasks (odds fresh) world place.parent (making place (evens fresh 0) (new_file task mode [])))
+      (tasks-with_change (odds fresh) world place.parent (making place (evens fresh 0) (new_file task mode [])))
       (record { mount = place.parent.mount; node = evens fresh 0 }) access)
 
   opened_or_created_small : HasRoom → (place : Place ℕ) (access : Access) (mode : ℕ) (object : Option (Location ℕ))
@@ -446,7 +422,7 @@ module _ (fresh : Fresh ℕ) (world : World ℕ) (task : Task ℕ) (small : HasS
       all_appended is_within_limits (map (replaced_if_called (record task { forks = task.forks + 1 })) world.tasks)
       (child_of task (child_credentials task.credentials words))
       (task_keeps world (record task { forks = task.forks + 1 })
-      (parent_within task is (first_false (nat_le most_forks task.forks)
+      (parent_within task is (or_false_left (nat_le most_forks task.forks)
       (nat_le deepest_name (length task.name)) passed.0)) small)
       (child_within task words is ((or_parts (nat_le most_forks task.forks)
       (nat_le deepest_name (length task.name)) passed.0).1) given))
@@ -537,7 +513,7 @@ module _ (fresh : Fresh ℕ) (world : World ℕ) (task : Task ℕ) (small : HasS
       after_any HasSmallTasks world (directory_walk nat_eq world task path) _ small (λ here.
       judged_holds HasSmallTasks world (umount_rules nat_eq world task here.location)
       (granted Done (unmounted nat_eq world here.location.mount)) small
-      (λ passed. same_tasks (unmounted nat_eq world here.location.mount) world (taken_tasks world _) small)))
+      (λ passed. same_tasks (unmounted nat_eq world here.location.mount) world (tasks-taken_away world _) small)))
 
   lazy_small : (path : List ℕ) → HasSmallTasks (lazy_outcome nat_eq world task path).world
   unfolding lazy_outcome

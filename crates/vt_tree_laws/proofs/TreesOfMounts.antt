@@ -13,13 +13,13 @@ use Rattle.vt_spec.specs.Machine.World.{filesystem_numbered, is_directory_at}
 use Rattle.vt_spec.specs.Machine.Invariants.{has_its_root}
 use Rattle.vt_spec.proofs.Nodes.{none_is_not}
 use Rattle.vt_tree_laws.specs.Trees.Calls.{WorldsAreStanding}
-use Rattle.vt_tree_laws.proofs.TreesWalked.{first_false}
+use Rattle.vt_spec.proofs.Truths.{or_false_left}
 
 none_passes : {A : Type 0} (test : A → Bool) (list : List A) → list_any test list ≡ false
     → All (λ a. test a ≡ false) list
 none_passes test [] h = All-nil (λ a. test a ≡ false)
 none_passes test (a ∷ list) h =
-    All-cons (λ x. test x ≡ false) a list (first_false (test a) (list_any test list) h)
+    All-cons (λ x. test x ≡ false) a list (or_false_left (test a) (list_any test list) h)
     (none_passes test list ((or_parts (test a) (list_any test list) h).1))
 
 -- where no two mounts have one number, each is found by its number
@@ -29,7 +29,7 @@ found_by_number [] h = All-nil (λ mount. mount_in nat_eq [] mount.number ≡ mo
 found_by_number (first ∷ mounts) h =
     let apart =
     none_passes (λ b. nat_eq first.number b.number) mounts
-    (first_false (list_any (λ b. nat_eq first.number b.number) mounts)
+    (or_false_left (list_any (λ b. nat_eq first.number b.number) mounts)
     (any_pair (λ a b. nat_eq a.number b.number) mounts) h) in
     let rest =
     found_by_number mounts

@@ -1,19 +1,19 @@
 -- A change of a filesystem in a world of trees leaves a world of trees.
-use Rattle.std.proofs.Common.{eqb-true, ◌≡◌, refl, sym, ap, subst, ◌∙◌, true≢false, ℕ, nat_eq, Bool, true, false, cond, List, [], ◌∷◌, map, ◌⊎◌, inl, inr, ⊎_elim, Some, None, is_some, option_map}
+use Rattle.std.proofs.Common.{eqb-true, ◌≡◌, refl, sym, ap, subst, ◌∙◌, true≢false, ℕ, nat_eq, Bool, true, false, cond, List, [], ◌∷◌, map, ◌⊎◌, inl, inr, ⊎_elim, Some, None, is_some}
 use Rattle.std.specs.Prelude.{unwrap_or}
 use Rattle.std.specs.List.{All, find, list_any}
 use Rattle.std.proofs.lemmas.List.Elements.{All-cons, All-head, All-nil, All-tail}
 use Rattle.vt_spec.specs.Language.Changes.{Change, changed}
-use Rattle.vt_spec.specs.Machine.Detach.{after_going, mount_point_left, taken_away}
+use Rattle.vt_spec.specs.Machine.Detach.{taken_away}
 use Rattle.vt_spec.specs.Machine.Filesystems.{filesystem_changed, filesystems_raised, raised, raised_if_changed, with_change, with_files}
 use Rattle.vt_spec.specs.Lists.{Fresh}
-use Rattle.vt_spec.specs.Machine.Mounts.{Location, Mount, detached, mount_in, no_mount}
-use Rattle.vt_spec.specs.Machine.Receives.{inheriting, regrouped, regrouped_by}
-use Rattle.vt_spec.specs.Machine.World.{Filesystem, World, files_at, filesystem_at, is_overlay, mount_at, no_filesystem, replaced_if_numbered, with_filesystem, with_mounts}
+use Rattle.vt_spec.specs.Machine.Mounts.{Location}
+use Rattle.vt_spec.specs.Machine.World.{Filesystem, World, files_at, filesystem_at, is_overlay, mount_at, no_filesystem, replaced_if_numbered, with_filesystem}
 use Rattle.vt_tree_laws.specs.Trees.{IsFileTree, IsProper}
 use Rattle.vt_tree_laws.specs.Trees.Calls.{AreNew, IsWorldOfTrees}
 use Rattle.vt_tree_laws.proofs.ChangesKeepTrees.{changes_keep_numbers, changes_keep_own_parents, changes_keep_trees}
-use Rattle.vt_tree_laws.proofs.TreesWalked.{no_some}
+use Rattle.vt_spec.proofs.Options.{none_from_not_some}
+use Rattle.vt_spec.proofs.Worlds.{filesystems-taken_away, shown-taken_away}
 
 -- a filesystem of the list, or the one that is not there
 abbrev pub numbered : ℕ → List (Filesystem ℕ) → Filesystem ℕ
@@ -108,7 +108,7 @@ module _ (fresh : Fresh ℕ) (world : World ℕ) (location : Location ℕ) (chan
 
   no_overlay : IsWorldOfTrees world → old.overlay ≡ None
   no_overlay conditions =
-      no_some old.overlay
+      none_from_not_some old.overlay
       (numbered_anyhow (λ filesystem. is_overlay filesystem ≡ false)
       (mount_at nat_eq world location).filesystem world.filesystems conditions.plain refl)
 
@@ -147,80 +147,11 @@ new_at fresh world location new k =
     numbered_anyhow (λ filesystem. (j : ℕ) → filesystem.files.tree.node (fresh j) ≡ None)
     (mount_at nat_eq world location).filesystem world.filesystems new (λ j. refl) k
 
--- Mounts taken away: the filesystems stay, and each mount shows the one that it showed
-going_number : (world : World ℕ) (gone : List ℕ) (mount : Mount ℕ)
-    → (after_going nat_eq world gone mount).number ≡ mount.number
-going_number world gone mount = by _
-  where
-    by : (b : Bool)
-        → (cond b (detached mount)
-        (record mount { mount_point = option_map (mount_point_left nat_eq world gone) mount.mount_point })).number ≡ mount.number
-    by true = refl
-    by false = refl
-
-going_filesystem : (world : World ℕ) (gone : List ℕ) (mount : Mount ℕ)
-    → (after_going nat_eq world gone mount).filesystem ≡ mount.filesystem
-going_filesystem world gone mount = by _
-  where
-    by : (b : Bool)
-        → (cond b (detached mount)
-        (record mount { mount_point = option_map (mount_point_left nat_eq world gone) mount.mount_point })).filesystem ≡ mount.filesystem
-    by true = refl
-    by false = refl
-
--- a change of mounts that keeps their numbers and filesystems
-mapped_filesystem : (f : Mount ℕ → Mount ℕ) → ((mount : Mount ℕ) → (f mount).number ≡ mount.number)
-    → ((mount : Mount ℕ) → (f mount).filesystem ≡ mount.filesystem)
-    → (mounts : List (Mount ℕ)) (number : ℕ)
-    → (mount_in nat_eq (map f mounts) number).filesystem ≡ (mount_in nat_eq mounts number).filesystem
-mapped_filesystem f same_number same_filesystem [] number = refl
-mapped_filesystem f same_number same_filesystem (mount ∷ mounts) number =
-    ap (λ n. (unwrap_or (cond (nat_eq number n) (Some (f mount)) (find (λ m. nat_eq number m.number) (map f mounts)))
-    (no_mount number)).filesystem) (same_number mount)
-    ∙ by (nat_eq number mount.number) (mapped_filesystem f same_number same_filesystem mounts number)
-  where
-    by : (b : Bool) → (mount_in nat_eq (map f mounts) number).filesystem ≡ (mount_in nat_eq mounts number).filesystem
-        → (unwrap_or (cond b (Some (f mount)) (find (λ m. nat_eq number m.number) (map f mounts)))
-        (no_mount number)).filesystem
-        ≡ (unwrap_or (cond b (Some mount) (find (λ m. nat_eq number m.number) mounts)) (no_mount number)).filesystem
-    by true rest = same_filesystem mount
-    by false rest = rest
-
-pub regrouped_filesystems : (world : World ℕ) → (regrouped nat_eq world).filesystems ≡ world.filesystems
-regrouped_filesystems world = by _
-  where
-    by : (b : Bool) → (regrouped_by nat_eq b world).filesystems ≡ world.filesystems
-    by true = refl
-    by false = refl
-
-regrouped_shows : (world : World ℕ) (number : ℕ)
-    → (mount_in nat_eq (regrouped nat_eq world).mounts number).filesystem
-    ≡ (mount_in nat_eq world.mounts number).filesystem
-regrouped_shows world number = by _
-  where
-    by : (b : Bool)
-        → (mount_in nat_eq (regrouped_by nat_eq b world).mounts number).filesystem
-        ≡ (mount_in nat_eq world.mounts number).filesystem
-    by true = mapped_filesystem (inheriting nat_eq world) (λ mount. refl) (λ mount. refl) world.mounts number
-    by false = refl
-
-pub taken_filesystems : (world : World ℕ) (gone : List ℕ)
-    → (taken_away nat_eq world gone).filesystems ≡ world.filesystems
-taken_filesystems world gone =
-    regrouped_filesystems (with_mounts world (map (after_going nat_eq world gone) world.mounts))
-
-pub taken_shows : (world : World ℕ) (gone : List ℕ) (location : Location ℕ)
-    → (mount_at nat_eq (taken_away nat_eq world gone) location).filesystem ≡ (mount_at nat_eq world location).filesystem
-taken_shows world gone location =
-    regrouped_shows (with_mounts world (map (after_going nat_eq world gone) world.mounts)) location.mount
-    ∙ mapped_filesystem (after_going nat_eq world gone) (going_number world gone)
-    (going_filesystem world gone) world.mounts location.mount
-
 -- so the trees seen at each location stay
 pub taken_files : (world : World ℕ) (gone : List ℕ) (location : Location ℕ)
     → files_at nat_eq (taken_away nat_eq world gone) location ≡ files_at nat_eq world location
 taken_files world gone location =
-    λ i. (numbered (taken_shows world gone location i) (taken_filesystems world gone i)).files
+    λ i. (numbered (shown-taken_away world gone location i) (filesystems-taken_away world gone i)).files
 
 -- a world with the filesystems of a world of trees is one
 pub same_filesystems : (a b : World ℕ) → a.filesystems ≡ b.filesystems → IsWorldOfTrees b → IsWorldOfTrees a

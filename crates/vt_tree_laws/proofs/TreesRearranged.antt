@@ -1,14 +1,13 @@
 -- A tree in which names are taken away, given, and given in exchange: what has to be seen of the inodes for it to be a
 -- tree again.
-use Rattle.std.proofs.Common.{◌≡◌, ◌≢◌, refl, sym, ap, subst, ◌∙◌, ℕ, true, List, [], ◌∷◌, ◌⊎◌, inl, inr, ⊎_elim, Option, Some, None, is_some}
+use Rattle.std.proofs.Common.{◌≡◌, ◌≢◌, sym, ap, subst, ◌∙◌, ℕ, true, List, [], ◌∷◌, ◌⊎◌, inl, inr, ⊎_elim, Option, Some, is_some}
 use Rattle.std.specs.FinMap.Entries.{is_sorted}
-use Rattle.vt_spec.specs.Tree.{Tree, Node, Content, name_cmp, entry_named, entries_of, kind_of, is_directory_node, entries_in, parent_in}
-use Rattle.vt_spec.specs.Tree.Content.{Directory, Regular, Symlink, Whiteout}
-use Rattle.vt_spec.specs.Rights.{is_directory}
+use Rattle.vt_spec.specs.Tree.{Tree, Node, name_cmp, entry_named, is_directory_node, entries_in, parent_in}
 use Rattle.vt_spec.specs.TreeLaws.{entry_at, led, IsDirectory, HasName, IsReached, IsTree}
 use Rattle.vt_spec.proofs.Nodes.{none_is_not}
 use Rattle.vt_spec.proofs.Trees.{found, entry_reached, reached_named, root_reached}
 use Rattle.std.proofs.lemmas.Option.{same_Some}
+use Rattle.vt_spec.proofs.NodeChanges.{directory_from_entry}
 
 -- what holds where a list of names begins, and goes on along each entry, holds where they lead
 pub led_closed : (tree : Tree ℕ) (P : ℕ → Type 0)
@@ -19,20 +18,6 @@ led_closed tree P step from [] number p e = subst P (same_Some from number e) p
 led_closed tree P step from (name ∷ names) number p e =
     let first = found (λ next. led tree next names) (entry_at tree from name) number e in
     led_closed tree P step first.0 names number (step from name first.0 p first.1) first.2
-
--- what has an entry is a directory
-pub node_with_entries : (name : List ℕ) (number : ℕ) (o : Option (Node ℕ))
-    → entry_named name (entries_in o) ≡ Some number
-    → is_directory_node o ≡ true
-node_with_entries name number None e = none_is_not None number refl e
-node_with_entries name number (Some node) e = by node.content e
-  where
-    by : (content : Content ℕ) → entry_named name (entries_of content) ≡ Some number
-        → is_directory (kind_of content) ≡ true
-    by (Directory parent entries opaque) h = refl
-    by (Regular bytes) h = none_is_not None number refl h
-    by (Symlink text) h = none_is_not None number refl h
-    by Whiteout h = none_is_not None number refl h
 
 -- what has no entries has none of this name
 pub no_entries : {P : Type 0} (tree : Tree ℕ) (directory : ℕ) (name : List ℕ) (number : ℕ)
@@ -112,7 +97,7 @@ module _ (tree : Tree ℕ) (node : ℕ → Option (Node ℕ)) (Leaves : ℕ → 
       (λ entry. inl (entry_reached after directory name number reached entry))
       (moves.kept directory name number e is))
       (λ gone. no_entries tree directory name number gone.1 e)
-      (remains (node_with_entries name number (tree.node directory) e))
+      (remains (directory_from_entry name number (tree.node directory) e))
 
   remains_reached : (number : ℕ) → IsDirectory tree number → IsReached tree number
       → IsReached after number ⊎ (Leaves number × (entries_in (tree.node number) ≡ []))
@@ -148,7 +133,7 @@ module _ (tree : Tree ℕ) (node : ℕ → Option (Node ℕ)) (Leaves : ℕ → 
       (λ leaves. ⊎_elim
       (λ arrives. subst (IsDirectory after)
       (sym (moves.arrives_parent arrives.0 arrives.1 number arrives.2 (before_directory number is)))
-      (node_with_entries arrives.1 number (node arrives.0) (moves.arrives_entry arrives.0 arrives.1 number arrives.2)))
+      (directory_from_entry arrives.1 number (node arrives.0) (moves.arrives_entry arrives.0 arrives.1 number arrives.2)))
       (λ gone. subst (IsDirectory after) (sym gone.own_parent) is)
       (moves.leaves_how number (before_directory number is) leaves))
       (λ stays. subst (IsDirectory after) (sym (moves.stays_parent number (before_directory number is) stays))

@@ -12,8 +12,9 @@ use Rattle.vt_spec.specs.Machine.Walk.LastWord.{Dot, DotDot, Named, NoWord}
 use Rattle.vt_spec.specs.Machine.World.{Task, World}
 use Rattle.vt_tree_laws.specs.Trees.Sizes.{is_fit_name}
 use Rattle.vt_tree_laws.proofs.TreesTasks.{both}
-use Rattle.vt_tree_laws.proofs.TreesWalked.{Ends, ends_next, ends_step, ends_then, ends_unless, first_false}
+use Rattle.vt_tree_laws.proofs.TreesWalked.{Ends, ends_next, ends_step, ends_then, ends_unless}
 use Rattle.std.proofs.lemmas.Bool.{and_parts, or_parts}
+use Rattle.vt_spec.proofs.Truths.{or_false_left}
 
 pub no_longer : (most : ℕ) (bytes : List ℕ) → nat_lt most (length bytes) ≡ false → nat_le (length bytes) most ≡ true
 no_longer most bytes h = le-leb (length bytes) most (ltb-false most (length bytes) h)
@@ -35,7 +36,7 @@ parts_fit (part ∷ list) h = by (is_empty part) refl h (λ g. parts_fit list g)
     by true e g rest = rest g
     by false e g rest =
         let short =
-        first_false (nat_lt longest_name (length part))
+        or_false_left (nat_lt longest_name (length part))
         (list_any (λ word. nat_lt longest_name (length word)) (filter (λ p. not (is_empty p)) list)) g in
         let later =
         (or_parts (nat_lt longest_name (length part))

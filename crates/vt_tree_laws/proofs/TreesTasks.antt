@@ -13,6 +13,7 @@ use Rattle.vt_spec.specs.Machine.World.{Descriptor, Task, replaced_if_called}
 use Rattle.vt_spec.specs.Machine.Invariants.{are_ascending_from, is_within_limits}
 pub use Rattle.std.proofs.lemmas.Bool.{and_from as both}
 use Rattle.vt_spec.proofs.Lists.{all-filter}
+use Rattle.vt_spec.proofs.Descriptors.{ascending-filter, free_above}
 
 -- the limits, one by one
 pub record IsWithin (task : Task ℕ) : Type 0 where
@@ -100,14 +101,6 @@ free_small number (descriptor ∷ list) = by (descriptor.number == number) (free
     by true h = later number (length list) (free_from (number + 1) list) h
     by false h = omega arith
 
-pub free_above : (number : ℕ) (list : List (Descriptor ℕ)) → number ≤ free_from number list
-free_above number [] = omega arith
-free_above number (descriptor ∷ list) = by (descriptor.number == number) (free_above (number + 1) list)
-  where
-    by : (b : Bool) → number + 1 ≤ free_from (number + 1) list → number ≤ cond b (free_from (number + 1) list) number
-    by true h = omega arith
-    by false h = omega arith
-
 inserted_length : (new : Descriptor ℕ) (list : List (Descriptor ℕ)) → length (inserted new list) ≡ suc (length list)
 inserted_length new [] = refl
 inserted_length new (descriptor ∷ list) = by (nat_lt new.number descriptor.number) (inserted_length new list)
@@ -175,38 +168,6 @@ inserted_ascending least new (descriptor ∷ list) e h =
             let above : least ≤ descriptor.number = leb-true least descriptor.number low in
             omega (arith, f, apart, above)
 
--- what is in order from a number on is from a lower one
-ascending_lower : (lower least : ℕ) (list : List (Descriptor ℕ)) → lower ≤ least → are_ascending_from least list ≡ true
-    → are_ascending_from lower list ≡ true
-ascending_lower lower least [] le h = refl
-ascending_lower lower least (descriptor ∷ list) le h =
-    let above =
-    leb-true least descriptor.number
-    ((and_parts (nat_le least descriptor.number) (are_ascending_from (descriptor.number + 1) list) h).0) in
-    both (nat_le lower descriptor.number) (are_ascending_from (descriptor.number + 1) list)
-    (le-leb lower descriptor.number (omega (arith, above, le)))
-    ((and_parts (nat_le least descriptor.number) (are_ascending_from (descriptor.number + 1) list) h).1)
-
-filtered_ascending : (stays : Descriptor ℕ → Bool) (least : ℕ) (list : List (Descriptor ℕ))
-    → are_ascending_from least list ≡ true
-    → are_ascending_from least (filter stays list) ≡ true
-filtered_ascending stays least [] h = refl
-filtered_ascending stays least (descriptor ∷ list) h =
-    by (stays descriptor)
-    (filtered_ascending stays (descriptor.number + 1) list
-    ((and_parts (nat_le least descriptor.number) (are_ascending_from (descriptor.number + 1) list) h).1))
-  where
-    low : nat_le least descriptor.number ≡ true
-    low = (and_parts (nat_le least descriptor.number) (are_ascending_from (descriptor.number + 1) list) h).0
-
-    by : (b : Bool) → are_ascending_from (descriptor.number + 1) (filter stays list) ≡ true
-        → are_ascending_from least (cond b (descriptor ∷ filter stays list) (filter stays list)) ≡ true
-    by true rest = both (nat_le least descriptor.number)
-        (are_ascending_from (descriptor.number + 1) (filter stays list)) low rest
-    by false rest =
-        let above = leb-true least descriptor.number low in
-        ascending_lower least (descriptor.number + 1) (filter stays list) (omega (arith, above)) rest
-
 filtered_length : (stays : Descriptor ℕ → Bool) (list : List (Descriptor ℕ)) → length (filter stays list) ≤ length list
 filtered_length stays [] = omega arith
 filtered_length stays (descriptor ∷ list) = by (stays descriptor) (filtered_length stays list)
@@ -245,7 +206,7 @@ closed_within task number is =
     limits_of (without_descriptor task number) (record {
       few = le-leb (length (filter (λ descriptor. not (number == descriptor.number)) task.descriptors)) most_descriptors
           (omega (arith, few, filtered_length (λ descriptor. not (number == descriptor.number)) task.descriptors));
-      ascending = filtered_ascending
+      ascending = ascending-filter
           (λ descriptor. not (number == descriptor.number)) 0 task.descriptors limits.ascending;
       low =
           all-filter (λ descriptor. nat_lt descriptor.number most_descriptors)

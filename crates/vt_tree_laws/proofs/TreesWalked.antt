@@ -89,14 +89,6 @@ pub ok_same : {A : Type 0} (a b : A) (r : Result A Deny) → r ≡ Ok a → r �
 unfolding ok_part
 ok_same a b r p q = ap (ok_part a) (sym p ∙ q)
 
-pub no_some : {A : Type 0} (o : Option A) → is_some o ≡ false → o ≡ None
-no_some None e = refl
-no_some (Some a) e = absurd (true≢false e)
-
-pub first_false : (a b : Bool) → (a || b) ≡ false → a ≡ false
-first_false true b e = e
-first_false false b e = refl
-
 -- the place of a name: its directory, and what its entry leads to
 abbrev pub IsPlaceOf : World ℕ → Location ℕ → LastWord → Option (Location ℕ) → Type 0
 IsPlaceOf world parent NoWord object = ⊤

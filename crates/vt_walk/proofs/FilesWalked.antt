@@ -10,11 +10,12 @@ use Rattle.vt_spec.specs.Lists.{rest_of}
 use Rattle.vt_spec.specs.PathText.{ends_in_slash, words}
 use Rattle.vt_spec.specs.Machine.World.{Task}
 use Rattle.vt_spec.specs.Machine.Looks.{Looks}
-use Rattle.vt_walk.proofs.RefusalLemmas.{unless-answer, unless-passed, unless-refused}
+use Rattle.vt_walk.proofs.RefusalLemmas.{unless-answer}
 use Rattle.vt_walk.proofs.Trails.{file-plain, place-checked}
 use Rattle.vt_walk.proofs.WalksOfPaths.{front_walked-split, parsed-walkable, walked_from}
 use Rattle.vt_text.specs.Walkable.{IsWalkable}
 use Rattle.vt_walk.specs.WalkValue.{place_end}
+use Rattle.vt_spec.proofs.Refusals.{unless-passed, unless-refused}
 
 module _ (looks : Looks ℕ) (task : Task ℕ) where
   -- what is done at a place: a link there is followed

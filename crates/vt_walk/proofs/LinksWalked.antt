@@ -10,8 +10,9 @@ use Rattle.vt_spec.specs.PathText.{words}
 use Rattle.vt_spec.specs.Machine.Mounts.{Location}
 use Rattle.vt_spec.specs.Machine.World.{Task}
 use Rattle.vt_spec.specs.Machine.Looks.{Looks, mount_at}
-use Rattle.vt_walk.proofs.RefusalLemmas.{and_then-and_then, unless-and_then, unless-answer, unless-passed, unless-refused}
+use Rattle.vt_walk.proofs.RefusalLemmas.{and_then-and_then, unless-and_then, unless-answer}
 use Rattle.vt_walk.specs.PendingTexts.{links_within}
+use Rattle.vt_spec.proofs.Refusals.{unless-passed, unless-refused}
 
 -- a link that may be followed is one of those that are left
 some-left : (nosymfollow : Bool) (left : ℕ) (rows : Rules) (start next : Here ℕ)

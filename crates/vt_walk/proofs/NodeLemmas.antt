@@ -1,6 +1,6 @@
 -- What the definitions see of an inode: its entries by the numbers of inodes.
 use Rattle.std.proofs.Common.{◌≡◌, ◌<◌, ℕ, Bool, true, false, cond, List, [], ◌∷◌, None, Some, map, nat_eq, not, option_map, refl, sym, ap, ◌∙◌}
-use Rattle.std.proofs.lemmas.Bool.{eqb-true}
+use Rattle.std.proofs.lemmas.Bool.{eqb-true, not-false}
 use Rattle.std.specs.Prelude.{Option}
 use Rattle.std.specs.Ordering.{eq_by_cmp}
 use Rattle.vt_spec.specs.Machine.Looks.{Looks}
@@ -20,11 +20,7 @@ use Rattle.vt_location.specs.Numbers.{exchanged, inode_number}
 
 -- mounts of one count are one
 pub same-mount : (a b : MountId) → not (nat_eq a.count b.count) ≡ false → a ≡ b
-same-mount a b is = ap (λ n. record { count = n }) (eqb-true a.count b.count (by (nat_eq a.count b.count) is))
-  where
-    by : (t : Bool) → not t ≡ false → t ≡ true
-    by true is = refl
-    by false is = sym is
+same-mount a b is = ap (λ n. record { count = n }) (eqb-true a.count b.count (not-false (nat_eq a.count b.count) is))
 
 module _ (there back : ℕ → ℕ) (name : List ℕ) where
   entry-in-renamed : (entries : Entries ℕ)

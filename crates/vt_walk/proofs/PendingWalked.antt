@@ -10,10 +10,11 @@ use Rattle.vt_spec.specs.Machine.Mounts.{Location}
 use Rattle.vt_spec.specs.Machine.World.{Task}
 use Rattle.vt_spec.specs.Machine.Looks.{Looks}
 use Rattle.vt_walk.proofs.LinksWalked.{begun-walked, follow-refused}
-use Rattle.vt_walk.proofs.RefusalLemmas.{and_then-and_then, and_then-ok, unless-let_through, unless-stopped}
+use Rattle.vt_walk.proofs.RefusalLemmas.{and_then-and_then, and_then-ok, unless-stopped}
 use Rattle.vt_walk.specs.declared.steps.LinkMet.{LinkMet}
 use Rattle.vt_walk.specs.declared.steps.Pending.{Pending}
 use Rattle.vt_walk.specs.PendingTexts.{link_passed, links_within, texts_walked}
+use Rattle.vt_spec.proofs.Refusals.{unless-let_through}
 
 reverse-push : {X : Type 0} (texts others : List X) (top : X) → texts ≡ others ++ top ∷ []
     → reverse texts ≡ top ∷ reverse others

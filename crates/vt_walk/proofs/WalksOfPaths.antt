@@ -16,10 +16,11 @@ use Rattle.vt_spec.specs.PathText.{ends_in_slash, is_empty, parsed_path, words}
 use Rattle.vt_spec.specs.Language.Limits.{longest_name, longest_path}
 use Rattle.vt_text.proofs.Limits.{IsTooLong-from_test, not_walkable}
 use Rattle.vt_text.specs.Walkable.{IsWalkable}
-use Rattle.vt_walk.proofs.RefusalLemmas.{unless-let_through, unless-stopped}
+use Rattle.vt_walk.proofs.RefusalLemmas.{unless-stopped}
 use Rattle.vt_walk.proofs.Trails.{all-plain, front-plain, last-of-plain, location-checked, location-plain, placed-of-plain}
 use Rattle.vt_walk.specs.PlainWalks.{followed, front_walked, last_walked, placed, words_walked}
 use Rattle.vt_walk.specs.WalkValue.{location_end, place_end}
+use Rattle.vt_spec.proofs.Refusals.{unless-let_through}
 
 is_empty-false : (text : List ℕ) → (text ≡ [] → ⊥) → is_empty text ≡ false
 is_empty-false [] some = absurd (some refl)

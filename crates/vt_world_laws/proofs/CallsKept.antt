@@ -1,5 +1,5 @@
 -- Every call leaves a world: what is permitted fits, and each permit that fits keeps the invariants.
-use Rattle.std.proofs.Common.{◌≡◌, refl, sym, ap, subst, ◌∙◌, inr, ℕ, nat_eq, Bool, true, false, cond, List, [], ◌∷◌, ◌++◌, ◌||◌, not, Option, Some, None, Result, Ok, Err, find, flat_map, is_ok, map, ok_or, true≢false}
+use Rattle.std.proofs.Common.{◌≡◌, refl, sym, ap, subst, ◌∙◌, inr, ℕ, nat_eq, Bool, true, false, List, ◌++◌, ◌||◌, not, Option, Some, None, Result, Ok, Err, flat_map, is_ok, map, ok_or, true≢false}
 use Rattle.std.proofs.lemmas.Bool.{or_parts}
 use Rattle.std.proofs.lemmas.Slice.Eq.{bytes_eq-Decides}
 use Rattle.vt_spec.specs.declared.errors.Deny.{Deny}
@@ -32,7 +32,6 @@ use Rattle.vt_tree_laws.proofs.ChangesWithinSizes.{outcome_fits}
 use Rattle.vt_tree_laws.proofs.TreesEntered.{found_all}
 use Rattle.vt_tree_laws.proofs.TreesLimits.{outcome_small}
 use Rattle.vt_tree_laws.proofs.TreesOfMounts.{worlds_are_standing}
-use Rattle.vt_tree_laws.proofs.TreesWalked.{no_some}
 use Rattle.vt_world_laws.specs.Worlds.Calls.{CallsKeepWorlds}
 use Rattle.vt_world_laws.specs.Worlds.Kept.{IsPlain, IsWorldButForUse, MountsShow}
 use Rattle.vt_world_laws.specs.Worlds.Filesystems.{OneFilesystemANumber}
@@ -47,24 +46,8 @@ use Rattle.vt_world_laws.proofs.PermitsFilesystems.{permits_keep_filesystem_numb
 use Rattle.vt_world_laws.proofs.PermitsNamed.{permits_keep_counting_forks, permits_keep_names}
 use Rattle.vt_world_laws.proofs.PermitsPlaced.{permits_keep_directories, permits_keep_locations, permits_keep_open_files}
 use Rattle.vt_world_laws.proofs.PermitsShow.{permits_keep_mounts_showing}
-
--- what is found passes
-found_passes : {A : Type 0} (test : A → Bool) (list : List A) (a : A) → find test list ≡ Some a → test a ≡ true
-found_passes {A = A} test [] a e = absurd (true≢false (sym (ap is_there e)))
-  where
-    is_there : Option A → Bool
-    is_there None = false
-    is_there (Some x) = true
-found_passes {A = A} test (first ∷ rest) a e = by (test first) refl e (found_passes test rest a)
-  where
-    value : Option A → A
-    value None = a
-    value (Some x) = x
-
-    by : (b : Bool) → test first ≡ b → cond b (Some first) (find test rest) ≡ Some a
-        → (find test rest ≡ Some a → test a ≡ true) → test a ≡ true
-    by true f g later = ap test (sym (ap value g)) ∙ f
-    by false f g later = later g
+use Rattle.vt_spec.proofs.Found.{found_passes}
+use Rattle.vt_spec.proofs.Options.{none_from_not_some}
 
 -- a task goes by the name that it is found by
 pub name_found : (world : World ℕ) (name : TaskName) (task : Task ℕ) → task_called world name ≡ Some task
@@ -78,7 +61,7 @@ pub new_numbers : (world : World ℕ) (fresh : Fresh ℕ) → IsWorld nat_eq wor
     → AreNew fresh world
 new_numbers world fresh is serves =
     all_from_among (λ f. (k : ℕ) → f.files.tree.node (fresh k) ≡ None) world.filesystems (λ f m k.
-    no_some (f.files.tree.node (fresh k))
+    none_from_not_some (f.files.tree.node (fresh k))
     (sym (among_from_all (λ g. ListsNumbers nat_eq g.files) world.filesystems is.files.numbers f m (fresh k))
     ∙ none f m k (is_among nat_eq (fresh k) f.files.numbers) refl))
   where

@@ -22,11 +22,11 @@ use Rattle.vt_spec.specs.Machine.Types.{named_mounts, retyped_mount, type_after,
 use Rattle.vt_spec.specs.Machine.World.{Namespace, Task, World, mount_at, mount_numbered, mounts_of, task_called, without_task}
 use Rattle.vt_spec.specs.Machine.Invariants.{IsWorld, is_listed}
 use Rattle.vt_spec.proofs.Lists.{Among, among-append, among-append_right, among-from_map, among_from_list_all, among_numbers, is_among_numbers, none_from_among}
-use Rattle.vt_mount_laws.proofs.MountsFound.{number_found}
 use Rattle.vt_mount_laws.proofs.MountsReplaced.{found_itself}
 use Rattle.vt_world_laws.proofs.FewMounts.{Shrinks, StaysOrLeaves, change_shrinks, count, ended_few, few_of, filtered_no_more, is_in, lazily_shrinks, mapped_no_more, none_counted, not_too_many, regrouped_shrinks, shrinks_few, shrinks_itself, shrinks_then, taken_shrinks}
 use Rattle.vt_world_laws.proofs.FitPermits.{attaches}
 use Rattle.vt_world_laws.proofs.ReachedWalks.{task_among}
+use Rattle.vt_spec.proofs.Worlds.{number-mount_in}
 
 and_first : (a : Bool) → (a && true) ≡ true → a ≡ true
 and_first true e = refl
@@ -43,7 +43,7 @@ module _ (world : World ℕ) where
           ⊎ ((cond b (record (mount_numbered nat_eq world number) { flags = flags }) mount).namespace ≡ None)
       by true e =
           inl (ap (λ n. (mount_numbered nat_eq world n).namespace)
-          (sym (number_found world.mounts number) ∙ eqb-true (mount_numbered nat_eq world number).number mount.number e)
+          (sym (number-mount_in world.mounts number) ∙ eqb-true (mount_numbered nat_eq world number).number mount.number e)
           ∙ ap (λ (x : Mount ℕ). x.namespace) (found_itself world.mounts whole.mounts.one_number mount m))
       by false e = inl refl
 

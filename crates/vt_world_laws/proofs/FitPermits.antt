@@ -1,5 +1,5 @@
 -- What a judgement permits, behind its rules and walks.
-use Rattle.std.proofs.Common.{◌≡◌, refl, sym, ◌∙◌, true≢false, ℕ, nat_eq, Bool, true, false, [], ◌∷◌, ◌||◌, Option, Some, None, is_some, Ok, Err, Result}
+use Rattle.std.proofs.Common.{◌≡◌, refl, sym, ◌∙◌, true≢false, ℕ, nat_eq, Bool, true, false, [], ◌∷◌, Option, Some, None, is_some, Ok, Err, Result}
 use Rattle.std.specs.Prelude.{⊤, option_to_list, unwrap_or}
 use Rattle.std.specs.List.{list_any}
 use Rattle.vt_spec.specs.declared.errors.Deny.{Deny}
@@ -14,6 +14,7 @@ use Rattle.vt_spec.specs.Machine.Walk.{Stop, walk_end}
 use Rattle.vt_spec.specs.Machine.World.{Task, World}
 use Rattle.vt_tree_laws.proofs.TreesWalked.{Ends, Passed}
 use Rattle.vt_world_laws.specs.Worlds.Permits.{NamesWhatIsThere}
+use Rattle.std.proofs.Math.Bool.{or-false}
 
 -- the permits that attach mounts: those for which M9 is judged, and which raise no filesystem's change number
 abbrev pub attaches : Permit ℕ → Bool
@@ -56,11 +57,7 @@ module _ (fresh : Fresh ℕ) (world : World ℕ) (task : Task ℕ) where
 -- a test of what may be there
 pub any_of_option : {A : Type 0} (test : A → Bool) (o : Option A) → list_any test (option_to_list o) ≡ holds_of test o
 any_of_option test None = refl
-any_of_option test (Some a) = by (test a)
-  where
-    by : (b : Bool) → (b || false) ≡ b
-    by true = refl
-    by false = refl
+any_of_option test (Some a) = or-false (test a)
 
 -- what is there of an option
 pub some_of : {A : Type 0} (o : Option A) (default : A) → is_some o ≡ true → o ≡ Some (unwrap_or o default)

@@ -20,28 +20,21 @@ use Rattle.vt_spec.specs.Machine.Rules.Making.{file_word_rules, hard_link_rules,
 use Rattle.vt_spec.specs.Language.Limits.{largest_file}
 use Rattle.vt_spec.specs.Machine.Rules.Mounting.{admin_rules}
 use Rattle.vt_spec.specs.Machine.Rules.Removing.{is_one_object, object_there, old_word_rules, removing, rename_new_walk, rename_rules, rmdir_rules, rmdir_word_rules, same_object_rules, unlink_rules}
-use Rattle.vt_spec.specs.Machine.Walk.{Here, LastWord, Place, is_dot, is_dot_dot, is_no_word, is_special, name_of}
-use Rattle.vt_spec.specs.Machine.Walk.LastWord.{Dot, DotDot, Named, NoWord}
+use Rattle.vt_spec.specs.Machine.Walk.{Here, Place, is_special, name_of}
 use Rattle.vt_spec.specs.Machine.Walking.{directory_walk, file_walk, is_directory_there, symlink_walk, new_leaf_walk, new_walk, object_walk, old_leaf_walk, old_walk}
 use Rattle.vt_spec.specs.Machine.World.{Task, World, is_directory_at, node_at, task_called}
 use Rattle.vt_spec.specs.Machine.Invariants.{IsWorld}
 use Rattle.vt_spec.specs.Rights.{owns}
 use Rattle.vt_spec.specs.Tree.{Node, new_directory}
 use Rattle.vt_spec.specs.Tree.Content.{Symlink, Whiteout}
-use Rattle.vt_tree_laws.proofs.TreesWalked.{ends_anyhow, first_false, not_true}
+use Rattle.vt_tree_laws.proofs.TreesWalked.{ends_anyhow, not_true}
 use Rattle.vt_world_laws.specs.Worlds.Permits.{IsReachedDirectory}
 use Rattle.vt_world_laws.proofs.FitPermits.{Permits, permits_unless, permits_walk, permitted, some_of}
 use Rattle.vt_world_laws.proofs.Reached.{directory_found, is_reached, is_reached_directory, others_are_files}
 use Rattle.vt_world_laws.proofs.ReachedPlaces.{IsEndPlace, IsFoundPlace, IsOldPlace, IsPlaceIn, file_walk_end, new_leaf_walk_found, new_walk_found, old_leaf_walk_found, old_walk_found, rename_new_walk_found}
 use Rattle.vt_world_laws.proofs.ReachedWalks.{End, Found, FoundDirectory, directory_walk_end, link_walk_found, object_end}
-
--- a word that is no word that stands for a directory is a name
-no_special : (last : LastWord) → is_dot_dot last ≡ false → is_dot last ≡ false → is_no_word last ≡ false
-    → is_special last ≡ false
-no_special NoWord a b c = c
-no_special Dot a b c = b
-no_special DotDot a b c = a
-no_special (Named name) a b c = refl
+use Rattle.vt_spec.proofs.Truths.{or_false_left}
+use Rattle.vt_spec.proofs.Worlds.{special_word}
 
 module _ (fresh : Fresh ℕ) (world : World ℕ) (whole : IsWorld nat_eq world) (task : Task ℕ)
     (called : task_called world task.name ≡ Some task) where
@@ -195,7 +188,7 @@ module _ (fresh : Fresh ℕ) (world : World ℕ) (whole : IsWorld nat_eq world) 
       permits_walk fresh world task EndPlace (file_walk nat_eq looks task path) _
       (file_walk_end world whole task called path) (λ place is.
       permits_unless fresh world task (file_word_rules place) _ (λ passed.
-      written_fits place bytes is (first_false (is_special place.last) place.slash passed.0) place.object refl))
+      written_fits place bytes is (or_false_left (is_special place.last) place.slash passed.0) place.object refl))
 
   -- Calls that remove and rename
 
@@ -220,7 +213,7 @@ module _ (fresh : Fresh ℕ) (world : World ℕ) (whole : IsWorld nat_eq world) 
       permits_unless fresh world task (rmdir_word_rules place) _ (λ plain.
       permits_unless fresh world task (rmdir_rules nat_eq looks task place (object_there place)) _ (λ passed.
       permitted fresh world task (ToRemoveDirectory place.parent (name_of place.last) (object_there place)) refl (
-        parent_directory place is.0 (no_special place.last plain.0 plain.1.0 plain.1.1.0),
+        parent_directory place is.0 (special_word place.last plain.0 plain.1.0 plain.1.1.0),
         is_reached_directory world whole task (object_there place) (old_found place is)
             (not_true (is_directory_at nat_eq world (object_there place)) passed.0),
       ))))

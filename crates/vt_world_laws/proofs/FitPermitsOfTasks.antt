@@ -29,13 +29,15 @@ use Rattle.vt_spec.specs.Rights.{cap_sys_admin, cap_sys_chroot}
 use Rattle.std.proofs.lemmas.Option.{same_Some}
 use Rattle.vt_spec.proofs.Lists.{Among, among_from_list_all}
 use Rattle.vt_spec.proofs.Nodes.{none_is_not}
-use Rattle.vt_tree_laws.proofs.TreesWalked.{first_false, ok_same}
+use Rattle.vt_tree_laws.proofs.TreesWalked.{ok_same}
 use Rattle.vt_world_laws.specs.Worlds.Permits.{IsReachedDirectory}
 use Rattle.vt_world_laws.proofs.FitPermits.{Permits, permits_then, permits_unless, permits_walk, permitted}
 use Rattle.vt_world_laws.proofs.FitPermitsOfNames.{end_is_file, parent_directory}
 use Rattle.vt_world_laws.proofs.Reached.{directory_found, is_reached, is_reached_directory}
 use Rattle.vt_world_laws.proofs.ReachedPlaces.{IsEndPlace, IsFoundPlace, IsPlaceIn, file_walk_end, new_walk_found}
-use Rattle.vt_world_laws.proofs.ReachedWalks.{End, FoundDirectory, directory_walk_end, found_among, object_end, task_among}
+use Rattle.vt_world_laws.proofs.ReachedWalks.{End, FoundDirectory, directory_walk_end, object_end, task_among}
+use Rattle.vt_spec.proofs.Found.{found_among}
+use Rattle.vt_spec.proofs.Truths.{or_false_left}
 
 -- a step that succeeds where something is there
 pub ok_or_some : {A : Type 0} (o : Option A) (deny : Deny) (a : A) → ok_or o deny ≡ Ok a → o ≡ Some a
@@ -102,7 +104,7 @@ module _ (fresh : Fresh ℕ) (world : World ℕ) (whole : IsWorld nat_eq world) 
       permits_walk fresh world task EndPlace (file_walk nat_eq looks task path) _
       (file_walk_end world whole task called path) (λ place is.
       permits_unless fresh world task (file_word_rules place) _ (λ passed.
-      file_or_new_fits place access mode is (first_false (is_special place.last) place.slash passed.0) place.object
+      file_or_new_fits place access mode is (or_false_left (is_special place.last) place.slash passed.0) place.object
       refl))
   open_by_fits path access (Exclusive mode) =
       permits_walk fresh world task FoundPlace (new_walk nat_eq looks task path) _

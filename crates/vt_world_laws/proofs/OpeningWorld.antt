@@ -1,5 +1,5 @@
 -- The opening world has the invariants.
-use Rattle.std.proofs.Common.{◌≡◌, refl, sym, ap, ◌∙◌, ℕ, nat_eq, eq-eqb, true, false, cond, [], ◌∷◌, ◌||◌, ◌&&◌, Option, Some, None, filter, is_some}
+use Rattle.std.proofs.Common.{◌≡◌, refl, sym, ap, ◌∙◌, ℕ, nat_eq, eq-eqb, true, false, cond, [], ◌∷◌, ◌||◌, ◌&&◌, Some, None, filter, is_some}
 use Rattle.std.specs.Prelude.{length, nat_lt, option_to_list, unwrap_or, ◌==◌}
 use Rattle.std.specs.List.{list_all, list_any}
 use Rattle.std.proofs.lemmas.Bool.{and_from}
@@ -11,7 +11,7 @@ use Rattle.vt_spec.specs.Machine.Settled.{has_layer_on, is_mounted}
 use Rattle.vt_spec.specs.Machine.World.{Filesystem, World, filesystem_numbered, first_mount, first_place, is_directory_at, mount_at, mount_numbered, new_plain, node_at, opening}
 use Rattle.vt_spec.specs.Machine.Invariants.{ListsNumbers, MountInvariants, NamespaceInvariants, Stands, TaskInvariants, TreeInvariants, is_root_mount}
 use Rattle.vt_spec.specs.Machine.Invariants.Stands.{at_root}
-use Rattle.vt_spec.specs.Tree.{Node, is_directory_node}
+use Rattle.vt_spec.specs.Tree.{is_directory_node}
 use Rattle.vt_spec.specs.TreeLaws.{HasOwnParents, IsTree}
 use Rattle.vt_letting_go.specs.InUse.{AllInUse, is_inode_used}
 use Rattle.vt_letting_go.proofs.InUse.{nothing_goes}
@@ -26,10 +26,7 @@ use Rattle.vt_world_laws.specs.Worlds.Kept.{MountsShow}
 use Rattle.vt_world_laws.proofs.TasksNamed.{opening_counts_forks}
 use Rattle.vt_world_laws.proofs.RaisedInUse.{world_of}
 use Rattle.vt_mount_laws.proofs.GroupsLiving.{all_live}
-
-directory_is_there : (o : Option (Node ℕ)) → is_directory_node o ≡ true → is_some o ≡ true
-directory_is_there None e = e
-directory_is_there (Some node) e = refl
+use Rattle.vt_spec.proofs.NodeChanges.{directory_is_there}
 
 module _ (fresh : Fresh ℕ) where
   abbrev first_world : World ℕ

@@ -19,15 +19,16 @@ use Rattle.vt_spec.specs.Machine.Permits.Permit.{Allowed, ToBind, ToChange, ToCl
 use Rattle.vt_spec.specs.Machine.Run.{Serves}
 use Rattle.vt_spec.specs.Machine.World.{Filesystem, Task, World, is_overlay, mount_at, mount_numbered, replaced_if_numbered, without_task}
 use Rattle.vt_spec.proofs.Lists.{Among, all_from_among, among-append, among_from_all, none_among, none_from_among}
-use Rattle.vt_mount_laws.proofs.MountsReplaced.{apart}
 use Rattle.vt_mount_laws.proofs.MountsRetyped.{types_are_of_mounts}
 use Rattle.vt_mount_laws.proofs.UnmountingEnds.{lazy_is_of_mounts}
-use Rattle.vt_tree_laws.proofs.TreesOfWorlds.{numbered_anyhow, replaced_all, taken_filesystems}
+use Rattle.vt_tree_laws.proofs.TreesOfWorlds.{numbered_anyhow, replaced_all}
 use Rattle.vt_world_laws.specs.Worlds.Filesystems.{OneFilesystemANumber}
 use Rattle.vt_world_laws.specs.Worlds.Kept.{IsPlain, KeptByPermits}
 use Rattle.vt_world_laws.specs.Worlds.Permits.{NamesWhatIsThere}
 use Rattle.vt_world_laws.proofs.PermitsSeen.{gone_on, replaced_plain, taken_plain}
 use Rattle.vt_world_laws.proofs.SeenTrees.{change_of_plain, changed_one, numbers-replaced, unused_by_filesystem}
+use Rattle.vt_spec.proofs.Truths.{nat_eq_false_turned}
+use Rattle.vt_spec.proofs.Worlds.{filesystems-taken_away}
 
 -- How the filesystems go on: as they were, with one in the place of the one with its number, or with one more
 pub data FilesystemsGoOn (before : List (Filesystem ℕ)) : List (Filesystem ℕ) → Type 0 where
@@ -130,7 +131,7 @@ module _ (world : World ℕ) (fresh : Fresh ℕ) (task : Task ℕ) (plain : IsPl
   replacing : (replaced : Option (Location ℕ))
       → (without_replaced nat_eq world replaced).filesystems ≡ world.filesystems
   replacing None = refl
-  replacing (Some location) = taken_filesystems world (gone_on world location)
+  replacing (Some location) = filesystems-taken_away world (gone_on world location)
 
   pub filesystems_go_on : (permit : Permit ℕ) → NamesWhatIsThere world task permit → Goes permit
   filesystems_go_on Allowed fits = same_ones world.filesystems refl
@@ -143,7 +144,7 @@ module _ (world : World ℕ) (fresh : Fresh ℕ) (task : Task ℕ) (plain : IsPl
       changing (odds fresh) world plain refl directory (Make directory.node name (evens fresh 0) node)
   filesystems_go_on (ToRemoveDirectory parent name directory) fits =
       changing fresh (without_mounts_on nat_eq world directory) (taken_plain world (gone_on world directory) plain)
-      (taken_filesystems world (gone_on world directory)) parent (Remove parent.node name directory.node)
+      (filesystems-taken_away world (gone_on world directory)) parent (Remove parent.node name directory.node)
   filesystems_go_on (ToRename from old to new object replaced) fits =
       changing fresh (without_replaced nat_eq world replaced) (replaced_plain world replaced plain)
       (replacing replaced) from
@@ -159,22 +160,22 @@ module _ (world : World ℕ) (fresh : Fresh ℕ) (task : Task ℕ) (plain : IsPl
   filesystems_go_on (ToSetCredentials credentials) fits = same_ones world.filesystems refl
   filesystems_go_on (ToFork credentials) fits = same_ones world.filesystems refl
   filesystems_go_on ToExit fits = same_ones (after ToExit).filesystems
-      (taken_filesystems (without_task world task.name) _)
+      (filesystems-taken_away (without_task world task.name) _)
   filesystems_go_on ToUnshare fits = same_ones (after ToUnshare).filesystems
-      (taken_filesystems (unshared nat_eq world fresh task) _)
+      (filesystems-taken_away (unshared nat_eq world fresh task) _)
   filesystems_go_on (ToEnterNamespace namespace) fits =
       same_ones (after (ToEnterNamespace namespace)).filesystems
-      (taken_filesystems (namespace_entered nat_eq world task namespace) _)
+      (filesystems-taken_away (namespace_entered nat_eq world task namespace) _)
   filesystems_go_on (ToMountPlain place flags) fits =
       one_more (plain_filesystem nat_eq fresh) (after (ToMountPlain place flags)).filesystems refl
-      (λ old m. apart (evens fresh 0) old.number
+      (λ old m. nat_eq_false_turned (evens fresh 0) old.number
       (unused_by_filesystem world fresh serves 0 old m old.number (inl refl))) refl
   filesystems_go_on (ToMountOverlay place overlay flags) fits = absurd fits
   filesystems_go_on (ToBind source place recursive) fits = same_ones world.filesystems refl
   filesystems_go_on (ToMove mount place) fits = same_ones world.filesystems refl
   filesystems_go_on (ToUnmount mount) fits =
       same_ones (after (ToUnmount mount)).filesystems
-      (taken_filesystems world (going nat_eq world (mount_numbered nat_eq world mount)))
+      (filesystems-taken_away world (going nat_eq world (mount_numbered nat_eq world mount)))
   filesystems_go_on (ToUnmountLazily mount) fits =
       same_ones (after (ToUnmountLazily mount)).filesystems (lazy_is_of_mounts world mount).filesystems
   filesystems_go_on (ToSetFlags mount flags) fits = same_ones world.filesystems refl

@@ -22,11 +22,12 @@ use Rattle.vt_mount_laws.proofs.UnmountingEnds.{lazy_is_of_mounts}
 use Rattle.vt_world_laws.specs.Worlds.Kept.{KeptByAllPermits, KeptByPermits}
 use Rattle.vt_world_laws.specs.Worlds.Permits.{NamesWhatIsThere}
 use Rattle.vt_world_laws.specs.Worlds.Tasks.{OneTaskAName, TasksAreWithinLimits}
-use Rattle.vt_world_laws.proofs.PermitsPlaced.{found_among, permits_keep_directories, permits_keep_locations, permits_keep_open_files}
-use Rattle.vt_world_laws.proofs.PermitsSeen.{gone_on, replaced_tasks, taken_tasks}
-use Rattle.vt_world_laws.proofs.SeenMerges.{change_keeps_tasks}
+use Rattle.vt_world_laws.proofs.PermitsPlaced.{permits_keep_directories, permits_keep_locations, permits_keep_open_files}
+use Rattle.vt_world_laws.proofs.PermitsSeen.{gone_on}
 use Rattle.vt_world_laws.proofs.TasksNamed.{GoOn, counted_among, counted_from, go_on_apart, go_on_counted}
 use Rattle.vt_world_laws.proofs.TasksNamed.GoOn.{all_moved, one_changed, one_left, one_more, same_ones}
+use Rattle.vt_spec.proofs.Found.{found_among}
+use Rattle.vt_spec.proofs.Worlds.{tasks-taken_away, tasks-with_change, tasks-without_replaced}
 
 module _ (world : World ℕ) (fresh : Fresh ℕ) (task : Task ℕ) where
   abbrev after : Permit ℕ → World ℕ
@@ -37,7 +38,7 @@ module _ (world : World ℕ) (fresh : Fresh ℕ) (task : Task ℕ) where
 
   changed_alike : (location : Location ℕ) (change : Change ℕ)
       → (with_change nat_eq fresh world location change).tasks ≡ world.tasks
-  changed_alike location change = change_keeps_tasks fresh world location change
+  changed_alike location change = tasks-with_change fresh world location change
 
   copied_alike : (b : Bool) (file : Location ℕ)
       → (with_copy nat_eq b fresh world file).tasks ≡ world.tasks
@@ -59,18 +60,18 @@ module _ (world : World ℕ) (fresh : Fresh ℕ) (task : Task ℕ) where
       (changed_alike location change)
   tasks_go_on (ToMake directory name node) fits =
       same_ones (after (ToMake directory name node)).tasks
-      (change_keeps_tasks (odds fresh) world directory
+      (tasks-with_change (odds fresh) world directory
       (Make directory.node name (evens fresh 0) node))
   tasks_go_on (ToRemoveDirectory parent name directory) fits =
       same_ones (after (ToRemoveDirectory parent name directory)).tasks
-      (change_keeps_tasks fresh (without_mounts_on nat_eq world directory) parent
+      (tasks-with_change fresh (without_mounts_on nat_eq world directory) parent
       (Remove parent.node name directory.node)
-      ∙ taken_tasks world (gone_on world directory))
+      ∙ tasks-taken_away world (gone_on world directory))
   tasks_go_on (ToRename from old to new object replaced) fits =
       same_ones (after (ToRename from old to new object replaced)).tasks
-      (change_keeps_tasks fresh (without_replaced nat_eq world replaced) from
+      (tasks-with_change fresh (without_replaced nat_eq world replaced) from
       (Move from.node old to.node new object.node)
-      ∙ replaced_tasks world replaced)
+      ∙ tasks-without_replaced world replaced)
   tasks_go_on (ToOpen file access) fits =
       one_changed (with_descriptor task file access) (after (ToOpen file access)).tasks refl refl
       (ap (map (replaced_if_called (with_descriptor task file access)))
@@ -79,7 +80,7 @@ module _ (world : World ℕ) (fresh : Fresh ℕ) (task : Task ℕ) where
       let file : Location ℕ = record { mount = directory.mount; node = evens fresh 0 } in
       one_changed (with_descriptor task file access) (after (ToOpenNew directory name node access)).tasks refl refl
       (ap (map (replaced_if_called (with_descriptor task file access)))
-      (change_keeps_tasks (odds fresh) world directory
+      (tasks-with_change (odds fresh) world directory
       (Make directory.node name (evens fresh 0) node)))
   tasks_go_on (ToWritePart file offset bytes) fits =
       same_ones (after (ToWritePart file offset bytes)).tasks (written_alike file offset bytes)
@@ -95,23 +96,23 @@ module _ (world : World ℕ) (fresh : Fresh ℕ) (task : Task ℕ) where
       one_changed (record task { credentials = credentials })
       (after (ToSetCredentials credentials)).tasks refl refl refl
   tasks_go_on (ToFork credentials) fits = one_more credentials (after (ToFork credentials)).tasks refl
-  tasks_go_on ToExit fits = one_left (after ToExit).tasks (taken_tasks (without_task world task.name) _)
+  tasks_go_on ToExit fits = one_left (after ToExit).tasks (tasks-taken_away (without_task world task.name) _)
   tasks_go_on ToUnshare fits =
       let copied = mounts_of nat_eq world task.namespace in
       one_changed (unshared_task nat_eq copied (numbers_by nat_eq (odds fresh) copied) (evens fresh 0) task)
       (after ToUnshare).tasks refl refl
-      (taken_tasks (unshared nat_eq world fresh task) _)
+      (tasks-taken_away (unshared nat_eq world fresh task) _)
   tasks_go_on (ToEnterNamespace namespace) fits =
       one_changed (entered_at task namespace (unwrap_or (namespace_root nat_eq world namespace) task.root))
       (after (ToEnterNamespace namespace)).tasks refl refl
-      (taken_tasks (namespace_entered nat_eq world task namespace) _)
+      (tasks-taken_away (namespace_entered nat_eq world task namespace) _)
   tasks_go_on (ToMountPlain place flags) fits = same_ones world.tasks refl
   tasks_go_on (ToMountOverlay place overlay flags) fits = absurd fits
   tasks_go_on (ToBind source place recursive) fits = same_ones world.tasks refl
   tasks_go_on (ToMove mount place) fits = same_ones world.tasks refl
   tasks_go_on (ToUnmount mount) fits =
       same_ones (after (ToUnmount mount)).tasks
-      (taken_tasks world (going nat_eq world (mount_numbered nat_eq world mount)))
+      (tasks-taken_away world (going nat_eq world (mount_numbered nat_eq world mount)))
   tasks_go_on (ToUnmountLazily mount) fits = same_ones (after (ToUnmountLazily mount)).tasks
       (lazy_is_of_mounts world mount).tasks
   tasks_go_on (ToSetFlags mount flags) fits = same_ones world.tasks refl

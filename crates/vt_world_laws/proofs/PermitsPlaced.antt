@@ -1,5 +1,5 @@
 -- A permit that fits leaves each task on directories that are there, with regular files open.
-use Rattle.std.proofs.Common.{◌≡◌, refl, sym, ap, subst, ◌∙◌, inl, inr, ⊎_elim, ℕ, nat_eq, Bool, true, false, cond, true≢false, find, not, List, [], ◌∷◌, Some, is_some, map}
+use Rattle.std.proofs.Common.{◌≡◌, refl, sym, ap, subst, ◌∙◌, ⊎_elim, ℕ, nat_eq, Bool, true, false, not, List, [], ◌∷◌, Some, is_some, map}
 use Rattle.std.specs.Prelude.{unwrap_or, ◌==◌, ◌+◌}
 use Rattle.std.proofs.lemmas.Bool.{and_from, and_parts}
 use Rattle.vt_spec.specs.declared.attributes.Kind.TheVariants.{File}
@@ -32,21 +32,14 @@ use Rattle.vt_spec.specs.Machine.World.{Overlay}
 use Rattle.vt_world_laws.specs.Worlds.Kept.{IsPlain, KeptByPermits}
 use Rattle.vt_world_laws.specs.Worlds.Permits.{IsFitPermit, IsReachedDirectory, NamesWhatIsThere}
 use Rattle.vt_world_laws.specs.Worlds.Tasks.{LocationsAreThere, OpenFilesAreRegular, TasksStandOnDirectories}
-use Rattle.vt_world_laws.proofs.PermitsSeen.{elsewhere, gone_on, namespaces_ended_seen, new_at, odds_are_new, permits_keep_what_is_seen, replaced_tasks, taken_tasks, unshared_seen}
+use Rattle.vt_world_laws.proofs.PermitsSeen.{elsewhere, gone_on, namespaces_ended_seen, new_at, odds_are_new, permits_keep_what_is_seen, unshared_seen}
 use Rattle.vt_world_laws.proofs.Placed.{ArePlaced, IsPlaced, OpensAt, StandsAt, all_are_placed, all_placed_after, among-inserted, locations_are_there, open_files_are_regular, opens_after, placed_after, placed_with, stands_after, tasks_stand_on_directories}
 use Rattle.vt_world_laws.proofs.Roots.{namespace_root_stands, own_there, in_own, pivoted_placed, root_stands, unshared_placed}
 use Rattle.vt_world_laws.proofs.Seen.{KeepsWhatIsSeen, kind_is, kind_seen, seen_alike, there_is}
 use Rattle.vt_world_laws.proofs.Plain.{plain_numbered}
-use Rattle.vt_world_laws.proofs.SeenMerges.{change_keeps_tasks, new_inode_seen}
-
-pub found_among : {A : Type 0} (test : A → Bool) (xs : List A) (x : A) → find test xs ≡ Some x → Among x xs
-found_among test [] x e = absurd (true≢false (sym (ap is_some e)))
-found_among {A = A} test (first ∷ rest) x e = by (test first) e (found_among test rest x)
-  where
-    by : (b : Bool) → cond b (Some first) (find test rest) ≡ Some x → (find test rest ≡ Some x → Among x rest)
-        → Among x (first ∷ rest)
-    by true h later = inl (sym (ap (λ o. unwrap_or o first) h))
-    by false h later = inr (later h)
+use Rattle.vt_world_laws.proofs.SeenMerges.{new_inode_seen}
+use Rattle.vt_spec.proofs.Found.{found_among}
+use Rattle.vt_spec.proofs.Worlds.{tasks-taken_away, tasks-with_change, tasks-without_replaced}
 
 -- where a walk led
 pub reached_stands : (world : World ℕ) (task : Task ℕ) (location : Location ℕ) → IsReachedDirectory world task location
@@ -121,12 +114,12 @@ module _ (world : World ℕ) (fresh : Fresh ℕ) (task : Task ℕ) (is : IsWorld
       → ArePlaced (namespaces_ended nat_eq middle) (namespaces_ended nat_eq middle).tasks
   ended middle at =
       same_tasks (namespaces_ended nat_eq middle) (namespaces_ended nat_eq middle).tasks middle.tasks
-      (taken_tasks middle _)
+      (tasks-taken_away middle _)
       (all_placed_after middle (namespaces_ended nat_eq middle) (namespaces_ended_seen middle) middle.tasks at)
 
   one_change_keeps_tasks : (location : Location ℕ) (change : Change ℕ)
       → (with_change nat_eq fresh world location change).tasks ≡ world.tasks
-  one_change_keeps_tasks location change = change_keeps_tasks fresh world location change
+  one_change_keeps_tasks location change = tasks-with_change fresh world location change
 
   copy_keeps_tasks : (b : Bool) (file : Location ℕ)
       → (with_copy nat_eq b fresh world file).tasks ≡ world.tasks
@@ -169,18 +162,18 @@ module _ (world : World ℕ) (fresh : Fresh ℕ) (task : Task ℕ) (is : IsWorld
       unchanged (ToChange location change) fits (one_change_keeps_tasks location change)
   permits_keep_tasks_placed (ToMake directory name node) fits writes =
       unchanged (ToMake directory name node) fits
-      (change_keeps_tasks (odds fresh) world directory
+      (tasks-with_change (odds fresh) world directory
       (Make directory.node name (evens fresh 0) node))
   permits_keep_tasks_placed (ToRemoveDirectory parent name directory) fits writes =
       unchanged (ToRemoveDirectory parent name directory) fits
-      (change_keeps_tasks fresh (without_mounts_on nat_eq world directory) parent
+      (tasks-with_change fresh (without_mounts_on nat_eq world directory) parent
       (Remove parent.node name directory.node)
-      ∙ taken_tasks world (gone_on world directory))
+      ∙ tasks-taken_away world (gone_on world directory))
   permits_keep_tasks_placed (ToRename from old to new object replaced) fits writes =
       unchanged (ToRename from old to new object replaced) fits
-      (change_keeps_tasks fresh (without_replaced nat_eq world replaced) from
+      (tasks-with_change fresh (without_replaced nat_eq world replaced) from
       (Move from.node old to.node new object.node)
-      ∙ replaced_tasks world replaced)
+      ∙ tasks-without_replaced world replaced)
   permits_keep_tasks_placed (ToOpen file access) fits writes =
       let permit = ToOpen file access in
       changed_task permit fits (with_descriptor task file access)
@@ -194,7 +187,7 @@ module _ (world : World ℕ) (fresh : Fresh ℕ) (task : Task ℕ) (is : IsWorld
       let file : Location ℕ = record { mount = directory.mount; node = evens fresh 0 } in
       changed_task permit fits (with_descriptor task file access)
       (ap (map (replaced_if_called (with_descriptor task file access)))
-      (change_keeps_tasks (odds fresh) world directory
+      (tasks-with_change (odds fresh) world directory
       (Make directory.node name (evens fresh 0) node)))
       (opened_placed (after permit) task file access (placed_still permit fits)
       (new_file_opens directory name node access fits writes))
@@ -282,7 +275,7 @@ module _ (world : World ℕ) (fresh : Fresh ℕ) (task : Task ℕ) (is : IsWorld
       unchanged (ToBind source place recursive) fits refl
   permits_keep_tasks_placed (ToMove mount place) fits writes = unchanged (ToMove mount place) fits refl
   permits_keep_tasks_placed (ToUnmount mount) fits writes =
-      unchanged (ToUnmount mount) fits (taken_tasks world (going nat_eq world (mount_numbered nat_eq world mount)))
+      unchanged (ToUnmount mount) fits (tasks-taken_away world (going nat_eq world (mount_numbered nat_eq world mount)))
   permits_keep_tasks_placed (ToUnmountLazily mount) fits writes =
       unchanged (ToUnmountLazily mount) fits (lazy_is_of_mounts world mount).tasks
   permits_keep_tasks_placed (ToSetFlags mount flags) fits writes = unchanged (ToSetFlags mount flags) fits refl

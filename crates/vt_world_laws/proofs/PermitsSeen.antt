@@ -19,14 +19,13 @@ use Rattle.vt_spec.specs.Machine.Run.{Serves}
 use Rattle.vt_spec.specs.Machine.World.{Task, World, files_at, is_overlay, mount_at, mount_numbered, mounts_of, without_task}
 use Rattle.vt_spec.specs.Machine.Invariants.{IsWorld, Stands}
 use Rattle.vt_spec.proofs.Lists.{among_from_all}
-use Rattle.vt_mount_laws.proofs.Unmounting.{all_but_mounts}
-use Rattle.vt_tree_laws.proofs.TreesOfWorlds.{taken_filesystems}
 use Rattle.vt_world_laws.specs.Worlds.Kept.{IsPlain}
 use Rattle.vt_world_laws.specs.Worlds.Permits.{NamesWhatIsThere, SetsBytesOfFiles}
 use Rattle.vt_world_laws.proofs.Seen.{KeepsWhatIsSeen, same_seen, seen_alike, seen_on}
 use Rattle.vt_world_laws.proofs.SeenMounts.{attached_seen, copied_seen, ended_seen, flags_seen, lazy_seen, mounted_seen, moved_seen, pivoted_seen, retyped_seen, taken_seen}
 use Rattle.vt_world_laws.proofs.SeenMerges.{AreNewInodes, UppersAreElsewhere, change_keeps_seen, elsewhere_in, new_in, odds_new, served_new, uppers_elsewhere}
 use Rattle.vt_world_laws.proofs.SeenTrees.{MakesNew, unused_inode}
+use Rattle.vt_spec.proofs.Worlds.{filesystems-taken_away, filesystems-without_replaced}
 
 -- what a permit sets or names makes nothing
 pub makes_none : (world : World ℕ) (location : Location ℕ) (change : Change ℕ) → SetsBytesOfFiles world location change
@@ -42,10 +41,7 @@ makes_none world location (CopyUp object) sets = tt
 
 pub taken_plain : (world : World ℕ) (gone : List ℕ) → IsPlain world → IsPlain (taken_away nat_eq world gone)
 taken_plain world gone plain = subst (All (λ filesystem. is_overlay filesystem ≡ false))
-    (sym (taken_filesystems world gone)) plain
-
-pub taken_tasks : (world : World ℕ) (gone : List ℕ) → (taken_away nat_eq world gone).tasks ≡ world.tasks
-taken_tasks world gone = (all_but_mounts world gone).tasks
+    (sym (filesystems-taken_away world gone)) plain
 
 -- the mounts on a directory go
 abbrev pub gone_on : World ℕ → Location ℕ → List ℕ
@@ -67,11 +63,6 @@ pub replaced_plain : (world : World ℕ) (replaced : Option (Location ℕ)) → 
 replaced_plain world None plain = plain
 replaced_plain world (Some location) plain = taken_plain world (gone_on world location) plain
 
-pub replaced_tasks : (world : World ℕ) (replaced : Option (Location ℕ))
-    → (without_replaced nat_eq world replaced).tasks ≡ world.tasks
-replaced_tasks world None = refl
-replaced_tasks world (Some location) = taken_tasks world (gone_on world location)
-
 pub namespaces_ended_seen : (world : World ℕ) → KeepsWhatIsSeen world (namespaces_ended nat_eq world)
 namespaces_ended_seen world =
     ended_seen world (map (λ (mount : Mount ℕ). mount.number) (filter (is_in_ended nat_eq world) world.mounts))
@@ -83,11 +74,6 @@ unshared_seen world fresh task =
     let copied = mounts_of nat_eq world task.namespace in
     copied_seen world (unshared nat_eq world fresh task)
     (map (copied_mount (numbers_by nat_eq (odds fresh) copied) (evens fresh 0)) copied) refl refl
-
-pub replaced_filesystems : (world : World ℕ) (replaced : Option (Location ℕ))
-    → (without_replaced nat_eq world replaced).filesystems ≡ world.filesystems
-replaced_filesystems world None = refl
-replaced_filesystems world (Some location) = taken_filesystems world (gone_on world location)
 
 -- a change in a world with these filesystems
 pub change_seen_in : (fresh : Fresh ℕ) (world middle : World ℕ) → UppersAreElsewhere world → AreNewInodes fresh world
@@ -144,12 +130,12 @@ module _ (world : World ℕ) (fresh : Fresh ℕ) (task : Task ℕ) (is : IsWorld
       let middle_one = without_mounts_on nat_eq world directory in
       seen_on world middle_one (after (ToRemoveDirectory parent name directory)) (point_removed_seen world directory)
       (change_seen_in fresh world middle_one elsewhere are_new
-      (taken_filesystems world (gone_on world directory)) parent
+      (filesystems-taken_away world (gone_on world directory)) parent
       (Remove parent.node name directory.node) tt)
   permits_keep_what_is_seen (ToRename from old to new object replaced) names =
       let middle_one = without_replaced nat_eq world replaced in
       seen_on world middle_one (after (ToRename from old to new object replaced)) (replaced_seen world replaced)
-      (change_seen_in fresh world middle_one elsewhere are_new (replaced_filesystems world replaced) from
+      (change_seen_in fresh world middle_one elsewhere are_new (filesystems-without_replaced world replaced) from
       (Move from.node old to.node new object.node) tt)
   permits_keep_what_is_seen (ToOpen file access) names =
       let copied = with_copy nat_eq (is_copied_up nat_eq world file access) fresh world file in

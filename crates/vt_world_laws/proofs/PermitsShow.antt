@@ -19,13 +19,13 @@ use Rattle.vt_spec.specs.Machine.Invariants.{IsWorld}
 use Rattle.vt_mount_laws.specs.Mounts.Attaching.{is_mount}
 use Rattle.vt_world_laws.specs.Worlds.Kept.{KeptByAllPermits, KeptByPermits, MountsShow}
 use Rattle.vt_world_laws.specs.Worlds.Permits.{IsReachedDirectory, NamesWhatIsThere}
-use Rattle.vt_world_laws.proofs.PermitsSeen.{are_new, change_seen_in, copy_seen, elsewhere, gone_on, makes_none, new_at, odds_are_new, permits_keep_what_is_seen, replaced_filesystems, written_seen}
+use Rattle.vt_world_laws.proofs.PermitsSeen.{are_new, change_seen_in, copy_seen, elsewhere, gone_on, makes_none, new_at, odds_are_new, permits_keep_what_is_seen, written_seen}
 use Rattle.vt_world_laws.proofs.Roots.{own_there}
 use Rattle.vt_world_laws.proofs.Seen.{KeepsWhatIsSeen, seen_alike}
 use Rattle.vt_world_laws.proofs.SeenMerges.{change_keeps_mounts, change_keeps_seen}
-use Rattle.vt_tree_laws.proofs.TreesOfWorlds.{taken_filesystems}
 use Rattle.vt_world_laws.proofs.Shows.{AllShow, IsPlace, all_show_after, ended_show, flags_show, lazy_show, mounts_show, own_shows, pivoted_show, retyped_show, taken_show, unshared_show, world_shows}
 use Rattle.vt_world_laws.proofs.ShowsGrafts.{bound_show, mounted_show, moved_show}
+use Rattle.vt_spec.proofs.Worlds.{filesystems-taken_away, filesystems-without_replaced}
 
 module _ (world : World ℕ) (fresh : Fresh ℕ) (task : Task ℕ) (is : IsWorld nat_eq world)
     (serves : Serves nat_eq world fresh) where
@@ -97,14 +97,14 @@ module _ (world : World ℕ) (fresh : Fresh ℕ) (task : Task ℕ) (is : IsWorld
       (Remove parent.node name directory.node)
       (change_seen_in fresh world (without_mounts_on nat_eq world directory) (elsewhere world fresh task is serves)
       (are_new world fresh task is serves)
-      (taken_filesystems world (gone_on world directory)) parent
+      (filesystems-taken_away world (gone_on world directory)) parent
       (Remove parent.node name directory.node) tt)
   permits_keep_all_shown (ToRename from old to new object replaced) fits =
       changing fresh (without_replaced nat_eq world replaced) (replacing replaced) from
       (Move from.node old to.node new object.node)
       (change_seen_in fresh world (without_replaced nat_eq world replaced) (elsewhere world fresh task is serves)
       (are_new world fresh task is serves)
-      (replaced_filesystems world replaced) from
+      (filesystems-without_replaced world replaced) from
       (Move from.node old to.node new object.node) tt)
   permits_keep_all_shown (ToOpen file access) fits =
       alike (with_copy nat_eq (is_copied_up nat_eq world file access) fresh world file)

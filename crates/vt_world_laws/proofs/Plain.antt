@@ -9,17 +9,17 @@ use Rattle.vt_spec.specs.Machine.Invariants.{OverlayInvariants, overlap, live_lo
 use Rattle.vt_spec.proofs.Lists.{Among, all_from_among, among_from_all, filter_none, list_all_from_among, none_from_among}
 use Rattle.vt_letting_go.specs.InUse.{UppersArePlain, has_upper_in}
 use Rattle.vt_tree_laws.proofs.TreesOfWorlds.{numbered_anyhow}
-use Rattle.vt_tree_laws.proofs.TreesWalked.{no_some}
 use Rattle.vt_world_laws.specs.Worlds.Kept.{IsPlain}
+use Rattle.vt_spec.proofs.Options.{none_from_not_some}
 
 module _ (world : World ℕ) (plain : IsPlain world) where
   pub no_overlay : (filesystem : Filesystem ℕ) → Among filesystem world.filesystems → filesystem.overlay ≡ None
   no_overlay filesystem m =
-      no_some filesystem.overlay (among_from_all (λ f. is_overlay f ≡ false) world.filesystems plain filesystem m)
+      none_from_not_some filesystem.overlay (among_from_all (λ f. is_overlay f ≡ false) world.filesystems plain filesystem m)
 
   pub plain_numbered : (number : ℕ) → (filesystem_numbered nat_eq world number).overlay ≡ None
   plain_numbered number =
-      no_some (filesystem_numbered nat_eq world number).overlay
+      none_from_not_some (filesystem_numbered nat_eq world number).overlay
       (numbered_anyhow (λ f. is_overlay f ≡ false) number world.filesystems plain refl)
 
   pub none_is_overlay : list_any is_overlay world.filesystems ≡ false

@@ -7,26 +7,16 @@ use Rattle.vt_spec.specs.Language.Limits.{most_mounts}
 use Rattle.vt_spec.specs.FileTree.{FileTree, is_kind_in}
 use Rattle.vt_spec.specs.Lists.{is_among}
 use Rattle.vt_spec.specs.Machine.Mounts.{Location, Mount}
-use Rattle.vt_spec.specs.Machine.World.{Descriptor, Filesystem, Namespace, Task, World, all_locations, filesystem_numbered, is_overlay, locations_of, mount_at, mount_numbered, mounts_of, no_filesystem}
+use Rattle.vt_spec.specs.Machine.World.{Descriptor, Filesystem, Namespace, Task, World, all_locations, filesystem_numbered, is_overlay, locations_of, mount_at, mounts_of, no_filesystem}
 use Rattle.vt_spec.specs.Language.Calls.{same_name}
 use Rattle.vt_spec.specs.Machine.Invariants.{ForksAreCounted, ListsNumbers, MountInvariants, NamespaceInvariants, Stands, TaskInvariants, TreeInvariants, has_one_root, is_fit_filesystem, is_listed, is_within_limits}
-use Rattle.vt_spec.specs.Machine.Invariants.Stands.{at_root, on_parent}
 use Rattle.vt_spec.specs.Tree.{Node, is_directory_node}
 use Rattle.vt_spec.specs.declared.attributes.Kind.TheVariants.{File}
 use Rattle.vt_spec.specs.TreeLaws.{HasOwnParents, IsTree}
 use Rattle.vt_spec.proofs.Lists.{all-map, among-from_map, among_from_contains, contains_from_among, pair-map}
 use Rattle.vt_letting_go.proofs.Lists.{any-map, flat_map-map, map_twice}
 use Rattle.vt_world_laws.specs.Worlds.Kept.{IsPlain, IsWorldButForUse, MountsShow}
-
--- where mounts stand is seen on the mounts alone
-pub stands_alike : (before later : World ℕ)
-    → ((number : ℕ) → mount_numbered nat_eq later number ≡ mount_numbered nat_eq before number)
-    → (number : ℕ) → Stands nat_eq before number → Stands nat_eq later number
-stands_alike before later same number (at_root it e) = at_root it (ap (λ (m : Mount ℕ). m.mount_point) (same it) ∙ e)
-stands_alike before later same number (on_parent it place e f stands) =
-    on_parent it place (ap (λ (m : Mount ℕ). m.mount_point) (same it) ∙ e)
-    (ap (λ (m : Mount ℕ). m.namespace) (same it) ∙ f ∙ ap (λ (m : Mount ℕ). m.namespace) (sym (same place.mount)))
-    (stands_alike before later same place.mount stands)
+use Rattle.vt_spec.proofs.Worlds.{stands_alike}
 
 -- the trees by the numbers of their filesystems
 abbrev pub FilesBy : Type 0

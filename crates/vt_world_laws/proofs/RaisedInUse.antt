@@ -13,12 +13,13 @@ use Rattle.vt_spec.specs.Language.Calls.{TaskName, same_name}
 use Rattle.vt_spec.specs.Machine.Invariants.{IsWorld}
 use Rattle.vt_spec.proofs.Lists.{all-map}
 use Rattle.vt_letting_go.specs.InUse.{AllInUse, is_inode_used}
-use Rattle.vt_letting_go.proofs.InUse.{nothing_goes, what_is_left_is_in_use}
+use Rattle.vt_letting_go.proofs.InUse.{nothing_goes}
 use Rattle.vt_letting_go.proofs.Lists.{any-map, flat_map-map}
-use Rattle.vt_letting_go.proofs.OfWorlds.{uppers_of_worlds_are_plain, worlds_have_trees}
+use Rattle.vt_letting_go.proofs.OfWorlds.{all_in_use}
 use Rattle.vt_world_laws.specs.Worlds.Kept.{IsPlain, IsWorldButForUse}
 use Rattle.vt_world_laws.proofs.Plain.{plain_overlays}
 use Rattle.vt_world_laws.proofs.Raised.{counted, unsettled_counted}
+pub use Rattle.vt_letting_go.proofs.OfWorlds.{all_in_use as worlds_are_in_use}
 
 -- the invariants of a world are those while a call is under way, and that nothing goes
 pub unsettled_of : (world : World ℕ) → IsWorld nat_eq world → IsPlain world → IsWorldButForUse world
@@ -41,12 +42,6 @@ world_of world is nothing = record {
   roots = is.roots;
   nothing_unused = nothing;
 }
-
--- in a world all is in use
-pub worlds_are_in_use : (world : World ℕ) → IsWorld nat_eq world → AllInUse world
-worlds_are_in_use world is =
-    subst AllInUse is.nothing_unused
-    (what_is_left_is_in_use world (worlds_have_trees world is) (uppers_of_worlds_are_plain world is))
 
 module _ (of_filesystem : Filesystem ℕ → ℕ) (of_namespace : Namespace ℕ → ℕ) (of_task : Task ℕ → ℕ) (change : ℕ)
     (world : World ℕ) where
@@ -109,7 +104,7 @@ module _ (of_filesystem : Filesystem ℕ → ℕ) (of_namespace : Namespace ℕ 
   world_counted is plain =
       let rest : IsWorldButForUse later =
       unsettled_counted of_filesystem of_namespace of_task change world (unsettled_of world is plain) in
-      (world_of later rest (nothing_goes later (in_use_later (worlds_are_in_use world is))), rest.plain)
+      (world_of later rest (nothing_goes later (in_use_later (all_in_use world is))), rest.plain)
 
 -- Raised numbers are other numbers
 unchanged : {A : Type 0} (list : List A) → list ≡ map (λ a. a) list

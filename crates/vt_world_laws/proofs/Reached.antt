@@ -22,7 +22,7 @@ use Rattle.vt_spec.specs.Machine.Invariants.Stands.{at_root, on_parent}
 use Rattle.vt_spec.proofs.Lists.{Among, among_from_all, among_from_list_all}
 use Rattle.vt_spec.proofs.Nodes.{directory_used, none_is_not}
 use Rattle.vt_mount_laws.specs.Mounts.Attaching.{numbers_of}
-use Rattle.vt_mount_laws.proofs.MountsFound.{found_in, found_or_none, number_found, placed_among}
+use Rattle.vt_mount_laws.proofs.MountsFound.{found_in, found_or_none, placed_among}
 use Rattle.vt_mount_laws.proofs.MountsNumbered.{is_one_of}
 use Rattle.vt_mount_laws.proofs.MountsPlaces.{stands_there}
 use Rattle.vt_mount_laws.proofs.MountsReplaced.{found_itself}
@@ -31,6 +31,7 @@ use Rattle.vt_tree_laws.proofs.TreesOfMounts.{worlds_are_standing}
 use Rattle.vt_tree_laws.proofs.TreesOfWorlds.{numbered_all}
 use Rattle.vt_tree_laws.proofs.TreesWalked.{ok_same}
 use Rattle.vt_world_laws.specs.Worlds.Permits.{IsReached, IsReachedDirectory}
+use Rattle.vt_spec.proofs.Worlds.{number-mount_in}
 
 -- a directory is no link
 pub directory_no_link : (o : Option (Node ℕ)) → is_directory_node o ≡ true → symlink_text o ≡ None
@@ -176,7 +177,7 @@ module _ (world : World ℕ) (whole : IsWorld nat_eq world) (task : Task ℕ) wh
   place_found number place on e =
       let mount = mount_numbered nat_eq world number in
       let there : Among mount world.mounts = placed_among world.mounts number place e in
-      let same : mount.number ≡ number = number_found world.mounts number in
+      let same : mount.number ≡ number = number-mount_in world.mounts number in
       let below : mount.namespace ≡ (mount_numbered nat_eq world place.mount).namespace =
       namespace_below world number place
       (subst (Stands nat_eq world) same
@@ -185,7 +186,7 @@ module _ (world : World ℕ) (whole : IsWorld nat_eq world) (task : Task ℕ) wh
         (
           ⊎_elim
               (λ found. subst (λ n. is_among nat_eq n (numbers_of world.mounts) ≡ true)
-              (number_found world.mounts place.mount)
+              (number-mount_in world.mounts place.mount)
               (is_one_of world.mounts (mount_numbered nat_eq world place.mount) found))
               (λ none. absurd (nowhere_unplaced mount there place e (below ∙ ap (λ (m : Mount ℕ). m.namespace) none)))
               (found_or_none world.mounts place.mount),

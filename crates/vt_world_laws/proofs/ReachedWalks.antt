@@ -1,6 +1,5 @@
 -- Where the walks of a task end: at what is there, on a mount of the task's namespace or on one that is in none.
 use Rattle.std.proofs.Common.{◌≡◌, refl, ℕ, zero, suc, nat_eq, Bool, true, false, not, cond, List, [], ◌∷◌, ◌+◌, reverse, Option, Some, None, Ok, Err, Result, inl, inr}
-use Rattle.std.specs.List.{find}
 use Rattle.std.proofs.lemmas.Bool.{and_parts}
 use Rattle.vt_spec.specs.declared.errors.Rule.TheVariants.{W3}
 use Rattle.vt_spec.specs.PathText.{ends_in_slash, is_absolute, words}
@@ -12,15 +11,11 @@ use Rattle.vt_spec.specs.Machine.Walk.LastWord.{Dot, DotDot, Named, NoWord}
 use Rattle.vt_spec.specs.Machine.World.{Task, World, all_locations, is_directory_at, locations_of, node_at, task_called}
 use Rattle.vt_spec.specs.Language.Calls.{same_name}
 use Rattle.vt_spec.specs.Machine.Invariants.{IsWorld, is_directory_seen_in, is_located_well, stands_on_directories}
-use Rattle.vt_spec.proofs.Lists.{Among, all_from_among, among-flat_map, among_from_list_all}
-use Rattle.vt_tree_laws.proofs.TreesEntered.{found_all}
+use Rattle.vt_spec.proofs.Lists.{Among, among-flat_map, among_from_list_all}
 use Rattle.vt_tree_laws.proofs.TreesWalked.{Ends, ends_next, ends_step, ends_then, ends_unless, not_true}
 use Rattle.vt_world_laws.proofs.Reached.{IsEnd, IsFound, IsFoundDirectory, directory_end, step_found}
-
--- what a search finds is in the list
-pub found_among : {A : Type 0} (test : A → Bool) (list : List A) (a : A) → find test list ≡ Some a → Among a list
-found_among test list a e =
-    found_all (λ x. Among x list) test list a (all_from_among (λ x. Among x list) list (λ x m. m)) e
+use Rattle.vt_spec.proofs.Found.{found_among}
+pub use Rattle.vt_spec.proofs.Found.{found_among}
 
 module _ (world : World ℕ) (whole : IsWorld nat_eq world) (task : Task ℕ)
     (called : task_called world task.name ≡ Some task) where

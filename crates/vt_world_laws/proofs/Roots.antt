@@ -11,10 +11,10 @@ use Rattle.vt_spec.specs.Machine.Namespaces.{copied_mount, is_copied, location_o
 use Rattle.vt_spec.specs.Machine.World.{Namespace, Task, World, filesystem_numbered, is_directory_at, mount_at, mount_numbered, mounts_of, node_at, root_mount}
 use Rattle.vt_spec.specs.Machine.Invariants.{IsWorld, Stands, has_its_root, has_one_root, is_listed, is_root_mount}
 use Rattle.vt_spec.specs.Machine.Invariants.Stands.{at_root, on_parent}
-use Rattle.vt_spec.specs.Tree.{Node, is_directory_node}
+use Rattle.vt_spec.specs.Tree.{is_directory_node}
 use Rattle.vt_spec.proofs.Lists.{Among, among-append_right, among-filter, among-from_filter, among-from_map, among-map, among_from_all, among_from_list_all, among_numbers, any_among, chain_ends, chain_goes_on, is_among_numbers, none_among}
 use Rattle.vt_mount_laws.specs.Mounts.Attaching.{is_mount, numbers_of}
-use Rattle.vt_mount_laws.proofs.MountsFound.{found_in, found_or_none, found_there, number_found}
+use Rattle.vt_mount_laws.proofs.MountsFound.{found_in, found_or_none, found_there}
 use Rattle.vt_mount_laws.proofs.MountsNumbered.{unshare_keeps_numbers}
 use Rattle.vt_mount_laws.proofs.MountsPlaces.{stands_there}
 use Rattle.vt_mount_laws.proofs.MountsReplaced.{found_itself}
@@ -22,10 +22,9 @@ use Rattle.vt_spec.specs.Machine.Run.{Serves}
 use Rattle.vt_world_laws.proofs.PermitsSeen.{unshared_seen}
 use Rattle.vt_world_laws.proofs.Placed.{IsPlaced, StandsAt, opens_after, stands_after}
 use Rattle.vt_world_laws.proofs.Seen.{KeepsWhatIsSeen, is_in, mount_of_located}
-
-pub directory_there : (o : Option (Node ℕ)) → is_directory_node o ≡ true → is_some o ≡ true
-directory_there None e = e
-directory_there (Some node) e = refl
+use Rattle.vt_spec.proofs.NodeChanges.{directory_is_there}
+use Rattle.vt_spec.proofs.Worlds.{number-mount_in}
+pub use Rattle.vt_spec.proofs.NodeChanges.{directory_is_there as directory_there}
 
 -- what holds from step to step holds of the last
 pub last_has : {A : Type 0} (P : A → Type 0) (next : A → Option A) → ((a b : A) → P a → next a ≡ Some b → P b)
@@ -97,7 +96,7 @@ module _ (world : World ℕ) (is : IsWorld nat_eq world) where
       record {
         located = and_from (is_mount world mount.number) (is_some (node_at nat_eq world (root_of mount)))
             (is_numbered mount m)
-            (directory_there (node_at nat_eq world (root_of mount)) directory);
+            (directory_is_there (node_at nat_eq world (root_of mount)) directory);
         directory = directory;
         inside = ap (is_in own) (itself mount m) ∙ inside;
       }
@@ -250,7 +249,7 @@ module _ (world : World ℕ) (fresh : Fresh ℕ) (task : Task ℕ) (is : IsWorld
             ∙ is_among_numbers (numbers_of after.mounts) (copy mount.number)
             (among-map (λ (x : Mount ℕ). x.number) after.mounts (copied_mount copy (evens fresh 0) mount)
             (copy_there mount m)))
-            (directory_there (node_at nat_eq after (location_on_copy copy location)) directory);
+            (directory_is_there (node_at nat_eq after (location_on_copy copy location)) directory);
         directory = directory;
         inside = in_own (evens fresh 0) (mount_numbered nat_eq after (copy location.mount))
             (ap (λ (x : Mount ℕ). x.namespace) found);
@@ -278,7 +277,7 @@ module _ (world : World ℕ) (fresh : Fresh ℕ) (task : Task ℕ) (is : IsWorld
               (found_there world.mounts location.mount there)
               (ap (holds_of (nat_eq task.namespace)) e ∙ (and_parts (nat_eq task.namespace n) true h).0) in
               absurd (true≢false
-              (sym (eq-eqb location.mount mount.number (sym (number_found world.mounts location.mount)))
+              (sym (eq-eqb location.mount mount.number (sym (number-mount_in world.mounts location.mount)))
               ∙ none_among (λ (x : Mount ℕ). nat_eq location.mount x.number) copied none mount in_it))
 
       by : (b : Bool) → is_copied nat_eq copied location ≡ b

@@ -428,9 +428,6 @@ module _ (fresh : Fresh ℕ) (world : World ℕ) (location : Location ℕ) (chan
   pub change_keeps_mounts : (with_change nat_eq fresh world location change).mounts ≡ world.mounts
   change_keeps_mounts = rest.mounts
 
-  pub change_keeps_tasks : (with_change nat_eq fresh world location change).tasks ≡ world.tasks
-  change_keeps_tasks = rest.tasks
-
   pub change_keeps_numbers : map (λ (f : Filesystem ℕ). f.number)
       (with_change nat_eq fresh world location change).filesystems
       ≡ map (λ (f : Filesystem ℕ). f.number) world.filesystems

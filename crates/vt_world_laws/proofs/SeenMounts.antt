@@ -12,22 +12,18 @@ use Rattle.vt_spec.specs.Machine.Types.{with_type}
 use Rattle.vt_spec.specs.Machine.World.{Filesystem, World, mount_at, mount_numbered, no_filesystem, with_mounts}
 use Rattle.vt_spec.specs.Machine.Invariants.{Stands}
 use Rattle.vt_spec.specs.Machine.Invariants.Stands.{at_root, on_parent}
-use Rattle.vt_spec.proofs.Lists.{Among, among-append_left, among-from_filter, among-from_flat_map, among-from_map, among_numbers, is_among_numbers}
+use Rattle.vt_spec.proofs.Lists.{Among, among-from_filter, among-from_flat_map, among-from_map, among_numbers, is_among_numbers}
 use Rattle.vt_mount_laws.specs.Mounts.Attaching.{OneNumberAMount, is_mount, numbers_of}
 use Rattle.vt_mount_laws.proofs.MountsAttached.{arrives, arriving, attach_keeps_mounts, found_attached, moved_mounts_show, moved_ones, numbers_attached, others, push_keeps, supplied}
-use Rattle.vt_mount_laws.proofs.MountsFound.{found-map_there, number_found, numbers-map}
+use Rattle.vt_mount_laws.proofs.MountsFound.{found-map_there, numbers-map}
 use Rattle.vt_mount_laws.proofs.MountsReplaced.{found-append, found_itself, numbers-with_mount, related-with_mount, tree_among}
 use Rattle.vt_mount_laws.proofs.MountsRetyped.{numbers_with_type, type_is_all_that_changes, types_are_of_mounts}
 use Rattle.vt_mount_laws.proofs.Unmounting.{numbers_taken}
 use Rattle.vt_mount_laws.proofs.UnmountingEnds.{others_are_kept, taken_are_detached}
-use Rattle.vt_tree_laws.proofs.TreesOfWorlds.{numbered, taken_filesystems}
+use Rattle.vt_tree_laws.proofs.TreesOfWorlds.{numbered}
 use Rattle.vt_world_laws.proofs.Seen.{KeepsKind, KeepsView, KeepsWhatIsSeen, is_in, kind_seen, same_seen, same_view, seen_alike, seen_by_mounts, seen_on}
-
--- more mounts behind those that were there
-listed_in_front : (number : ℕ) (numbers more : List ℕ) → is_among nat_eq number numbers ≡ true
-    → is_among nat_eq number (numbers ++ more) ≡ true
-listed_in_front number numbers more is =
-    is_among_numbers (numbers ++ more) number (among-append_left numbers more number (among_numbers numbers number is))
+use Rattle.vt_spec.proofs.Found.{is_among_left}
+use Rattle.vt_spec.proofs.Worlds.{filesystems-taken_away, number-mount_in, number-pivoted_mount}
 
 -- Mounts are taken away
 module _ (world : World ℕ) (gone : List ℕ) where
@@ -53,7 +49,7 @@ module _ (world : World ℕ) (gone : List ℕ) where
 
   pub taken_seen : KeepsWhatIsSeen world (taken_away nat_eq world gone)
   taken_seen =
-      seen_by_mounts world (taken_away nat_eq world gone) (taken_filesystems world gone)
+      seen_by_mounts world (taken_away nat_eq world gone) (filesystems-taken_away world gone)
       (λ number is. ap (is_among nat_eq number) (numbers_taken world gone) ∙ is)
       (λ number is. taken_view number)
 
@@ -91,7 +87,7 @@ attached_seen world fresh place mounts =
     seen_by_mounts world (attach nat_eq world fresh place false mounts) refl
     (λ number is.
     ap (is_among nat_eq number) (numbers_attached world new place false mounts)
-    ∙ listed_in_front number (numbers_of world.mounts) (numbers_of (others world new place false mounts)) is)
+    ∙ is_among_left number (numbers_of world.mounts) (numbers_of (others world new place false mounts)) is)
     (λ number is.
     let kept = attach_keeps_mounts world fresh place mounts number is in
     record {
@@ -163,21 +159,11 @@ flags_seen world one flags =
     (λ number is. ap (is_among nat_eq number) (numbers-with_mount new world.mounts) ∙ is)
     (λ number is.
     related-with_mount KeepsView same_view world.mounts new
-    (subst (λ n. KeepsView (mount_in nat_eq world.mounts n) new) (sym (number_found world.mounts one))
+    (subst (λ n. KeepsView (mount_in nat_eq world.mounts n) new) (sym (number-mount_in world.mounts one))
     (record { filesystem = refl; root = refl; namespace = λ own in_it. in_it })) number)
 
 -- The root is pivoted
 module _ (root new : Mount ℕ) (put : Location ℕ) where
-  pub pivoted_number : (mount : Mount ℕ) → (pivoted_mount nat_eq root new put mount).number ≡ mount.number
-  pivoted_number mount = by (nat_eq mount.number new.number) (nat_eq mount.number root.number)
-    where
-      by : (a b : Bool)
-          → (if a then (record mount { mount_point = root.mount_point }) else
-          (if b then (record mount { mount_point = Some put }) else mount)).number ≡ mount.number
-      by true b = refl
-      by false true = refl
-      by false false = refl
-
   pub pivoted_view : (mount : Mount ℕ) → KeepsView mount (pivoted_mount nat_eq root new put mount)
   pivoted_view mount = by (nat_eq mount.number new.number) (nat_eq mount.number root.number)
     where
@@ -193,10 +179,10 @@ module _ (root new : Mount ℕ) (put : Location ℕ) where
   pivoted_seen world namespace =
       seen_by_mounts world (pivoted nat_eq world namespace root new put) refl
       (λ number is. ap (is_among nat_eq number)
-      (numbers-map (pivoted_mount nat_eq root new put) pivoted_number world.mounts) ∙ is)
+      (numbers-map (pivoted_mount nat_eq root new put) (number-pivoted_mount root new put) world.mounts) ∙ is)
       (λ number is.
       subst (KeepsView (mount_numbered nat_eq world number))
-      (sym (found-map_there (pivoted_mount nat_eq root new put) pivoted_number world.mounts number is))
+      (sym (found-map_there (pivoted_mount nat_eq root new put) (number-pivoted_mount root new put) world.mounts number is))
       (pivoted_view (mount_numbered nat_eq world number)))
 
 -- The mounts of a namespace are copied
@@ -274,7 +260,7 @@ moved_seen world fresh mount place one stand same =
     seen_by_mounts world after refl
     (λ number is.
     ap (is_among nat_eq number) (numbers_attached world new place true mounts)
-    ∙ listed_in_front number (numbers_of world.mounts) (numbers_of (others world new place true mounts)) is)
+    ∙ is_among_left number (numbers_of world.mounts) (numbers_of (others world new place true mounts)) is)
     (λ number is.
     let kept = moved_mounts_show world fresh (record { mount = mount; node = 0 }) place number one is in
     record {
@@ -306,7 +292,7 @@ moved_seen world fresh mount place one stand same =
         ∙ namespaces_replaced world.mounts world.mounts (arriving world new place true mounts) (λ n. refl) each number
       where
         itself : mount_numbered nat_eq world top.number ≡ top
-        itself = ap (mount_numbered nat_eq world) (number_found world.mounts mount)
+        itself = ap (mount_numbered nat_eq world) (number-mount_in world.mounts mount)
 
         found : (origin : Mount ℕ) → Among origin mounts → mount_numbered nat_eq world origin.number ≡ origin
         found origin m =

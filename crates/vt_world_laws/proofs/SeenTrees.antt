@@ -17,9 +17,10 @@ use Rattle.vt_spec.specs.Tree.Content.{Directory, Regular, Symlink, Whiteout}
 use Rattle.vt_spec.proofs.Lists.{Among, all_from_among, among-append_left, among-append_right, among-flat_map, among_from_all, among_numbers, none_among}
 use Rattle.vt_tree_laws.proofs.ChangesNodes.{part_stays}
 use Rattle.vt_tree_laws.proofs.TreesOfWorlds.{number_numbered, numbered, numbered_anyhow}
-use Rattle.vt_tree_laws.proofs.TreesWalked.{no_some}
 use Rattle.vt_world_laws.specs.Worlds.Kept.{IsPlain}
 use Rattle.vt_world_laws.proofs.Seen.{KeepsKind, KeepsWhatIsSeen, kind_seen, node_in, same_kind, seen_by_nodes}
+use Rattle.vt_spec.proofs.Options.{none_from_not_some}
+use Rattle.vt_spec.proofs.Worlds.{number-replaced_if_numbered}
 
 -- Changes of an inode
 pub kind-with_entries : (content : Content ℕ) (entries : List (List ℕ × ℕ))
@@ -157,18 +158,11 @@ module _ (new : Filesystem ℕ) where
   abbrev replaced : List (Filesystem ℕ) → List (Filesystem ℕ)
   replaced list = map (replaced_if_numbered nat_eq new) list
 
-  replaced_number : (old : Filesystem ℕ) → (replaced_if_numbered nat_eq new old).number ≡ old.number
-  replaced_number old = by (nat_eq new.number old.number) refl
-    where
-      by : (b : Bool) → nat_eq new.number old.number ≡ b → (cond b new old).number ≡ old.number
-      by true e = eqb-true new.number old.number e
-      by false e = refl
-
   pub numbers-replaced : (list : List (Filesystem ℕ))
       → map (λ (f : Filesystem ℕ). f.number) (replaced list) ≡ map (λ (f : Filesystem ℕ). f.number) list
   numbers-replaced [] = refl
   numbers-replaced (first ∷ rest) =
-      ap (λ n. n ∷ map (λ (f : Filesystem ℕ). f.number) (replaced rest)) (replaced_number first)
+      ap (λ n. n ∷ map (λ (f : Filesystem ℕ). f.number) (replaced rest)) (number-replaced_if_numbered new first)
       ∙ ap (λ ns. first.number ∷ ns) (numbers-replaced rest)
 
   pub found_other : (list : List (Filesystem ℕ)) (number : ℕ) → nat_eq new.number number ≡ false
@@ -176,7 +170,7 @@ module _ (new : Filesystem ℕ) where
   found_other [] number other = refl
   found_other (first ∷ rest) number other =
       ap (λ n. unwrap_or (cond (nat_eq number n) (Some (replaced_if_numbered nat_eq new first))
-      (find (λ f. nat_eq number f.number) (replaced rest))) (no_filesystem number)) (replaced_number first)
+      (find (λ f. nat_eq number f.number) (replaced rest))) (no_filesystem number)) (number-replaced_if_numbered new first)
       ∙ by (nat_eq number first.number) refl (found_other rest number other)
     where
       by : (b : Bool) → nat_eq number first.number ≡ b → numbered number (replaced rest) ≡ numbered number rest
@@ -254,7 +248,7 @@ module _ (fresh : Fresh ℕ) (world : World ℕ) (plain : IsPlain world) (locati
       ≡ with_filesystem nat_eq world changed_one
   change_of_plain =
       ap (λ o. filesystem_changed nat_eq fresh world old o change)
-      (no_some old.overlay
+      (none_from_not_some old.overlay
       (numbered_anyhow (λ filesystem. is_overlay filesystem ≡ false)
       (mount_at nat_eq world location).filesystem world.filesystems plain refl))
 
@@ -309,7 +303,7 @@ pub unused_inode : (world : World ℕ) (fresh : Fresh ℕ) → Serves nat_eq wor
 unused_inode world fresh serves lists k filesystem =
     numbered_anyhow (λ (f : Filesystem ℕ). f.files.tree.node (fresh k) ≡ None) filesystem world.filesystems
     (all_from_among (λ (f : Filesystem ℕ). f.files.tree.node (fresh k) ≡ None) world.filesystems (λ f m.
-    no_some (f.files.tree.node (fresh k))
+    none_from_not_some (f.files.tree.node (fresh k))
     (sym (among_from_all (λ (g : Filesystem ℕ). ListsNumbers nat_eq g.files) world.filesystems lists f m (fresh k))
     ∙ by f m (is_among nat_eq (fresh k) f.files.numbers) refl))) refl
   where

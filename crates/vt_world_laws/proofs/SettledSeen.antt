@@ -3,14 +3,15 @@ use Rattle.std.proofs.Common.{◌≡◌, refl, sym, ap, ◌∙◌, ℕ, nat_eq, 
 use Rattle.std.specs.Prelude.{filter_map, unwrap_or}
 use Rattle.vt_spec.specs.Lists.{is_among}
 use Rattle.vt_spec.specs.Machine.Mounts.{Location, Mount, root_of}
-use Rattle.vt_spec.specs.Machine.Settled.{filesystem_lives, is_located, is_mounted, located_in, mount_lives, only_used, settled, used_in, without_dead_filesystems, without_dead_in, without_dead_mounts}
+use Rattle.vt_spec.specs.Machine.Settled.{filesystem_lives, is_located, is_mounted, located_in, mount_lives, only_used, settled, without_dead_filesystems, without_dead_in, without_dead_mounts}
 use Rattle.vt_spec.specs.Machine.World.{Filesystem, World, all_locations, filesystem_numbered, is_overlay, mount_at, mount_numbered, no_filesystem, node_at}
 use Rattle.vt_spec.specs.Machine.Invariants.{is_nowhere_or_attached}
-use Rattle.vt_letting_go.proofs.InUse.{number-left}
 use Rattle.vt_letting_go.proofs.Lists.{Among, among-filter, among-map, any_passes, is_among_numbers, map_twice, or_first, or_second, passes}
 use Rattle.vt_letting_go.proofs.PlacesLeft.{found_in_filter, found_itself, nowhere_parts}
 use Rattle.vt_tree_laws.proofs.TreesForgotten.{among_located, used_stays}
 use Rattle.vt_world_laws.specs.Worlds.Kept.{IsUnderWay}
+use Rattle.vt_spec.proofs.Worlds.{number-only_used}
+pub use Rattle.vt_spec.proofs.Worlds.{number-only_used as used_number}
 
 -- an inode of a filesystem by its number, where those of the number stay and keep it
 node_kept : (stays : Filesystem ℕ → Bool) (change : Filesystem ℕ → Filesystem ℕ)
@@ -51,11 +52,6 @@ node_kept stays change same number object (filesystem ∷ list) stay keep =
         (true≢false (sym (stay filesystem (sym (eqb-true number filesystem.number e))) ∙ d))
     by false e true d later = with_first false e ∙ later
     by false e false d later = later
-
-pub used_number : (world : World ℕ) (chosen : Bool) (filesystem : Filesystem ℕ)
-    → (only_used nat_eq world chosen filesystem).number ≡ filesystem.number
-used_number world true filesystem = number-left (used_in nat_eq world filesystem) filesystem _
-used_number world false filesystem = refl
 
 located_kept : (world : World ℕ) (chosen : Bool) (filesystem : Filesystem ℕ) (object : ℕ)
     → is_among nat_eq object (located_in nat_eq world filesystem.number) ≡ true
@@ -124,12 +120,12 @@ module _ (world : World ℕ) (unsettled : IsUnderWay world) where
       (no_filesystem number)).files.tree.node object)
       (map_twice second first living.filesystems)
       ∙ node_kept (filesystem_lives nat_eq mounted) (λ f. second (first f))
-      (λ f. used_number first_round (not (is_overlay (first f))) (first f) ∙ used_number living (is_overlay f) f)
+      (λ f. number-only_used first_round (not (is_overlay (first f))) (first f) ∙ number-only_used living (is_overlay f) f)
       number object world.filesystems
       (λ f e. or_first (is_mounted nat_eq mounted f.number) _ (ap (is_mounted nat_eq mounted) e ∙ shown))
       (λ f e.
       located_kept first_round (not (is_overlay (first f))) (first f) object
-      (ap (λ n. is_among nat_eq object (located_in nat_eq mounted n)) (used_number living (is_overlay f) f ∙ e)
+      (ap (λ n. is_among nat_eq object (located_in nat_eq mounted n)) (number-only_used living (is_overlay f) f ∙ e)
       ∙ located)
       ∙ located_kept living (is_overlay f) f object
       (ap (λ n. is_among nat_eq object (located_in nat_eq mounted n)) e ∙ located))

@@ -1,20 +1,20 @@
 -- Tasks, and what mounts show, where what nothing uses goes.
-use Rattle.std.proofs.Common.{◌≡◌, refl, sym, ap, subst, ◌∙◌, cond, find, not, ◌||◌, inl, inr, ℕ, nat_eq, Bool, true, false, List, ◌∷◌, [], ◌++◌, Option, Some, None, filter, is_some, map, true≢false, ◌&&◌}
-use Rattle.std.specs.Prelude.{All, filter_map, option_to_list, unwrap_or}
+use Rattle.std.proofs.Common.{◌≡◌, refl, sym, ap, subst, ◌∙◌, not, inl, inr, ℕ, nat_eq, Bool, true, false, List, ◌++◌, Option, Some, None, filter, is_some, map, true≢false, ◌&&◌}
+use Rattle.std.specs.Prelude.{All, filter_map, option_to_list}
 use Rattle.std.specs.List.{list_all}
 use Rattle.std.proofs.lemmas.Bool.{and_from, and_parts}
 use Rattle.std.proofs.lemmas.List.Elements.{All-filter, All-weaker}
 use Rattle.vt_spec.specs.declared.attributes.Kind.TheVariants.{File}
 use Rattle.vt_spec.specs.FileTree.{is_kind_in}
 use Rattle.vt_spec.specs.Lists.{any_pair, is_among}
-use Rattle.vt_spec.specs.Machine.Mounts.{Location, Mount, mount_in, no_mount, root_of}
+use Rattle.vt_spec.specs.Machine.Mounts.{Location, Mount, root_of}
 use Rattle.vt_spec.specs.Machine.Settled.{filesystem_lives, mount_lives, only_used, settled, without_dead_filesystems, without_dead_in, without_dead_mounts}
 use Rattle.vt_spec.specs.Machine.World.{Descriptor, Filesystem, Task, World, all_locations, filesystem_numbered, is_directory_at, is_overlay, locations_of, mount_at, mount_numbered, node_at}
 use Rattle.vt_spec.specs.Machine.Invariants.{ListsNumbers, IsWorld, Stands, TaskInvariants, TreeInvariants, has_its_root, has_regular_files_open, is_located_well, stands_on_directories}
 use Rattle.vt_spec.specs.Tree.{is_directory_node}
 use Rattle.vt_letting_go.proofs.InUse.{one_sweep_is_enough}
 use Rattle.vt_letting_go.proofs.Lists.{Among, all_from_among, all_pass, among-append_left, among-append_right, among-filter, among-filter_map, among-flat_map, among-from_filter, among-map, among_from_all, is_among_numbers, passes}
-use Rattle.vt_letting_go.proofs.PlacesLeft.{found_is_there, number_found}
+use Rattle.vt_letting_go.proofs.PlacesLeft.{found_is_there}
 use Rattle.vt_letting_go.specs.InUse.{IsListedTree}
 use Rattle.vt_spec.proofs.Lists.{pair-filter, pair-map}
 use Rattle.vt_tree_laws.specs.Trees.{IsFileTree}
@@ -28,22 +28,8 @@ use Rattle.vt_world_laws.specs.Worlds.Kept.{IsPlain, IsUnderWay, IsWorldButForUs
 use Rattle.vt_world_laws.proofs.Plain.{uppers_plain}
 use Rattle.vt_world_laws.proofs.RaisedInUse.{world_of}
 use Rattle.vt_world_laws.proofs.SettledMounts.{settled_mounts, settled_namespaces}
-use Rattle.vt_world_laws.proofs.SettledSeen.{attached_lives, found_still, itself, located_lives, placed_attached, seen_stays, used_number}
-
--- a number of the list finds a mount of it
-found_listed : (mounts : List (Mount ℕ)) (number : ℕ) → is_among nat_eq number (map (λ mount. mount.number) mounts)
-    ≡ true
-    → Among (mount_in nat_eq mounts number) mounts
-found_listed [] number h = absurd (true≢false (sym h))
-found_listed (first ∷ rest) number h = by (nat_eq number first.number) h (found_listed rest number)
-  where
-    by : (b : Bool) → (b || is_among nat_eq number (map (λ (mount : Mount ℕ). mount.number) rest)) ≡ true
-        → (is_among nat_eq number (map (λ (mount : Mount ℕ). mount.number) rest) ≡ true
-        → Among (mount_in nat_eq rest number) rest)
-        → Among (unwrap_or (cond b (Some first) (find (λ x. nat_eq number x.number) rest)) (no_mount number))
-        (first ∷ rest)
-    by true f later = inl refl
-    by false f later = inr (later f)
+use Rattle.vt_world_laws.proofs.SettledSeen.{attached_lives, found_still, itself, located_lives, placed_attached, seen_stays}
+use Rattle.vt_spec.proofs.Worlds.{mount_in-among, number-mount_in, number-only_used}
 
 module _ (world : World ℕ) (unsettled : IsUnderWay world) where
   abbrev after : World ℕ
@@ -56,7 +42,7 @@ module _ (world : World ℕ) (unsettled : IsUnderWay world) where
   located_there : (location : Location ℕ) → Among location (all_locations world)
       → Among (mount_at nat_eq world location) world.mounts
   located_there location m =
-      found_listed world.mounts location.mount
+      mount_in-among world.mounts location.mount
       (and_parts (is_among nat_eq location.mount (map (λ (mount : Mount ℕ). mount.number) world.mounts)) _
       (passes (is_located_well nat_eq world) (all_locations world) unsettled.tasks.locations_live location m)).0
 
@@ -64,7 +50,7 @@ module _ (world : World ℕ) (unsettled : IsUnderWay world) where
       → mount_lives nat_eq world (mount_at nat_eq world location) ≡ true
   mount_lives_at location m =
       located_lives world unsettled location m (mount_at nat_eq world location)
-      (number_found world.mounts location.mount)
+      (number-mount_in world.mounts location.mount)
 
   pub still_there : (location : Location ℕ) → Among location (all_locations world) → node_at nat_eq after location
       ≡ node_at nat_eq world location
@@ -85,7 +71,7 @@ module _ (world : World ℕ) (unsettled : IsUnderWay world) where
       and_from (is_among nat_eq location.mount (map (λ (mount : Mount ℕ). mount.number) live_mounts))
       (is_some (node_at nat_eq after location))
       (ap (λ n. is_among nat_eq n (map (λ (mount : Mount ℕ). mount.number) live_mounts))
-      (sym (number_found world.mounts location.mount))
+      (sym (number-mount_in world.mounts location.mount))
       ∙ is_among_numbers (mount_at nat_eq world location).number (map (λ (mount : Mount ℕ). mount.number) live_mounts)
       (among-map (λ (mount : Mount ℕ). mount.number) live_mounts (mount_at nat_eq world location)
       (among-filter (mount_lives nat_eq world) world.mounts (mount_at nat_eq world location)
@@ -249,8 +235,8 @@ module _ (world : World ℕ) (unsettled : IsUnderWay world) where
       same_numbers w chosen apart =
           pair-map (λ (a b : Filesystem ℕ). nat_eq a.number b.number) (λ (a b : Filesystem ℕ). nat_eq a.number b.number)
           (λ f. only_used nat_eq w (chosen f) f) w.filesystems
-          (λ a b m n e. ap (λ k. nat_eq k (only_used nat_eq w (chosen b) b).number) (used_number w (chosen a) a)
-          ∙ ap (nat_eq a.number) (used_number w (chosen b) b) ∙ e)
+          (λ a b m n e. ap (λ k. nat_eq k (only_used nat_eq w (chosen b) b).number) (number-only_used w (chosen a) a)
+          ∙ ap (nat_eq a.number) (number-only_used w (chosen b) b) ∙ e)
           apart
 
   pub listed_trees : All (λ f. IsListedTree f.files) world.filesystems

@@ -19,14 +19,16 @@ use Rattle.vt_spec.specs.Tree.{is_directory_node}
 use Rattle.vt_spec.proofs.Lists.{Among, among-append, among-filter, among-from_filter, among-from_map, among_from_all, among_from_list_all, list_all_from_among}
 use Rattle.vt_mount_laws.specs.Mounts.Attaching.{is_mount}
 use Rattle.vt_mount_laws.proofs.Groups.{mounts-regrouped}
-use Rattle.vt_mount_laws.proofs.MountsFound.{found_there, number_found}
+use Rattle.vt_mount_laws.proofs.MountsFound.{found_there}
 use Rattle.vt_mount_laws.proofs.MountsRetyped.{between, groups_by, retype, retype_keeps}
 use Rattle.vt_mount_laws.proofs.Unmounting.{middle}
 use Rattle.vt_world_laws.specs.Worlds.Kept.{MountsShow}
 use Rattle.vt_world_laws.proofs.PermitsSeen.{unshared_seen}
-use Rattle.vt_world_laws.proofs.Roots.{copy_stands, directory_there, in_own, is_numbered, itself, last_has, own_there}
+use Rattle.vt_world_laws.proofs.Roots.{copy_stands, in_own, is_numbered, itself, last_has, own_there}
 use Rattle.vt_world_laws.proofs.Seen.{KeepsWhatIsSeen, directory_after, directory_kept, node_in, seen_alike}
 use Rattle.vt_world_laws.proofs.SeenMounts.{flags_seen, pivoted_seen, retyped_seen, taken_seen}
+use Rattle.vt_spec.proofs.NodeChanges.{directory_is_there}
+use Rattle.vt_spec.proofs.Worlds.{number-mount_in}
 
 -- a directory, seen through a mount of the list
 pub record IsPlace (world : World ℕ) (place : Location ℕ) : Type 0 where
@@ -124,7 +126,7 @@ module _ (world : World ℕ) (is : IsWorld nat_eq world) where
           absurd (true≢false (sym (placed_is_attached mount m place at)
           ∙ ap is_some (parent_namespace mount m place at) ∙ ap is_some e))
       by (Some own) e =
-          subst (λ n. is_mount world n ≡ true) (number_found world.mounts place.mount)
+          subst (λ n. is_mount world n ≡ true) (number-mount_in world.mounts place.mount)
           (is_numbered world is (mount_at nat_eq world place) (own_there world is place.mount own e))
 
   pub world_shows : AllShow world
@@ -293,10 +295,10 @@ module _ (world : World ℕ) (fresh : Fresh ℕ) (task : Task ℕ) (is : IsWorld
       let stands = copy_stands world fresh task is serves place
       (record {
         located = and_from (is_mount world place.mount) (is_some (node_at nat_eq world place)) on.listed
-            (directory_there (node_at nat_eq world place) on.directory);
+            (directory_is_there (node_at nat_eq world place) on.directory);
         directory = on.directory;
         inside = in_own task.namespace parent namespace;
-      }) parent parent_copied (sym (number_found world.mounts place.mount)) in
+      }) parent parent_copied (sym (number-mount_in world.mounts place.mount)) in
       record {
         listed = (and_parts (is_mount after (copy place.mount))
             (is_some (node_at nat_eq after (location_on_copy copy place))) stands.located).0;

@@ -4,37 +4,20 @@ use Rattle.std.specs.Prelude.{if◌then◌else◌, unwrap_or}
 use Rattle.std.proofs.lemmas.Bool.{and_from, and_parts}
 use Rattle.std.proofs.lemmas.Option.{same_Some}
 use Rattle.vt_spec.specs.Machine.Attach.{Copies, Graft, Twig, added_mounts, attached_by, copies_at, copy_at, copy_number, copy_place, is_top, place_on_copy, pushed_onto, reaches, receiver_below, receivers_of, takes_part, top_of_copies, twig_of, with_moved_mounts}
-use Rattle.vt_spec.specs.Lists.{folded, rest_of}
-use Rattle.vt_spec.specs.Machine.Mounts.{Location, Mount, child_at, group_of, replaced_if_same, root_of, stands_at, with_mount}
+use Rattle.vt_spec.specs.Lists.{rest_of}
+use Rattle.vt_spec.specs.Machine.Mounts.{Location, Mount, child_at, group_of, root_of, stands_at}
 use Rattle.vt_spec.specs.Machine.World.{World, is_directory_at, mount_at, mount_numbered}
 use Rattle.vt_spec.specs.Tree.{is_directory_node}
 use Rattle.vt_spec.proofs.Lists.{Among, among-append, among-append_left, among-append_right, among-flat_map, among-from_filter, among-from_flat_map, among-from_map, among-map, is_among_numbers}
 use Rattle.vt_mount_laws.specs.Mounts.Attaching.{OneNumberAMount, is_mount, numbers_of}
 use Rattle.vt_mount_laws.proofs.Attaching.{taker_there}
 use Rattle.vt_mount_laws.proofs.MountsAttached.{graft, moved_ones, parts, push}
-use Rattle.vt_mount_laws.proofs.MountsFound.{found_in, number_found}
+use Rattle.vt_mount_laws.proofs.MountsFound.{found_in}
 use Rattle.vt_mount_laws.proofs.MountsReplaced.{found_itself}
 use Rattle.vt_world_laws.proofs.Roots.{last_has}
 use Rattle.vt_world_laws.proofs.Seen.{KeepsWhatIsSeen, node_in}
 use Rattle.vt_world_laws.proofs.Shows.{AllShow, IsPlace, ShowsWell, place_after, shows_after}
-
--- mounts that are replaced one after the other are those that were there, or new ones
-among-folded : (mounts copies : List (Mount ℕ)) (mount : Mount ℕ)
-    → Among mount (folded (with_mount nat_eq) mounts copies)
-    → Among mount mounts ⊎ Among mount copies
-among-folded mounts [] mount m = inl m
-among-folded mounts (copy ∷ copies) mount m =
-    ⊎_elim
-    (λ first.
-    let from = among-from_map (replaced_if_same nat_eq copy) mounts mount first in
-    ⊎_elim (λ e. inr (inl e)) inl
-    (subst (λ x. (x ≡ copy) ⊎ Among x mounts) (sym from.2) (by from.0 (nat_eq copy.number from.0.number) from.1)))
-    (λ later. inr (inr later)) (among-folded (with_mount nat_eq mounts copy) copies mount m)
-  where
-    by : (old : Mount ℕ) (b : Bool) → Among old mounts
-        → ((if b then copy else old) ≡ copy) ⊎ Among (if b then copy else old) mounts
-    by old true n = inl refl
-    by old false n = inr n
+use Rattle.vt_spec.proofs.Worlds.{among-folded_mounts, number-mount_in}
 
 -- the roots of mounts of a list are places, and so is the topmost over one of them
 module _ (world : World ℕ) (mounts : List (Mount ℕ))
@@ -158,7 +141,7 @@ module _ (world : World ℕ) (new : Copies ℕ) (place : Location ℕ) (moves : 
           ap (λ b. if b then origin.number else new.copy part.number origin.number)
           (and_from moves (nat_eq part.number place.mount) moved
           (eq-eqb part.number place.mount (ap (λ (x : Mount ℕ). x.number) here
-          ∙ number_found world.mounts place.mount))) in
+          ∙ number-mount_in world.mounts place.mount))) in
           subst (λ k. (is_mount after k ≡ true) × ((mount_numbered nat_eq after k).filesystem ≡ origin.filesystem))
           (sym number)
           (seen.listed origin.number old.0, (seen.views origin.number old.0).filesystem ∙ old.1)
@@ -182,7 +165,7 @@ module _ (world : World ℕ) (new : Copies ℕ) (place : Location ℕ) (moves : 
       here : part ≡ destination → IsPlace world (record { mount = part.number; node = place.node })
       here e =
           let number : part.number ≡ place.mount = ap (λ (x : Mount ℕ). x.number) e
-          ∙ number_found world.mounts place.mount in
+          ∙ number-mount_in world.mounts place.mount in
           through (ap (is_mount world) number ∙ at_place.listed)
           (ap (λ n. (mount_numbered nat_eq world n).filesystem) number)
 
@@ -271,7 +254,7 @@ module _ (world : World ℕ) (new : Copies ℕ) (place : Location ℕ) (moves : 
   moved_shows : (b : Bool) (mount : Mount ℕ) → Among mount
       (with_moved_mounts nat_eq b world.mounts (copies destination)) → ShowsWell after mount
   moved_shows true mount m = ⊎_elim (old_shows mount) (arrived_shows mount)
-      (among-folded world.mounts (copies destination) mount m)
+      (among-folded_mounts world.mounts (copies destination) mount m)
   moved_shows false mount m = old_shows mount m
 
   added_shows : (b : Bool) (mount : Mount ℕ) → Among mount (added_mounts b (copies destination))

@@ -13,7 +13,6 @@ use Rattle.vt_spec.specs.Tree.{is_directory_node, new_directory}
 use Rattle.vt_spec.proofs.Lists.{Among, among-append, among-append_left, among-append_right, among-flat_map, among-from_filter, among-from_flat_map, none_from_among}
 use Rattle.vt_mount_laws.proofs.BindsStand.{binds_keep_numbers, moves_keep_numbers, new_mounts_keep_numbers}
 use Rattle.vt_mount_laws.proofs.MountsAttached.{graft, supplied}
-use Rattle.vt_mount_laws.proofs.MountsFound.{number_found}
 use Rattle.vt_mount_laws.proofs.MountsReplaced.{tree_among}
 use Rattle.vt_mount_laws.proofs.Standing.{bindable_child}
 use Rattle.vt_tree_laws.proofs.TreesOfWorlds.{numbered}
@@ -23,6 +22,7 @@ use Rattle.vt_world_laws.proofs.SeenMounts.{added_seen, attached_seen}
 use Rattle.vt_world_laws.proofs.SeenTrees.{unused_by_filesystem, unused_number}
 use Rattle.vt_world_laws.proofs.Shows.{AllShow, IsPlace, all_show_after, world_shows}
 use Rattle.vt_world_laws.proofs.ShowsAttached.{attached_show}
+use Rattle.vt_spec.proofs.Worlds.{number-mount_in}
 
 module _ (world : World ℕ) (is : IsWorld nat_eq world) where
   -- the mount of a tree on which another one stands
@@ -88,7 +88,7 @@ module _ (world : World ℕ) (is : IsWorld nat_eq world) where
       (λ e. subst (HasParent whole) (sym e)
       (child_of (bound nat_eq world source) from.0
       (subst (λ n. Among from.0 (children nat_eq world.mounts n))
-      (sym (number_found world.mounts source.mount)) child) whole (inl refl)))
+      (sym (number-mount_in world.mounts source.mount)) child) whole (inl refl)))
       (wider (bindable_tree nat_eq (length world.mounts) world.mounts from.0) whole mount
       (λ x n. inr (among-flat_map (bindable_tree nat_eq (length world.mounts) world.mounts) chosen from.0 x from.1 n)))
       (bindable_parents (length world.mounts) from.0 mount from.2))) m
@@ -144,7 +144,7 @@ module _ (world : World ℕ) (is : IsWorld nat_eq world) where
       well mount m =
           ⊎_elim
           (λ e. subst IsNumberedWell (sym e)
-          (ap (λ n. (mount_numbered nat_eq world n).filesystem) (number_found world.mounts source.mount)))
+          (ap (λ n. (mount_numbered nat_eq world n).filesystem) (number-mount_in world.mounts source.mount)))
           (λ has. listed_well mount has.0) (bind_parents source recursive mount m)
 
       first_is : (r : Bool) (origin : Mount ℕ) → origin ≡ bound nat_eq world source

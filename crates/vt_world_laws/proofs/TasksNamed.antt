@@ -13,6 +13,7 @@ use Rattle.vt_spec.specs.Machine.World.{Task, World, first_task, opening, replac
 use Rattle.vt_spec.specs.Language.Calls.{TaskName, same_name}
 use Rattle.vt_spec.specs.Rights.{Credentials}
 use Rattle.vt_spec.proofs.Lists.{Among, among-append, among-from_filter, among-from_map, among_from_contains, contains_from_among, none_among, none_from_among, pair-filter, pair-map}
+use Rattle.vt_spec.proofs.Worlds.{name-replaced_if_called, same_task_name}
 
 -- A name that is put together in two ways
 module _ where
@@ -41,17 +42,6 @@ module _ where
   pub not_longer : (xs : List ℕ) (y : ℕ) (zs : List ℕ) → xs ≡ xs ++ (y ∷ zs) → ⊥
   not_longer [] y zs e = some_cons y zs e
   not_longer (x ∷ xs) y zs e = not_longer xs y zs (ap rest_of e)
-
--- Names, by a test and as they are
-pub one_name : (a b : TaskName) → same_name a b ≡ true → a ≡ b
-one_name a b e = (bytes_decides a b).0 e
-
-name_replaced : (new old : Task ℕ) → (replaced_if_called new old).name ≡ old.name
-name_replaced new old = by (same_name new.name old.name) refl
-  where
-    by : (b : Bool) → same_name new.name old.name ≡ b → (cond b new old).name ≡ old.name
-    by true e = one_name new.name old.name e
-    by false e = refl
 
 abbrev AreNamedApart : List (Task ℕ) → Type 0
 AreNamedApart tasks = any_pair (λ (a b : Task ℕ). same_name a.name b.name) tasks ≡ false
@@ -176,12 +166,12 @@ module _ (task : Task ℕ) (before : List (Task ℕ)) (there : Among task before
       by : (b : Bool) → same_name other.name (child_name task) ≡ b → b ≡ false
       by false e = refl
       by true e = absurd (too_many
-          (counted task other (task.forks + 1) [] there m (one_name other.name (child_name task) e)))
+          (counted task other (task.forks + 1) [] there m (same_task_name other.name (child_name task) e)))
 
   pub go_on_apart : (after : List (Task ℕ)) → GoOn task before after → AreNamedApart after
   go_on_apart after (same_ones list e) = subst AreNamedApart (sym e) apart
   go_on_apart after (one_changed new list name forks e) =
-      subst AreNamedApart (sym e) (mapped_apart (replaced_if_called new) (name_replaced new) before apart)
+      subst AreNamedApart (sym e) (mapped_apart (replaced_if_called new) (name-replaced_if_called new) before apart)
   go_on_apart after (all_moved namespace root new list e) =
       subst AreNamedApart (sym e)
       (mapped_apart (pivoted_task nat_eq namespace root new)
@@ -193,11 +183,11 @@ module _ (task : Task ℕ) (before : List (Task ℕ)) (there : Among task before
   go_on_apart after (one_more credentials list e) =
       subst AreNamedApart (sym e)
       (appended_apart (map (replaced_if_called parent) before) (child_of task credentials)
-      (mapped_apart (replaced_if_called parent) (name_replaced parent) before apart)
+      (mapped_apart (replaced_if_called parent) (name-replaced_if_called parent) before apart)
       (λ other m.
       let from = among-from_map (replaced_if_called parent) before other m in
       ap (λ (t : Task ℕ). same_name t.name (child_name task)) from.2
-      ∙ ap (λ n. same_name n (child_name task)) (name_replaced parent from.0)
+      ∙ ap (λ n. same_name n (child_name task)) (name-replaced_if_called parent from.0)
       ∙ child_is_new from.0 from.1))
 
   -- a child's name begins with that of a task that was there
@@ -280,7 +270,7 @@ module _ (task : Task ℕ) (before : List (Task ℕ)) (there : Among task before
       below_none other m number rest h =
           let from = among-from_map (replaced_if_called parent) before other m in
           too_many (counted task from.0 (task.forks + 1) (number ∷ rest) there from.1
-          (sym (name_replaced parent from.0) ∙ ap (λ (t : Task ℕ). t.name) (sym from.2) ∙ h
+          (sym (name-replaced_if_called parent from.0) ∙ ap (λ (t : Task ℕ). t.name) (sym from.2) ∙ h
           ∙ append_assoc task.name ((task.forks + 1) ∷ []) (number ∷ rest)))
 
 pub opening_counts_forks : (fresh : Fresh ℕ) → ForksAreCounted (opening nat_eq fresh)

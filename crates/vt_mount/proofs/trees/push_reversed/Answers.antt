@@ -1,16 +1,13 @@
-use Rattle.std.proofs.Common.{Err, Ok, OnOk, Result, rules}
+use Rattle.std.proofs.Common.{rules}
 use Rattle.std.proofs.lemmas.Iterator.{YieldsList-from_map}
 use Rattle.std.proofs.lemmas.Iterator.Adapters.{YieldsList-from_rev_slice, items_from_extend}
 use Rattle.vt_location.specs.declared.numbers.MountId.{MountId}
 use Rattle.vt_mount.proofs.trees.push_reversed.Goals as goal
-
-on-ok : {A E P Q : Type 0} (r : Result A E) → (P → Q) → OnOk r P → OnOk r Q
-on-ok (Ok a) so p = so p
-on-ok (Err e) so p = tt
+use Rattle.vt_spec.proofs.Options.{OnOk_then}
 
 pub returns : goal.returns
 returns c =
-    on-ok c.extend.result (λ went. went.0)
+    OnOk_then c.extend.result (λ went. went.0)
     (items_from_extend c.extend.result c.extend.ensures.ran
     (YieldsList-from_map _ (λ (id : MountId). record { mount = id; depth = c.args.depth })
     (YieldsList-from_rev_slice c.args.children.now cc) c.map.ensures.closure

@@ -9,9 +9,9 @@ use Rattle.vt_request.specs.Requests.{access_of}
 use Rattle.vt_tasks.specs.TaskValue.{task_of}
 use Rattle.vt_rules.proofs.Judged.{answers}
 use Rattle.vt_policy.proofs.PlaceLemmas.{went}
-use Rattle.vt_rules.proofs.PlainRows.{neither}
 use Rattle.vt_rules.proofs.Rows.{skipped}
 use Rattle.vt_policy.proofs.descriptors.open_or_create.Goals as goal
+use Rattle.std.proofs.lemmas.Bool.{or_from}
 
 pub returns-in-None : goal.returns-in-None
 returns-in-None g c =
@@ -23,7 +23,7 @@ returns-in-None g c =
     (create_file_permit nat_eq looks task at.0 access c.args.mode) c.create_file_permit.result
     (went (walk_end (file_walk nat_eq looks task c.args.path.now)) at.0 _ at.1
     ∙ skipped (is_special at.0.last || at.0.slash) E2 [] _
-    (neither _ _ (ap is_special at.2.last ∙ sym c.is_special.ensures ∙ c.if-is_special.false)
+    (or_from _ _ (ap is_special at.2.last ∙ sym c.is_special.ensures ∙ c.if-is_special.false)
     (at.2.slash ∙ c.if-place.false))
     ∙ ap (opened_or_created_permit nat_eq looks task at.0 access c.args.mode)
     (at.2.object ∙ ap (option_map location_of) c.in-None.is))

@@ -8,11 +8,12 @@ use Rattle.vt_spec.specs.Tree.{Node}
 use Rattle.vt_tasks.specs.TaskValue.{task_of}
 use Rattle.vt_rules.proofs.Judged.{refused, without_memory}
 use Rattle.vt_policy.proofs.PlaceLemmas.{is_some_mapped, made_asked}
-use Rattle.vt_rules.proofs.Refusals.{unless-let_through, unless-stopped}
+use Rattle.vt_rules.proofs.Refusals.{unless-stopped}
 use Rattle.vt_spec.specs.Machine.Outcome.Making.{directory_mode}
 use Rattle.vt_spec.specs.Machine.Rows.{new_attr}
 use Rattle.vt_spec.specs.Tree.{new_directory}
 use Rattle.vt_policy.proofs.making.mkdir.Goals as goal
+use Rattle.vt_spec.proofs.Refusals.{unless-let_through}
 
 pub returns-in_err-may_make : goal.returns-in_err-may_make
 unfolding mkdir_permit

@@ -10,13 +10,14 @@ use Rattle.vt_permits.specs.PermitValue.{node_in}
 use Rattle.vt_tasks.specs.TaskValue.{task_of}
 use Rattle.vt_rules.proofs.Judged.{refused, without_memory}
 use Rattle.vt_policy.proofs.PlaceLemmas.{is_some_mapped, made_asked}
-use Rattle.vt_rules.proofs.Refusals.{unless-let_through, unless-stopped}
+use Rattle.vt_rules.proofs.Refusals.{unless-stopped}
 use Rattle.vt_spec.specs.declared.errors.Rule.TheVariants.{W1, W2}
 use Rattle.vt_spec.specs.Machine.Outcome.Making.{symlink_mode}
 use Rattle.vt_spec.specs.Machine.Rows.{exact_attr}
 use Rattle.vt_spec.specs.Tree.Content.{Symlink}
 use Rattle.vt_rules.proofs.Rows.{skipped}
 use Rattle.vt_policy.proofs.making.symlink.Goals as goal
+use Rattle.vt_spec.proofs.Refusals.{unless-let_through}
 
 pub returns-in_err-may_make : goal.returns-in_err-may_make
 unfolding symlink_permit

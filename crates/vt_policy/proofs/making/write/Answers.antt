@@ -7,9 +7,9 @@ use Rattle.vt_location.specs.Locations.{location_of}
 use Rattle.vt_tasks.specs.TaskValue.{task_of}
 use Rattle.vt_rules.proofs.Judged.{answers, answers_without}
 use Rattle.vt_policy.proofs.PlaceLemmas.{went}
-use Rattle.vt_rules.proofs.PlainRows.{neither}
 use Rattle.vt_rules.proofs.Rows.{skipped}
 use Rattle.vt_policy.proofs.making.write.Goals as goal
+use Rattle.std.proofs.lemmas.Bool.{or_from}
 
 pub returns-in-Some : goal.returns-in-Some
 unfolding write_permit
@@ -22,7 +22,7 @@ returns-in-Some g c =
     (Some (location_of c.in-Some.file))) c.rewrite_permit.result
     (went (walk_end (file_walk nat_eq looks task c.args.path.now)) at.0 _ at.1
     ∙ skipped (is_special at.0.last || at.0.slash) E2 [] _
-    (neither _ _ (ap is_special at.2.last ∙ sym c.is_special.ensures ∙ c.if-is_special.false)
+    (or_from _ _ (ap is_special at.2.last ∙ sym c.is_special.ensures ∙ c.if-is_special.false)
     (at.2.slash ∙ c.if-place.false))
     ∙ ap (written_permit nat_eq looks task at.0 c.args.bytes.items)
     (at.2.object ∙ ap (option_map location_of) c.in-Some.is))
@@ -38,7 +38,7 @@ returns-in-None g c =
     (written_permit nat_eq looks task at.0 c.args.bytes.items None) c.new_file_permit.result
     (went (walk_end (file_walk nat_eq looks task c.args.path.now)) at.0 _ at.1
     ∙ skipped (is_special at.0.last || at.0.slash) E2 [] _
-    (neither _ _ (ap is_special at.2.last ∙ sym c.is_special.ensures ∙ c.if-is_special.false)
+    (or_from _ _ (ap is_special at.2.last ∙ sym c.is_special.ensures ∙ c.if-is_special.false)
     (at.2.slash ∙ c.if-place.false))
     ∙ ap (written_permit nat_eq looks task at.0 c.args.bytes.items)
     (at.2.object ∙ ap (option_map location_of) c.in-None.is))

@@ -8,9 +8,9 @@ use Rattle.vt_location.specs.Locations.{location_of}
 use Rattle.vt_tasks.specs.TaskValue.{task_of}
 use Rattle.vt_rules.proofs.Judged.{no_receivers}
 use Rattle.vt_policy.proofs.MountLemmas.{bind_asked}
-use Rattle.vt_rules.proofs.PlainRows.{neither}
 use Rattle.vt_rules.proofs.Rows.{skipped}
 use Rattle.vt_policy.proofs.mounting.bind.Goals as goal
+use Rattle.std.proofs.lemmas.Bool.{or_from}
 
 pub returns-in_err-overfills : goal.returns-in_err-overfills
 returns-in_err-overfills g c =
@@ -26,7 +26,7 @@ returns-in_err-overfills g c =
     (overfills permit) permit _ refl
     (bind_asked looks overfills task c.args.source.now c.args.path.now c.args.recursive source place
     (sym c.lacks.ensures ∙ c.if-lacks.false) c.in_ok-source.ensures.ok c.in_ok-place.ensures.ok
-    ∙ skipped _ M2 _ _ (neither _ _ (sym c.is_elsewhere.ensures ∙ c.if-is_elsewhere.false)
+    ∙ skipped _ M2 _ _ (or_from _ _ (sym c.is_elsewhere.ensures ∙ c.if-is_elsewhere.false)
     (sym c.is_elsewhere-else-is_elsewhere.ensures ∙ c.if-is_elsewhere-2.false))
     ∙ skipped _ M3 _ _ (sym c.is_unbindable.ensures ∙ c.if-is_unbindable.false))
     c.in_err-overfills.ensures.memory)

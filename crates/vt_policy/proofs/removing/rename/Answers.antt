@@ -10,8 +10,9 @@ use Rattle.vt_location.specs.Locations.{location_of}
 use Rattle.vt_tasks.specs.TaskValue.{task_of}
 use Rattle.vt_rules.proofs.Judged.{refused, without_memory}
 use Rattle.vt_policy.proofs.PlaceLemmas.{rename_asked, there_holds, there_mapped}
-use Rattle.vt_rules.proofs.Refusals.{unless-let_through, unless-stopped}
+use Rattle.vt_rules.proofs.Refusals.{unless-stopped}
 use Rattle.vt_policy.proofs.removing.rename.Goals as goal
+use Rattle.vt_spec.proofs.Refusals.{unless-let_through}
 
 pub returns-in_err-may_stay : goal.returns-in_err-may_stay
 returns-in_err-may_stay g c =

@@ -10,8 +10,9 @@ use Rattle.vt_tasks.specs.TaskValue.{task_of}
 use Rattle.vt_rules.specs.Tables.{remove_rules}
 use Rattle.vt_rules.proofs.Judged.{refused, without_memory}
 use Rattle.vt_policy.proofs.PlaceLemmas.{there_mapped, unlink_asked}
-use Rattle.vt_rules.proofs.Refusals.{unless-let_through, unless-stopped}
+use Rattle.vt_rules.proofs.Refusals.{unless-stopped}
 use Rattle.vt_policy.proofs.removing.unlink.Goals as goal
+use Rattle.vt_spec.proofs.Refusals.{unless-let_through}
 
 pub returns-in_err-may_remove : goal.returns-in_err-may_remove
 returns-in_err-may_remove g c =

@@ -6,9 +6,10 @@ use Rattle.vt_spec.specs.Machine.Outcome.Making.{file_mode, new_file}
 use Rattle.vt_spec.specs.Machine.Rules.Making.{make_rules}
 use Rattle.vt_tasks.specs.TaskValue.{task_of}
 use Rattle.vt_rules.proofs.Judged.{refused, without_memory}
-use Rattle.vt_rules.proofs.Refusals.{unless-let_through, unless-stopped}
+use Rattle.vt_rules.proofs.Refusals.{unless-stopped}
 use Rattle.vt_rules.proofs.Rows.{skipped}
 use Rattle.vt_rules.proofs.making.new_file_permit.Goals as goal
+use Rattle.vt_spec.proofs.Refusals.{unless-let_through}
 
 pub returns-in_err-may_make : goal.returns-in_err-may_make
 returns-in_err-may_make g c meant is =

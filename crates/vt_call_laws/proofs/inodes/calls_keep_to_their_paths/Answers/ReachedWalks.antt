@@ -30,12 +30,11 @@ use Rattle.vt_spec.specs.Machine.Rules.Removing.{is_one_object, object_there, ol
 use Rattle.vt_spec.specs.Machine.Walk.{Place, Stop, directory_walk, file_walk, is_directory_there, is_special, name_of, new_leaf_walk, new_walk, object_walk, old_leaf_walk, old_walk, symlink_walk, then_walk, walk_end, walk_unless}
 use Rattle.vt_spec.specs.Machine.World.{Descriptor, Task, World, files_at, mount_at, mount_numbered, node_at}
 use Rattle.vt_spec.specs.Tree.{Node, entries_in, entry_named}
-use Rattle.vt_tree_laws.proofs.TreesWalked.{Ends, IsNewPlace, IsOldPlace, IsPlace, ends_new_walk, ends_old_leaf_walk, ends_old_walk, first_false, not_true, place_named}
+use Rattle.vt_tree_laws.proofs.TreesWalked.{IsNewPlace, IsOldPlace, IsPlace, ends_new_walk, ends_old_leaf_walk, ends_old_walk, not_true, place_named}
 use Rattle.std.proofs.lemmas.Bool.{or_parts}
-
--- where a walk ended, what holds of its end holds
-ended : {A : Type 0} (Q : A → Type 0) (walk : Result A (Stop ℕ)) (a : A) → Ends Q walk → walk ≡ Ok a → Q a
-ended Q walk a ends e = subst (Ends Q) e ends
+use Rattle.std.proofs.Math.Bool.{and-false}
+use Rattle.vt_call_laws.proofs.WaysSearched.{at_end}
+use Rattle.vt_spec.proofs.Truths.{or_false_left}
 
 -- a walk that is only checked further ended before
 checked_same : {A : Type 0} (steps : List (List ℕ)) (rows : Rules) (a b : A) → walk_unless steps rows a ≡ Ok b → a ≡ b
@@ -103,14 +102,10 @@ module _ (fresh : Fresh ℕ) (world : World ℕ) (task : Task ℕ) (filesystem n
   -- locations of one filesystem that the inode is not at
   spared_in : (shown : ℕ) (locations : List (Location ℕ)) → AllIn shown locations → Apart locations
       → (nat_eq filesystem shown && is_among nat_eq number (map (λ location. location.node) locations)) ≡ false
-  spared_in shown [] are apart = none (nat_eq filesystem shown)
-    where
-      none : (b : Bool) → (b && false) ≡ false
-      none true = refl
-      none false = refl
+  spared_in shown [] are apart = and-false (nat_eq filesystem shown)
   spared_in shown (location ∷ locations) are apart =
       spread (nat_eq filesystem shown) (nat_eq number location.node) _
-      (ap (λ f. nat_eq filesystem f && nat_eq number location.node) (sym are.0) ∙ first_false _ _ apart)
+      (ap (λ f. nat_eq filesystem f && nat_eq number location.node) (sym are.0) ∙ or_false_left _ _ apart)
       (spared_in shown locations are.1 ((or_parts _ _ apart).1))
 
   -- a name that is there, and one that may be
@@ -358,7 +353,7 @@ module _ (fresh : Fresh ℕ) (world : World ℕ) (task : Task ℕ) (filesystem n
       passing ((is_special place.last, E2) ∷ []) _ (λ word.
       passing (unlink_rules looks task place (object_there place)) _ (λ pass.
       spared_removed place
-      (ended (IsOldPlace world task) (old_leaf_walk nat_eq world task path) place (ends_old_leaf_walk world task path)
+      (at_end (IsOldPlace world task) (old_leaf_walk nat_eq world task path) place (ends_old_leaf_walk world task path)
       e)
       word.0 (subst (λ walk. Apart (directory_and_object_at walk)) e apart))))
   spares (Rmdir path) apart root =
@@ -366,7 +361,7 @@ module _ (fresh : Fresh ℕ) (world : World ℕ) (task : Task ℕ) (filesystem n
       passing (rmdir_word_rules place) _ (λ word.
       passing (rmdir_rules nat_eq looks task place (object_there place)) _ (λ pass.
       spared_removed place
-      (ended (IsOldPlace world task) (old_walk nat_eq world task path) place (ends_old_walk world task path) e)
+      (at_end (IsOldPlace world task) (old_walk nat_eq world task path) place (ends_old_walk world task path) e)
       (no_special place.last word.0 word.1.0 word.1.1.0)
       (subst (λ walk. Apart (directory_and_object_at walk)) e apart))))
   spares (Rename old new) apart root =
@@ -376,9 +371,9 @@ module _ (fresh : Fresh ℕ) (world : World ℕ) (task : Task ℕ) (filesystem n
       passing (old_word_rules to) _ (λ pass.
       let f_new = renamed_walk world task new (is_directory_there nat_eq world from) to f in
       renamed_spares (is_one_object nat_eq looks (object_there from) to.object) from to
-      (ended (IsOldPlace world task) (old_leaf_walk nat_eq world task old) from (ends_old_leaf_walk world task old) e)
+      (at_end (IsOldPlace world task) (old_leaf_walk nat_eq world task old) from (ends_old_leaf_walk world task old) e)
       word.0
-      (ended (IsNewPlace world task) (new_walk nat_eq world task new) to (ends_new_walk world task new) f_new).0 pass.0
+      (at_end (IsNewPlace world task) (new_walk nat_eq world task new) to (ends_new_walk world task new) f_new).0 pass.0
       (subst (λ walk. Apart ((from.parent ∷ option_to_list from.object) ++ directory_and_object_at walk)) f_new
       (subst (λ walk. Apart (directory_and_object_at walk ++ directory_and_object_at (new_walk nat_eq world task new)))
       e apart))))))

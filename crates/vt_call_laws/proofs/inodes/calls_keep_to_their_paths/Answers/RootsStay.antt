@@ -1,7 +1,6 @@
 -- The root of a filesystem stays its root, as long as the filesystem is there.
 use Rattle.std.proofs.Common.{◌≡◌, refl, sym, ap, subst, ◌∙◌, inl, inr, ◌⊎◌, true≢false, ℕ, ◌+◌, nat_eq, eqb-true, eq-eqb, Bool, true, false, not, cond, ◌||◌, List, [], ◌∷◌, ◌++◌, map, filter, find, Option, Some, None, is_some, option_map, unwrap_or, Ok, Err, ok_or}
 use Rattle.std.proofs.lemmas.Option.{same_Some}
-use Rattle.vt_call_laws.proofs.InodesLeft.{replaced_filesystems}
 use Rattle.vt_call_laws.specs.Reached.{RootsStay, root_in}
 use Rattle.vt_laws.proofs.CallsJudged.{policy_judges_then_applies}
 use Rattle.vt_spec.specs.declared.errors.Rule.TheVariants.{S2}
@@ -11,7 +10,7 @@ use Rattle.vt_spec.specs.Language.Changes.{Change, changed, with_moved, without_
 use Rattle.vt_spec.specs.Language.Changes.Change.{AddName, CopyUp, Make, Move, Remove, SetAttr, SetBytes, SetMark}
 use Rattle.vt_spec.specs.Lists.{Fresh, evens, odds}
 use Rattle.vt_spec.specs.Machine.Apply.{apply}
-use Rattle.vt_spec.specs.Machine.CopyUp.{Merge, Stack, copied_each, copied_up, copy_named, copy_of, emptied, hides_directory, is_in_upper, line_to, linked, made, marked, merge_changed, moved, name_left, name_left_by, removed, shown_below, upper_directory_named, upper_of}
+use Rattle.vt_spec.specs.Machine.CopyUp.{Merge, Stack, copied_each, copied_up, copy_named, copy_of, emptied, hides_directory, is_in_upper, line_to, linked, made, merge_changed, moved, name_left, removed, shown_below, upper_directory_named, upper_of}
 use Rattle.vt_spec.specs.Machine.Detach.{deepest_first}
 use Rattle.vt_spec.specs.Machine.Filesystems.{filesystem_changed, filesystems_raised, merge_of, overlay_changed, raised, raised_if_changed, stack_of, with_change, with_files}
 use Rattle.vt_spec.specs.Machine.Judge.{Judgement, judge_in}
@@ -27,8 +26,9 @@ use Rattle.vt_spec.specs.Machine.Policy.{filesystems_changed_by, finished, finis
 use Rattle.vt_spec.specs.Machine.Settled.{filesystem_lives, only_used, only_used_by, settled, used_in, without_dead_filesystems, without_dead_in, without_dead_mounts}
 use Rattle.vt_spec.specs.Machine.World.{Filesystem, Layer, Overlay, Task, World, filesystem_at, filesystem_numbered, is_overlay, mount_at, mount_numbered, no_filesystem, replaced_if_numbered, task_called, without_task}
 use Rattle.vt_spec.specs.Tree.{Node}
-use Rattle.vt_tree_laws.proofs.TreesOfWorlds.{number_numbered, numbered, taken_filesystems}
+use Rattle.vt_tree_laws.proofs.TreesOfWorlds.{number_numbered, numbered}
 use Rattle.vt_tree_laws.proofs.ChangesByOthers.{lazily_filesystems, typed_filesystems}
+use Rattle.vt_spec.proofs.Worlds.{filesystems-taken_away, filesystems-without_replaced, root-emptied, root-marked, root-name_left_by}
 
 -- a change of a tree leaves its root
 changed_root : (files : FileTree ℕ) (change : Change ℕ) → (changed nat_eq files change).tree.root ≡ files.tree.root
@@ -77,28 +77,15 @@ copied_roots fresh k merge (object ∷ rest) =
 up_roots : (fresh : Fresh ℕ) (merge : Merge ℕ) (object : ℕ) → SameRoots merge (copied_up nat_eq fresh merge object)
 up_roots fresh merge object = copied_roots fresh 0 merge (line_to nat_eq merge.files object)
 
-marked_root : (b : Bool) (upper : FileTree ℕ) (object : ℕ) → (marked nat_eq b upper object).tree.root ≡ upper.tree.root
-marked_root true upper object = refl
-marked_root false upper object = refl
-
-emptied_root : (upper : FileTree ℕ) (o : Option ℕ) → (emptied nat_eq upper o).tree.root ≡ upper.tree.root
-emptied_root upper None = refl
-emptied_root upper (Some object) = refl
-
-name_left_root : (b : Bool) (fresh : Fresh ℕ) (stack : Stack ℕ) (upper : FileTree ℕ) (directory : ℕ) (name : List ℕ)
-    → (name_left_by nat_eq b fresh stack upper directory name).tree.root ≡ upper.tree.root
-name_left_root true fresh stack upper directory name = refl
-name_left_root false fresh stack upper directory name = refl
-
 moved_roots : (fresh : Fresh ℕ) (stack : Stack ℕ) (merge : Merge ℕ) (from : ℕ) (old : List ℕ) (to : ℕ) (new : List ℕ)
     (object : ℕ) → SameRoots merge (moved nat_eq fresh stack merge from old to new object)
 moved_roots fresh stack merge from old to new object = (
   changed_root merge.files (Move from old to new object),
-  marked_root (hides_directory nat_eq stack merge to new)
+  root-marked (hides_directory nat_eq stack merge to new)
       (name_left nat_eq fresh stack merge renamed from old) (upper_of merge object)
-      ∙ name_left_root (is_some (shown_below nat_eq stack merge from old)) fresh stack renamed (upper_of merge from) old
+      ∙ root-name_left_by (is_some (shown_below nat_eq stack merge from old)) fresh stack renamed (upper_of merge from) old
       ∙ changed_root upper (Move (upper_of merge from) old (upper_of merge to) new (upper_of merge object))
-      ∙ emptied_root merge.upper (upper_directory_named merge to new),
+      ∙ root-emptied merge.upper (upper_directory_named merge to new),
 )
   where
     upper : FileTree ℕ
@@ -112,7 +99,7 @@ merged_roots : (fresh : Fresh ℕ) (stack : Stack ℕ) (merge : Merge ℕ) (chan
 merged_roots fresh stack merge (Make directory name number node) =
     and_roots merge copied (made nat_eq (odds fresh) stack copied directory name number node)
     (up_roots (evens fresh) merge directory)
-    (refl, marked_root (hides_directory nat_eq stack copied directory name) _ (odds fresh 0))
+    (refl, root-marked (hides_directory nat_eq stack copied directory name) _ (odds fresh 0))
   where
     copied : Merge ℕ
     copied = copied_up nat_eq (evens fresh) merge directory
@@ -126,9 +113,9 @@ merged_roots fresh stack merge (Remove directory name object) =
     and_roots merge copied (removed nat_eq (odds fresh) stack copied directory name object)
     (up_roots (evens fresh) merge directory) (
       refl,
-      emptied_root (name_left nat_eq (odds fresh) stack copied copied.upper directory name)
+      root-emptied (name_left nat_eq (odds fresh) stack copied copied.upper directory name)
           (upper_directory_named copied directory name)
-          ∙ name_left_root (is_some (shown_below nat_eq stack copied directory name)) (odds fresh) stack copied.upper
+          ∙ root-name_left_by (is_some (shown_below nat_eq stack copied directory name)) (odds fresh) stack copied.upper
           (upper_of copied directory) name,
     )
   where
@@ -283,7 +270,7 @@ module _ (number : ℕ) where
           → Is (with_change nat_eq fresh (without_replaced nat_eq world replaced) location change).filesystems
       replaced_left replaced location change =
           change_root fresh (without_replaced nat_eq world replaced) location change
-          (same_list (without_replaced nat_eq world replaced).filesystems (replaced_filesystems world replaced))
+          (same_list (without_replaced nat_eq world replaced).filesystems (filesystems-without_replaced world replaced))
 
       copied_left : (copies : Bool) (file : Location ℕ) → Is (with_copy nat_eq copies fresh world file).filesystems
       copied_left true file = change_root fresh world file (CopyUp file.node) h
@@ -302,13 +289,13 @@ module _ (number : ℕ) where
       root_left task (ToOpen file access) = copied_left (is_copied_up nat_eq world file access) file
       root_left task (ToOpenNew directory name node access) = change_root (odds fresh) world directory _ h
       root_left task (ToWritePart file offset bytes) = written_left file offset bytes
-      root_left task ToExit = same_list _ (taken_filesystems (without_task world task.name) _)
-      root_left task ToUnshare = same_list _ (taken_filesystems (unshared nat_eq world fresh task) _)
+      root_left task ToExit = same_list _ (filesystems-taken_away (without_task world task.name) _)
+      root_left task ToUnshare = same_list _ (filesystems-taken_away (unshared nat_eq world fresh task) _)
       root_left task (ToEnterNamespace namespace) =
-          same_list _ (taken_filesystems (namespace_entered nat_eq world task namespace) _)
+          same_list _ (filesystems-taken_away (namespace_entered nat_eq world task namespace) _)
       root_left task (ToMountPlain place flags) = added_root (plain_filesystem nat_eq fresh) world.filesystems h
       root_left task (ToMountOverlay place overlay flags) = added_root _ world.filesystems h
-      root_left task (ToUnmount mount) = same_list _ (taken_filesystems world _)
+      root_left task (ToUnmount mount) = same_list _ (filesystems-taken_away world _)
       root_left task (ToUnmountLazily mount) =
           same_list _
           (lazily_filesystems

@@ -6,10 +6,10 @@ use Rattle.vt_spec.specs.Rights.{is_directory}
 use Rattle.vt_spec.specs.Tree.{Content, Node, Tree, entries_in, is_directory_node, kind_of, parent_in, parent_of}
 use Rattle.vt_spec.specs.Tree.Content.{Directory, Regular, Symlink, Whiteout}
 use Rattle.vt_spec.specs.TreeLaws.{HasOwnParents, IsTree}
-use Rattle.vt_letting_go.proofs.Lists.{decided}
-use Rattle.vt_letting_go.proofs.Trees.{among_targets}
 use Rattle.vt_count_laws.specs.Looking.{CountedTreeIsTheTree, DirectoriesLieAlike}
 use Rattle.std.proofs.Math.Bool.{or-false}
+use Rattle.std.proofs.lemmas.Bool.{cases_Bool}
+use Rattle.vt_spec.proofs.Found.{among_targets}
 
 pub counted_tree_is_the_tree : CountedTreeIsTheTree
 counted_tree_is_the_tree world filesystem inodes counted =
@@ -52,7 +52,7 @@ module _ (tree : Tree ℕ) (is : IsTree tree) (own : HasOwnParents tree) (top : 
       true≢false (sym (among_targets name.1 (entries_in (tree.node name.0)) d name.2)
       ∙ ap (λ p. has_entry_to nat_eq tree p d) (sym (is.one_parent name.0 name.1 d name.2 directory)) ∙ unnamed)))
       (λ none. own_parent d (tree.node d) none)
-      (decided (is_directory_node (tree.node d)))
+      (cases_Bool (is_directory_node (tree.node d)))
 
   repeats : (d : ℕ) → above d ≡ Some d → (most : ℕ) → among (chain most above d) ≡ nat_eq top d
   repeats d self zero = or-false (nat_eq top d)

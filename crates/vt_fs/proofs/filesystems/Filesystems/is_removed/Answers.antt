@@ -1,14 +1,10 @@
-use Rattle.std.proofs.Common.{ap, sym, ◌∙◌, ◌≡◌, not, nat_eq, true, false, Bool}
+use Rattle.std.proofs.Common.{ap, sym, ◌∙◌, nat_eq, true, false}
 use Rattle.vt_location.specs.Locations.{number_of}
 use Rattle.vt_fs.specs.FilesystemsValue.{files_at, inodes_at}
 use Rattle.vt_fs.proofs.Parents.{removed_by_parent, root_stays}
 use Rattle.vt_fs.proofs.Standing.{own_there, root_there}
 use Rattle.vt_fs.proofs.filesystems.Filesystems.is_removed.Goals as goal
-
--- the answer of a test, where it was negated
-negated : (b c : Bool) → c ≡ not b → b ≡ not c
-negated true c e = sym (ap not e)
-negated false c e = sym (ap not e)
+use Rattle.vt_spec.proofs.Truths.{not_turned}
 
 pub returns-then-ne : goal.returns-then-ne
 returns-then-ne c =
@@ -16,7 +12,7 @@ returns-then-ne c =
     let found = sym c.in-Some.ensures in
     let root = root_there c.args.self.now f c.in-Some.tree.now found c.slot_of-slot.result _ c.slot_of-slot.ensures.number in
     let apart = root ∙ ap (nat_eq c.slot_of-slot.result) (sym c.root.ensures.value)
-    ∙ negated _ true (sym c.if-ne.true ∙ c.ne.ensures) in
+    ∙ not_turned _ true (sym c.if-ne.true ∙ c.ne.ensures) in
     c.eq.ensures ∙ ap (nat_eq c.slot_of-slot.result) c.parent.ensures
     ∙ sym (own_there c.args.self.now f c.in-Some.tree.now found c.slot_of-slot.result _ c.slot_of-slot.ensures.number)
     ∙ sym (removed_by_parent (inodes_at c.args.self.now f) c.requires.named (number_of c.args.directory) apart)
@@ -27,5 +23,5 @@ returns-else-ne c =
     let root = root_there c.args.self.now f c.in-Some.tree.now
     (sym c.in-Some.ensures) c.slot_of-slot.result _ c.slot_of-slot.ensures.number in
     let same = root ∙ ap (nat_eq c.slot_of-slot.result) (sym c.root.ensures.value)
-    ∙ negated _ false (sym c.if-ne.false ∙ c.ne.ensures) in
+    ∙ not_turned _ false (sym c.if-ne.false ∙ c.ne.ensures) in
     c.if-ne.false ∙ sym (root_stays (files_at c.args.self.now f).tree (number_of c.args.directory) same)

@@ -1,5 +1,5 @@
 -- Only calls that take a use away end an inode.
-use Rattle.std.proofs.Common.{◌≡◌, refl, sym, ap, ◌∙◌, inl, inr, ◌⊎◌, ⊎_elim, true≢false, ℕ, nat_eq, Bool, true, false, ◌&&◌, List, [], ◌∷◌, Option, Some, None, is_some, map, option_to_list, Result, Ok, Err, IfOk}
+use Rattle.std.proofs.Common.{◌≡◌, refl, sym, ap, ◌∙◌, inl, inr, ◌⊎◌, ⊎_elim, true≢false, ℕ, nat_eq, Bool, true, false, ◌&&◌, List, [], ◌∷◌, Option, Some, is_some, map, option_to_list, Result, Ok, Err, IfOk}
 use Rattle.std.proofs.lemmas.Bool.{and_parts}
 use Rattle.std.specs.Prelude.{Contains}
 use Rattle.vt_call_laws.proofs.EffectsRights.{ruled}
@@ -61,7 +61,6 @@ use Rattle.vt_tree_laws.proofs.ChangesKeepTrees.{changes_keep_numbers, changes_k
 use Rattle.vt_tree_laws.proofs.TreesOfWorlds.{numbered}
 use Rattle.vt_world_laws.proofs.CallsKept.{name_found}
 use Rattle.vt_world_laws.proofs.FitPermitsNamed.{permits_fit}
-use Rattle.vt_world_laws.proofs.PermitsPlaced.{found_among}
 use Rattle.vt_world_laws.proofs.Plain.{plain_numbered}
 use Rattle.vt_world_laws.proofs.SeenTrees.{unused_inode}
 use Rattle.vt_world_laws.specs.Worlds.Kept.{IsPlain}
@@ -71,6 +70,9 @@ use Rattle.vt_later_laws.proofs.AttrSeen.{tree_there}
 use Rattle.vt_later_laws.proofs.Granted.{IsPermitted, permitted}
 use Rattle.vt_later_laws.proofs.OpenedNew.{given_of}
 use Rattle.vt_later_laws.specs.Ends.{OnlyTheseEndInodes, takes_uses}
+use Rattle.std.proofs.Math.Bool.{and-false}
+use Rattle.vt_spec.proofs.Found.{found_among}
+use Rattle.vt_spec.proofs.NodeChanges.{file_is_there}
 
 -- both words for the mount of an overlay
 one_word : (call : Call) → mounts_overlay call ≡ false → Calls.mounts_overlay call ≡ false
@@ -81,10 +83,6 @@ one_word call e = refl
 groups_leave : (groups : List ℕ) (world : World ℕ) → (let_go_groups world groups).filesystems ≡ world.filesystems
 groups_leave [] world = refl
 groups_leave (group ∷ groups) world = groups_leave groups _
-
-kind_is_there : (o : Option (Node ℕ)) → is_kind_in File o ≡ true → is_some o ≡ true
-kind_is_there None e = e
-kind_is_there (Some node) e = refl
 
 module _ (world : World ℕ) (fresh : Fresh ℕ) (task : Task ℕ) (is : IsWorld nat_eq world) (plain : IsPlain world)
     (serves : Serves nat_eq world fresh) (called : task_called world task.name ≡ Some task) where
@@ -154,11 +152,7 @@ module _ (world : World ℕ) (fresh : Fresh ℕ) (task : Task ℕ) (is : IsWorld
   not_copied : (file : Location ℕ) (access : Access) → is_copied_up nat_eq world file access ≡ false
   not_copied file access =
       ap (λ o. access.writes && overlay_or false (λ overlay. lies_below overlay file.node) o)
-      (plain_numbered world plain (mount_at nat_eq world file).filesystem) ∙ nothing access.writes
-    where
-      nothing : (b : Bool) → (b && false) ≡ false
-      nothing true = refl
-      nothing false = refl
+      (plain_numbered world plain (mount_at nat_eq world file).filesystem) ∙ and-false access.writes
 
   attached : (place : Location ℕ) → IsDestination world task place → is_attached world place.mount ≡ true
   attached place at = ap is_some at.own
@@ -198,7 +192,7 @@ module _ (world : World ℕ) (fresh : Fresh ℕ) (task : Task ℕ) (is : IsWorld
     written_keeps file offset (byte ∷ bytes) given regular =
         changes_keep (ToWritePart file offset (byte ∷ bytes)) given file
         (SetBytes file.node (overwritten offset (byte ∷ bytes) (bytes_in (node_at nat_eq world file)))) refl
-        (kind_is_there (node_at nat_eq world file) regular) fresh tt refl
+        (file_is_there (node_at nat_eq world file) regular) fresh tt refl
 
     opened_keeps : (directory : Location ℕ) (name : List ℕ) (node : Node ℕ) (access : Access)
         → IsGiven fresh world task (ToOpenNew directory name node access) → MayBeMade world directory name node

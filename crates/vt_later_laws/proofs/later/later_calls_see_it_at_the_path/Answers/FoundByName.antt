@@ -31,7 +31,6 @@ use Rattle.vt_spec.specs.TreeLaws.{entry_at}
 use Rattle.vt_permit_laws.specs.Sees.{MayBeRenamed}
 use Rattle.vt_permit_laws.proofs.SeesNames.{tree_here}
 use Rattle.vt_layer_laws.specs.Layers.Untouched.{IsKept}
-use Rattle.vt_tree_laws.proofs.TreesRearranged.{node_with_entries}
 use Rattle.vt_world_laws.specs.Worlds.Kept.{IsPlain}
 use Rattle.vt_world_laws.proofs.Reached.{IsFound, directory_no_link}
 use Rattle.vt_later_laws.specs.LaterNames.{LeadsToName, RenameThenFound, RenameThenListed}
@@ -42,12 +41,14 @@ use Rattle.vt_later_laws.proofs.MadeSeen.{Never, surely}
 use Rattle.vt_later_laws.proofs.Opened.{walk_ended}
 use Rattle.vt_later_laws.proofs.Readers.{own_name, stepped_by}
 use Rattle.vt_later_laws.proofs.Stays.{called_own}
-use Rattle.vt_later_laws.proofs.Steps.{both_gave, passing, same_ok}
+use Rattle.vt_later_laws.proofs.Steps.{passing, same_ok}
 use Rattle.vt_later_laws.proofs.later.later_calls_see_it_at_the_path.Answers.RenamedSeen.{itself_leads}
 use Rattle.vt_later_laws.proofs.later.later_calls_see_it_at_the_path.Answers.Unlinked.{Missing, old_parts}
 use Rattle.vt_later_laws.proofs.Ways.{both_walked, same_end, walk_passing}
 use Rattle.vt_later_laws.proofs.WaysPlaces.{NamedPlace, directory_named_too, front_too, named_place, parent_known, symlink_missing, symlink_named_too}
 use Rattle.vt_later_laws.proofs.WaysStay.{node_in, tree_in}
+use Rattle.vt_spec.proofs.NodeChanges.{directory_from_entry}
+use Rattle.vt_spec.proofs.Options.{and_then-Ok}
 
 -- what a granted rename of two names of two objects was permitted
 pub record NamesParts (looks : Looks ℕ) (task : Task ℕ) (old new : List ℕ) (from to : Place ℕ)
@@ -71,10 +72,10 @@ pub names_parts : (looks : Looks ℕ) (task : Task ℕ) (old new : List ℕ) (fr
     → rename_permit nat_eq looks task old new ≡ Ok permit → NamesParts looks task old new from to permit
 unfolding rename_permit
 names_parts looks task old new from to permit from_is to_is two e =
-    let olds = both_gave (walk_end (old_leaf_walk nat_eq looks task old)) _ permit e in
+    let olds = and_then-Ok (walk_end (old_leaf_walk nat_eq looks task old)) _ permit e in
     let same_from : olds.0 ≡ from = same_ok olds.0 from (sym olds.1 ∙ ap walk_end from_is) in
     let first = passing (old_word_rules olds.0) _ permit olds.2 in
-    let news = both_gave (walk_end
+    let news = and_then-Ok (walk_end
     (rename_new_walk nat_eq looks task new (is_directory_there nat_eq looks olds.0))) _ permit first.1 in
     let named = passing (old_word_rules news.0) _ permit news.2 in
     let inside = both_walked (new_walk nat_eq looks task new) _ news.0
@@ -273,7 +274,7 @@ module _ (world : World ℕ) (fresh : Fresh ℕ) (name : TaskName) (old new : Li
       object_there_still : is_some (node_at nat_eq later place_after) ≡ true
       object_there_still =
           (tree_here later left_is.0 left_is.1 reading lead.place.parent
-          (node_with_entries (name_of lead.place.last) object
+          (directory_from_entry (name_of lead.place.last) object
           (node_at nat_eq later lead.place.parent) entry_here)).tree.alive
           lead.place.parent.node (name_of lead.place.last) object entry_here
 

@@ -42,10 +42,11 @@ use Rattle.vt_later_laws.proofs.MadeSeen.{Never, new_leaf_parts, no_slash_there,
 use Rattle.vt_later_laws.proofs.Opened.{walk_ended}
 use Rattle.vt_later_laws.proofs.OpenedNew.{given_of}
 use Rattle.vt_later_laws.proofs.Readers.{MayLook, all_stands, caller, leads, own_name, raised_credentials, raised_stands, seen_at, seen_there, stepped_by, uncovered}
-use Rattle.vt_later_laws.proofs.Steps.{both_gave, passing, same_ok}
+use Rattle.vt_later_laws.proofs.Steps.{passing, same_ok}
 use Rattle.vt_later_laws.proofs.WaysChanges.{RightsStay, TreeStays, name_leads, named_other, rights_named, ways_named}
 use Rattle.vt_later_laws.proofs.WaysPlaces.{named_place, symlink_named_too}
 use Rattle.vt_later_laws.proofs.WaysStay.{StandsAs}
+use Rattle.vt_spec.proofs.Options.{and_then-Ok}
 
 -- what a granted link was permitted
 record LinkParts (looks : Looks ℕ) (task : Task ℕ) (old new : List ℕ) (permit : Permit ℕ) : Type 0 where
@@ -63,8 +64,8 @@ link_parts : (looks : Looks ℕ) (task : Task ℕ) (old new : List ℕ) (permit 
     → hard_link_permit nat_eq looks task old new ≡ Ok permit → LinkParts looks task old new permit
 unfolding hard_link_permit
 link_parts looks task old new permit e =
-    let olds = both_gave (walk_end (symlink_walk nat_eq looks task old)) _ permit e in
-    let news = both_gave (walk_end (new_leaf_walk nat_eq looks task new)) _ permit olds.2 in
+    let olds = and_then-Ok (walk_end (symlink_walk nat_eq looks task old)) _ permit e in
+    let news = and_then-Ok (walk_end (new_leaf_walk nat_eq looks task new)) _ permit olds.2 in
     let word = passing ((is_special news.0.last, E1) ∷ []) _ permit news.2 in
     let rules = passing (hard_link_rules nat_eq looks task olds.0.location news.0
     (linking olds.0.location news.0)) _ permit word.1 in

@@ -32,12 +32,13 @@ use Rattle.vt_later_laws.proofs.Granted.{IsPermitted, permitted}
 use Rattle.vt_later_laws.proofs.Looked.{lstat_refused, search_all}
 use Rattle.vt_later_laws.proofs.Readers.{MayLook, all_stands, own_name, raised_credentials, raised_stands, stepped_by}
 use Rattle.vt_later_laws.proofs.RemovalFits.{Fits, IsOutside, fits_ways}
-use Rattle.vt_later_laws.proofs.Steps.{both_gave, passing, same_ok}
+use Rattle.vt_later_laws.proofs.Steps.{passing, same_ok}
 use Rattle.vt_later_laws.proofs.later.later_calls_see_it_at_the_path.Answers.Unlinked.{Missing, old_parts}
 use Rattle.vt_later_laws.proofs.Ways.{LeadsToo}
 use Rattle.vt_later_laws.proofs.WaysLeft.{Known, node_here, ways_lead}
 use Rattle.vt_later_laws.proofs.WaysPlaces.{named_place, symlink_missing}
 use Rattle.vt_later_laws.proofs.WaysStay.{StandsAs, node_in}
+use Rattle.vt_spec.proofs.Options.{and_then-Ok}
 
 -- a name may be missing, or a directory lost
 abbrev MissingOrLost : Deny → Type 0
@@ -61,7 +62,7 @@ rmdir_parts : (looks : Looks ℕ) (task : Task ℕ) (path : List ℕ) (place : P
     → RmdirParts looks task path place permit
 unfolding rmdir_permit
 rmdir_parts looks task path place permit walk e =
-    let steps = both_gave (walk_end (old_walk nat_eq looks task path)) _ permit e in
+    let steps = and_then-Ok (walk_end (old_walk nat_eq looks task path)) _ permit e in
     let same : steps.0 ≡ place = same_ok steps.0 place (sym steps.1 ∙ ap walk_end walk) in
     let word = passing (rmdir_word_rules steps.0) _ permit steps.2 in
     let rules = passing (rmdir_rules nat_eq looks task steps.0 (object_there steps.0)) _ permit word.1 in

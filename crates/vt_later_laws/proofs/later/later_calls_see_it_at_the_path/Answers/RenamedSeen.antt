@@ -37,7 +37,6 @@ use Rattle.vt_permit_laws.specs.Sees.{MayBeRenamed, SeesTo}
 use Rattle.vt_permit_laws.proofs.SeesNames.{tree_here}
 use Rattle.vt_permit_laws.proofs.SeesTasks.{given_permits_are_seen_to}
 use Rattle.vt_tree_laws.specs.Trees.{IsFileTree}
-use Rattle.vt_tree_laws.proofs.TreesRearranged.{node_with_entries}
 use Rattle.vt_world_laws.specs.Worlds.Kept.{IsPlain}
 use Rattle.vt_world_laws.proofs.Plain.{plain_numbered}
 use Rattle.vt_world_laws.proofs.Reached.{IsFound, directory_found, step_found}
@@ -50,13 +49,15 @@ use Rattle.vt_later_laws.proofs.MadeSeen.{Never, new_parts, no_slash_there, sure
 use Rattle.vt_later_laws.proofs.Opened.{walk_ended}
 use Rattle.vt_later_laws.proofs.OpenedNew.{given_of}
 use Rattle.vt_later_laws.proofs.Readers.{KnownToo, MayLook, all_stands, caller, known_there, leads, own_name, raised_credentials, raised_stands, seen_at, seen_there, stepped_by, uncovered}
-use Rattle.vt_later_laws.proofs.Steps.{both_gave, passing, same_ok}
+use Rattle.vt_later_laws.proofs.Steps.{passing, same_ok}
 use Rattle.vt_later_laws.proofs.Stays.{called_own}
 use Rattle.vt_later_laws.proofs.later.later_calls_see_it_at_the_path.Answers.Unlinked.{Missing, old_parts}
 use Rattle.vt_later_laws.proofs.Ways.{LeadsToo, both_walked, same_end, walk_passing}
 use Rattle.vt_later_laws.proofs.WaysChanges.{RightsStay, TreeStays, moved_entry, moved_missing, moved_object, rights_moved, ways_moved}
 use Rattle.vt_later_laws.proofs.WaysPlaces.{named_place, symlink_missing, symlink_named_too}
 use Rattle.vt_later_laws.proofs.WaysStay.{StandsAs, node_in}
+use Rattle.vt_spec.proofs.NodeChanges.{directory_from_entry}
+use Rattle.vt_spec.proofs.Options.{and_then-Ok}
 
 -- walks of a world lead where they lead
 pub itself_leads : (Refused : Deny → Type 0) (world : World ℕ) (is : IsWorld nat_eq world) → IsPlain world
@@ -95,10 +96,10 @@ rename_parts : (looks : Looks ℕ) (task : Task ℕ) (old new : List ℕ) (from 
     → rename_permit nat_eq looks task old new ≡ Ok permit → RenameParts looks task old new from to permit
 unfolding rename_permit
 rename_parts looks task old new from to permit from_is to_is file free e =
-    let olds = both_gave (walk_end (old_leaf_walk nat_eq looks task old)) _ permit e in
+    let olds = and_then-Ok (walk_end (old_leaf_walk nat_eq looks task old)) _ permit e in
     let same_from : olds.0 ≡ from = same_ok olds.0 from (sym olds.1 ∙ ap walk_end from_is) in
     let first = passing (old_word_rules olds.0) _ permit olds.2 in
-    let news = both_gave (walk_end
+    let news = and_then-Ok (walk_end
     (rename_new_walk nat_eq looks task new (is_directory_there nat_eq looks olds.0))) _ permit first.1 in
     let named = passing (old_word_rules news.0) _ permit news.2 in
     let inside = both_walked (new_walk nat_eq looks task new) _ news.0
@@ -162,7 +163,7 @@ module _ (world : World ℕ) (fresh : Fresh ℕ) (name : TaskName) (old new : Li
       (given_of world fresh name (Rename old new) Done serves refl refl did))
 
   from_directory : is_directory_at nat_eq world from.parent ≡ true
-  from_directory = node_with_entries (name_of from.last) object
+  from_directory = directory_from_entry (name_of from.last) object
       ((files_at nat_eq world from.parent).tree.node from.parent.node) may.moves.named
 
   something : is_some (node_at nat_eq world from.parent) ≡ true

@@ -27,7 +27,6 @@ use Rattle.vt_permit_laws.specs.Sees.{SeesTo}
 use Rattle.vt_permit_laws.proofs.SeesNames.{tree_here}
 use Rattle.vt_permit_laws.proofs.SeesTasks.{given_permits_are_seen_to}
 use Rattle.vt_tree_laws.specs.Trees.{IsFileTree}
-use Rattle.vt_tree_laws.proofs.TreesRearranged.{node_with_entries}
 use Rattle.vt_world_laws.specs.Worlds.Kept.{IsPlain}
 use Rattle.vt_later_laws.specs.LaterPaths.{UnlinkThenLstat}
 use Rattle.vt_later_laws.proofs.Granted.{IsPermitted, permitted}
@@ -35,11 +34,13 @@ use Rattle.vt_later_laws.proofs.Looked.{lstat_refused}
 use Rattle.vt_later_laws.proofs.Opened.{walk_ended}
 use Rattle.vt_later_laws.proofs.OpenedNew.{given_of}
 use Rattle.vt_later_laws.proofs.Readers.{MayLook, all_stands, caller, leads, own_name, raised_credentials, raised_stands, seen_there, stepped_by}
-use Rattle.vt_later_laws.proofs.Steps.{both_gave, passing, same_ok}
+use Rattle.vt_later_laws.proofs.Steps.{passing, same_ok}
 use Rattle.vt_later_laws.proofs.Ways.{both_walked, walk_passing}
 use Rattle.vt_later_laws.proofs.WaysChanges.{name_missing, rights_removed, ways_removed}
 use Rattle.vt_later_laws.proofs.WaysPlaces.{named_place, symlink_missing}
 use Rattle.vt_later_laws.proofs.WaysStay.{StandsAs}
+use Rattle.vt_spec.proofs.NodeChanges.{directory_from_entry}
+use Rattle.vt_spec.proofs.Options.{and_then-Ok}
 
 -- a name may be missing
 abbrev pub Missing : Deny → Type 0
@@ -65,7 +66,7 @@ unlink_parts : (looks : Looks ℕ) (task : Task ℕ) (path : List ℕ) (permit :
     → unlink_permit nat_eq looks task path ≡ Ok permit → UnlinkParts looks task path permit
 unfolding unlink_permit
 unlink_parts looks task path permit e =
-    let steps = both_gave (walk_end (old_leaf_walk nat_eq looks task path)) _ permit e in
+    let steps = and_then-Ok (walk_end (old_leaf_walk nat_eq looks task path)) _ permit e in
     let leaf = walk_ended (old_leaf_walk nat_eq looks task path) steps.0 steps.1 in
     let olds = both_walked (old_walk nat_eq looks task path) _ steps.0 leaf in
     let slash = walk_passing olds.0.steps
@@ -95,7 +96,7 @@ module _ (world : World ℕ) (fresh : Fresh ℕ) (name : TaskName) (path : List 
 
   in_directory : is_directory_at nat_eq world place.parent ≡ true
   in_directory =
-      node_with_entries (name_of place.last) (object_there place).node
+      directory_from_entry (name_of place.last) (object_there place).node
       ((files_at nat_eq world place.parent).tree.node place.parent.node)
       seen_to.1.named
 

@@ -15,9 +15,10 @@ use Rattle.vt_spec.specs.Machine.Walking.LastWord.{Dot, DotDot, Named, NoWord}
 use Rattle.vt_spec.specs.Machine.World.{Task}
 use Rattle.vt_spec.specs.PathText.{ends_in_slash, is_absolute, words}
 use Rattle.vt_world_laws.proofs.Reached.{directory_no_link}
-use Rattle.vt_later_laws.proofs.Steps.{AllPass, both_gave, passing, same_ok}
+use Rattle.vt_later_laws.proofs.Steps.{AllPass, passing, same_ok}
 use Rattle.vt_later_laws.proofs.Ways.{LeadsToo, at, both_walked, not_stopped, positive, same_end, start_known, start_same, walk_passed, walk_passing, word_too, words_lead}
 use Rattle.vt_later_laws.proofs.WaysPlaces.{EndsThere, last_too, placed_at, through}
+use Rattle.vt_spec.proofs.Options.{and_then-Ok}
 
 -- links are followed so deep
 abbrev pub followed_to : ℕ → Looks ℕ → Task ℕ → Location ℕ → Here ℕ → List ℕ → Result (Here ℕ) (Stop ℕ)
@@ -37,7 +38,7 @@ named_step : (looks : Looks ℕ) (task : Task ℕ) (here : Location ℕ) (last :
 named_step looks task here NoWord object e bare = ap Ok (same_Some here object (same_ok (Some here) (Some object) e))
 named_step looks task here Dot object e bare = ap Ok (same_Some here object (same_ok (Some here) (Some object) e))
 named_step looks task here DotDot object e bare =
-    let both = both_gave (stepped nat_eq looks task here DotDot) _ (Some object) e in
+    let both = and_then-Ok (stepped nat_eq looks task here DotDot) _ (Some object) e in
     both.1 ∙ ap Ok (same_Some both.0 object (same_ok (Some both.0) (Some object) both.2))
 named_step looks task here (Named name) object e bare =
     ap (λ o. ok_or (option_map (topmost looks) o) (denial W6))
@@ -58,7 +59,7 @@ placed_parts : (looks : Looks ℕ) (task : Task ℕ) (here : Here ℕ) (last : L
     → AllPass (search_rules nat_eq looks task here.location)
     × (object_named nat_eq looks task here.location last ≡ Ok place.object)
 placed_parts looks task here last slash place e =
-    let both = both_gave (unless (search_rules nat_eq looks task here.location)
+    let both = and_then-Ok (unless (search_rules nat_eq looks task here.location)
     (object_named nat_eq looks task here.location last)) _ place
     (not_stopped (steps_at nat_eq looks task here last) _ place e) in
     let parts = passing (search_rules nat_eq looks task here.location)

@@ -52,12 +52,13 @@ use Rattle.vt_later_laws.proofs.MadeSeen.{Never, made_leads, maker, new_stepped,
 use Rattle.vt_later_laws.proofs.Opened.{walk_ended}
 use Rattle.vt_later_laws.proofs.Readers.{MayLook, all_stands, caller, leads, named_last, own_name, raised_credentials, raised_stands, seen_at, uncovered}
 use Rattle.vt_later_laws.proofs.Stays.{called_own}
-use Rattle.vt_later_laws.proofs.Steps.{both_gave, passing, same_ok}
+use Rattle.vt_later_laws.proofs.Steps.{passing, same_ok}
 use Rattle.vt_later_laws.proofs.Ways.{EndsAt, LeadsToo, both_walked, start_known, walk_passed, walk_passing}
 use Rattle.vt_later_laws.proofs.WaysChanges.{TreeStays, rights_with_bytes, ways_with_bytes}
 use Rattle.vt_later_laws.proofs.later.later_calls_see_it_at_the_path.Answers.WaysFiles.{IsFilePlace, file_place, file_too, followed_to}
 use Rattle.vt_later_laws.proofs.WaysPlaces.{EndsThere, begun, path_parsed}
 use Rattle.vt_later_laws.proofs.WaysStay.{StandsAs}
+use Rattle.vt_spec.proofs.Options.{and_then-Ok}
 
 -- what the walk of a file did
 record FileParts (looks : Looks ℕ) (task : Task ℕ) (path : List ℕ) (place : Place ℕ) : Type 0 where
@@ -288,7 +289,7 @@ write_parts : (looks : Looks ℕ) (task : Task ℕ) (path bytes : List ℕ) (per
     × (written_permit nat_eq looks task place bytes place.object ≡ Ok permit)
 unfolding write_permit
 write_parts looks task path bytes permit e =
-    let steps = both_gave (walk_end (file_walk nat_eq looks task path)) _ permit e in
+    let steps = and_then-Ok (walk_end (file_walk nat_eq looks task path)) _ permit e in
     let parts = passing (file_word_rules steps.0)
     (written_permit nat_eq looks task steps.0 bytes steps.0.object) permit steps.2 in
     (steps.0, walk_ended (file_walk nat_eq looks task path) steps.0 steps.1, parts.0.0, parts.1)

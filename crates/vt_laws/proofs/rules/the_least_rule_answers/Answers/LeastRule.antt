@@ -1,9 +1,9 @@
 -- In a table that is in the policy's order, the first rule that fails is the least of those that fail.
-use Rattle.std.proofs.Common.{◌≡◌, ◌≢◌, refl, subst, ap, ℕ, ◌+◌, ◌*◌, ◌≤◌, Bool, true, false, ◌&&◌, ◌||◌, nat_le, List, [], ◌∷◌, ◌++◌, drop, Result, Ok, Err, arith}
+use Rattle.std.proofs.Common.{◌≡◌, ◌≢◌, refl, subst, ap, ℕ, ◌+◌, ◌*◌, ◌≤◌, Bool, true, false, ◌||◌, nat_le, List, [], ◌∷◌, ◌++◌, drop, Result, Ok, Err, arith}
 use Rattle.std.specs.Prelude.{IsErrAnd, slice_index}
 use Rattle.std.specs.Result.{result_err}
 use Rattle.std.specs.Str.{bytes_eq}
-use Rattle.std.proofs.lemmas.Bool.{and_parts, leb-true, or_left}
+use Rattle.std.proofs.lemmas.Bool.{and_parts, leb-true, or_left, and_from}
 use Rattle.std.proofs.lemmas.Slice.Eq.{bytes_eq-Decides}
 use Rattle.vt_laws.specs.Asked.{IsAnsweredByLeast, IsLeastOf, failing}
 use Rattle.vt_laws.specs.RuleRanks.{is_among, is_in_order_from, letters, place_of_letter, rank}
@@ -78,12 +78,8 @@ pub front_in_order : (least : ℕ) (rows more : Rules) → is_in_order_from leas
     → is_in_order_from least rows ≡ true
 front_in_order least [] more order = refl
 front_in_order least ((fails, rule) ∷ rows) more order =
-    both (nat_le least (rank rule)) _ ((and_parts (nat_le least (rank rule)) _ order).0)
+    and_from (nat_le least (rank rule)) _ ((and_parts (nat_le least (rank rule)) _ order).0)
     (front_in_order (rank rule) rows more ((and_parts (nat_le least (rank rule)) _ order).1))
-  where
-    both : (a b : Bool) → a ≡ true → b ≡ true → (a && b) ≡ true
-    both true b e f = f
-    both false b e f = e
 
 -- what is told of one result is told of another that is refused alike
 module _ {A B : Type 0} where

@@ -1,23 +1,15 @@
 -- A group that loses its last member hands its slaves on.
-use Rattle.std.proofs.Common.{◌≡◌, refl, sym, ap, ◌∙◌, ⊎_elim, ℕ, zero, suc, nat_eq, eqb-true, eq-eqb, Bool, true, false, cond, not, ◌||◌, List, [], ◌∷◌, find, length, true≢false, Option, Some, None, is_some, option_to_list}
+use Rattle.std.proofs.Common.{◌≡◌, refl, sym, ap, ◌∙◌, ⊎_elim, ℕ, suc, nat_eq, eqb-true, eq-eqb, Bool, true, false, cond, not, ◌||◌, List, [], ◌∷◌, find, length, true≢false, Option, Some, None, is_some, option_to_list}
 use Rattle.std.specs.List.{list_all, list_any}
-use Rattle.std.proofs.lemmas.Bool.{and_parts, or_cases, or_parts}
+use Rattle.std.proofs.lemmas.Bool.{and_parts, or_cases, or_parts, cases_Bool}
 use Rattle.vt_spec.specs.Lists.{chain, holds_of, then_some}
 use Rattle.vt_spec.specs.Machine.Mounts.{Mount, Propagation, group_of, source_of}
 use Rattle.vt_spec.specs.Machine.Mounts.Propagation.{Private, Shared, Slave, Unbindable}
 use Rattle.vt_spec.specs.Machine.Receives.{has_members, heir, inherited, inheriting, is_lost_group, is_member_of, lost_a_group, regrouped, regrouped_by, slave_of_heir}
 use Rattle.vt_spec.specs.Machine.World.{World}
 use Rattle.vt_letting_go.specs.Groups.{GroupsLiveBut, NoGroupIsHandedOn, OneGroupIsHandedOn, hand_on, handed_on, is_group_or_lives, master_handed_on, mount_handed_on}
-use Rattle.vt_letting_go.proofs.Lists.{decided, fails, map_alike, map_same, one_passes, or_second, passes}
-
--- a chain begins with its start
-find_at_start : (p : ℕ → Bool) (next : ℕ → Option ℕ) (n a : ℕ) → p a ≡ true → find p (chain n next a) ≡ Some a
-find_at_start p next zero a e = ap (λ b. cond b (Some a) None) e
-find_at_start p next (suc n) a e = by (next a)
-  where
-    by : (o : Option ℕ) → find p (elim o [ None ↦ a ∷ [] | Some b ↦ a ∷ chain n next b ]) ≡ Some a
-    by None = ap (λ b. cond b (Some a) None) e
-    by (Some b) = ap (λ c. cond c (Some a) (find p (chain n next b))) e
+use Rattle.vt_letting_go.proofs.Lists.{fails, map_alike, map_same, one_passes, or_second, passes}
+use Rattle.vt_spec.proofs.Found.{find-chain_start}
 
 find_after_start : (p : ℕ → Bool) (next : ℕ → Option ℕ) (n a : ℕ) → p a ≡ false
     → list_all p (option_to_list (next a)) ≡ true
@@ -28,7 +20,7 @@ find_after_start p next n a e above = by (next a) above
         → find p (elim o [ None ↦ a ∷ [] | Some b ↦ a ∷ chain n next b ]) ≡ o
     by None h = ap (λ b. cond b (Some a) None) e
     by (Some b) h = ap (λ c. cond c (Some a) (find p (chain n next b))) e
-        ∙ find_at_start p next n b (and_parts (p b) true h).0
+        ∙ find-chain_start p next n b (and_parts (p b) true h).0
 
 module _ (world : World ℕ) (group : ℕ) (live : GroupsLiveBut group world)
     (empty : has_members nat_eq world.mounts group ≡ false) where
@@ -36,7 +28,7 @@ module _ (world : World ℕ) (group : ℕ) (live : GroupsLiveBut group world)
   lives = has_members nat_eq world.mounts
 
   heir_itself : (other : ℕ) → lives other ≡ true → heir nat_eq world (Some other) ≡ Some other
-  heir_itself other e = find_at_start lives world.master (length world.mounts) other e
+  heir_itself other e = find-chain_start lives world.master (length world.mounts) other e
 
   heir_of_group : heir nat_eq world (Some group) ≡ world.master group
   heir_of_group = by world.mounts refl
@@ -141,7 +133,7 @@ module _ (world : World ℕ) (group : ℕ) (live : GroupsLiveBut group world)
           ∙ live.its_master)).0 ∙ empty))
           (λ differ. true≢false
           (sym (ap is_some below) ∙ ap is_some (live.in_use other (ap (λ b. b || false) differ) e)))
-          (decided (nat_eq other group))
+          (cases_Bool (nat_eq other group))
 
       by : (b : Bool) → holds_of (nat_eq group) (world.master other) ≡ b
           → cond b (world.master group) (world.master other) ≡ world.master other

@@ -1,19 +1,16 @@
-use Rattle.std.proofs.Common.{Err, Ok, OnOk, Result, ap, arith, suc, sym, ◌-◌, ◌≡◌, ◌∙◌, ◌∷◌}
+use Rattle.std.proofs.Common.{ap, arith, suc, sym, ◌-◌, ◌≡◌, ◌∙◌, ◌∷◌}
 use Rattle.vt_location.specs.Numbers.{counted}
 use Rattle.vt_mount.specs.MountsValue.{mounts_in}
 use Rattle.vt_mount.specs.Waiting.{to_come}
 use Rattle.vt_mount.proofs.TreeLemmas.{next-deep, next-flat}
 use Rattle.vt_mount.proofs.mounts.Mounts.push_children.Goals as goal
-
-on-ok : {A E P Q : Type 0} (r : Result A E) → (P → Q) → OnOk r P → OnOk r Q
-on-ok (Ok a) so p = so p
-on-ok (Err e) so p = tt
+use Rattle.vt_spec.proofs.Options.{OnOk_then}
 
 pub returns : goal.returns
 returns c =
     let mounts = mounts_in c.args.self.now in
     let deep : c.args.branch.depth ≡ suc (c.args.branch.depth - 1) = omega (arith, c.if-branch-eq0.false) in
-    on-ok c.push_reversed.result
+    OnOk_then c.push_reversed.result
     (λ pushed. next-deep mounts c.args.waiting.now.items c.args.branch
     (c.args.branch.depth - 1) c.children.result.now deep c.children.ensures
     ∙ ap (λ waiting. counted c.args.branch.mount.count ∷ to_come mounts waiting) (sym pushed))

@@ -1,14 +1,11 @@
-use Rattle.std.proofs.Common.{List, ap, arith, length, refl, sym, [], ◌++◌, ◌≡◌, ◌∙◌, ◌∷◌}
+use Rattle.std.proofs.Common.{ap, arith, length, sym, [], ◌++◌, ◌≡◌, ◌∙◌}
 use Rattle.vt_location.specs.Numbers.{counted}
 use Rattle.vt_mount.specs.MountsValue.{mounts_in}
 use Rattle.vt_mount.specs.Waiting.{to_come}
 use Rattle.vt_mount.proofs.PlaceLemmas.{counts}
 use Rattle.vt_mount.proofs.TreeLemmas.{numbers-whole, told-all, told-more}
 use Rattle.vt_mount.proofs.mounts.Mounts.tree_of.Goals as goal
-
-none : {X : Type 0} (xs : List X) → length xs ≡ 0 → xs ≡ []
-none [] few = refl
-none (x ∷ xs) few = absurd (omega (arith, few))
+use Rattle.std.proofs.lemmas.List.{nil_from_length}
 
 pub loop-next-smaller : goal.loop-next-smaller
 loop-next-smaller c =
@@ -27,7 +24,7 @@ pub returns : goal.returns
 returns c =
     let mounts = mounts_in c.args.self.now in
     let empty : c.loop-next.waiting.items
-    ≡ [] = none c.loop-next.waiting.items (omega (arith, c.loop-next.waiting.ok.0, c.in_default.ensures.cases.0)) in
+    ≡ [] = nil_from_length c.loop-next.waiting.items (omega (arith, c.loop-next.waiting.ok.0, c.in_default.ensures.cases.0)) in
     told-all mounts c.loop-next.tree.items _
     (ap (λ waiting. counts c.loop-next.tree.items ++ to_come mounts waiting) (sym empty) ∙ c.loop-next.invariant)
     ∙ numbers-whole mounts (counted c.args.id.count)

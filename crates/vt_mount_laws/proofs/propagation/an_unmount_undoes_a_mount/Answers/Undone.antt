@@ -1,5 +1,5 @@
 -- An unmount of a mount that was attached: the others are as they were before.
-use Rattle.std.proofs.Common.{◌≡◌, refl, sym, ap, subst, ◌∙◌, true, false, nat_eq, ℕ, Bool, List, None, Option, Some, [], filter, flat_map, inl, inr, is_some, map, option_map, true≢false, unwrap_or, ⊎_elim, ◌++◌, ◌∷◌, ◌⊎◌, eqb-true}
+use Rattle.std.proofs.Common.{◌≡◌, refl, sym, ap, subst, ◌∙◌, true, false, nat_eq, ℕ, List, None, Option, Some, [], filter, flat_map, inl, inr, is_some, map, option_map, true≢false, unwrap_or, ⊎_elim, ◌++◌, ◌∷◌, ◌⊎◌, eqb-true}
 use Rattle.std.specs.Prelude.{Contains}
 use Rattle.std.proofs.lemmas.Bool.{false_from_ne_true}
 use Rattle.std.proofs.lemmas.Option.{same_Some}
@@ -10,7 +10,7 @@ use Rattle.vt_spec.specs.Machine.Detach.{may_go, only_cover, unmounted, going}
 use Rattle.vt_spec.specs.Lists.{Fresh, holds_of, is_among, rest_of}
 use Rattle.vt_spec.specs.Machine.Mounts.{Location, Mount, Propagation, detached, group_of, is_shared, source_of, stands_at, stands_on}
 use Rattle.vt_spec.specs.Machine.Mounts.Propagation.{Private, Shared, Slave, Unbindable}
-use Rattle.vt_spec.specs.Machine.Receives.{has_members, is_member_of, receivers, receives, heir, lost_a_group, regrouped_by}
+use Rattle.vt_spec.specs.Machine.Receives.{has_members, is_member_of, receivers, receives, lost_a_group}
 use Rattle.vt_spec.specs.Machine.World.{World, mount_at, mount_numbered}
 use Rattle.vt_mount_laws.specs.Mounts.Attaching.{OneNumberAMount, is_mount, numbers_of}
 use Rattle.vt_mount_laws.specs.Mounts.Places.{OneMountAPlace}
@@ -24,7 +24,7 @@ use Rattle.vt_mount_laws.proofs.GroupsKept.{member_shared, shared_member}
 use Rattle.vt_mount_laws.proofs.GroupsUp.{live_members, lives_in}
 use Rattle.vt_mount_laws.proofs.GroupsUp.Up.{above, here}
 use Rattle.vt_mount_laws.proofs.MountsAttached.{attach_leaves_mounts, new_mounts_follow, push_keeps}
-use Rattle.vt_mount_laws.proofs.MountsFound.{found_in, found_there, number_found}
+use Rattle.vt_mount_laws.proofs.MountsFound.{found_in, found_there}
 use Rattle.vt_mount_laws.proofs.MountsNumbered.{attach_keeps_numbers, is_one_of}
 use Rattle.vt_mount_laws.proofs.MountsPlaces.{found_at_its_place, stands_there}
 use Rattle.vt_mount_laws.proofs.MountsReplaced.{found_itself}
@@ -36,6 +36,7 @@ use Rattle.vt_mount_laws.proofs.PropagationUp.{heard, hears, lives_up}
 use Rattle.vt_mount_laws.proofs.Receivers.{receives_completely, receives_soundly, receives_from_source}
 use Rattle.vt_mount_laws.proofs.Unmounting.{root_mounts_stay, unmount_keeps_the_order, what_goes_is_detached, what_stays_keeps, what_stays_keeps_its_place, what_stays_keeps_its_type, groups_keep_their_masters, middle}
 use Rattle.vt_mount_laws.proofs.UnmountingGoes.{what_goes_is_named}
+use Rattle.vt_spec.proofs.Worlds.{master-regrouped_by, number-mount_in}
 
 -- the attachment of one mount, of which no copy goes onto another mount
 abbrev pub one_of : World ℕ → Fresh ℕ → Location ℕ → Mount ℕ → Attachment
@@ -174,7 +175,7 @@ module _ (world : World ℕ) (fresh : Fresh ℕ) (place : Location ℕ) (first :
           )
 
   copy_number : (part : Mount ℕ) → (copy part).number ≡ new part
-  copy_number part = number_found after.mounts (new part)
+  copy_number part = number-mount_in after.mounts (new part)
 
   copy_new : (part : Mount ℕ) → IsPart it part → is_mount world (new part) ≡ false
   copy_new part c = copies_are_new it part first can c of_first refl
@@ -436,19 +437,13 @@ module _ (world : World ℕ) (fresh : Fresh ℕ) (place : Location ℕ) (first :
       ((what_goes_is_named after gone (new part) groups_later).1
       (subst (Goes after (copy destination)) (copy_number part) (copy_goes one_place part c)))
 
-  -- Masters
-  none_inherits : (b : Bool) (any : World ℕ) (group : ℕ) → any.master group ≡ None
-      → (regrouped_by nat_eq b any).master group ≡ None
-  none_inherits true any group e = ap (heir nat_eq any) e
-  none_inherits false any group e = e
-
   pub masters_back : (group : ℕ) → has_members nat_eq world.mounts group ≡ true
       → undone.master group ≡ world.master group
   masters_back group has = by (world.master group) refl
     where
       by : (found : Option ℕ) → world.master group ≡ found → undone.master group ≡ world.master group
       by None e =
-          none_inherits (list_any (lost_a_group nat_eq (middle after (going nat_eq after
+          master-regrouped_by (list_any (lost_a_group nat_eq (middle after (going nat_eq after
           (mount_numbered nat_eq after gone))))
           (middle after (going nat_eq after (mount_numbered nat_eq after gone))).mounts)
           (middle after (going nat_eq after (mount_numbered nat_eq after gone))) group

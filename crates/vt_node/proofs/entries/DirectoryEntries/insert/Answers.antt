@@ -1,8 +1,9 @@
 use Rattle.std.proofs.Common.{ap, sym, ◌∙◌, is_some, true≢false}
 use Rattle.std.specs.FinMap.Entries.{is_sorted}
 use Rattle.vt_spec.specs.Tree.{entry_named, name_cmp, with_entry}
-use Rattle.vt_node.proofs.ListedLemmas.{find-listed, holds, is_sorted-listed, listed-insert}
+use Rattle.vt_node.proofs.ListedLemmas.{find-listed, is_sorted-listed, listed-insert}
 use Rattle.vt_node.proofs.entries.DirectoryEntries.insert.Goals as goal
+use Rattle.vt_spec.proofs.Nodes.{passes}
 
 -- two lists in order that answer alike are one
 pub returns-clause-ok : goal.returns-clause-ok
@@ -22,8 +23,8 @@ returns-in_err-insert-clause-present c = λ there.
 
 pub returns-clause-in_order : goal.returns-clause-in_order
 returns-clause-in_order c =
-    ap (is_sorted name_cmp) (sym c.self.view_is) ∙ holds _ (is_sorted-listed c.self.inside.by_name.entries)
+    ap (is_sorted name_cmp) (sym c.self.view_is) ∙ passes _ (is_sorted-listed c.self.inside.by_name.entries)
 
 pub returns-in_err-insert-clause-in_order : goal.returns-in_err-insert-clause-in_order
 returns-in_err-insert-clause-in_order c =
-    ap (is_sorted name_cmp) (sym c.self.view_is) ∙ holds _ (is_sorted-listed c.self.inside.by_name.entries)
+    ap (is_sorted name_cmp) (sym c.self.view_is) ∙ passes _ (is_sorted-listed c.self.inside.by_name.entries)

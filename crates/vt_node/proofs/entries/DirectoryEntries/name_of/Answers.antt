@@ -5,9 +5,10 @@ use Rattle.std.specs.Map.{values_of}
 use Rattle.std.proofs.lemmas.Iterator.{YieldsList-from_slice}
 use Rattle.std.proofs.lemmas.Iterator.Search.{position_from_yields_List}
 use Rattle.vt_spec.specs.Tree.{entry_named, name_cmp}
-use Rattle.vt_node.proofs.ListedLemmas.{find-listed, holds, is_sorted-listed}
+use Rattle.vt_node.proofs.ListedLemmas.{find-listed, is_sorted-listed}
 use Rattle.vt_node.proofs.Named.{first_name, leads, leads_there, unlisted}
 use Rattle.vt_node.proofs.entries.DirectoryEntries.name_of.Goals as goal
+use Rattle.vt_spec.proofs.Nodes.{passes}
 
 pub returns-in_err-place : goal.returns-in_err-place
 returns-in_err-place c =
@@ -40,6 +41,6 @@ returns c =
     (c.in_ok-name.name.now, c.in_ok-name.field-0-1.now) (sym c.in_ok-name.ensures.entry) in
     ap Some c.as_slice.ensures.value
     ∙ first_name c.args.id c.in_ok-name.name.now.items c.args.self.now
-    (ap (is_sorted name_cmp) (sym c.self.view_is) ∙ holds _ (is_sorted-listed entries)) c.requires
+    (ap (is_sorted name_cmp) (sym c.self.view_is) ∙ passes _ (is_sorted-listed entries)) c.requires
     (ap (entry_named c.in_ok-name.name.now.items) (sym c.self.view_is) ∙ find-listed c.in_ok-name.name.now.items entries
     ∙ c.in_ok-name.ensures.value ∙ ap Some leads_to)

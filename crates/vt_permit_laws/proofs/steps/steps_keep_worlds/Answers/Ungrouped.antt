@@ -32,9 +32,9 @@ use Rattle.vt_spec.specs.Machine.Types.{named_mounts, retyped_mount, type_after,
 use Rattle.vt_spec.specs.Machine.World.{Filesystem, Task, World, filesystem_at, is_overlay, mount_at, mount_numbered, mounts_of, node_at, with_mounts, without_task}
 use Rattle.vt_spec.specs.Tree.{bytes_in}
 use Rattle.vt_spec.proofs.Lists.{all-filter, all-map}
-use Rattle.vt_tree_laws.proofs.TreesOfWorlds.{taken_filesystems}
 use Rattle.vt_world_laws.proofs.Plain.{plain_numbered}
 use Rattle.vt_world_laws.specs.Worlds.Kept.{IsPlain}
+use Rattle.vt_spec.proofs.Worlds.{filesystems-taken_away}
 
 abbrev free : Mount ℕ → Bool
 free mount = is_ungrouped mount.propagation
@@ -215,7 +215,7 @@ module _ (world : World ℕ) (plain : IsPlain world) (is : IsUngrouped world) (t
       → IsUngrouped (with_change nat_eq fresh (without_mounts_on nat_eq world gone) location change)
   without_free gone location change =
       change_free (without_mounts_on nat_eq world gone)
-      (subst (All (λ (f : Filesystem ℕ). is_overlay f ≡ false)) (sym (taken_filesystems world _)) plain)
+      (subst (All (λ (f : Filesystem ℕ). is_overlay f ≡ false)) (sym (filesystems-taken_away world _)) plain)
       fresh location change (taken_free world _ is)
 
   renamed_free : (replaced : Option (Location ℕ)) (location : Location ℕ) (change : Change ℕ)

@@ -6,9 +6,9 @@ use Rattle.vt_spec.specs.Machine.Invariants.{are_ascending_from}
 use Rattle.vt_tasks.specs.Open.{numbered}
 use Rattle.vt_tasks.specs.TaskValue.{task_of}
 use Rattle.vt_tasks.specs.TasksValue.{called, changed_called, tasks_of}
-use Rattle.vt_tasks.proofs.OrderLemmas.{rising-filter}
 use Rattle.vt_tasks.proofs.TasksLemmas.{called-absent, called-found, changed-absent, written-change, written-fit}
 use Rattle.vt_tasks.proofs.tasks.Tasks.close.Goals as goal
+use Rattle.vt_spec.proofs.Descriptors.{ascending-filter}
 
 pub returns-in_err-task-clause-value : goal.returns-in_err-task-clause-value
 returns-in_err-task-clause-value c =
@@ -34,7 +34,7 @@ invariant_of-self-2 c =
     (sym c.get_mut.ensures.value ∙ ap option_copied_mut c.in_ok-task.was) refl c.get_mut.ensures.unique
     (c.get_mut.follows.holds _) (omega arith)
     (λ e. ap (are_ascending_from 0) c.remove.ensures.rest
-    ∙ rising-filter (λ d. not (nat_eq c.args.number d.number)) 0 c.in_ok-task.task.now.descriptors e)
+    ∙ ascending-filter (λ d. not (nat_eq c.args.number d.number)) 0 c.in_ok-task.task.now.descriptors e)
 
 pub returns-clause-value : goal.returns-clause-value
 returns-clause-value c =

@@ -3,8 +3,9 @@ use Rattle.std.specs.Option.{option_copied_mut}
 use Rattle.vt_spec.specs.Machine.Outcome.Descriptors.{free_number, without_descriptor}
 use Rattle.vt_tasks.specs.TaskValue.{task_of}
 use Rattle.vt_tasks.specs.TasksValue.{called, changed_called, tasks_of, with_open}
-use Rattle.vt_tasks.proofs.TasksLemmas.{called-absent, called-found, granted-so, granted-there, if-ok, ok-equal, on-err, on-ok, opened-in_order, opened-under, there-mut, written-back, written-change, written-fit, written-same}
+use Rattle.vt_tasks.proofs.TasksLemmas.{called-absent, called-found, granted-so, granted-there, if-ok, ok-equal, on-err, opened-in_order, opened-under, there-mut, written-back, written-change, written-fit, written-same}
 use Rattle.vt_tasks.proofs.tasks.Tasks.open.Goals as goal
+use Rattle.vt_spec.proofs.Options.{OnOk_then}
 
 pub unwrap-task-requires : goal.unwrap-task-requires
 unwrap-task-requires c =
@@ -42,7 +43,7 @@ returns-clause-number c =
 
 pub returns-clause-ok : goal.returns-clause-ok
 returns-clause-ok c =
-    on-ok c.insert.result
+    OnOk_then c.insert.result
     (λ is.
     written-change c.numbers.result.now c.self.inside.by_name _ c.self.invariant
     (with_open c.args.opened) c.unwrap-task.result.now _

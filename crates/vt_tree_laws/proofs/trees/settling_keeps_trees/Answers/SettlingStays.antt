@@ -9,20 +9,14 @@ use Rattle.vt_spec.specs.Tree.{entries_in, entry_named}
 use Rattle.vt_spec.specs.TreeLaws.{HasName, entry_at}
 use Rattle.vt_spec.specs.Lists.{is_among}
 use Rattle.vt_spec.specs.Machine.Mounts.{Location, Mount, mount_in, no_mount, root_of, same_location}
-use Rattle.vt_spec.specs.Machine.Settled.{filesystem_lives, has_layer_on, is_located, is_mounted, located_in, mount_lives, only_used, only_used_by, settled, used_in, without_dead_filesystems, without_dead_in, without_dead_mounts}
+use Rattle.vt_spec.specs.Machine.Settled.{filesystem_lives, has_layer_on, is_located, is_mounted, located_in, mount_lives, only_used, settled, used_in, without_dead_filesystems, without_dead_in, without_dead_mounts}
 use Rattle.vt_spec.specs.Machine.World.{Filesystem, World, all_locations, filesystem_numbered, is_overlay, mount_at, no_filesystem, node_at}
 use Rattle.vt_spec.proofs.Nodes.{none_is_not}
 use Rattle.vt_tree_laws.specs.Trees.{IsFileTree}
 use Rattle.vt_tree_laws.specs.Trees.Settling.{HasFileTrees, HoldsTree, LocatedStays, NamedStays}
 use Rattle.vt_tree_laws.proofs.TreesForgotten.{among_located, entry_used, named_is_used, used_stays, without_dead_in_is}
 use Rattle.vt_tree_laws.proofs.TreesOfWorlds.{number_numbered, numbered, numbered_all}
-
--- places that are the same are one
-pub one_location : (a b : Location ℕ) → same_location nat_eq a b ≡ true → a ≡ b
-one_location a b e = λ i. record {
-  mount = eqb-true a.mount b.mount ((and_parts (nat_eq a.mount b.mount) (nat_eq a.node b.node) e).0) i;
-  node = eqb-true a.node b.node ((and_parts (nat_eq a.mount b.mount) (nat_eq a.node b.node) e).1) i;
-}
+use Rattle.vt_spec.proofs.Worlds.{number-only_used, same_location_is}
 
 -- A filesystem of a shorter list, where those of its number stay
 filtered : (stays : ℕ → Bool) (number : ℕ) (list : List (Filesystem ℕ)) → stays number ≡ true
@@ -93,15 +87,6 @@ mapped_node change same number object (filesystem ∷ list) h =
     by true g rest = g
     by false g rest = rest g
 
-used_number : (world : World ℕ) (chosen : Bool) (filesystem : Filesystem ℕ)
-    → (only_used nat_eq world chosen filesystem).number ≡ filesystem.number
-used_number world true filesystem = by _
-  where
-    by : (b : Bool) → (only_used_by nat_eq b (used_in nat_eq world filesystem) filesystem).number ≡ filesystem.number
-    by true = refl
-    by false = refl
-used_number world false filesystem = refl
-
 -- a round of forgetting leaves a used inode
 module _ (chosen : Filesystem ℕ → Bool) (world : World ℕ) (number object : ℕ) where
   round_keeps : is_among nat_eq object (used_in nat_eq world (filesystem_numbered nat_eq world number)) ≡ true
@@ -109,7 +94,7 @@ module _ (chosen : Filesystem ℕ → Bool) (world : World ℕ) (number object :
       (filesystem_numbered nat_eq world number).files.tree.node object
   round_keeps used =
       mapped_node (λ f. only_used nat_eq world (chosen f) f)
-      (λ f. used_number world (chosen f) f) number object world.filesystems
+      (λ f. number-only_used world (chosen f) f) number object world.filesystems
       (by (chosen (numbered number world.filesystems)))
     where
       by : (b : Bool)
@@ -225,8 +210,8 @@ listed_node test (first ∷ list) location h t =
         ≡ true
     by true e true d g rest =
         ap (λ b. b || is_among nat_eq location.node (map (λ l. l.node) (filter test list)))
-        (eq-eqb location.node first.node (ap (λ (l : Location ℕ). l.node) (one_location location first e)))
-    by true e false d g rest = absurd (true≢false (sym t ∙ ap test (one_location location first e) ∙ d))
+        (eq-eqb location.node first.node (ap (λ (l : Location ℕ). l.node) (same_location_is location first e)))
+    by true e false d g rest = absurd (true≢false (sym t ∙ ap test (same_location_is location first e) ∙ d))
     by false e true d g rest =
         or_right (nat_eq location.node first.node)
         (is_among nat_eq location.node (map (λ l. l.node) (filter test list))) (rest g)
