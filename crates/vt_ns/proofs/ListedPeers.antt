@@ -1,11 +1,12 @@
 -- The list of peer groups, by the places and types of all attached mounts.
 use Rattle.std.proofs.Common.{◌≡◌, ◌<◌, ◌≤◌, refl, sym, ap, ◌∙◌, ℕ, zero, suc, ◌+◌, Bool, true, false, cond, nat_eq, List, [], ◌∷◌, ◌++◌, map, filter, length, take, get_or, append_assoc, Option, Some, None, option_map, arith}
-use Rattle.std.specs.Prelude.{filter_map, flat_map}
+use Rattle.std.specs.Prelude.{filter_map, flat_map, if◌then◌else◌}
 use Rattle.std.specs.List.{cons_option}
 use Rattle.std.specs.Map.{keys_of}
 use Rattle.std.proofs.lemmas.Grind.{flat_map-append}
 use Rattle.std.proofs.lemmas.List.{append-nil, length-append, map-append}
 use Rattle.vt_letting_go.proofs.Lists.{map_twice}
+use Rattle.vt_location.specs.declared.numbers.GroupId.{GroupId}
 use Rattle.vt_location.specs.declared.numbers.MountId.{MountId}
 use Rattle.vt_location.specs.declared.numbers.NamespaceId.{NamespaceId}
 use Rattle.vt_location.specs.Numbers.{counted}
@@ -17,12 +18,17 @@ use Rattle.vt_spec.specs.Machine.World.{Namespace, World, mounts_of}
 use Rattle.vt_attach.proofs.CopyLemmas.{picked_next}
 use Rattle.vt_detach.specs.declared.namespaces.Namespace.{Namespace as Kept}
 use Rattle.vt_detach.specs.WorldValue.{entries_of, namespace_of}
-use Rattle.vt_ns.specs.GroupsListed.{all_seen, line_from, member_place, placed_from, placed_in, placed_seen, slave_place}
+use Rattle.vt_mount.proofs.EntryLemmas.{same_count}
+use Rattle.vt_propagate.specs.Indexes.{same_group}
+use Rattle.vt_request.specs.declared.answer.MountPlace.{MountPlace}
+use Rattle.vt_request.specs.Answers.{mount_place_of}
+use Rattle.vt_ns.specs.GroupsListed.{all_seen, group_numbers, line_by, line_from, member_place, placed_from, placed_in, placed_seen, slave_place, under}
+use Rattle.vt_ns.specs.declared.places_by.PlacesBy.{PlacesBy}
 use Rattle.vt_ns.specs.declared.peer_lines.Placed.{Placed}
 
 -- Lists so far, with the next element
 
-pub taken_more : {A : Type 0} (i : ℕ) (d : A) (xs : List A) → i < length xs
+taken_more : {A : Type 0} (i : ℕ) (d : A) (xs : List A) → i < length xs
     → take (i + 1) xs ≡ take i xs ++ get_or xs i d ∷ []
 taken_more {A} i d xs within = ap (λ k. take k xs) (let same : i + 1 ≡ suc i = omega arith in same) ∙ by i xs within
   where
@@ -56,11 +62,50 @@ pub filter_map_map : {A B C : Type 0} (h : B → Option C) (f : A → B) (xs : L
 filter_map_map h f [] = refl
 filter_map_map h f (x ∷ xs) = ap (cons_option (h (f x))) (filter_map_map h f xs)
 
-pub when_true : {A : Type 0} (b : Bool) (x : A) → b ≡ true → when b x ≡ Some x
-when_true b x e = ap (λ c. when c x) e
+-- one more of a list, by what its step adds
+pub pushed_next : {A B : Type 0} (h : A → Option B) (i : ℕ) (d : A) (xs : List A) → i < length xs
+    → (before after : List B) → before ≡ filter_map h (take i xs)
+    → after ≡ before ++ cons_option (h (get_or xs i d)) [] → after ≡ filter_map h (take (i + 1) xs)
+pushed_next h i d xs within before after so_far adds =
+    adds
+    ∙ ap (λ list. list ++ cons_option (h (get_or xs i d)) []) so_far
+    ∙ sym (picked_next h i d xs within)
+    ∙ ap (λ k. filter_map h (take k xs)) (let same : suc i ≡ i + 1 = omega arith in same)
 
-pub when_false : {A : Type 0} (b : Bool) (x : A) → b ≡ false → when b x ≡ None
-when_false b x e = ap (λ c. when c x) e
+-- Places under groups
+
+-- a place that is added under one group
+pub added_under : (own group : GroupId) (at : MountPlace) (old new : List MountPlace)
+    → new ≡ (if same_group group own then old ++ at ∷ [] else old)
+    → map mount_place_of new
+    ≡ map mount_place_of old ++ cons_option (when (nat_eq (counted group.count) (counted own.count)) (mount_place_of at)) []
+added_under own group at old new is =
+    ap (map mount_place_of) is ∙ by (same_group group own)
+    ∙ ap (λ b. map mount_place_of old ++ cons_option (when b (mount_place_of at)) [])
+    (sym (same_count group.count own.count))
+  where
+    by : (b : Bool) → map mount_place_of (if b then old ++ at ∷ [] else old)
+        ≡ map mount_place_of old ++ cons_option (when b (mount_place_of at)) []
+    by true = map-append mount_place_of old (at ∷ [])
+    by false = sym (append-nil (map mount_place_of old))
+
+-- the lines of groups by the places that are kept under them
+pub lines_kept : (world : World ℕ) (seen : List ℕ) (members slaves : PlacesBy GroupId)
+    (placed : List (ℕ × ℕ × Propagation ℕ))
+    → ((group : GroupId) → map mount_place_of (under same_group group members)
+    ≡ filter_map (member_place (counted group.count)) placed)
+    → ((group : GroupId) → map mount_place_of (under same_group group slaves)
+    ≡ filter_map (slave_place (counted group.count)) placed)
+    → (groups : List GroupId)
+    → map (line_by world seen members slaves) groups ≡ map (line_from world seen placed) (group_numbers groups)
+lines_kept world seen members slaves placed peers slave_ones [] = refl
+lines_kept world seen members slaves placed peers slave_ones (group ∷ groups) =
+    λ i. record {
+      group = number_among nat_eq seen (counted group.count);
+      master = option_map (number_among nat_eq seen) (world.master (counted group.count));
+      peers = peers group i;
+      slaves = slave_ones group i;
+    } ∷ lines_kept world seen members slaves placed peers slave_ones groups i
 
 -- the namespaces so far
 pub next_placed : (world : World ℕ) (i number : ℕ) (d : NamespaceId) (ids : List NamespaceId) → i < length ids

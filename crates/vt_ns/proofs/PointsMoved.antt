@@ -36,12 +36,12 @@ use Rattle.vt_attach.proofs.MovedPoints.{points_are_moved}
 use Rattle.vt_attach.proofs.PlacedUses.{points_are_uses}
 use Rattle.vt_attach.proofs.PlannedCounts.{exchanged_on, inodes_of_points, planned_shown}
 use Rattle.vt_attach.proofs.PointsCounted.{points_count}
-use Rattle.vt_detach.specs.Held.{CountsItsMounts, CountsItsUses, IsHeld, is_ungrouped}
+use Rattle.vt_detach.specs.Held.{CountsItsMounts, CountsItsUses, IsHeld}
 use Rattle.vt_detach.specs.Uses.{Kept, kept}
 use Rattle.vt_detach.specs.WorldValue.{WorldValue, world_of}
 use Rattle.vt_detach.proofs.Bridging.{found_filesystem}
 use Rattle.vt_detach.proofs.DetachingBegins.{filesystem_kept, pair_mapped}
-use Rattle.vt_detach.proofs.DetachingEnds.{held_is_kept, point_located}
+use Rattle.vt_detach.proofs.DetachingEnds.{point_located}
 use Rattle.vt_detach.proofs.Grouped.{stays_private}
 use Rattle.vt_detach.proofs.Keeping.{IsKeptBut, IsShownIn, lives_plainly}
 use Rattle.vt_detach.proofs.LocationsSeen.{seen_where_located}

@@ -8,18 +8,18 @@ use Rattle.vt_spec.specs.Machine.World as meant
 use Rattle.vt_spec.specs.Machine.World.{Task, World}
 use Rattle.vt_fs.specs.FilesystemsValue.{Filesystems, Shown}
 use Rattle.vt_letting_go.specs.Counts.{times}
-use Rattle.vt_letting_go.proofs.Lists.{Among, all_from_among, all_pass, among_from_all, passes}
+use Rattle.vt_letting_go.proofs.Lists.{Among, all_from_among, among_from_all}
 use Rattle.vt_location.specs.Numbers.{counted}
 use Rattle.vt_mount.specs.MountsValue.{MountEntry}
 use Rattle.vt_tasks.specs.TasksValue.{Tasks}
-use Rattle.vt_detach.specs.Held.{CountsItsMounts, CountsItsUses, CountsWhatIsInIt, IsHeld, is_ungrouped}
+use Rattle.vt_detach.specs.Held.{CountsItsMounts, CountsItsUses, CountsWhatIsInIt, IsHeld}
 use Rattle.vt_detach.specs.Uses.{kept}
 use Rattle.vt_detach.specs.WorldValue.{NamespaceEntry, WorldValue, namespace_of, world_of}
 use Rattle.vt_detach.proofs.Bridging.{IsSwept}
 use Rattle.vt_detach.proofs.Finishing.{CountsBeside, IsApplied, finished}
 use Rattle.vt_detach.proofs.Grouped.{left_has}
 use Rattle.vt_detach.proofs.Moving.{Moves, Use, entry_counts, inodes_of_uses, moved_kept}
-use Rattle.vt_detach.proofs.Remaining.{entry_was, remade, remains_swept, same_mount, same_mounts, shown_was}
+use Rattle.vt_detach.proofs.Remaining.{entry_was, remade, remains_swept, same_mounts, shown_was}
 use Rattle.vt_detach.proofs.Staying.{IsDone, after}
 
 -- the code's world with other mounts, filesystems, namespaces and tasks

@@ -1,7 +1,7 @@
 -- Mounts that get types, and leave their groups.
-use Rattle.std.proofs.Common.{None, ◌≡◌, ◌<◌, refl, sym, ap, subst, ◌∙◌, ℕ, ◌+◌, Bool, true, false, cond, ◌||◌, nat_eq, List, [], ◌∷◌, ◌++◌, map, get_or, length, take, arith, Result, Ok, Err}
-use Rattle.std.specs.Prelude.{All, Contains, IfOk, OnOk, if◌then◌else◌}
-use Rattle.std.specs.List.{list_all, list_any}
+use Rattle.std.proofs.Common.{None, ◌≡◌, ◌<◌, refl, sym, ap, subst, ◌∙◌, ℕ, ◌+◌, Bool, true, false, ◌||◌, nat_eq, List, [], ◌∷◌, ◌++◌, map, get_or, length, take, arith, Result, Ok, Err}
+use Rattle.std.specs.Prelude.{IfOk, OnOk, if◌then◌else◌}
+use Rattle.std.specs.List.{list_any}
 use Rattle.std.proofs.lemmas.Bool.{or_parts}
 use Rattle.std.proofs.lemmas.List.{map-append, take_more}
 use Rattle.vt_spec.specs.declared.errors.Deny.{Deny}
@@ -9,7 +9,7 @@ use Rattle.vt_spec.specs.Language.Calls.{TypeWord}
 use Rattle.vt_spec.specs.Language.Calls.TypeWord.{ToShared, ToSlave}
 use Rattle.vt_spec.specs.Lists.{is_among}
 use Rattle.vt_spec.specs.Machine.Mounts.{Mount, Propagation, is_unbindable, source_of}
-use Rattle.vt_spec.specs.Machine.Mounts.Propagation.{Private, Shared, Slave, Unbindable}
+use Rattle.vt_spec.specs.Machine.Mounts.Propagation.{Unbindable}
 use Rattle.vt_spec.specs.Machine.Types.{retyped as policy_retyped, retyped_mount, type_after}
 use Rattle.vt_spec.specs.Machine.World.{World}
 use Rattle.vt_group.specs.Grouping.{Grouping, GroupsLive, numbers_of, propagation_in}

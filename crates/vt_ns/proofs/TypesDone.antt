@@ -21,7 +21,7 @@ use Rattle.vt_detach.specs.Held.{IsHeld}
 use Rattle.vt_detach.specs.WorldValue.{WorldValue, world_of}
 use Rattle.vt_detach.proofs.FileEvents.{permit_fits}
 use Rattle.vt_detach.proofs.Staying.{IsDone}
-use Rattle.vt_detach.proofs.TypesKept.{SeenAs, counts_lack, group, types_are_changed, types_are_shared}
+use Rattle.vt_detach.proofs.TypesKept.{counts_lack, group, types_are_changed, types_are_shared}
 use Rattle.vt_detach.proofs.UnbindableBelow.{in_tree}
 use Rattle.vt_attach.proofs.NumbersByParts.{tree_some}
 use Rattle.vt_ns.specs.Retyped.{IsRetyped, NumbersGroups, counted_after, with_counts}

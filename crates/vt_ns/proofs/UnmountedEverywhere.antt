@@ -13,7 +13,7 @@ use Rattle.vt_spec.specs.Machine.Settled.{without_dead_groups}
 use Rattle.vt_spec.specs.Machine.World.{Task, World, mount_numbered, with_mounts}
 use Rattle.vt_fs.specs.FilesystemsValue.{Filesystems}
 use Rattle.vt_group.specs.Grouping.{Grouping, Has, HasGroup, are_rising, numbers_of, peers_of}
-use Rattle.vt_group.specs.Together.{GrowsTo, TakesAway}
+use Rattle.vt_group.specs.Together.{GrowsTo}
 use Rattle.vt_group.proofs.Showing.{has_one_grouping}
 use Rattle.vt_group.proofs.Typed.{regrouped_is_typed}
 use Rattle.vt_letting_go.proofs.Lists.{all_from_among, among-map, among_from_all}

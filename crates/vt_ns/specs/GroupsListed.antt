@@ -1,5 +1,6 @@
 -- The groups of a list, each by where it first stands there, and the list of groups.
-use Rattle.std.specs.Prelude.{List, Option, filter_map, flat_map, map, nat_eq, not, option_map, ℕ, ◌&&◌, ◌++◌, ◌≡◌}
+use Rattle.std.specs.Prelude.{Bool, List, Option, [], filter_map, flat_map, map, nat_eq, not, option_map, unwrap_or, ℕ, ◌&&◌, ◌++◌, ◌≡◌}
+use Rattle.std.specs.Map.{lookup}
 use Rattle.vt_location.specs.MountValue.{propagation_of}
 use Rattle.vt_location.specs.declared.numbers.GroupId.{GroupId}
 use Rattle.vt_location.specs.Numbers.{counted}
@@ -9,7 +10,11 @@ use Rattle.vt_spec.specs.Machine.Listing.{number_among}
 use Rattle.vt_spec.specs.Machine.Mounts as meant
 use Rattle.vt_spec.specs.Machine.Mounts.{group_of, is_shared, source_of}
 use Rattle.vt_spec.specs.Machine.World.{World, mounts_of}
+use Rattle.vt_propagate.specs.Indexes.{same_group}
+use Rattle.vt_request.specs.declared.answer.MountPlace.{MountPlace}
+use Rattle.vt_request.specs.Answers.{mount_place_of}
 use Rattle.vt_ns.specs.declared.peer_lines.Placed.{Placed}
+use Rattle.vt_ns.specs.declared.places_by.PlacesBy.{PlacesBy}
 
 abbrev pub group_numbers : List GroupId → List ℕ
 group_numbers groups = map (λ group. counted group.count) groups
@@ -51,4 +56,17 @@ line_from world seen placed group = record {
   master = option_map (number_among nat_eq seen) (world.master group);
   peers = filter_map (member_place group) placed;
   slaves = filter_map (slave_place group) placed;
+}
+
+-- the places that are kept under a key
+abbrev pub under : {K : Type 0} → (K → K → Bool) → K → PlacesBy K → List MountPlace
+under eq key places = unwrap_or (option_map (λ list. list.items) (lookup (eq key) places.lists.entries)) []
+
+-- a line of the list of groups, as the places that are kept under groups tell it
+abbrev pub line_by : World ℕ → List ℕ → PlacesBy GroupId → PlacesBy GroupId → GroupId → answers.PeerLine
+line_by world seen members slaves group = record {
+  group = number_among nat_eq seen (counted group.count);
+  master = option_map (number_among nat_eq seen) (world.master (counted group.count));
+  peers = map mount_place_of (under same_group group members);
+  slaves = map mount_place_of (under same_group group slaves);
 }

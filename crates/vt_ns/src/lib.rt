@@ -16,6 +16,7 @@ mod mounting;
 mod opening;
 mod opening_files;
 pub mod peer_lines;
+mod places_by;
 mod reaching;
 mod reading;
 mod removing;

@@ -1,20 +1,23 @@
 //! The list of the peer groups of all namespaces: mount_namespaces(7).
-ghost use Rattle.std.specs.Prelude.{◌≡◌, ◌++◌, ◌&&◌, IfErr, IfOk, OnOk, filter_map, flat_map, map, nat_eq, not};
-ghost use Rattle.vt_location.specs.MountValue.{propagation_of};
+ghost use Rattle.std.specs.Prelude.{◌≡◌, ◌++◌, IfErr, IfOk, OnOk, filter_map, flat_map, map, nat_eq, []};
+ghost use Rattle.std.specs.List.{cons_option};
 ghost use Rattle.vt_location.specs.Numbers.{counted};
 ghost use Rattle.vt_spec.specs.declared.errors.Rule.TheVariants.{S5};
 ghost use Rattle.vt_spec.specs.Errors.{denial};
-ghost use Rattle.vt_spec.specs.Lists.{each_once, holds_of};
+ghost use Rattle.vt_spec.specs.Lists.{each_once};
 ghost use Rattle.vt_spec.specs.Machine.Listing as listing;
-ghost use Rattle.vt_spec.specs.Machine.Mounts.{group_of, is_shared, source_of};
 ghost use Rattle.vt_detach.specs.WorldValue.{world_of};
-ghost use Rattle.vt_ns.specs.GroupsListed.{all_seen, group_numbers, line_from, member_place};
-ghost use Rattle.vt_ns.specs.GroupsListed.{placed_from, placed_in, slave_place};
+ghost use Rattle.vt_location.specs.declared.numbers.GroupId.{GroupId};
+ghost use Rattle.vt_propagate.specs.Indexes.{same_group};
+ghost use Rattle.vt_ns.specs.GroupsListed.{all_seen, group_numbers, line_by, member_place};
+ghost use Rattle.vt_ns.specs.GroupsListed.{placed_from, placed_in, placed_seen, slave_place, under};
 ghost use Rattle.vt_request.specs.Answers.{mount_place_of, peer_line_of};
 
 use crate::mount_lines::group_place;
+use crate::places_by::PlacesBy;
 use crate::world::World;
 use indexmap::IndexSet;
+use std::alloc::{AllocError, Global};
 use vt_location::{GroupId, NamespaceId, Propagation};
 use vt_request::{MountPlace, PeerLine};
 use vt_spec::errors::{Deny, Rule};
@@ -38,7 +41,13 @@ impl World {
         let namespaces = self.namespaces.keys().as_slice();
         let placed = self.placed(namespaces)?;
         let groups = self.groups_of(&placed)?;
-        self.lines_of(&groups, &placed)
+        let Ok(members) = members(self.alloc, &placed) else {
+            return Err(Rule::S5.denial());
+        };
+        let Ok(slaves) = slaves(self.alloc, &placed) else {
+            return Err(Rule::S5.denial());
+        };
+        self.lines_of(&groups, &members, &slaves)
     }
 
     // The mounts of these namespaces, each namespace by its place among them. S5 (ENOMEM): an allocation failed.
@@ -101,15 +110,22 @@ impl World {
     }
 
     // The lines of these groups. S5 (ENOMEM): an allocation failed.
-    fn lines_of(&self, groups: &IndexSet<GroupId>, placed: &[Placed]) -> Result<Vec<PeerLine>, Deny>
+    fn lines_of(
+        &self,
+        groups: &IndexSet<GroupId>,
+        members: &PlacesBy<GroupId>,
+        slaves: &PlacesBy<GroupId>,
+    ) -> Result<Vec<PeerLine>, Deny>
         ensures ok { IfOk result (λ lines. map peer_line_of lines.items
-            ≡ map (line_from (world_of self.now) (group_numbers groups.now.keys) (all_seen placed.now))
-            (group_numbers groups.now.keys)) }
+            ≡ map (line_by (world_of self.now) (group_numbers groups.now.keys) members.now slaves.now)
+            groups.now.keys) }
         ensures memory { IfErr result (λ deny. deny ≡ denial S5) }
     {
         let mut lines = Vec::new(self.alloc);
         for group in groups.as_slice() {
-            let line = self.peer_line(*group, groups, placed)?;
+            let Ok(line) = self.peer_line(*group, groups, members, slaves) else {
+                return Err(Rule::S5.denial());
+            };
             let Ok(()) = lines.push(line) else {
                 return Err(Rule::S5.denial());
             };
@@ -117,78 +133,70 @@ impl World {
         Ok(lines)
     }
 
-    // The line of a group. S5 (ENOMEM): an allocation failed.
+    // The line of a group.
     fn peer_line(
         &self,
         group: GroupId,
         groups: &IndexSet<GroupId>,
-        placed: &[Placed],
-    ) -> Result<PeerLine, Deny>
-        ensures ok { IfOk result (λ line. peer_line_of line
-            ≡ line_from (world_of self.now) (group_numbers groups.now.keys) (all_seen placed.now)
-            (counted group.count)) }
-        ensures memory { IfErr result (λ deny. deny ≡ denial S5) }
+        members: &PlacesBy<GroupId>,
+        slaves: &PlacesBy<GroupId>,
+    ) -> Result<PeerLine, AllocError>
+        ensures { IfOk result (λ line. peer_line_of line
+            ≡ line_by (world_of self.now) (group_numbers groups.now.keys) members.now slaves.now group) }
     {
         Ok(PeerLine {
             group: group_place(group, groups),
             master: self.master_place(group, groups),
-            members: self.members(placed, group)?,
-            slaves: self.slaves(placed, group)?,
+            members: members.of(self.alloc, &group)?,
+            slaves: slaves.of(self.alloc, &group)?,
         })
     }
+}
 
-    // The places of the members of a group. S5 (ENOMEM): an allocation failed.
-    fn members(&self, placed: &[Placed], group: GroupId) -> Result<Vec<MountPlace>, Deny>
-        ensures ok { IfOk result (λ places. map mount_place_of places.items
-            ≡ filter_map (member_place (counted group.count)) (all_seen placed.now)) }
-        ensures memory { IfErr result (λ deny. deny ≡ denial S5) }
-    {
-        let mut places = Vec::new(self.alloc);
-        for one in placed {
-            if is_member(one.kind, group) {
-                let Ok(()) = places.push(one.at) else {
-                    return Err(Rule::S5.denial());
-                };
-            }
-        }
-        Ok(places)
+// The places of these mounts, each under the group that it is a member of.
+fn members(alloc: Global, placed: &[Placed]) -> Result<PlacesBy<GroupId>, AllocError>
+    ensures { IfOk result (λ places. (group : GroupId) → map mount_place_of (under same_group group places)
+        ≡ filter_map (member_place (counted group.count)) (all_seen placed.now)) }
+{
+    let mut places = PlacesBy::new(alloc);
+    for one in placed {
+        push_member(&mut places, *one)?;
     }
+    Ok(places)
+}
 
-    // The places of the slaves of a group that are in none. S5 (ENOMEM): an allocation failed.
-    fn slaves(&self, placed: &[Placed], group: GroupId) -> Result<Vec<MountPlace>, Deny>
-        ensures ok { IfOk result (λ places. map mount_place_of places.items
-            ≡ filter_map (slave_place (counted group.count)) (all_seen placed.now)) }
-        ensures memory { IfErr result (λ deny. deny ≡ denial S5) }
-    {
-        let mut places = Vec::new(self.alloc);
-        for one in placed {
-            if is_slave(one.kind, group) {
-                let Ok(()) = places.push(one.at) else {
-                    return Err(Rule::S5.denial());
-                };
-            }
-        }
-        Ok(places)
+// Adds the place of a mount that is a member of a group.
+fn push_member(places: &mut PlacesBy<GroupId>, one: Placed) -> Result<(), AllocError>
+    ensures { OnOk result ((group : GroupId) → map mount_place_of (under same_group group places.new)
+        ≡ map mount_place_of (under same_group group places.old)
+        ++ cons_option (member_place (counted group.count) (placed_seen one)) []) }
+{
+    match one.kind {
+        Propagation::Shared(own) => places.push(own, one.at),
+        Propagation::Slave(_) | Propagation::Private | Propagation::Unbindable => Ok(()),
     }
 }
 
-// Whether a mount of this type is a member of a group.
-fn is_member(kind: Propagation, group: GroupId) -> bool
-    ensures { result ≡ holds_of (nat_eq (counted group.count)) (group_of (propagation_of kind)) }
+// The places of these mounts, each under the group that it is a slave of, if it is in none.
+fn slaves(alloc: Global, placed: &[Placed]) -> Result<PlacesBy<GroupId>, AllocError>
+    ensures { IfOk result (λ places. (group : GroupId) → map mount_place_of (under same_group group places)
+        ≡ filter_map (slave_place (counted group.count)) (all_seen placed.now)) }
 {
-    match kind {
-        Propagation::Shared(own) => group == own,
-        Propagation::Slave(_) | Propagation::Private | Propagation::Unbindable => false,
+    let mut places = PlacesBy::new(alloc);
+    for one in placed {
+        push_slave(&mut places, *one)?;
     }
+    Ok(places)
 }
 
-// Whether a mount of this type is a slave of a group, and in none.
-fn is_slave(kind: Propagation, group: GroupId) -> bool
-    ensures { result ≡ (not (is_shared (propagation_of kind))
-        && holds_of (nat_eq (counted group.count)) (source_of (propagation_of kind))) }
+// Adds the place of a mount that is a slave of a group, and in none.
+fn push_slave(places: &mut PlacesBy<GroupId>, one: Placed) -> Result<(), AllocError>
+    ensures { OnOk result ((group : GroupId) → map mount_place_of (under same_group group places.new)
+        ≡ map mount_place_of (under same_group group places.old)
+        ++ cons_option (slave_place (counted group.count) (placed_seen one)) []) }
 {
-    match kind {
-        Propagation::Slave(master) => group == master,
-        Propagation::Shared(_) | Propagation::Private | Propagation::Unbindable => false,
+    match one.kind {
+        Propagation::Slave(master) => places.push(master, one.at),
+        Propagation::Shared(_) | Propagation::Private | Propagation::Unbindable => Ok(()),
     }
 }

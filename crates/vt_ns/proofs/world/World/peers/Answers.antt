@@ -1,5 +1,5 @@
 use Rattle.std.proofs.Common.{ap, map, nat_eq, ◌≡◌, ◌∙◌, ℕ}
-use Rattle.std.specs.Prelude.{flat_map}
+use Rattle.std.specs.Prelude.{filter_map, flat_map}
 use Rattle.std.proofs.lemmas.Result.{IfOk-weaker}
 use Rattle.vt_location.specs.declared.numbers.NamespaceId.{NamespaceId}
 use Rattle.vt_location.specs.Numbers.{counted}
@@ -8,8 +8,8 @@ use Rattle.vt_spec.specs.Machine.Listing.{groups_in_type}
 use Rattle.vt_spec.specs.Machine.Mounts.{Propagation}
 use Rattle.vt_spec.specs.Machine.World.{Namespace, World}
 use Rattle.vt_detach.specs.WorldValue.{WorldValue, namespace_of, world_of}
-use Rattle.vt_ns.specs.GroupsListed.{all_seen, group_numbers, line_from, placed_from}
-use Rattle.vt_ns.proofs.ListedPeers.{all_namespaces, lines_so, namespaces_kept}
+use Rattle.vt_ns.specs.GroupsListed.{all_seen, group_numbers, member_place, placed_from, slave_place}
+use Rattle.vt_ns.proofs.ListedPeers.{all_namespaces, lines_kept, lines_so, namespaces_kept}
 use Rattle.vt_ns.proofs.world.World.peers.Goals as goal
 
 pub returns-clause-ok : goal.returns-clause-ok
@@ -30,8 +30,11 @@ returns-clause-ok c =
     (flat_map (λ (one : ℕ × ℕ × Propagation ℕ). groups_in_type world one.2) (all_seen some))) c.deref.ensures.value in
     IfOk-weaker c.lines_of.result _ _
     (λ lines told. told
-    ∙ ap (λ some. map (line_from world (group_numbers c.in_ok-groups.groups.keys) (all_seen some))
-    (group_numbers c.in_ok-groups.groups.keys))
-    c.deref-2.ensures.value
+    ∙ lines_kept world (group_numbers c.in_ok-groups.groups.keys) c.in-Ok.members c.in-Ok-slaves.slaves (all_seen items)
+    (λ group. c.in-Ok.ensures group
+    ∙ ap (λ some. filter_map (member_place (counted group.count)) (all_seen some)) c.deref-2.ensures.value)
+    (λ group. c.in-Ok-slaves.ensures group
+    ∙ ap (λ some. filter_map (slave_place (counted group.count)) (all_seen some)) c.deref-3.ensures.value)
+    c.in_ok-groups.groups.keys
     ∙ lines_so world (all_seen items) (group_numbers c.in_ok-groups.groups.keys) placed seen)
     c.lines_of.ensures.ok
