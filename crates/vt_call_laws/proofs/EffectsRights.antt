@@ -37,21 +37,13 @@ use Rattle.vt_spec.specs.Machine.Rules.Descriptors.{descriptor_numbered, descrip
 use Rattle.vt_spec.specs.Machine.Rules.Making.{file_word_rules, hard_link_rules, symlink_text_rules, make_rules, new_word_rules, rewrite_rules, whiteout_rules}
 use Rattle.vt_spec.specs.Machine.Rules.Mounting.{admin_rules}
 use Rattle.vt_spec.specs.Machine.Rules.Removing.{is_one_object, object_there, old_word_rules, rename_new_walk, rename_rules, rmdir_rules, rmdir_word_rules, same_object_rules, unlink_rules}
-use Rattle.vt_spec.specs.Machine.Walking.{LastWord, Place, Stop, directory_walk, file_walk, is_directory_there, is_dot, is_dot_dot, is_no_word, is_special, name_of, new_leaf_walk, new_walk, object_walk, old_leaf_walk, old_walk, symlink_walk, walk_end}
-use Rattle.vt_spec.specs.Machine.Walking.LastWord.{Dot, DotDot, Named, NoWord}
+use Rattle.vt_spec.specs.Machine.Walking.{Place, Stop, directory_walk, file_walk, is_directory_there, is_special, name_of, new_leaf_walk, new_walk, object_walk, old_leaf_walk, old_walk, symlink_walk, walk_end}
 use Rattle.vt_spec.specs.Machine.World.{Descriptor, Task, World, mount_at, node_at}
 use Rattle.vt_spec.specs.Rights.{cap_chown, cap_sys_admin, execute_right, has_all, is_member, owns, write_right}
 use Rattle.vt_spec.specs.Tree.{Node, bytes_of, entries_of, entry_named}
 use Rattle.vt_tree_laws.proofs.TreesWalked.{Ends, not_true}
 use Rattle.vt_laws.proofs.GivenPermits.{given}
-
--- a word that is no word that stands for a directory is a name
-pub no_special : (last : LastWord) → is_dot_dot last ≡ false → is_dot last ≡ false → is_no_word last ≡ false
-    → is_special last ≡ false
-no_special NoWord a b c = c
-no_special Dot a b c = b
-no_special DotDot a b c = a
-no_special (Named name) a b c = refl
+use Rattle.vt_spec.proofs.Worlds.{special_word}
 
 module _ (fresh : Fresh ℕ) (world : World ℕ) (task : Task ℕ) (R : Permit ℕ → Type 0) where
   abbrev Gives : Judgement ℕ → Type 0
@@ -235,7 +227,7 @@ module _ (fresh : Fresh ℕ) (world : World ℕ) (task : Task ℕ) where
       ruled fresh world task HasRights (rmdir_word_rules place) _ (λ word.
       ruled fresh world task HasRights (rmdir_rules nat_eq looks task place (object_there place)) _ (λ pass.
       one place.parent (name_of place.last)
-      (not_true _ pass.1.1.1.1.1.1.0, searched (no_special place.last word.0 word.1.0 word.1.1.0)))))
+      (not_true _ pass.1.1.1.1.1.1.0, searched (special_word place.last word.0 word.1.0 word.1.1.0)))))
   names_by_right (Rename old new) e =
       walked fresh world task HasRights Searched (old_leaf_walk nat_eq looks task old) _
       (searched_old_leaf_walk world task old)

@@ -122,7 +122,8 @@ module _ (Q : Option (Node ℕ) → Type 0) (number inode : ℕ) where
         change).filesystems
     replaced_left replaced location change here =
         change_left fresh (without_replaced nat_eq world replaced) location change
-        (subst (All (λ filesystem. is_overlay filesystem ≡ false)) (sym (filesystems-without_replaced world replaced)) plain)
+        (subst (All (λ filesystem. is_overlay filesystem ≡ false))
+        (sym (filesystems-without_replaced world replaced)) plain)
         (same_list (without_replaced nat_eq world replaced).filesystems (filesystems-without_replaced world replaced))
         (λ same.
         subst (λ files. Q ((changed nat_eq files change).tree.node inode))

@@ -8,7 +8,7 @@ use Rattle.vt_spec.specs.Machine.Settled.{is_mounted}
 use Rattle.vt_spec.specs.Machine.World.{mount_numbered}
 use Rattle.vt_letting_go.specs.Counts.{times}
 use Rattle.vt_letting_go.specs.OneByOne.{without_filesystem, without_mount}
-use Rattle.vt_letting_go.proofs.Lists.{fails, filter_all}
+use Rattle.vt_letting_go.proofs.Lists.{fails}
 use Rattle.vt_letting_go.proofs.LookedUp.{filesystem_is_looked_up, mount_is_looked_up}
 use Rattle.vt_letting_go.proofs.PlacesLeft.{no_layers}
 use Rattle.vt_letting_go.proofs.UsesCounted.{located_while_counted, mounted_while_counted}
@@ -16,6 +16,7 @@ use Rattle.vt_count_laws.specs.Going.{FilesystemGoesAtZero, MountGoesAtZero, Mou
 use Rattle.vt_count_laws.proofs.Listed.{turned}
 use Rattle.vt_count_laws.proofs.Swept.{plain_of}
 use Rattle.std.proofs.Math.Bool.{or-false}
+use Rattle.vt_spec.proofs.Found.{filter_all}
 
 pub mount_goes_at_zero : MountGoesAtZero
 mount_goes_at_zero world number one =

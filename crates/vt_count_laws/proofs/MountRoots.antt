@@ -11,13 +11,14 @@ use Rattle.vt_spec.specs.Machine.Invariants.{is_located_well, is_nowhere_or_atta
 use Rattle.vt_letting_go.specs.Leaving.{MountsStand}
 use Rattle.vt_letting_go.specs.Mounting.{inode_at, root_inode}
 use Rattle.vt_letting_go.specs.OneByOne.{is_mount_used, without_mount}
-use Rattle.vt_letting_go.proofs.Lists.{Among, all_pass, among-append, among-append_left, among-append_right, among-from_filter_map, among-from_map, among-map, among_numbers, fails, filter_all, is_among_numbers, passes}
+use Rattle.vt_letting_go.proofs.Lists.{Among, all_pass, among-append, among-append_left, among-append_right, among-from_filter_map, among-from_map, among-map, among_numbers, fails, is_among_numbers, passes}
 use Rattle.vt_letting_go.proofs.PlacesLeft.{found_itself, nowhere_parts, place_attached}
 use Rattle.vt_count_laws.specs.Using.{LocationsOfWorldsStand, MountsLeaveTheirRoots, PlacesStand, is_on, places_of}
 use Rattle.vt_count_laws.specs.Using.{Exchanges}
 use Rattle.vt_count_laws.proofs.Exchanged.{exchanges_turn}
 use Rattle.vt_count_laws.proofs.Listed.{turned}
 use Rattle.vt_count_laws.proofs.Places.{mounts_are_uses}
+use Rattle.vt_spec.proofs.Found.{filter_all}
 
 pub locations_of_worlds_stand : LocationsOfWorldsStand
 locations_of_worlds_stand world is =

@@ -205,8 +205,10 @@ module _ (base : ℕ → ℕ) (node : ℕ → Option (Node ℕ)) (numbers : List
         ∙ ap entries_in (at_other node directory (node_without_entry name) object apart_r)
         ∙ empty));
     once = λ n. start.tallied.once n ∙ ap (λ b. cond b 1 0) (sym
-        (part_at is_some node_less object (node_with_parent object) (is_some-node_with_parent object (node_less object)) n
-        ∙ part_at is_some node directory (node_without_entry name) (is_some-node_without_entry name (node directory)) n));
+        (part_at is_some node_less object (node_with_parent object)
+        (is_some-node_with_parent object (node_less object)) n
+        ∙ part_at is_some node directory (node_without_entry name)
+        (is_some-node_without_entry name (node directory)) n));
   }
 
 -- A name that is moved
@@ -254,7 +256,9 @@ module _ (base : ℕ → ℕ) (node : ℕ → Option (Node ℕ)) (numbers : List
   object_target = is_target base node numbers inodes start from old object leads
 
   to_from : is_directory_node (node_from to) ≡ true
-  to_from = part_at is_directory_node node from (node_without_entry old) (is_directory-node_without_entry old (node from)) to ∙ to_is
+  to_from =
+      part_at is_directory_node node from (node_without_entry old) (is_directory-node_without_entry old (node from)) to
+      ∙ to_is
 
   order_from : (n : ℕ) → is_sorted name_cmp (entries_in (node_from n)) ≡ true
   order_from =
@@ -315,7 +319,8 @@ module _ (base : ℕ → ℕ) (node : ℕ → Option (Node ℕ)) (numbers : List
       under : is_some (node_under n) ≡ is_some (node n)
       under =
           part_at is_some node_to object (node_with_parent to) (is_some-node_with_parent to (node_to object)) n
-          ∙ part_at is_some node_from to (node_with_entry new object) (is_some-node_with_entry new object (node_from to)) n
+          ∙ part_at is_some node_from to (node_with_entry new object)
+          (is_some-node_with_entry new object (node_from to)) n
           ∙ part_at is_some node from (node_without_entry old) (is_some-node_without_entry old (node from)) n
 
       by : (o : Option ℕ) → is_some (node_moved o n) ≡ is_some (node n)

@@ -14,7 +14,7 @@ use Rattle.vt_spec.specs.Tree.{new_directory}
 use Rattle.vt_letting_go.specs.Counts.{inode_uses, mounts_showing, times}
 use Rattle.vt_letting_go.specs.Mounting.{inode_at}
 use Rattle.vt_letting_go.specs.OneByOne.{Inode}
-use Rattle.vt_letting_go.proofs.Lists.{Among, all_pass, among-append_left, among-append_right, among_numbers, filter_alike, passes}
+use Rattle.vt_letting_go.proofs.Lists.{Among, all_pass, among-append_left, among-append_right, among_numbers, passes}
 use Rattle.vt_letting_go.proofs.PlacesLeft.{found_itself, no_layers_of}
 use Rattle.vt_one_text.specs.OneTree.{times_in}
 use Rattle.vt_one_text.proofs.OneTreeEntries.{one_if}
@@ -26,6 +26,7 @@ use Rattle.vt_count_laws.proofs.TreeCounts.{uses_of}
 use Rattle.vt_letting_go.proofs.UpperUses.{times_append}
 use Rattle.vt_spec.proofs.Worlds.{mount_in-among, number-mount_in}
 use Rattle.vt_letting_go.proofs.Inodes.{no_objects_of}
+use Rattle.vt_spec.proofs.Found.{filter_alike}
 
 -- how many of some locations are at an inode
 module _ (mounts : List (Mount ℕ)) (k n : ℕ) where

@@ -12,7 +12,7 @@ use Rattle.vt_one_text.proofs.OneTreeDescriptors.{counted_some}
 use Rattle.vt_one_text.proofs.OneTreeEntries.{named_by, named_changed, one_if, one_if_some, targets, times_put}
 use Rattle.vt_one_text.proofs.OneTreeNames.{at_place, part_at}
 use Rattle.vt_one_text.proofs.OneTreeTrees.{length_removed, removed, times_removed}
-use Rattle.vt_spec.proofs.NodeChanges.{directory_is_there}
+use Rattle.vt_spec.proofs.Nodes.{directory_is_there}
 use Rattle.vt_spec.proofs.Nodes.{entries-node_with_entry, is_some-node_with_entry}
 
 abbrev pub uses_of : (ℕ → ℕ) → (ℕ → Option (Node ℕ)) → List ℕ → ℕ → ℕ

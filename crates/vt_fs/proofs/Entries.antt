@@ -79,7 +79,8 @@ module _ (f : ℕ) where
       → option_map (λ id. id.count) (slice_get (keys_of es) i) ≡ Some f
       → AllByRecursion (λ y. nat_eq k y.count ≡ false) (keys_of es) → nat_eq f k ≡ false
   not_before k i [] at apart = absurd cc
-  not_before k zero (e ∷ es) at apart = let is : e.0.count ≡ f = cc in nat_eq_false_turned k f (ap (nat_eq k) (sym is) ∙ apart.0)
+  not_before k zero (e ∷ es) at apart =
+      let is : e.0.count ≡ f = cc in nat_eq_false_turned k f (ap (nat_eq k) (sym is) ∙ apart.0)
   not_before k (suc i) (e ∷ es) at apart = not_before k i es at apart.1
 
   pub at_place : (tree : TreeValue) (i : ℕ) (es : List (FilesystemId × Held)) → IsDistinct key_eq (keys_of es)
@@ -219,8 +220,10 @@ pub numbers_apart : (fs : Filesystems) → any_pair (λ (a b : FilesystemEntry).
     → any_pair (λ a b. nat_eq a.number b.number) (filesystems_seen fs) ≡ false
 numbers_apart [] apart = refl
 numbers_apart (x ∷ fs) apart =
-    λ i. none x.count fs (or_false_left (list_any (λ (other : FilesystemEntry). nat_eq x.count other.count) fs) _ apart) i
-    || numbers_apart fs (or_false_right (list_any (λ (other : FilesystemEntry). nat_eq x.count other.count) fs) _ apart) i
+    λ i. none x.count fs
+    (or_false_left (list_any (λ (other : FilesystemEntry). nat_eq x.count other.count) fs) _ apart) i
+    || numbers_apart fs (or_false_right
+    (list_any (λ (other : FilesystemEntry). nat_eq x.count other.count) fs) _ apart) i
   where
     none : (k : ℕ) (fs : Filesystems) → list_any (λ (other : FilesystemEntry). nat_eq k other.count) fs ≡ false
         → list_any (λ b. nat_eq (counted k) b.number) (filesystems_seen fs) ≡ false

@@ -146,7 +146,8 @@ module _ (world : World ℕ) (fresh : Fresh ℕ) (name : TaskName) (call : Call)
       (given_of world fresh name call answer serves other few did))
 
   from_directory : is_directory_node ((files_at nat_eq world from).tree.node from.node) ≡ true
-  from_directory = directory_from_entry old object.node ((files_at nat_eq world from).tree.node from.node) may.moves.named
+  from_directory =
+      directory_from_entry old object.node ((files_at nat_eq world from).tree.node from.node) may.moves.named
 
   tree : IsFileTree (files_at nat_eq world from)
   tree = tree_here world is plain did.task from from_directory

@@ -170,7 +170,8 @@ module _ (world : World ℕ) (fresh : Fresh ℕ) (name : TaskName) (call : Call)
   seen = may world fresh name call answer is plain serves other few did from old to new object None permit_is uncovered
 
   from_directory : is_directory_node ((files_at nat_eq world from).tree.node from.node) ≡ true
-  from_directory = directory_from_entry old object.node ((files_at nat_eq world from).tree.node from.node) seen.moves.named
+  from_directory =
+      directory_from_entry old object.node ((files_at nat_eq world from).tree.node from.node) seen.moves.named
 
   pub file_tree : IsFileTree (files_at nat_eq world from)
   file_tree = tree_here world is plain did.task from from_directory

@@ -261,7 +261,9 @@ module _ (files : FileTree ℕ) (Refused : Deny → Type 0) where
 
         by : (b : Bool) → nat_eq n object ≡ b
             → cond b (node_with_parent object (unnamed.tree.node object)) (unnamed.tree.node n) ≡ unnamed.tree.node n
-        by true e = node_with_parent-no_directory object (unnamed.tree.node object) kept ∙ ap unnamed.tree.node (sym (eqb-true n object e))
+        by true e =
+            node_with_parent-no_directory object (unnamed.tree.node object) kept
+            ∙ ap unnamed.tree.node (sym (eqb-true n object e))
         by false e = refl
 
     entry_less : (other : List ℕ) → entry_at removed.tree directory other

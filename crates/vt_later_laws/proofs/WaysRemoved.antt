@@ -60,7 +60,8 @@ module _ (files : FileTree ℕ) (directory : ℕ) (name : List ℕ) (object : �
       ∙ part_stays files directory (node_without_entry name) part entry n
 
   pub removed_kind : (n : ℕ) → is_directory_node (removed.tree.node n) ≡ is_directory_node (files.tree.node n)
-  removed_kind n = removed_part is_directory_node (is_directory-node_with_parent object) (is_directory-node_without_entry name) n
+  removed_kind n =
+      removed_part is_directory_node (is_directory-node_with_parent object) (is_directory-node_without_entry name) n
 
   pub removed_link : (n : ℕ) → symlink_text (removed.tree.node n) ≡ symlink_text (files.tree.node n)
   removed_link n = removed_part symlink_text (link_with_parent object) (link_without name) n

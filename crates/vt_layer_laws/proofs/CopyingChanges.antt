@@ -262,7 +262,8 @@ module _ (files : FileTree ℕ) (tree : IsTree files.tree) (first : ℕ → Opti
         ∙ ap entries_in (left_elsewhere (is_some (shown_below nat_eq stack here from old)) fresh stack away
         (upper_of here from) old replaced not_from (old_differs found.0 replaced found.2))
         ∙ part-changed_node entries_in (with_name nat_eq base (upper_of here to) name (upper_of here object))
-        (upper_of here object) (node_with_parent (upper_of here to)) (entries-node_with_parent (upper_of here to)) replaced
+        (upper_of here object) (node_with_parent (upper_of here to))
+        (entries-node_with_parent (upper_of here to)) replaced
         ∙ ap entries_in (kept_elsewhere base (upper_of here to) (node_with_entry name (upper_of here object)) replaced
         (ne_eqb replaced (upper_of here to) not_to))
         ∙ ap entries_in (kept_elsewhere

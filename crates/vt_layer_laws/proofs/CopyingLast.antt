@@ -66,16 +66,16 @@ not_in_line files tree numbers directory name object e =
         let h = found.1 in
         let no : ⊥ = omega arith in absurd no
 
-pub copied_at : (fresh : Fresh ℕ) (k : ℕ) (merge : Merge ℕ) (list : List ℕ) (last : ℕ)
+pub copied_one_more : (fresh : Fresh ℕ) (k : ℕ) (merge : Merge ℕ) (list : List ℕ) (last : ℕ)
     → copied_each nat_eq fresh k merge (list ++ last ∷ [])
     ≡ copy_of nat_eq (copied_each nat_eq fresh k merge list) last (fresh (k + length list))
     ((copied_each nat_eq fresh k merge list).files.tree.node last)
     (is_in_upper (copied_each nat_eq fresh k merge list) last)
-copied_at fresh k merge [] last =
+copied_one_more fresh k merge [] last =
     ap (λ n. copy_of nat_eq merge last (fresh n) (merge.files.tree.node last) (is_in_upper merge last)) (omega arith)
-copied_at fresh k merge (object ∷ list) last =
+copied_one_more fresh k merge (object ∷ list) last =
     let next = copy_of nat_eq merge object (fresh k) (merge.files.tree.node object) (is_in_upper merge object) in
-    copied_at fresh (k + 1) next list last
+    copied_one_more fresh (k + 1) next list last
     ∙ ap (λ n. copy_of nat_eq (copied_each nat_eq fresh (k + 1) next list) last (fresh n)
     ((copied_each nat_eq fresh (k + 1) next list).files.tree.node last)
     (is_in_upper (copied_each nat_eq fresh (k + 1) next list) last)) (omega arith)
@@ -178,7 +178,9 @@ module _ (fresh : Fresh ℕ) (before : Merge ℕ) (fit : IsFitToChange fresh bef
       real = ap (λ b. upper_object (cond b (Some (Upper copy)) (real object))) (eq-eqb object object refl);
       is = subst (IsCopyOf (files.tree.node object)) (sym there)
           (is_copy_of (copy_parent state copy (a_name nat_eq files object)) (files.tree.node object) node is_node);
-      empty = ap entries_in there ∙ entries_of-copied_content (copy_parent state copy (a_name nat_eq files object)) node.content;
+      empty =
+          ap entries_in there ∙ entries_of-copied_content
+          (copy_parent state copy (a_name nat_eq files object)) node.content;
       named = λ other is.
           subst (λ n. entry_at later.upper.tree (upper_of later n.0) n.1 ≡ Some copy)
           (same_Some name other (sym e ∙ is)) has_name;
@@ -187,7 +189,7 @@ module _ (fresh : Fresh ℕ) (before : Merge ℕ) (fit : IsFitToChange fresh bef
   named_stands : (name : ℕ × List ℕ) → a_name nat_eq files object ≡ Some name
       → CopyStands (copied_each nat_eq fresh 0 before (directories_to nat_eq files name.0 ++ object ∷ []))
   named_stands name e =
-      subst CopyStands (sym (copied_at fresh 0 before (directories_to nat_eq files name.0) object))
+      subst CopyStands (sym (copied_one_more fresh 0 before (directories_to nat_eq files name.0) object))
       (subst (λ m. CopyStands (copy_of nat_eq m object (fresh (0 + length line)) (m.files.tree.node object)
       (is_in_upper m object))) (sym front.soundly.is)
       (subst (λ o. CopyStands (copy_of nat_eq state object (fresh (0 + length line)) o (is_in_upper state object)))

@@ -157,7 +157,8 @@ pub emptied_is_empty : (upper : FileTree ℕ) (replaced : Option ℕ) (object : 
     → entries_in ((emptied nat_eq upper replaced).tree.node object) ≡ []
 emptied_is_empty upper replaced object e =
     subst (λ o. entries_in ((emptied nat_eq upper o).tree.node object) ≡ []) (sym e)
-    (part-changed_node entries_in (changed_node nat_eq upper object node_without_entries) object (node_with_parent object)
+    (part-changed_node entries_in (changed_node nat_eq upper object node_without_entries) object
+    (node_with_parent object)
     (entries-node_with_parent object) object
     ∙ ap entries_in (node_set upper.tree object (node_without_entries (upper.tree.node object)))
     ∙ entries-node_without_entries (upper.tree.node object))
@@ -212,7 +213,8 @@ module _ {A : Type 0} (part : Option (Node ℕ) → A)
   emptied_part upper (Some object) inode =
       part-changed_node part (changed_node nat_eq upper object node_without_entries) object (node_with_parent object)
       (keeps (node_with_parent object) (parent_keeps object)) inode
-      ∙ part-changed_node part upper object node_without_entries (keeps node_without_entries without_entries_keeps) inode
+      ∙ part-changed_node part upper object node_without_entries
+      (keeps node_without_entries without_entries_keeps) inode
 
   pub freed_part : (upper : FileTree ℕ) (object : Option ℕ) (inode : ℕ)
       → part ((without_parent nat_eq upper object).tree.node inode) ≡ part (upper.tree.node inode)

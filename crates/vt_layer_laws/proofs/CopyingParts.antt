@@ -140,7 +140,8 @@ module _ (parent : ℕ) where
     kind = λ o. elim o as (λ o. kind_in (node_with_parent parent o)
         ≡ kind_in o) [ None ↦ refl | Some node ↦ (kind_of-content_with_parent parent) node.content ];
     directory = λ o. elim o as (λ o. is_directory_node (node_with_parent parent o)
-        ≡ is_directory_node o) [ None ↦ refl | Some node ↦ ap is_directory (kind_of-content_with_parent parent node.content) ];
+        ≡ is_directory_node o)
+        [ None ↦ refl | Some node ↦ ap is_directory (kind_of-content_with_parent parent node.content) ];
     attr = λ o. elim o as (λ o. attr_in (node_with_parent parent o) ≡ attr_in o) [ None ↦ refl | Some node ↦ refl ];
     bytes = λ o. elim o as (λ o. bytes_in (node_with_parent parent o)
         ≡ bytes_in o) [ None ↦ refl | Some node ↦ parent_bytes node.content ];

@@ -142,7 +142,8 @@ module _ (files : FileTree ℕ) (first : ℕ → Option (Real ℕ)) (spare : ℕ
           ⊎_elim
           (λ t. directory_named (a_name nat_eq files object) seen
           ∙ ap (λ n. is_directory_node (with_copy.tree.node n)) t.1 ∙ ap is_directory_node at_copy
-          ∙ ap is_directory (kind_of-copied_content (copy_parent (State real upper) copy (a_name nat_eq files object)) node.content)
+          ∙ ap is_directory (kind_of-copied_content
+          (copy_parent (State real upper) copy (a_name nat_eq files object)) node.content)
           ∙ sym (ap is_directory_node is_node) ∙ ap (λ n. is_directory_node (files.tree.node n)) (sym t.0))
           (λ t. directory_named (a_name nat_eq files object) seen
           ∙ ap is_directory_node (at_other seen (other_object number seen t)) ∙ sound.kinds path number seen way t)

@@ -37,8 +37,11 @@ module _ {A : Type 0} where
   pub no_pair : (test : A → A → Bool) (list : List A) → any_pair test list ≡ false
       → Pairwise (λ a b. test a b ≡ false) list
   no_pair test [] e = tt
-  no_pair test (first ∷ list) e =
-      (none_passes (test first) list (or_false_left _ _ e), no_pair test list (or_false_right (list_any (test first) list) _ e))
+  no_pair test (first ∷ list) e = (
+    none_passes (test first) list (or_false_left _ _ e),
+    no_pair test list
+        (or_false_right (list_any (test first) list) _ e),
+  )
 
   pub from_no_pair : (test other : A → A → Bool) (list : List A) → Pairwise (λ a b. test a b ≡ false) list
       → ((a b : A) → Among list a → Among list b → other a b ≡ test a b) → any_pair other list ≡ false

@@ -49,7 +49,8 @@ fit_node node = no_larger node && list_all fit_name (names_in node) && fit_text 
 all_of_found : {A : Type 0} (p test : A → Bool) (list : List A) (a : A) → list_all p list ≡ true
     → find test list ≡ Some a → p a ≡ true
 all_of_found p test [] a all f = none_is_some a f
-all_of_found p test (first ∷ list) a all f = by (test first) f (all_of_found p test list a (and_true_right (p first) _ all))
+all_of_found p test (first ∷ list) a all f =
+    by (test first) f (all_of_found p test list a (and_true_right (p first) _ all))
   where
     by : (b : Bool) → cond b (Some first) (find test list) ≡ Some a → (find test list ≡ Some a → p a ≡ true)
         → p a ≡ true

@@ -192,7 +192,8 @@ module _ (world : World ℕ) (conditions : IsWorld nat_eq world) (overlay : Over
   new_counts : (fs object : ℕ) (layer : Layer ℕ) → IsOld layer
       → counts_in_layer nat_eq later fs object layer new ≡ true → lies_in_layer nat_eq world fs object layer ≡ true
   new_counts fs object layer old e =
-      by overlay.upper refl (and_true_left _ _ e) (and_true_left _ _ (and_true_right _ _ e)) (and_true_right _ _ (and_true_right _ _ e))
+      by overlay.upper refl (and_true_left _ _ e) (and_true_left _ _ (and_true_right _ _ e))
+      (and_true_right _ _ (and_true_right _ _ e))
     where
       up_plain : (upper : Layer ℕ) → overlay.upper ≡ Some upper → is_plain_layer nat_eq world upper ≡ true
       up_plain upper is =

@@ -38,7 +38,8 @@ module _ (world : World â„•) (conditions : IsWorld nat_eq world) (task : Task â„
   directory_is location is = directory_used (files_at nat_eq world location).tree location.node is
 
   root_there : There task.root
-  root_there = directory_is task.root (and_true_left (is_directory_at nat_eq world task.root) _ (and_true_left _ _ stands))
+  root_there =
+      directory_is task.root (and_true_left (is_directory_at nat_eq world task.root) _ (and_true_left _ _ stands))
 
   own_there : There task.directory
   own_there = directory_is task.directory

@@ -81,7 +81,8 @@ module _ (world : World ℕ) (filesystem inode : ℕ) (own : HasNoUpperLayer wor
         (linking from.location place)) _ (λ passed.
         change_stays world filesystem inode own fresh world refl place.parent (linking from.location place)
         (λ at. or_from (nat_eq inode place.parent.node) false
-        (differs place.parent (or_false_right (is_locked_at nat_eq world from.location) _ passed.1.1.1.1.0) at) refl)))))
+        (differs place.parent
+        (or_false_right (is_locked_at nat_eq world from.location) _ passed.1.1.1.1.0) at) refl)))))
 
     written_stays : (place : Place ℕ) (bytes : List ℕ) (there : Option (Location ℕ))
         → Kept (written nat_eq fresh world task place bytes there).world

@@ -90,7 +90,8 @@ module _ (world : World ℕ) (conditions : IsWorld nat_eq world) (overlay : Over
       by None s m = none_is_some layer m
       by (Some plain) s m =
           let passes = all_pass_at (is_plain_layer nat_eq world) (shown_layers overlay) are_layers.1 depth plain s in
-          let directory = and_true_right (not (is_overlay (filesystem_numbered nat_eq world plain.filesystem))) _ passes in
+          let directory = and_true_right
+          (not (is_overlay (filesystem_numbered nat_eq world plain.filesystem))) _ passes in
           subst IsOpen (same_Some (open_layer nat_eq world plain) layer m) (record {
             filesystem = filesystem_numbered nat_eq world plain.filesystem;
             test = λ filesystem. nat_eq plain.filesystem filesystem.number;
@@ -166,7 +167,8 @@ module _ (world : World ℕ) (conditions : IsWorld nat_eq world) (overlay : Over
           (and_true_left (is_plain_layer nat_eq world layer) _ all) in (
             record { layer = 0; object = layer.directory },
             ap (λ b. when (not b) (record { layer = 0; object = layer.directory }))
-                (directory_no_whiteout ((filesystem_numbered nat_eq world layer.filesystem).files.tree.node layer.directory) directory),
+                (directory_no_whiteout
+                ((filesystem_numbered nat_eq world layer.filesystem).files.tree.node layer.directory) directory),
           )
 
   -- the inode behind a real object, by the layers that are shown, is the one that the overlay finds

@@ -154,7 +154,8 @@ module _ (world : World ℕ) (conditions : IsWorld nat_eq world) (number : ℕ) 
 
     upper_directory : is_directory_node
         ((filesystem_numbered nat_eq world upper.filesystem).files.tree.node upper.directory) ≡ true
-    upper_directory = and_true_right (not (is_overlay (filesystem_numbered nat_eq world upper.filesystem))) _ plain_upper
+    upper_directory =
+        and_true_right (not (is_overlay (filesystem_numbered nat_eq world upper.filesystem))) _ plain_upper
 
     abbrev top : OpenLayer ℕ
     top = open_layer nat_eq world upper

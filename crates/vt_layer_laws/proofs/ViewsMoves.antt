@@ -177,7 +177,8 @@ module _ (files : FileTree ℕ) (from : ℕ) (old : List ℕ) (to : ℕ) (new : 
     where
       freed : (replaced : Option ℕ) → IsDirectory (without_parent nat_eq files replaced).tree to
       freed None = is
-      freed (Some k) = part-changed_node is_directory_node files k (node_with_parent k) (parent_keeps k).directory to ∙ is
+      freed (Some k) =
+          part-changed_node is_directory_node files k (node_with_parent k) (parent_keeps k).directory to ∙ is
 
   pub move_told : (other : ℕ) (word : List ℕ)
       → entry_at (with_moved nat_eq files from old to new object).tree other word
@@ -188,7 +189,8 @@ module _ (files : FileTree ℕ) (from : ℕ) (old : List ℕ) (to : ℕ) (new : 
       let freed = without_parent nat_eq files replaced in
       let left = without_name nat_eq freed from old in
       ap (entry_named word)
-      (entries_stay (with_name nat_eq left to new object) object (node_with_parent to) (entries-node_with_parent to) other)
+      (entries_stay (with_name nat_eq left to new object) object (node_with_parent to)
+      (entries-node_with_parent to) other)
       ∙ given left to new object (still replaced) other word
       ∙ ap (cond (is_entry to new other word) (Some object))
       (taken freed from old other word

@@ -20,17 +20,14 @@ use Rattle.vt_letting_go.proofs.Lists.{Among, all_pass, among-append, among-appe
 use Rattle.vt_letting_go.proofs.MountingLosers.{Loses, StillAPlace, places_of, places_stand}
 use Rattle.vt_letting_go.proofs.PlacesLeft.{found_itself, nowhere_parts}
 use Rattle.vt_spec.proofs.Worlds.{number-mount_in, same_location_is}
+use Rattle.std.proofs.lemmas.List.{map-id}
 
 -- Mounts that are replaced by those of their numbers
 abbrev swapped : List (Mount ℕ) → Mount ℕ → Mount ℕ
 swapped copied mount = folded (λ old copy. replaced_if_same nat_eq copy old) mount copied
 
 swapped_all : (copied mounts : List (Mount ℕ)) → folded (with_mount nat_eq) mounts copied ≡ map (swapped copied) mounts
-swapped_all [] mounts = all_same mounts
-  where
-    all_same : (list : List (Mount ℕ)) → list ≡ map (λ x. x) list
-    all_same [] = refl
-    all_same (x ∷ xs) = ap (λ l. x ∷ l) (all_same xs)
+swapped_all [] mounts = sym (map-id mounts)
 swapped_all (copy ∷ copied) mounts =
     swapped_all copied (with_mount nat_eq mounts copy)
     ∙ map_twice (swapped copied) (replaced_if_same nat_eq copy) mounts
@@ -121,11 +118,7 @@ module _ (world : World ℕ) (filesystems : List (Filesystem ℕ)) (new : Copies
     where
       by : (b : Bool) → with_moved_mounts nat_eq b world.mounts (copies destination) ≡ map (went_by b) world.mounts
       by true = swapped_all (copies destination) world.mounts
-      by false = all_same world.mounts
-        where
-          all_same : (list : List (Mount ℕ)) → list ≡ map (λ x. x) list
-          all_same [] = refl
-          all_same (x ∷ xs) = ap (λ l. x ∷ l) (all_same xs)
+      by false = sym (map-id world.mounts)
 
   old_mounts : map push (with_moved_mounts nat_eq moves world.mounts (copies destination)) ≡ map last world.mounts
   old_mounts = ap (map push) went_all ∙ map_twice push went world.mounts

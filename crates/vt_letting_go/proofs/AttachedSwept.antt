@@ -1,9 +1,9 @@
 -- What goes when mounts are attached.
-use Rattle.std.proofs.Common.{◌≡◌, refl, sym, ap, subst, ◌⊎◌, inl, inr, ⊎_elim, ℕ, nat_eq, eq-eqb, true, false, List, [], ◌∷◌, filter, flat_map, length, suc, zero, true≢false, ◌++◌, ◌&&◌, option_to_list}
+use Rattle.std.proofs.Common.{◌≡◌, refl, sym, ap, subst, inl, inr, ⊎_elim, ℕ, nat_eq, eq-eqb, true, false, List, [], ◌∷◌, filter, flat_map, length, suc, zero, true≢false, ◌++◌, ◌&&◌, option_to_list}
 use Rattle.std.specs.Prelude.{All, Contains}
 use Rattle.vt_spec.specs.Lists.{evens, odds}
 use Rattle.vt_spec.specs.Machine.Attach.{Copies, attach, attached_by, bind_tree, bindable_tree, bound, copies_from, parts_of, stands_under, bindable_children}
-use Rattle.vt_spec.specs.Machine.Mounts.{Location, Mount, children, stands_on, tree_from}
+use Rattle.vt_spec.specs.Machine.Mounts.{Location, Mount, children, tree_from}
 use Rattle.vt_spec.specs.Machine.Settled.{mount_lives, settled}
 use Rattle.vt_spec.specs.Machine.World.{Filesystem, World, mount_numbered}
 use Rattle.vt_spec.specs.Machine.Outcome.Mounting.{new_mount, plain_filesystem, with_new_filesystem}
@@ -14,25 +14,11 @@ use Rattle.vt_letting_go.specs.Leaving.{MountsStand}
 use Rattle.vt_letting_go.specs.InUse.{AllInUse}
 use Rattle.vt_letting_go.specs.OneByOne.{let_go_inodes}
 use Rattle.vt_letting_go.proofs.Attached.{attached_groups, attached_loses, first_shown}
-use Rattle.vt_letting_go.proofs.Lists.{Among, all_from_among, among-append, among-append_left, among-from_filter, among-from_flat_map, among_from_all, or_first}
+use Rattle.vt_letting_go.proofs.Lists.{Among, all_from_among, among-append, among-append_left, among_from_all, or_first}
 use Rattle.vt_letting_go.proofs.MountingLosers.{Comes, IsNew, losers_go}
 use Rattle.vt_letting_go.proofs.MountingOverlays.{nothing_lost}
 use Rattle.vt_letting_go.proofs.PlacesLeft.{found_is_there}
-
--- the mounts of a tree are its first and mounts of the list
-tree_among : (depth : ℕ) (mounts : List (Mount ℕ)) (top mount : Mount ℕ)
-    → Among mount (tree_from nat_eq depth mounts top)
-    → (mount ≡ top) ⊎ Among mount mounts
-tree_among zero mounts top mount m = ⊎_elim inl (λ none. absurd none) m
-tree_among (suc depth) mounts top mount m =
-    ⊎_elim inl
-    (λ later.
-    let under = among-from_flat_map (tree_from nat_eq depth mounts) (children nat_eq mounts top.number) mount later in
-    let child : Among under.0 mounts × (stands_on nat_eq top.number under.0
-    ≡ true) = among-from_filter (stands_on nat_eq top.number) mounts under.0 under.1 in
-    inr (⊎_elim (λ e. subst (λ x. Among x mounts) (sym e) child.0) (λ l. l)
-    (tree_among depth mounts under.0 mount under.2)))
-    m
+use Rattle.vt_spec.proofs.Worlds.{tree_among}
 
 -- the mounts of the tree of a mount in a namespace are those of the world
 pub of_tree : (world : World ℕ) (number : ℕ) → is_attached world number ≡ true → (depth : ℕ) (mount : Mount ℕ)

@@ -17,9 +17,11 @@ use Rattle.vt_letting_go.proofs.InUse.{UnusedAreEmpty, unused_are_empty}
 use Rattle.vt_letting_go.proofs.Merged.{named_without}
 use Rattle.vt_spec.specs.Machine.Settled.{objects_of_overlay}
 use Rattle.vt_letting_go.proofs.InUse.{no_objects}
-use Rattle.vt_letting_go.proofs.Lists.{Among, flat_map_none, any-filter, among-from_filter, among-from_map, among_from_all, among_numbers, fails, filter_alike, filter_all, filter_twice, flat_map-map, map_alike, map_same, map_twice, none_passes, passes}
+use Rattle.vt_letting_go.proofs.Lists.{Among, flat_map_none, any-filter, among-from_filter, among-from_map, among_from_all, among_numbers, fails, filter_twice, flat_map-map, map_alike, map_same, map_twice, none_passes, passes}
 use Rattle.vt_letting_go.proofs.OneByOne.{filesystems_go_one_by_one, groups_go_one_by_one, mounts_go_one_by_one}
 use Rattle.vt_spec.proofs.Options.{none_from_not_some}
+use Rattle.vt_spec.proofs.Found.{filter_alike, filter_all}
+use Rattle.std.proofs.Math.Bool.{not-not}
 
 -- a filesystem without the inodes that a test names
 abbrev pub without_those : (ℕ → Bool) → Filesystem ℕ → Filesystem ℕ
@@ -280,11 +282,7 @@ left_of_plain used filesystem numbers plain =
         ≡ filter (λ number. not (not (is_among nat_eq number used))) filesystem.files.numbers
     twice = filter_alike (λ number. is_among nat_eq number used)
         (λ number. not (not (is_among nat_eq number used))) filesystem.files.numbers
-        (λ number m. not_not (is_among nat_eq number used))
-      where
-        not_not : (b : Bool) → b ≡ not (not b)
-        not_not true = refl
-        not_not false = refl
+        (λ number m. sym (not-not (is_among nat_eq number used)))
 
     by : (all : Bool) → list_all (λ number. is_among nat_eq number used) filesystem.files.numbers ≡ all
         → only_used_by nat_eq all used filesystem

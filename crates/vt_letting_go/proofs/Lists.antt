@@ -9,6 +9,8 @@ pub use Rattle.std.proofs.lemmas.Bool.{or_left as or_first, or_right as or_secon
 pub use Rattle.vt_spec.proofs.Lists.{Among, all_from_among, among-append, among-append_left, among-append_right, among-filter, among-filter_map, among-flat_map, among-from_filter, among-from_filter_map, among-from_flat_map, among-from_map, among-map, among_from_all, any_among as one_passes, any_from_among as any_passes, among_from_list_all as passes, filter_here, filter_skip, list_all_from_among as all_pass, map_same, none_among as fails, none_from_among as none_passes}
 pub use Rattle.vt_spec.proofs.Found.{is_among_left}
 pub use Rattle.vt_spec.proofs.Found.{is_among_right}
+pub use Rattle.vt_spec.proofs.Found.{filter_all}
+pub use Rattle.vt_spec.proofs.Found.{filter_alike}
 
 module _ {A : Type 0} where
   -- what is found is there and passes
@@ -46,23 +48,10 @@ module _ {A : Type 0} where
       by others false e n next =
           ⊎_elim (λ same. absurd (true≢false (sym (eq-eqb (number x) (number first) (ap number same)) ∙ e))) next n
 
-  -- a filter that all pass takes nothing
-  pub filter_all : (p : A → Bool) (xs : List A) → ((x : A) → Among x xs → p x ≡ true) → filter p xs ≡ xs
-  filter_all p [] h = refl
-  filter_all p (y ∷ ys) h = filter_here p y ys (h y (inl refl))
-      ∙ ap (λ rest. y ∷ rest) (filter_all p ys (λ x m. h x (inr m)))
-
   -- a filter that none passes leaves nothing
   pub nothing_passes : (p : A → Bool) (xs : List A) → ((x : A) → Among x xs → p x ≡ false) → filter p xs ≡ []
   nothing_passes p [] h = refl
   nothing_passes p (y ∷ ys) h = filter_skip p y ys (h y (inl refl)) ∙ nothing_passes p ys (λ x m. h x (inr m))
-
-  -- two tests that agree on a list keep the same of it
-  pub filter_alike : (p q : A → Bool) (xs : List A) → ((x : A) → Among x xs → p x ≡ q x) → filter p xs ≡ filter q xs
-  filter_alike p q [] h = refl
-  filter_alike p q (y ∷ ys) h =
-      ap (λ b. cond b (y ∷ filter p ys) (filter p ys)) (h y (inl refl))
-      ∙ ap (λ rest. cond (q y) (y ∷ rest) rest) (filter_alike p q ys (λ x m. h x (inr m)))
 
   pub filter_twice : (p q r : A → Bool) → ((x : A) → r x ≡ (q x && p x)) → (xs : List A)
       → filter p (filter q xs) ≡ filter r xs

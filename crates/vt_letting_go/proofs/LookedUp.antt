@@ -4,8 +4,9 @@ use Rattle.vt_spec.specs.Machine.Mounts.{Mount, mount_in}
 use Rattle.vt_spec.specs.Machine.Settled.{filesystem_lives, is_located, mount_lives}
 use Rattle.vt_spec.specs.Machine.World.{Filesystem, mount_numbered, with_mounts}
 use Rattle.vt_letting_go.specs.OneByOne.{FilesystemIsLookedUp, MountIsLookedUp, is_filesystem_used, is_mount_used, let_go_filesystem, let_go_mount, without_filesystem, without_mount}
-use Rattle.vt_letting_go.proofs.Lists.{Among, filter_alike, filter_all}
+use Rattle.vt_letting_go.proofs.Lists.{Among}
 use Rattle.vt_letting_go.proofs.PlacesLeft.{found_itself}
+use Rattle.vt_spec.proofs.Found.{filter_alike, filter_all}
 
 kept_used : (same lives : Bool) → (same ≡ true → lives ≡ true) → (not same || lives) ≡ true
 kept_used true lives h = h refl

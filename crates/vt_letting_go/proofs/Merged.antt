@@ -9,8 +9,10 @@ use Rattle.vt_spec.specs.Machine.Settled.{named_in, only_used_by, only_used_of, 
 use Rattle.vt_spec.specs.Machine.World.{Filesystem, Overlay}
 use Rattle.vt_spec.specs.Machine.Invariants.{ListsNumbers}
 use Rattle.vt_letting_go.specs.Overlays.{real_in}
-use Rattle.vt_letting_go.proofs.Lists.{Among, filter_alike, filter_all, filter_twice, flat_map-filter, flat_map_alike, among_numbers, is_among_numbers, passes}
+use Rattle.vt_letting_go.proofs.Lists.{Among, filter_twice, flat_map-filter, flat_map_alike, among_numbers, is_among_numbers, passes}
 use Rattle.std.proofs.lemmas.Bool.{cases_Bool}
+use Rattle.vt_spec.proofs.Found.{filter_alike, filter_all}
+use Rattle.std.proofs.Math.Bool.{not-not}
 
 -- without the real objects of the inodes that a test names
 abbrev pub reals_without : (ℕ → Bool) → Overlay ℕ → Overlay ℕ
@@ -170,10 +172,6 @@ left_of used filesystem numbers has =
     flipped o true = refl
     flipped o false = refl
 
-    not_not : (b : Bool) → b ≡ not (not b)
-    not_not true = refl
-    not_not false = refl
-
     reals : (o : Option (Overlay ℕ))
         → option_map (real_among nat_eq used) o
         ≡ option_map (reals_without (λ number. not (is_among nat_eq number used))) o
@@ -201,7 +199,7 @@ left_of used filesystem numbers has =
         };
         numbers = filter_alike (λ number. is_among nat_eq number used)
             (λ number. not (not (is_among nat_eq number used))) filesystem.files.numbers
-            (λ number m. not_not (is_among nat_eq number used)) i;
+            (λ number m. sym (not-not (is_among nat_eq number used))) i;
       };
       overlay = reals filesystem.overlay i;
     }

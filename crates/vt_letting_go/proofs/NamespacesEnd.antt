@@ -13,7 +13,8 @@ use Rattle.vt_spec.specs.Machine.Receives.{lost_a_group, regrouped, regrouped_by
 use Rattle.vt_spec.specs.Machine.World.{Namespace, World, mounts_of, with_mounts}
 use Rattle.vt_spec.specs.Machine.Invariants.{is_listed}
 use Rattle.vt_letting_go.specs.Ends.{AddedMountsCount, MountsAreListed, NoNamespaceEnds, OneNamespaceEnds, TooManyIsOfOne, mount_count}
-use Rattle.vt_letting_go.proofs.Lists.{Among, among-from_map, among_numbers, any_passes, fails, filter_alike, filter_all, map_same, none_passes, nothing_passes, passes}
+use Rattle.vt_letting_go.proofs.Lists.{Among, among-from_map, among_numbers, any_passes, fails, map_same, none_passes, nothing_passes, passes}
+use Rattle.vt_spec.proofs.Found.{filter_alike, filter_all}
 
 -- Where nothing is taken away, places stay.
 module _ (world : World ℕ) where

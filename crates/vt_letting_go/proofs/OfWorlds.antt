@@ -1,11 +1,11 @@
 -- What a world is by its conditions.
-use Rattle.std.proofs.Common.{◌≡◌, refl, sym, ap, subst, ◌∙◌, ◌⊎◌, inl, inr, ⊎_elim, ℕ, nat_eq, eqb-true, Bool, true, false, cond, not, ◌&&◌, ◌++◌, List, [], ◌∷◌, find, map, true≢false, Option, Some, None, is_some, option_to_list, unwrap_or}
+use Rattle.std.proofs.Common.{◌≡◌, refl, sym, ap, subst, ◌∙◌, inl, ℕ, nat_eq, eqb-true, Bool, true, false, not, ◌&&◌, ◌++◌, List, find, map, true≢false, Option, Some, None, is_some, option_to_list, unwrap_or}
 use Rattle.std.specs.Prelude.{All}
 use Rattle.std.specs.List.{list_all}
 use Rattle.std.proofs.lemmas.Bool.{and_parts, not-true}
 use Rattle.vt_spec.specs.Lists.{any_pair, holds_of, is_among}
 use Rattle.vt_spec.specs.Machine.Locked.{of_overlay, overlay_or}
-use Rattle.vt_spec.specs.Machine.Mounts.{Location, Mount, mount_in, no_mount}
+use Rattle.vt_spec.specs.Machine.Mounts.{Location, Mount}
 use Rattle.vt_spec.specs.Machine.World.{Filesystem, Layer, Overlay, World, all_locations, filesystem_numbered, is_overlay, layers_of, mount_at, mount_numbered, no_filesystem}
 use Rattle.vt_spec.specs.Machine.Invariants.{IsWorld, ListsNumbers, Stands, is_located_well, is_nowhere_or_attached, is_plain_layer}
 use Rattle.vt_spec.specs.TreeLaws.{IsTree}
@@ -25,20 +25,6 @@ worlds_have_trees world is =
       tree = among_from_all (λ g. IsTree g.files.tree) world.filesystems is.files.trees f m;
       numbers = among_from_all (λ g. ListsNumbers nat_eq g.files) world.filesystems is.files.numbers f m;
     })
-
--- what is found is there, or stands for none
-found_or_none : (mounts : List (Mount ℕ)) (number : ℕ) → Among (mount_in nat_eq mounts number) mounts
-    ⊎ (mount_in nat_eq mounts number ≡ no_mount number)
-found_or_none [] number = inr refl
-found_or_none (first ∷ rest) number = by (nat_eq number first.number) (found_or_none rest number)
-  where
-    by : (b : Bool) → Among (mount_in nat_eq rest number) rest ⊎ (mount_in nat_eq rest number ≡ no_mount number)
-        → Among (unwrap_or (cond b (Some first) (find (λ x. nat_eq number x.number) rest)) (no_mount number))
-        (first ∷ rest)
-        ⊎ (unwrap_or (cond b (Some first) (find (λ x. nat_eq number x.number) rest)) (no_mount number)
-        ≡ no_mount number)
-    by true later = inl (inl refl)
-    by false later = ⊎_elim (λ m. inl (inr m)) inr later
 
 module _ (world : World ℕ) (is : IsWorld nat_eq world) where
   -- a mount with a place is in a namespace

@@ -6,8 +6,9 @@ use Rattle.vt_spec.specs.Machine.Receives.{has_members}
 use Rattle.vt_spec.specs.Machine.Settled.{filesystem_lives, has_layer_on, is_mounted, mount_lives}
 use Rattle.vt_spec.specs.Machine.World.{Filesystem, World, with_mounts}
 use Rattle.vt_letting_go.specs.OneByOne.{FilesystemsGoOneByOne, GroupsGoOneByOne, MountsGoOneByOne, let_go_filesystem, let_go_filesystems, let_go_group, let_go_groups, let_go_mount, let_go_mounts}
-use Rattle.vt_letting_go.proofs.Lists.{any-filter, filter_alike, filter_all, filter_twice, passes}
+use Rattle.vt_letting_go.proofs.Lists.{any-filter, filter_twice, passes}
 use Rattle.std.proofs.Math.Bool.{and-false}
+use Rattle.vt_spec.proofs.Found.{filter_alike, filter_all}
 
 -- one after the other: looked at here, or looked at later
 pub looked_at : (here later lives : Bool)

@@ -230,7 +230,8 @@ module _ (world now : World ℕ) (faded : Faded world now) (gone : List ℕ) whe
         same_place now gone now.namespaces b (faded.change mount) at
         (faded.place mount at e (still_in_one mount here) (still_in_one (mount_at nat_eq world at) there))
         (does_not_go now gone b (faded.change mount) here)
-        (ap (is_going nat_eq gone) (sym (faded.number (mount_at nat_eq world at) ∙ number-mount_in world.mounts at.mount))
+        (ap (is_going nat_eq gone) (sym (faded.number (mount_at nat_eq world at)
+        ∙ number-mount_in world.mounts at.mount))
         ∙ does_not_go now gone b (faded.change (mount_at nat_eq world at)) there);
     nowhere = λ mount m. nowhere_after now gone now.namespaces b (faded.change mount) (faded.nowhere mount m);
     member = λ mount here group is.

@@ -9,6 +9,7 @@ use Rattle.vt_spec.specs.Machine.World.{Filesystem, Layer, Overlay, World, layer
 use Rattle.vt_spec.specs.Machine.World.Real.{Upper}
 use Rattle.vt_letting_go.specs.Counts.{times}
 use Rattle.vt_letting_go.specs.Overlays.{OneUpperUseLess, without_inode_of, without_real}
+use Rattle.std.proofs.Math.Nat.{add_assoc}
 
 zero_first : (n : ℕ) → n ≡ 0 + n
 zero_first n = omega arith
@@ -18,10 +19,7 @@ module _ {A : Type 0} where
   times_append test [] ys = zero_first (times test ys)
   times_append test (x ∷ xs) ys =
       ap (λ n. cond (test x) 1 0 + n) (times_append test xs ys)
-      ∙ again (cond (test x) 1 0) (times test xs) (times test ys)
-    where
-      again : (x y z : ℕ) → x + (y + z) ≡ (x + y) + z
-      again x y z = omega arith
+      ∙ sym (add_assoc (cond (test x) 1 0) (times test xs) (times test ys))
 
 module _ {A B : Type 0} where
   flat_map_one : (g : A → List B) (front back : List A) (x y : A) → g x ≡ g y
@@ -42,11 +40,8 @@ module _ {A B : Type 0} where
   times_one test g (z ∷ front) back x y less e =
       times_append test (g z) (flat_map g (front ++ (x ∷ back)))
       ∙ ap (λ n. times test (g z) + n) (times_one test g front back x y less e)
-      ∙ over (times test (g z)) (times test (flat_map g (front ++ (y ∷ back)))) less
+      ∙ sym (add_assoc (times test (g z)) (times test (flat_map g (front ++ (y ∷ back)))) less)
       ∙ ap (λ n. n + less) (sym (times_append test (g z) (flat_map g (front ++ (y ∷ back)))))
-    where
-      over : (a b c : ℕ) → a + (b + c) ≡ (a + b) + c
-      over a b c = omega arith
 
 -- upper objects, with and without one inode
 module _ (overlay : Overlay ℕ) (inode object number : ℕ) (upper : overlay.real inode ≡ Some (Upper object)) where
@@ -111,16 +106,13 @@ module _ (overlay : Overlay ℕ) (inode object number : ℕ) (upper : overlay.re
           differ false f = f
           differ true f = absurd (true≢false (sym (eq-eqb k inode (sym (eqb-true inode k f))) ∙ same))
 
-          over : (x r t : ℕ) → x + (r + t) ≡ (x + r) + t
-          over x r t = omega arith
-
           kept : (o : Option ℕ) → times (nat_eq number) (cons_option o (filter_map before numbers))
               ≡ times (nat_eq number) (cons_option o (left numbers)) + cond b (times (nat_eq inode) numbers) 0
           kept None = later
           kept (Some x) =
               ap (λ n. cond (nat_eq number x) 1 0 + n) later
-              ∙ over (cond (nat_eq number x) 1 0) (times (nat_eq number) (left numbers))
-              (cond b (times (nat_eq inode) numbers) 0)
+              ∙ sym (add_assoc (cond (nat_eq number x) 1 0) (times (nat_eq number) (left numbers))
+              (cond b (times (nat_eq inode) numbers) 0))
 
 pub one_upper_use_less : OneUpperUseLess
 one_upper_use_less world front back merged overlay layer inode object all is upper real once filesystem number =

@@ -7,6 +7,7 @@ use Rattle.vt_spec.specs.Machine.Settled.{used_in}
 use Rattle.vt_spec.specs.Machine.World.{all_locations}
 use Rattle.vt_letting_go.specs.Counts.{LocatedWhileCounted, MountedWhileCounted, OneMountLess, OneUseLess, UsedWhileCounted, times}
 use Rattle.vt_spec.proofs.Truths.{as_many_with_none, one_more_is_some}
+use Rattle.std.proofs.Math.Nat.{add_assoc}
 
 module _ {A : Type 0} where
   any_counted : (test : A → Bool) (list : List A) → list_any test list ≡ nat_lt 0 (times test list)
@@ -23,11 +24,7 @@ module _ {A : Type 0} where
   one_less test [] back a = omega arith
   one_less test (b ∷ front) back a =
       ap (λ n. cond (test b) 1 0 + n) (one_less test front back a)
-      ∙ again (cond (test b) 1 0) (times test (front ++ back))
-      (cond (test a) 1 0)
-    where
-      again : (x y z : ℕ) → x + (y + z) ≡ (x + y) + z
-      again x y z = omega arith
+      ∙ sym (add_assoc (cond (test b) 1 0) (times test (front ++ back)) (cond (test a) 1 0))
 
 pub located_while_counted : LocatedWhileCounted
 located_while_counted world number = any_counted (λ location. nat_eq number location.mount) (all_locations world)

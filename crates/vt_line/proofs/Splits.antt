@@ -1,5 +1,5 @@
 -- Loops over a split, and what is read of each part.
-use Rattle.std.proofs.Common.{◌≡◌, ℕ, suc, eqb, ◌+◌, ◌≤◌, ◌<◌, get_or, List, [], ◌∷◌, length, drop, Option, None, Some, Result, Ok, Err, IfSome, OnErr, is_some, true, false, refl, subst, sym, ap, ◌∙◌, arith}
+use Rattle.std.proofs.Common.{◌≡◌, ℕ, suc, eqb, ◌+◌, ◌≤◌, ◌<◌, get_or, List, [], ◌∷◌, length, drop, Option, None, Some, Result, Ok, Err, IfSome, OnErr, is_some, true, refl, subst, sym, ap, ◌∙◌, arith}
 use Rattle.std.proofs.lemmas.List.{at_drop_more, at_drop_all}
 use Rattle.std.proofs.lemmas.Iterator.{YieldsList}
 use Rattle.std.proofs.lemmas.Iterator.Adapters.{YieldsList-from_skip}
@@ -67,11 +67,6 @@ pub each_of-goes : {A B : Type 0} (read : A → Option B) (xs : List A) (n : ℕ
     → is_some (each_of read (drop n xs)) ≡ is_some (each_of read (drop (n + 1) xs))
 each_of-goes read xs n x h e =
     ap is_some (each_of-more read xs n x h) ∙ some_first (read x) (each_of read (drop (n + 1) xs)) e
-
--- what cannot be read is nothing
-pub is_none : {A : Type 0} (a : Option A) → is_some a ≡ false → a ≡ None
-is_none None e = refl
-is_none (Some a) e = cc
 
 -- all that were read are as many
 first-length : {A : Type 0} (a : Option A) (rest : Option (List A)) (all : List A) → with_first a rest ≡ Some all

@@ -12,6 +12,7 @@ use Rattle.vt_spec.specs.PathText.{parts, with_byte, is_empty}
 use Rattle.vt_spec.specs.Language.Script.{each_of, is_plain, is_silent, raw_tokens, is_silent_token, spelled, token_text, with_completed, with_first}
 use Rattle.vt_spec.specs.Language.Script.Reading.{AfterBackslash, Between, Failed}
 use Rattle.vt_line.specs.Tokens.{cut, few_texts}
+use Rattle.std.proofs.lemmas.Bool.{and_parts, false≢true}
 
 -- the parts of a text are those of a split
 with_byte-onto_first : (byte : ℕ) (texts : List (List ℕ)) → with_byte false byte texts ≡ onto_first byte texts
@@ -107,10 +108,6 @@ tokens-length (byte ∷ bytes) =
 abbrev pub all_plain : List ℕ → Bool
 all_plain text = list_all is_plain text
 
-both : (a b : Bool) → (a && b) ≡ true → (a ≡ true) × (b ≡ true)
-both true b e = (refl, e)
-both false b e = cc
-
 plain-step : (plain escape : Bool) (byte : ℕ) (bytes : List ℕ) → plain ≡ true → escape ≡ false →
     spelled Between bytes ≡ Some bytes →
     with_completed (cond plain (Some byte) None)
@@ -128,18 +125,16 @@ not_escape false b true e = cc
 plain-spelled : (token : List ℕ) → all_plain token ≡ true → spelled Between token ≡ Some token
 plain-spelled [] e = refl
 plain-spelled (byte ∷ bytes) e =
-    let parts = both (is_plain byte) (all_plain bytes) e in
+    let parts = and_parts (is_plain byte) (all_plain bytes) e in
     plain-step (is_plain byte) (eqb byte 92) byte bytes parts.0
     (not_escape (leb 33 byte) (leb byte 126) (eqb byte 92) parts.0) (plain-spelled bytes parts.1)
-
-not_all : false ≡ true → ⊥
-not_all e = cc
 
 plain-text : (token : List ℕ) → all_plain token ≡ true → token_text token ≡ Some token
 plain-text token e = by_test (bytes_eq token (codes "\\e")) refl where
   by_test : (test : Bool) → bytes_eq token (codes "\\e") ≡ test → cond test (Some []) (spelled Between token) ≡ Some token
   by_test false f = plain-spelled token e
-  by_test true f = absurd (not_all (subst (λ text. all_plain text ≡ true) ((bytes_eq-Decides token (codes "\\e")).0 f) e))
+  by_test true f =
+      absurd (false≢true (subst (λ text. all_plain text ≡ true) ((bytes_eq-Decides token (codes "\\e")).0 f) e))
 
 plain-parts : (is_space : Bool) (byte : ℕ) (texts : List (List ℕ)) → list_all all_plain texts ≡ true
     → (is_space || is_plain byte) ≡ true
@@ -147,7 +142,7 @@ plain-parts : (is_space : Bool) (byte : ℕ) (texts : List (List ℕ)) → list_
 plain-parts true byte texts e f = e
 plain-parts false byte [] e f = ap (λ plain. (plain && true) && true) f
 plain-parts false byte (part ∷ rest) e f =
-    let parts = both (all_plain part) (list_all all_plain rest) e in
+    let parts = and_parts (all_plain part) (list_all all_plain rest) e in
     ap (λ plain. (plain && all_plain part) && list_all all_plain rest) f
     ∙ ap (λ plain. (true && plain) && list_all all_plain rest) parts.0 ∙ parts.1
 
@@ -155,7 +150,7 @@ line-parts : (line : List ℕ) → list_all (λ byte. eqb byte 32 || is_plain by
     → list_all all_plain (parts 32 line) ≡ true
 line-parts [] e = refl
 line-parts (byte ∷ bytes) e =
-    let halves = both (eqb byte 32 || is_plain byte) (list_all (λ byte. eqb byte 32 || is_plain byte) bytes) e in
+    let halves = and_parts (eqb byte 32 || is_plain byte) (list_all (λ byte. eqb byte 32 || is_plain byte) bytes) e in
     plain-parts (eqb byte 32) byte (parts 32 bytes) (line-parts bytes halves.1) halves.0
 
 plain-texts : (texts : List (List ℕ)) → list_all all_plain texts ≡ true
@@ -164,7 +159,7 @@ plain-texts : (texts : List (List ℕ)) → list_all all_plain texts ≡ true
 plain-texts [] e = refl
 plain-texts ([] ∷ rest) e = plain-texts rest e
 plain-texts ((byte ∷ bytes) ∷ rest) e =
-    let halves = both (all_plain (byte ∷ bytes)) (list_all all_plain rest) e in
+    let halves = and_parts (all_plain (byte ∷ bytes)) (list_all all_plain rest) e in
     ap (λ first. with_first first (each_of token_text (filter (λ part. not (is_empty part)) rest)))
     (plain-text (byte ∷ bytes) halves.0)
     ∙ ap (with_first (Some (byte ∷ bytes))) (plain-texts rest halves.1)

@@ -1,6 +1,6 @@
 -- Task names and capabilities.
 use Rattle.std.proofs.Common.{◌≡◌, ℕ, zero, suc, Bool, true, false, cond, List, [], ◌∷◌, codes, drop, is_some, IsSome, length, length-drop, Option, Some, None, option_map, refl, sym, ap, ◌∙◌, arith, nat_eq, eqb, leb, ltb, ◌≤◌, ◌<◌, ◌&&◌, subst, lit<}
-use Rattle.std.proofs.lemmas.Bool.{ltb-true}
+use Rattle.std.proofs.lemmas.Bool.{ltb-true, and_parts, false≢true}
 use Rattle.std.proofs.lemmas.List.{drop_all}
 use Rattle.std.specs.Bool.{then_some}
 use Rattle.std.specs.List.{list_all}
@@ -101,10 +101,6 @@ find_name-capability (byte ∷ bytes) =
     (named_or _ _ 64 _ _ (pointwise-flip (codes "CAP_SYS_CHROOT") name)
     (named_or _ _ 128 _ _ (pointwise-flip (codes "CAP_SYS_ADMIN") name) refl)))))))
 
-both-true : (a b : Bool) → (a && b) ≡ true → (a ≡ true) × (b ≡ true)
-both-true true b e = (refl, e)
-both-true false b e = cc
-
 none_or : (a : Bool) (set : ℕ) (rest : Option ℕ) → a ≡ false → rest ≡ None → cond a (Some set) rest ≡ None
 none_or true set rest e f = cc
 none_or false set rest e f = f
@@ -117,8 +113,8 @@ not_the_name name other not_text is_text = by_test (bytes_eq name other) refl wh
 
 ascii-all : (text : List ℕ) → list_all (λ byte. ltb byte 128) text ≡ true → IsAscii text
 ascii-all [] e i = lit< tt
-ascii-all (byte ∷ bytes) e zero = ltb-true _ _ (both-true (ltb byte 128) _ e).0
-ascii-all (byte ∷ bytes) e (suc i) = ascii-all bytes (both-true (ltb byte 128) _ e).1 i
+ascii-all (byte ∷ bytes) e zero = ltb-true _ _ (and_parts (ltb byte 128) _ e).0
+ascii-all (byte ∷ bytes) e (suc i) = ascii-all bytes (and_parts (ltb byte 128) _ e).1 i
 
 ascii_text : (text : List ℕ) → list_all (λ byte. ltb byte 128) text ≡ true → IsUtf8 text
 ascii_text text e = IsUtf8-from_ascii text (ascii-all text e)
@@ -159,10 +155,6 @@ groups_word-wrong text some wrong =
     groups_word-parts text some
     ∙ none-either (leb (length (parts 44 text)) 32) (each_of identity_word (parts 44 text)) wrong
 
--- whether words are left
-not_some : false ≡ true → ⊥
-not_some e = cc
-
 pub words_end : {A : Type 0} (all left : List A) (at : ℕ) (size : ℕ) (ended : Option (Unit {0}))
     → ended ≡ then_some (leb size at) tt → size ≡ length all
     → drop at all ≡ left → (IsSome ended → left ≡ []) × (left ≡ [] → IsSome ended)
@@ -175,7 +167,7 @@ words_end all left at size ended is count rest = by_test (leb size at) refl is w
   by_test false e is =
       let within : at < length all = grind (arith, nat_tests) in
       let size = length-drop at all in (
-        λ some. absurd (not_some (ap is_some (sym is) ∙ some)),
+        λ some. absurd (false≢true (ap is_some (sym is) ∙ some)),
         λ none.
             absurd (let e = ap length (rest ∙ none) in omega (arith, within, size, e)),
       )

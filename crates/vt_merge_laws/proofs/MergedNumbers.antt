@@ -31,6 +31,7 @@ use Rattle.vt_layer_laws.proofs.UpperWorld.{all_found, overlay_found, overlay_la
 use Rattle.vt_overlay_laws.proofs.WholeParts.{shown_is_there}
 use Rattle.std.proofs.lemmas.Option.{same_Some}
 use Rattle.vt_spec.proofs.Options.{none_is_some}
+use Rattle.vt_spec.proofs.Worlds.{nothing_is_no_object}
 
 -- a merged inode is its real object, with a parent and entries of its own
 same_filled : (parent : ℕ) (entries : Entries ℕ) (content shown : Content ℕ) → same_content content shown ≡ true
@@ -175,14 +176,10 @@ module _ (number_of : Real ℕ → ℕ) (held : ℕ → Option (Real ℕ)) (worl
       → option_map number_of (overlay.real number) ≡ Some number
   numbered number there = by (overlay.real number) refl (is.merged.real_objects number)
     where
-      none : (node : Option (Node ℕ)) → is_some node ≡ true → SameObject node None → ⊥
-      none None t same = true≢false (sym t)
-      none (Some node) t same = same
-
       by : (o : Option (Real ℕ)) → overlay.real number ≡ o
           → SameObject (filesystem.files.tree.node number) (then_some o (real_node nat_eq world overlay))
           → option_map number_of o ≡ Some number
-      by None e same = absurd (none (filesystem.files.tree.node number) there same)
+      by None e same = absurd (nothing_is_no_object (filesystem.files.tree.node number) there same)
       by (Some object) e same = ap Some (sym (named.numbered number object e))
 
   pub numbers_are_shown : (path : List (List ℕ)) → at path ≡ number_shown number_of world overlay path

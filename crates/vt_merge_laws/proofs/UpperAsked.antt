@@ -6,7 +6,6 @@ use Rattle.vt_spec.specs.Lists.{then_some}
 use Rattle.vt_spec.specs.Machine.CopyUp.{Merge, Stack}
 use Rattle.vt_spec.specs.Machine.Invariants.{SameObject, number_at_path}
 use Rattle.vt_spec.specs.Machine.World.{Real}
-use Rattle.vt_spec.specs.Tree.{Node}
 use Rattle.vt_spec.specs.TreeLaws.{entry_at}
 use Rattle.vt_spec.proofs.Trees.{led-append}
 use Rattle.vt_layer_laws.proofs.ShownDirectories.{last_of}
@@ -22,6 +21,7 @@ use Rattle.vt_merge_laws.specs.UpperCalls.Asks.{copies, links, makes, moves, rem
 use Rattle.vt_merge_laws.specs.UpperCalls.ChangeAt.{AttrAt, BytesAt, CopyAt, LinkAt, MakeAt, MoveAt, RemoveAt}
 use Rattle.std.proofs.lemmas.Option.{same_Some}
 use Rattle.vt_spec.proofs.Options.{none_is_some}
+use Rattle.vt_spec.proofs.Worlds.{nothing_is_no_object}
 
 module _ (stack : Stack ℕ) (merge : Merge ℕ) (whole : IsWhole stack merge) where
   -- what is there has a real object,
@@ -29,14 +29,10 @@ module _ (stack : Stack ℕ) (merge : Merge ℕ) (whole : IsWhole stack merge) w
       → (real : Real ℕ) × (merge.real object ≡ Some real)
   real_of object there = by (merge.real object) refl (whole.shown.real_objects object)
     where
-      none : (node : Option (Node ℕ)) → is_some node ≡ true → SameObject node None → ⊥
-      none None t same = true≢false (sym t)
-      none (Some node) t same = same
-
       by : (o : Option (Real ℕ)) → merge.real object ≡ o
           → SameObject (merge.files.tree.node object) (then_some o (inode_behind stack merge))
           → (real : Real ℕ) × (merge.real object ≡ Some real)
-      by None e same = absurd (none (merge.files.tree.node object) there same)
+      by None e same = absurd (nothing_is_no_object (merge.files.tree.node object) there same)
       by (Some real) e same = (real, e)
 
   -- what has no name, and is not the root, has no path,

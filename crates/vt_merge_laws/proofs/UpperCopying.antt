@@ -33,22 +33,7 @@ use Rattle.vt_spec.specs.Tree.Content.{Directory, Regular, Symlink, Whiteout}
 use Rattle.std.proofs.lemmas.List.{length-reverse}
 use Rattle.std.proofs.lemmas.Option.{same_Some}
 use Rattle.vt_spec.proofs.Options.{none_is_some}
-
--- some copies and then others
-copied_then : (fresh : Fresh ℕ) (k : ℕ) (merge : Merge ℕ) (list : List ℕ) (last : ℕ)
-    → copied_each nat_eq fresh k merge (list ++ last ∷ [])
-    ≡ copy_of nat_eq (copied_each nat_eq fresh k merge list) last (fresh (k + length list))
-    ((copied_each nat_eq fresh k merge list).files.tree.node last)
-    (is_in_upper (copied_each nat_eq fresh k merge list) last)
-copied_then fresh k merge [] last = ap
-    (λ n. copy_of nat_eq merge last (fresh n) (merge.files.tree.node last) (is_in_upper merge last))
-    (let h : k ≡ k + 0 = omega arith in h)
-copied_then fresh k merge (object ∷ list) last =
-    let one = copy_of nat_eq merge object (fresh k) (merge.files.tree.node object) (is_in_upper merge object) in
-    let all = copied_each nat_eq fresh (k + 1) one list in
-    copied_then fresh (k + 1) one list last
-    ∙ ap (λ n. copy_of nat_eq all last (fresh n) (all.files.tree.node last) (is_in_upper all last))
-    (let h : (k + 1) + length list ≡ k + suc (length list) = omega arith in h)
+use Rattle.vt_layer_laws.proofs.CopyingLast.{copied_one_more}
 
 module _ (files : FileTree ℕ) (tree : IsTree files.tree) (numbers : ListsNumbers nat_eq files) where
   -- the directories above one are as many as there are steps to it
@@ -148,7 +133,7 @@ module _ (fresh : Fresh ℕ) (stack : Stack ℕ) (merge : Merge ℕ) (whole : Is
       let entry = named_so merge.files whole.tree object name e in
       let reached = is_reached_in merge.files whole.tree name.0 name.1 object entry in
       ap (λ o. copied_each nat_eq fresh 0 merge (line_by nat_eq merge.files object o)) e
-      ∙ copied_then fresh 0 merge (directories_to nat_eq merge.files name.0) object
+      ∙ copied_one_more fresh 0 merge (directories_to nat_eq merge.files name.0) object
       ∙ ap (λ n. by (copied_each nat_eq fresh 0 merge (directories_to nat_eq merge.files name.0)) n)
       (let h : 0 + length (directories_to nat_eq merge.files name.0) ≡ length
       (directories_to nat_eq merge.files name.0) = omega arith in h)

@@ -140,7 +140,8 @@ module _ (fresh : Fresh ℕ) (distinct : (j k : ℕ) → fresh j ≡ fresh k →
   still_new : (j : ℕ) → length path < j → one_more.tree.node (fresh j) ≡ None
   still_new j h =
       none_from_not_some _
-      (part-changed_node is_some (with_inode nat_eq before copy (copy_node parent node)) parent (node_with_entry name copy)
+      (part-changed_node is_some (with_inode nat_eq before copy (copy_node parent node)) parent
+      (node_with_entry name copy)
       (is_some-node_with_entry name copy) (fresh j)
       ∙ ap is_some (node_other before.tree copy (Some (copy_node parent node)) (fresh j)
       (λ e. let same = distinct j (length path) e in let no : ⊥ = omega (arith, same, h) in no)

@@ -137,7 +137,8 @@ module _ (test : Mount → Bool) where
           let here : id ≡ one.0 = same_mount_id id one.0 (sym is) in
           let held : one.1 ≡ x = cc in
           let wrong : passes test one ≡ false = (λ i. test (mount_kept (sym here i) (held i))) ∙ fails in
-          let rest = absent-others id kept (ap (λ n. found n kept) here ∙ below-none one.0 kept (T_and_left _ _ rising)) in
+          let rest = absent-others id kept (ap (λ n. found n kept) here
+          ∙ below-none one.0 kept (T_and_left _ _ rising)) in
           ap (λ b. others id (cond b (one.0 ∷ numbers_where test kept) (numbers_where test kept))) wrong
           ∙ rest
           ∙ sym (ap (λ b. cond b (one.0 ∷ numbers_where test kept) (numbers_where test kept)) wrong)
@@ -166,7 +167,8 @@ module _ (test : Mount → Bool) where
       → lacks id (numbers_where test kept)
   lacks-above id [] above = refl
   lacks-above id (one ∷ kept) above =
-      ap (others id) (cons-numbers test one kept) ∙ by (passes test one) (lacks-above id kept (and_true_right _ _ above))
+      ap (others id) (cons-numbers test one kept)
+      ∙ by (passes test one) (lacks-above id kept (and_true_right _ _ above))
       ∙ sym (cons-numbers test one kept)
     where
       apart : same_id one.0 id ≡ false

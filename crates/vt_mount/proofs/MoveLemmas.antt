@@ -133,7 +133,8 @@ module _ (id : MountId) where
               (numbers_where test (map (change_kept id change) kept)))
               (ap (λ s. test (mount_kept one.0 (cond s (change one.1) one.1))) (sym is) ∙ always one.0 one.1))
           by false is there rest =
-              stays (turned one.0 id ∙ sym is) (found-above one.0 x kept (T_and_left _ _ rising) there) (passes test one)
+              stays (turned one.0 id
+              ∙ sym is) (found-above one.0 x kept (T_and_left _ _ rising) there) (passes test one)
               ∙ ap (λ l. cond (passes test one) (one.0 ∷ l) l) (rest there)
               ∙ sym (ap (λ s. cond (test (mount_kept one.0 (cond s (change one.1) one.1)))
               (one.0 ∷ numbers_where test (map (change_kept id change) kept))

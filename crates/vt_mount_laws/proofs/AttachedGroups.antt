@@ -17,7 +17,7 @@ use Rattle.vt_mount_laws.proofs.GroupsKept.{found_passes, member_shared, shared_
 use Rattle.vt_mount_laws.proofs.GroupsUp.{LivesIn, Up, groups_live_by, lives_in, way_up}
 use Rattle.vt_spec.specs.Machine.Invariants.Lives.{has_master, has_no_master}
 use Rattle.vt_mount_laws.proofs.GroupsUp.Up.{above, here}
-use Rattle.vt_mount_laws.proofs.MountsFound.{found_or_none}
+use Rattle.vt_spec.proofs.Worlds.{found_or_none}
 
 module _ (world : World ℕ) (new : Copies ℕ) (place : Location ℕ) (moves : Bool) (mounts : List (Mount ℕ)) where
   -- the type of the copy of a mount at a part

@@ -12,10 +12,10 @@ use Rattle.vt_mount_laws.proofs.AttachedTypes.{copies_arrive, copies_there, memb
 use Rattle.vt_mount_laws.proofs.BindsStand.{bind_there_or_source}
 use Rattle.vt_mount_laws.proofs.GroupsUp.{LivesIn, lives_in}
 use Rattle.vt_mount_laws.proofs.MountsAttached.{supplied}
-use Rattle.vt_mount_laws.proofs.MountsFound.{found_or_none, found_there}
+use Rattle.vt_mount_laws.proofs.MountsFound.{found_there}
 use Rattle.vt_mount_laws.proofs.MountsNumbered.{supplies_serve_as_images}
-use Rattle.vt_mount_laws.proofs.MountsReplaced.{tree_among}
 use Rattle.vt_mount_laws.proofs.Standing.{binds_take_each_once, trees_have_each_once}
+use Rattle.vt_spec.proofs.Worlds.{found_or_none, tree_among}
 
 bind_sourced : (world : World ℕ) (source : Location ℕ) (recursive : Bool) → GroupsLive world → (origin : Mount ℕ)
     → Among origin (bind_tree nat_eq world source recursive)

@@ -16,11 +16,11 @@ use Rattle.vt_mount_laws.specs.Mounts.Conditions.{NowhereOrAttached}
 use Rattle.vt_mount_laws.specs.Mounts.Copies.{ServeAsCopies}
 use Rattle.vt_mount_laws.specs.Mounts.Standing.{AllStand}
 use Rattle.vt_mount_laws.proofs.MountsAttached.{found_attached, none_pushes, push_keeps}
-use Rattle.vt_mount_laws.proofs.MountsFound.{found_in, found_or_none, found_there, placed_among}
+use Rattle.vt_mount_laws.proofs.MountsFound.{found_in, found_there, placed_among}
 use Rattle.vt_mount_laws.proofs.MountsNumbered.{copies_keep_numbers, is_one_of, same_origin}
 use Rattle.vt_mount_laws.proofs.MountsPlaces.{stands_there}
 use Rattle.vt_mount_laws.proofs.MountsReplaced.{found_itself}
-use Rattle.vt_spec.proofs.Worlds.{number-mount_in}
+use Rattle.vt_spec.proofs.Worlds.{number-mount_in, found_or_none}
 
 -- A list of mounts is a tree: its first is the top, and each other one stands on one of them
 pub data Hangs (mounts : List (Mount ℕ)) : ℕ → Type 0 where

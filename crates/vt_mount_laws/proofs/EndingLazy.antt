@@ -13,7 +13,6 @@ use Rattle.vt_mount_laws.specs.Mounts.Conditions.{NowhereOrAttached}
 use Rattle.vt_mount_laws.specs.Mounts.Ending.{LazyUnmountKeepsMounts}
 use Rattle.vt_mount_laws.proofs.Ending.{unmount_keeps_mounts}
 use Rattle.vt_mount_laws.proofs.EndingOrder.{AreDeepestFirst, in_order, is_itself, is_taken_in_turn, lies_in_it, taken_in_turn}
-use Rattle.vt_mount_laws.proofs.MountsFound.{found_or_none}
 use Rattle.vt_mount_laws.proofs.MountsReplaced.{found_itself}
 use Rattle.vt_mount_laws.proofs.Standing.{LiesIn, depth_by_rank, further_in, rank, rank_child}
 use Rattle.vt_mount_laws.proofs.Standing.LiesIn.{itself, under}
@@ -21,6 +20,7 @@ use Rattle.vt_mount_laws.proofs.Unmounting.{detached_by_number, root_stays, take
 use Rattle.vt_mount_laws.proofs.UnmountingEnds.{the_mount_itself_goes}
 use Rattle.vt_mount_laws.proofs.UnmountingPlaces.{Falls, stood}
 use Rattle.vt_mount_laws.proofs.UnmountingPlaces.Falls.{direct, down}
+use Rattle.vt_spec.proofs.Worlds.{found_or_none}
 
 -- a mount outside every namespace has no place
 no_place_outside : (world : World ℕ) → NowhereOrAttached world → (number : ℕ)

@@ -11,11 +11,11 @@ use Rattle.vt_mount_laws.specs.Mounts.Attaching.{numbers_of}
 use Rattle.vt_mount_laws.specs.Mounts.Conditions.{OneNumberEach}
 use Rattle.vt_mount_laws.specs.Mounts.Standing.{AllStand}
 use Rattle.vt_mount_laws.proofs.MountsFound.{placed_among}
-use Rattle.vt_mount_laws.proofs.MountsReplaced.{found_itself, tree_among}
+use Rattle.vt_mount_laws.proofs.MountsReplaced.{found_itself}
 use Rattle.vt_mount_laws.proofs.Standing.{LiesIn, lies_in_tree, standing_is_computed}
 use Rattle.vt_mount_laws.proofs.Standing.LiesIn.{itself, under}
 use Rattle.vt_mount_laws.proofs.UnmountingTrees.{trees_closed}
-use Rattle.vt_spec.proofs.Worlds.{number-mount_in}
+use Rattle.vt_spec.proofs.Worlds.{number-mount_in, tree_among}
 
 module _ (world : World ℕ) where
   -- the list begins with its deepest, and so does what follows

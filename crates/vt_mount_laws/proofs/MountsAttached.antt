@@ -10,11 +10,11 @@ use Rattle.vt_spec.specs.Lists.{folded, rest_of, Fresh, is_among}
 use Rattle.std.specs.Prelude.{if◌then◌else◌}
 use Rattle.std.proofs.lemmas.Bool.{or_parts}
 use Rattle.vt_spec.proofs.Lists.{Among, among-from_map, among-map, none_among}
-use Rattle.vt_mount_laws.proofs.MountsReplaced.{found-append, found-with_mount_other, numbers-with_mount, found_itself, related-with_mount, tree_among}
+use Rattle.vt_mount_laws.proofs.MountsReplaced.{found-append, found-with_mount_other, numbers-with_mount, found_itself, related-with_mount}
 use Rattle.vt_mount_laws.proofs.MountsFound.{found-map, numbers-map}
 use Rattle.vt_spec.specs.Machine.Outcome.Mounting.{moved_tree}
 use Rattle.vt_spec.proofs.Truths.{nat_eq_false_turned}
-use Rattle.vt_spec.proofs.Worlds.{number-mount_in}
+use Rattle.vt_spec.proofs.Worlds.{number-mount_in, tree_among}
 
 -- a test that no element passes finds none
 none_found : {A : Type 0} (test : A → Bool) (xs : List A) → list_any test xs ≡ false → find test xs ≡ None

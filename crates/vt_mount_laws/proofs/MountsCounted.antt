@@ -1,5 +1,5 @@
 -- How many mounts a namespace has, and how many root mounts.
-use Rattle.std.proofs.Common.{◌≡◌, refl, sym, ap, ◌∙◌, true, false, nat_eq, ℕ, Bool, List, [], cond, filter, inl, inr, is_some, length, map, not, ◌∷◌}
+use Rattle.std.proofs.Common.{◌≡◌, refl, sym, ap, ◌∙◌, true, false, nat_eq, ℕ, Bool, List, [], filter, inl, inr, is_some, length, map, not, ◌∷◌}
 use Rattle.std.proofs.lemmas.List.{length-map}
 use Rattle.vt_spec.proofs.Lists.{Among, among-from_filter, filter_here, filter_skip}
 use Rattle.vt_spec.specs.Lists.{holds_of}
@@ -22,19 +22,6 @@ filter-map later p f (y ∷ ys) same =
         ∙ ap (map f) (sym (filter_here p y ys e))
     by false e here rest =
         filter_skip later (f y) (map f ys) (here ∙ e) ∙ rest ∙ ap (map f) (sym (filter_skip p y ys e))
-
-pub filter_all : {A : Type 0} (p : A → Bool) (xs : List A) → ((x : A) → Among x xs → p x ≡ true) → filter p xs ≡ xs
-filter_all p [] all = refl
-filter_all p (y ∷ ys) all =
-    filter_here p y ys (all y (inl refl)) ∙ ap (λ l. y ∷ l) (filter_all p ys (λ x m. all x (inr m)))
-
--- two tests that agree on a list
-pub filter_alike : {A : Type 0} (p q : A → Bool) (xs : List A) → ((x : A) → Among x xs → p x ≡ q x)
-    → filter p xs ≡ filter q xs
-filter_alike p q [] same = refl
-filter_alike p q (y ∷ ys) same =
-    ap (λ b. cond b (y ∷ filter p ys) (filter p ys)) (same y (inl refl))
-    ∙ ap (λ l. cond (q y) (y ∷ l) l) (filter_alike p q ys (λ x m. same x (inr m)))
 
 abbrev pub is_in : ℕ → Mount ℕ → Bool
 is_in namespace mount = holds_of (nat_eq namespace) mount.namespace

@@ -1,5 +1,5 @@
 -- Mounts found by their numbers.
-use Rattle.std.proofs.Common.{◌≡◌, refl, sym, ap, subst, ◌∙◌, ◌⊎◌, inl, inr, ⊎_elim, ℕ, nat_eq, Bool, true, false, cond, List, [], ◌∷◌, map, true≢false, None, Some, find, is_some, ◌||◌}
+use Rattle.std.proofs.Common.{◌≡◌, refl, sym, ap, subst, ◌∙◌, inl, inr, ⊎_elim, ℕ, nat_eq, Bool, true, false, cond, List, [], ◌∷◌, map, true≢false, None, Some, find, is_some, ◌||◌}
 use Rattle.std.specs.Prelude.{unwrap_or}
 use Rattle.std.proofs.lemmas.Option.{same_Some}
 use Rattle.vt_spec.specs.Machine.Mounts.{Location, Mount, mount_in, no_mount}
@@ -7,6 +7,8 @@ use Rattle.vt_spec.specs.Lists.{is_among}
 use Rattle.vt_spec.proofs.Lists.{Among}
 use Rattle.vt_mount_laws.specs.Mounts.Attaching.{numbers_of}
 pub use Rattle.vt_spec.proofs.Worlds.{number-mount_in as number_found}
+use Rattle.vt_spec.proofs.Worlds.{found_or_none}
+pub use Rattle.vt_spec.proofs.Worlds.{found_or_none}
 
 abbrev has_number : ℕ → Mount ℕ → Bool
 has_number number mount = nat_eq number mount.number
@@ -18,21 +20,6 @@ first_or_later first rest number true e =
     ap (λ b. unwrap_or (cond b (Some first) (find (has_number number) rest)) (no_mount number)) e
 first_or_later first rest number false e =
     ap (λ b. unwrap_or (cond b (Some first) (find (has_number number) rest)) (no_mount number)) e
-
--- a mount found by its number, or what stands for none
-pub found_or_none : (mounts : List (Mount ℕ)) (number : ℕ)
-    → Among (mount_in nat_eq mounts number) mounts ⊎ (mount_in nat_eq mounts number ≡ no_mount number)
-found_or_none [] number = inr refl
-found_or_none (first ∷ rest) number = by (nat_eq number first.number) refl (found_or_none rest number)
-  where
-    by : (b : Bool) → nat_eq number first.number ≡ b
-        → Among (mount_in nat_eq rest number) rest ⊎ (mount_in nat_eq rest number ≡ no_mount number)
-        → Among (mount_in nat_eq (first ∷ rest) number) (first ∷ rest)
-        ⊎ (mount_in nat_eq (first ∷ rest) number ≡ no_mount number)
-    by true e later = inl (inl (first_or_later first rest number true e))
-    by false e later =
-        let later_one = first_or_later first rest number false e in
-        ⊎_elim (λ m. inl (inr (subst (λ x. Among x rest) (sym later_one) m))) (λ none. inr (later_one ∙ none)) later
 
 -- a number of the list finds a mount of it
 pub found_there : (mounts : List (Mount ℕ)) (number : ℕ) → is_among nat_eq number (numbers_of mounts) ≡ true

@@ -1,15 +1,16 @@
 -- A mount in the place of the one with its number.
-use Rattle.std.proofs.Common.{zero, ◌≡◌, refl, sym, ap, ◌∙◌, Bool, List, Some, [], cond, eq-eqb, eqb-true, find, nat_eq, subst, true≢false, unwrap_or, ℕ, ⊎_elim, ◌++◌, ◌||◌, ◌∷◌, false, true, inl, inr, ◌⊎◌, suc}
-use Rattle.vt_spec.specs.Machine.Mounts.{Mount, mount_in, no_mount, replaced_if_same, with_mount, children, stands_on, tree_from}
+use Rattle.std.proofs.Common.{◌≡◌, refl, sym, ap, ◌∙◌, Bool, List, Some, [], cond, eq-eqb, eqb-true, find, nat_eq, subst, true≢false, unwrap_or, ℕ, ⊎_elim, ◌++◌, ◌||◌, ◌∷◌, false, true}
+use Rattle.vt_spec.specs.Machine.Mounts.{Mount, mount_in, no_mount, replaced_if_same, with_mount}
 use Rattle.vt_mount_laws.proofs.MountsFound.{found-map, numbers-map}
 use Rattle.std.specs.Prelude.{if◌then◌else◌}
 use Rattle.vt_spec.specs.Lists.{is_among, any_pair}
 use Rattle.vt_mount_laws.specs.Mounts.Attaching.{numbers_of, OneNumberAMount}
 use Rattle.std.proofs.lemmas.Bool.{or_parts}
-use Rattle.vt_spec.proofs.Lists.{Among, among-from_filter, among-from_flat_map, none_among}
+use Rattle.vt_spec.proofs.Lists.{Among, none_among}
 use Rattle.std.specs.List.{list_any}
 use Rattle.vt_spec.proofs.Truths.{nat_eq_false_turned}
 use Rattle.vt_spec.proofs.Worlds.{number-mount_in}
+pub use Rattle.vt_spec.proofs.Worlds.{tree_among}
 
 module _ (new : Mount ℕ) where
   pub replaced_there : (old : Mount ℕ) → nat_eq new.number old.number ≡ true → replaced_if_same nat_eq new old ≡ new
@@ -139,21 +140,6 @@ found_itself (first ∷ rest) one mount m =
     (nat_eq_false_turned first.number mount.number
     (none_among (λ (other : Mount ℕ). nat_eq first.number other.number) rest parts.0 mount later))
     ∙ found_itself rest parts.1 mount later)
-    m
-
--- a tree of mounts holds its top, and mounts of the list
-pub tree_among : (depth : ℕ) (mounts : List (Mount ℕ)) (top mount : Mount ℕ)
-    → Among mount (tree_from nat_eq depth mounts top)
-    → (mount ≡ top) ⊎ Among mount mounts
-tree_among zero mounts top mount m = ⊎_elim inl (λ none. absurd none) m
-tree_among (suc depth) mounts top mount m =
-    ⊎_elim inl
-    (λ later.
-    let under = among-from_flat_map (tree_from nat_eq depth mounts) (children nat_eq mounts top.number) mount later in
-    let child : Among under.0 mounts × (stands_on nat_eq top.number under.0 ≡ true) =
-    among-from_filter (stands_on nat_eq top.number) mounts under.0 under.1 in
-    inr (⊎_elim (λ e. subst (λ x. Among x mounts) (sym e) child.0) (λ l. l)
-    (tree_among depth mounts under.0 mount under.2)))
     m
 
 any_by_numbers : (number : ℕ) (mounts : List (Mount ℕ))

@@ -14,16 +14,15 @@ use Rattle.vt_mount_laws.proofs.Attaching.{Hangs}
 use Rattle.vt_mount_laws.proofs.Attaching.Hangs.{from_top}
 use Rattle.vt_mount_laws.proofs.BindsStand.{child_hangs}
 use Rattle.vt_mount_laws.proofs.MountsAttached.{supplied}
-use Rattle.vt_mount_laws.proofs.MountsFound.{found_or_none}
 use Rattle.vt_mount_laws.proofs.MountsNumbered.{is_one_of, supplies_serve_as_copies}
-use Rattle.vt_mount_laws.proofs.MountsReplaced.{found_itself, tree_among}
+use Rattle.vt_mount_laws.proofs.MountsReplaced.{found_itself}
 use Rattle.vt_mount_laws.proofs.MovingLeaves.{MayMove}
 use Rattle.vt_mount_laws.proofs.MovingPlaces.{places_moved}
 use Rattle.vt_mount_laws.proofs.MovingStands.{all_after}
 use Rattle.vt_mount_laws.proofs.Standing.{standing_is_computed, trees_have_each_once}
 use Rattle.vt_mount_laws.proofs.UnmountingTrees.{AreClosed, trees_closed}
 use Rattle.vt_spec.proofs.Truths.{nat_eq_false_turned, or_false_alone}
-use Rattle.vt_spec.proofs.Worlds.{number-mount_in}
+use Rattle.vt_spec.proofs.Worlds.{number-mount_in, found_or_none, tree_among}
 
 -- a tree begins with its top
 tree_top : (fuel : ℕ) (mounts : List (Mount ℕ)) (top : Mount ℕ)
@@ -36,7 +35,7 @@ top_among_tree : (fuel : ℕ) (mounts : List (Mount ℕ)) (top : Mount ℕ) → 
 top_among_tree fuel mounts top = let t = tree_top fuel mounts top in subst (Among top) (sym t.1) (inl refl)
 
 -- a number of a mount that has a place, or is in a namespace, is that of one that is there
-placed_there : (mounts : List (Mount ℕ)) (number : ℕ) → is_some (mount_in nat_eq mounts number).mount_point ≡ true
+pub placed_there : (mounts : List (Mount ℕ)) (number : ℕ) → is_some (mount_in nat_eq mounts number).mount_point ≡ true
     → Among (mount_in nat_eq mounts number) mounts
 placed_there mounts number placed =
     ⊎_elim (λ l. l)

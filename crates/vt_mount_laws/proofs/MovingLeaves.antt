@@ -20,11 +20,11 @@ use Rattle.vt_mount_laws.proofs.MountsPlaces.{stands_at_its_place}
 use Rattle.vt_mount_laws.proofs.Attaching.{Hangs, hanging}
 use Rattle.vt_mount_laws.proofs.Attaching.Hangs.{from_parent, from_top}
 use Rattle.vt_mount_laws.proofs.MountsAttached.{arriving, found-folded_other, keeps_number, moved_ones, numbers_moved, stays_put}
-use Rattle.vt_mount_laws.proofs.MountsFound.{found_or_none, found_there, placed_among, unfound}
+use Rattle.vt_mount_laws.proofs.MountsFound.{found_there, placed_among, unfound}
 use Rattle.vt_mount_laws.proofs.MountsNumbered.{is_one_of, same_number, same_origin}
 use Rattle.vt_mount_laws.proofs.MountsReplaced.{found-with_mount_itself, found_itself, numbers-with_mount, one_number_by_numbers}
 use Rattle.vt_spec.proofs.Truths.{nat_eq_false_turned}
-use Rattle.vt_spec.proofs.Worlds.{number-mount_in}
+use Rattle.vt_spec.proofs.Worlds.{number-mount_in, found_or_none}
 
 -- mounts that are replaced by others with numbers of their own are found
 pub found_folded : (mounts copies : List (Mount ℕ)) → OneNumberAMount copies → (copy : Mount ℕ) → Among copy copies

@@ -12,11 +12,11 @@ use Rattle.vt_spec.specs.Machine.Invariants.{is_root_mount}
 use Rattle.vt_spec.proofs.Lists.{Among, all_from_among, among-append, among-from_filter, among-from_flat_map, among-from_map, contains_from_among, filter_here, filter_skip}
 use Rattle.vt_mount_laws.proofs.Attaching.{taker_there}
 use Rattle.vt_mount_laws.proofs.MountsAttached.{arrives, arriving, graft, in_front, moved_ones, others, push, push_keeps, supplied}
-use Rattle.vt_mount_laws.proofs.MountsFound.{found_in, found_or_none, placed_among}
+use Rattle.vt_mount_laws.proofs.MountsFound.{found_in, placed_among}
 use Rattle.vt_mount_laws.proofs.MountsPlaces.{stands_there}
-use Rattle.vt_mount_laws.proofs.MountsReplaced.{found_itself, replaced_elsewhere, replaced_there, tree_among}
+use Rattle.vt_mount_laws.proofs.MountsReplaced.{found_itself, replaced_elsewhere, replaced_there}
 use Rattle.vt_mount_laws.specs.Mounts.Moving.{BindsKeepRootMounts, BindsStayInNamespaces, MovesKeepRootMounts, MovesStayInNamespaces, NewMountsKeepRootMounts, NewMountsStayInNamespaces, StaysInNamespaces}
-use Rattle.vt_spec.proofs.Worlds.{among-folded_mounts}
+use Rattle.vt_spec.proofs.Worlds.{among-folded_mounts, found_or_none, tree_among}
 
 -- the root mounts of a namespace, and whether a mount is one
 abbrev count : ℕ → List (Mount ℕ) → ℕ

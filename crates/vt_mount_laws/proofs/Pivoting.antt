@@ -15,7 +15,7 @@ use Rattle.vt_spec.specs.Machine.Invariants.Stands.{at_root, on_parent}
 use Rattle.vt_mount_laws.specs.Mounts.Namespaces.{CanPivot, NumberedMountsCanPivot, PivotKeepsMounts}
 use Rattle.vt_mount_laws.proofs.GroupsLiving.{all_live, tested_live}
 use Rattle.vt_mount_laws.proofs.GroupsKept.{pivot_keeps_groups}
-use Rattle.vt_mount_laws.proofs.MountsFound.{found_or_none, placed_among, unfound}
+use Rattle.vt_mount_laws.proofs.MountsFound.{placed_among, unfound}
 use Rattle.vt_mount_laws.proofs.MountsKept.{pivot_keeps_numbers}
 use Rattle.vt_mount_laws.proofs.MountsNumbered.{same_number}
 use Rattle.vt_mount_laws.proofs.MountsPlaces.{one_stander, place_of_both, stands_at_its_place}
@@ -23,7 +23,7 @@ use Rattle.vt_mount_laws.proofs.MountsReplaced.{found_itself}
 use Rattle.vt_mount_laws.proofs.Standing.{LiesIn, lies_deeper, rank, rank_child}
 use Rattle.vt_mount_laws.proofs.Standing.LiesIn.{itself, under}
 use Rattle.vt_mount_laws.proofs.Unsharing.{parent_of, stands_itself}
-use Rattle.vt_spec.proofs.Worlds.{number-mount_in, number-pivoted_mount}
+use Rattle.vt_spec.proofs.Worlds.{number-mount_in, number-pivoted_mount, found_or_none}
 
 -- what the places below a place are on
 module _ (world : World ℕ) where

@@ -15,11 +15,10 @@ use Rattle.vt_mount_laws.specs.Mounts.Copies.{ServeAsCopies, ServeAsImages}
 use Rattle.vt_mount_laws.specs.Mounts.Propagation.{Attachment, CanAttach, CopiesAreNew, CopiesAtLowerGroupsFollow, CopiesAtPeersArePeers, CopiesAtSlavesAreSlaves, EachIsCopied, FirstStandsOnItsPart, IsOfTree, IsPart, OthersStandOnCopies, PrivateOnShared, SharedOnShared, SlaveOnShared, TypeOnNotShared, copy_of, destination_of, moves_to, number_at, world_after}
 use Rattle.vt_mount_laws.proofs.GroupsKept.{shared_member}
 use Rattle.vt_mount_laws.proofs.MountsAttached.{is_pushed_by}
-use Rattle.vt_mount_laws.proofs.MountsFound.{found_or_none}
 use Rattle.vt_mount_laws.proofs.MountsNumbered.{is_one_of, number_in_use, supplies_serve_as_copies, supplies_serve_as_images}
 use Rattle.vt_mount_laws.proofs.PropagationCopies.{arrived, arrived_keeps, first_not_pushed, first_place, found_copy, made, not_pushed, other_place, push, tree}
 use Rattle.vt_mount_laws.proofs.PropagationTypes.{image_new, image_of, kind, kind_there, lower_master, private_there, shared_kind, slave_kind, slave_there, there_new}
-use Rattle.vt_spec.proofs.Worlds.{number-mount_in}
+use Rattle.vt_spec.proofs.Worlds.{number-mount_in, found_or_none}
 
 module _ (it : Attachment) (can : CanAttach it) where
   abbrev pub supply : Copies ℕ

@@ -17,7 +17,6 @@ use Rattle.vt_mount_laws.proofs.GroupsKept.{member_shared, shared_member}
 use Rattle.vt_mount_laws.proofs.GroupsUp.{LivesIn, Up, live_members, lives_in}
 use Rattle.vt_spec.specs.Machine.Invariants.Lives.{has_master, has_no_master}
 use Rattle.vt_mount_laws.proofs.GroupsUp.Up.{above, here}
-use Rattle.vt_mount_laws.proofs.MountsFound.{found_or_none}
 use Rattle.vt_mount_laws.proofs.MountsNumbered.{is_one_of}
 use Rattle.vt_mount_laws.proofs.PropagationCopies.{not_there}
 use Rattle.vt_mount_laws.proofs.PropagationTypes.{image_in, image_new, image_of, kind, lower_master, shared_kind, slave_kind, slave_there, there_new}
@@ -25,6 +24,7 @@ use Rattle.vt_mount_laws.proofs.PropagationUp.{Nearest, finds_some, found_neares
 use Rattle.vt_mount_laws.proofs.PropagationUp.Nearest.{further, itself}
 use Rattle.vt_mount_laws.proofs.Receivers.{receives_from_source}
 use Rattle.vt_spec.proofs.Truths.{same_truth}
+use Rattle.vt_spec.proofs.Worlds.{found_or_none}
 
 shared_kind_of : (kind : Propagation ℕ) (group : ℕ) → group_of kind ≡ Some group → kind ≡ Shared group
 shared_kind_of (Shared own) group e = ap Shared (same_Some own group e)

@@ -9,9 +9,9 @@ use Rattle.vt_spec.specs.Machine.World.{mount_at}
 use Rattle.vt_mount_laws.specs.Mounts.Propagation.{BindsCan, MovesCan, NewMountsCan}
 use Rattle.vt_mount_laws.proofs.GroupsLiving.{tested_live}
 use Rattle.vt_mount_laws.proofs.BindsStand.{bind_there_or_source}
-use Rattle.vt_mount_laws.proofs.MountsFound.{found_or_none, found_there}
-use Rattle.vt_mount_laws.proofs.MountsReplaced.{tree_among}
+use Rattle.vt_mount_laws.proofs.MountsFound.{found_there}
 use Rattle.vt_mount_laws.proofs.Standing.{binds_take_each_once, trees_have_each_once}
+use Rattle.vt_spec.proofs.Worlds.{found_or_none, tree_among}
 
 pub binds_can : BindsCan
 binds_can world fresh source place recursive serves mounts = record {

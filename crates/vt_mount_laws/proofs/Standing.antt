@@ -17,12 +17,12 @@ use Rattle.vt_mount_laws.specs.Mounts.Attaching.{OneNumberAMount, numbers_of}
 use Rattle.vt_mount_laws.specs.Mounts.Conditions.{OneNumberEach}
 use Rattle.vt_mount_laws.specs.Mounts.Standing.{AllStand, BindsTakeEachOnce, StandingIsComputed, TreesHaveEachOnce}
 use Rattle.vt_mount_laws.specs.Mounts.Unmounting.{PlacesEnd}
-use Rattle.vt_mount_laws.proofs.MountsFound.{found_or_none, placed_among}
+use Rattle.vt_mount_laws.proofs.MountsFound.{placed_among}
 use Rattle.vt_mount_laws.proofs.MountsNumbered.{pair-flat_map, same_number}
 use Rattle.vt_mount_laws.proofs.MountsReplaced.{found_itself}
 use Rattle.vt_mount_laws.proofs.UnmountingNamespaces.{one_namespace, same_namespace}
 use Rattle.vt_spec.proofs.Found.{length_from_among}
-use Rattle.vt_spec.proofs.Worlds.{number-mount_in}
+use Rattle.vt_spec.proofs.Worlds.{number-mount_in, found_or_none}
 
 -- numbers that are each another one and stand in a list are no more than it has
 pub fewer_numbers : (numbers others : List ℕ) → any_pair nat_eq numbers ≡ false

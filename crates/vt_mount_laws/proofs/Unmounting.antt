@@ -15,8 +15,8 @@ use Rattle.vt_mount_laws.specs.Mounts.Unmounting.{FallsTo, GroupsKeepTheirMaster
 use Rattle.vt_mount_laws.specs.Mounts.Unmounting.FallsTo.{falls, rests}
 use Rattle.vt_mount_laws.proofs.Groups.{inherited_kept, master-regrouped, members-regrouped, mounts-regrouped}
 use Rattle.vt_spec.proofs.Lists.{among_from_list_all, chain_ends, chain_goes_on, find_agrees, last_of_chain}
-use Rattle.vt_mount_laws.proofs.MountsFound.{found-map, found_or_none, numbers-map}
-use Rattle.vt_spec.proofs.Worlds.{number-after_going, number-mount_in}
+use Rattle.vt_mount_laws.proofs.MountsFound.{found-map, numbers-map}
+use Rattle.vt_spec.proofs.Worlds.{number-after_going, number-mount_in, found_or_none}
 pub use Rattle.vt_spec.proofs.Worlds.{number-after_going as number_after}
 
 module _ (world : World ℕ) (gone : List ℕ) where
@@ -55,7 +55,8 @@ module _ (world : World ℕ) (gone : List ℕ) where
       ap (λ mounts. mount_in nat_eq mounts number) (mounts-regrouped middle)
       ∙ found-map (inheriting nat_eq middle) (λ mount. refl) middle.mounts number refl
       ∙ ap (inheriting nat_eq middle)
-      (found-map (after_going nat_eq world gone) (number-after_going world gone) world.mounts number (none_after number))
+      (found-map (after_going nat_eq world gone) (number-after_going world gone) world.mounts number
+      (none_after number))
 
   pub numbers_taken : map (λ mount. mount.number) (taken_away nat_eq world gone).mounts
       ≡ map (λ mount. mount.number) world.mounts

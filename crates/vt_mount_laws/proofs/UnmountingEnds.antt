@@ -12,11 +12,10 @@ use Rattle.vt_mount_laws.proofs.UnmountingGoes.{child_goes_so, receivers_of_shar
 use Rattle.std.specs.Prelude.{filter_map, if◌then◌else◌}
 use Rattle.vt_spec.specs.Lists.{folded, is_among}
 use Rattle.vt_mount_laws.proofs.MountsPlaces.{found_at_its_place}
-use Rattle.vt_mount_laws.proofs.MountsFound.{found_or_none}
 use Rattle.vt_spec.specs.Machine.Receives.{inheriting, receivers, receives}
 use Rattle.std.specs.List.{list_any}
 use Rattle.vt_mount_laws.proofs.Receivers.{receives_from_source}
-use Rattle.vt_spec.proofs.Worlds.{number-mount_in}
+use Rattle.vt_spec.proofs.Worlds.{number-mount_in, found_or_none}
 
 pub taken_are_detached : TakenAreDetached
 taken_are_detached world gone number e = detached_by_number world gone number e
@@ -159,7 +158,8 @@ the_mount_itself_goes world one place one_each at childless =
 
     at_parent : child_at nat_eq world.mounts (record { mount = parent.number; node = place.node }) ≡ Some itself
     at_parent = ap (λ n. child_at nat_eq world.mounts (record { mount = n; node = place.node }))
-        (number-mount_in world.mounts place.mount) ∙ found_at_its_place world.mounts one_each itself itself_among place at
+        (number-mount_in world.mounts place.mount)
+        ∙ found_at_its_place world.mounts one_each itself itself_among place at
 
     parent_among : (group : ℕ) → parent.propagation ≡ Shared group → Among parent world.mounts
     parent_among group e =

@@ -14,11 +14,10 @@ use Rattle.vt_mount_laws.specs.Mounts.Namespaces.{UnshareKeepsMounts}
 use Rattle.vt_mount_laws.proofs.GroupsLiving.{all_live, tested_live}
 use Rattle.vt_mount_laws.proofs.GroupsKept.{unshare_keeps_groups}
 use Rattle.vt_mount_laws.proofs.MountsApart.{unshare_keeps_nowhere}
-use Rattle.vt_mount_laws.proofs.MountsFound.{found_or_none}
 use Rattle.vt_mount_laws.proofs.MountsNumbered.{is_one_of, number_is_old, odds_apart, one_index, pair-append, unshare_keeps_numbers}
 use Rattle.vt_mount_laws.proofs.MountsPlaces.{one_place_of_two, place_of_both}
 use Rattle.vt_mount_laws.proofs.MountsReplaced.{found_itself}
-use Rattle.vt_spec.proofs.Worlds.{number-mount_in}
+use Rattle.vt_spec.proofs.Worlds.{number-mount_in, found_or_none}
 
 -- A mount that stands on a parent
 pub record Parent (world : World ℕ) (mount : Mount ℕ) (place : Location ℕ) : Type 0 where

@@ -12,7 +12,8 @@ use Rattle.vt_spec.specs.Machine.Run.{numbers_in_use, used_by_filesystem, used_b
 use Rattle.vt_spec.specs.Machine.World.{Namespace, mounts_of}
 use Rattle.vt_spec.specs.Machine.Invariants.{is_listed, is_root_mount}
 use Rattle.vt_mount_laws.specs.Mounts.Namespaces.{NewNamespaceIsEmpty, UnshareCopiesMounts, UnshareKeepsCounts, UnshareLeavesNamespaces}
-use Rattle.vt_mount_laws.proofs.MountsCounted.{filter-map, filter_all, is_in}
+use Rattle.vt_mount_laws.proofs.MountsCounted.{filter-map, is_in}
+use Rattle.vt_spec.proofs.Found.{filter_all}
 
 pub unshare_leaves_namespaces : UnshareLeavesNamespaces
 unshare_leaves_namespaces world fresh task namespace other =

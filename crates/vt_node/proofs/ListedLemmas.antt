@@ -62,7 +62,8 @@ module _ {A : Type 0} where
         by false e =
             others (is_name q) (λ x y at. nat_list_eq_equiv.congr q x.items y.items at)
             (λ k at.
-            sym (ap (pointwise nat_eq q) (same_name-Equal name k.items (Equal_from_is_eq _ (sym (texts_ties name k.items) ∙ at))))
+            sym (ap (pointwise nat_eq q)
+            (same_name-Equal name k.items (Equal_from_is_eq _ (sym (texts_ties name k.items) ∙ at))))
             ∙ texts_ties q name ∙ e)
             ∙ sym (find-listed q old)
 

@@ -15,14 +15,12 @@ use Rattle.vt_node.specs.Listed.{HasOneName, listed}
 use Rattle.vt_node.proofs.ListedLemmas.{is_name}
 use Rattle.std.proofs.lemmas.Option.{same_Some}
 use Rattle.vt_spec.proofs.Found.{found_passes}
-use Rattle.vt_spec.proofs.NodeChanges.{entry_named-below, same_name-Equal}
-use Rattle.vt_spec.proofs.Truths.{Equal_from_is_eq, and_true_left, and_true_right}
+use Rattle.vt_spec.proofs.NodeChanges.{entry_named-below}
+use Rattle.vt_spec.proofs.Truths.{and_true_left, and_true_right}
+use Rattle.vt_spec.proofs.Nodes.{same_name}
 
 abbrev pub leads : ℕ → List ℕ × ℕ → Bool
 leads id entry = nat_eq id entry.1
-
-tied : (name other : List ℕ) → eq_by_cmp name_cmp name other ≡ true → name ≡ other
-tied name other e = same_name-Equal name other (Equal_from_is_eq (name_cmp name other) e)
 
 pub found_is_named : (id : ℕ) (entries : Entries ℕ) (entry : List ℕ × ℕ) → is_sorted name_cmp entries ≡ true
     → find (leads id) entries ≡ Some entry → entry_named entry.0 entries ≡ Some id
@@ -34,7 +32,7 @@ found_is_named id (first ∷ entries) entry sorted e =
     later : (is : Bool) → eq_by_cmp name_cmp entry.0 first.0 ≡ is → entry_named entry.0 entries ≡ Some id
         → cond is (Some first.1) (entry_named entry.0 entries) ≡ Some id
     later true t named =
-        absurd (true≢false (sym (ap is_some (sym (ap (λ n. entry_named n entries) (tied entry.0 first.0 t)
+        absurd (true≢false (sym (ap is_some (sym (ap (λ n. entry_named n entries) (same_name entry.0 first.0 t)
         ∙ entry_named-below first.0 entries (and_true_left (below_all name_cmp first.0 entries) _ sorted)) ∙ named))))
     later false t named = named
 

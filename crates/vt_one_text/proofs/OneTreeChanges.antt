@@ -411,4 +411,5 @@ module _ (numbers : List ℕ) (world : World ℕ) (fit : IsFit numbers world) (p
     where
       some_directory : (directory : ℕ) → IsDirectory (tree_of (with_changed nat_eq world.inodes place change)) directory
           → is_some ((with_changed nat_eq world.inodes place change).inode directory) ≡ true
-      some_directory directory is = directory_inode_is_there ((with_changed nat_eq world.inodes place change).inode directory) is
+      some_directory directory is =
+          directory_inode_is_there ((with_changed nat_eq world.inodes place change).inode directory) is

@@ -35,7 +35,8 @@ pub other_if : (number other : ℕ) → number ≢ other → one_if number other
 other_if number other apart = ap (λ b. cond b 1 0) (ne_eqb number other apart)
 
 pub apart_one : (number other : ℕ) → one_if number other ≡ 0 → number ≢ other
-apart_one number other none same = let one : one_if number other ≡ 1 = ap (λ b. cond b 1 0) (eq-eqb number other same) in
+apart_one number other none same =
+    let one : one_if number other ≡ 1 = ap (λ b. cond b 1 0) (eq-eqb number other same) in
     omega arith
 
 -- an inode that is there
@@ -98,7 +99,9 @@ module _ (uses : ℕ → ℕ) (node : ℕ → Option (Node ℕ)) (inodes : Inode
       (⊎_elim (λ t. last t.0 t.1) (λ t. kept t.0 (let h = t.1 in omega arith)) (leb_tells inode.uses 1))
     where
       left_here : suc (left place) ≡ inode.uses
-      left_here = let e = here_uses in let one : one_if place place ≡ 1 = one_if-itself place in let f = less place in omega arith
+      left_here =
+          let e = here_uses in let one : one_if place place ≡ 1 = one_if-itself place in let f = less place in omega
+          arith
 
       left_there : (number : ℕ) → number ≢ place → uses_in (inodes.inode number) ≡ left number
       left_there number apart =

@@ -62,7 +62,8 @@ times_put number name object (entry ∷ rest) sorted =
         (cond (is_eq o) (Some entry.1) (entry_named name rest))
         ≡ times_in number (targets (entry ∷ rest)) + one_if number object
     by Less e later =
-        let none : entry_named name rest ≡ None = entry_named-below name rest (below_less name entry.0 rest e parts.0) in
+        let none : entry_named name rest ≡ None = entry_named-below name rest
+        (below_less name entry.0 rest e parts.0) in
         ap (λ o. (one_if number object +
         (one_if number entry.1 + times_in number (targets rest))) + one_if_some number o) none
         ∙ (let aside : (one_if number object + (one_if number entry.1 + times_in number (targets rest))) + 0 ≡

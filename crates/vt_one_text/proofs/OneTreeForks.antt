@@ -279,7 +279,8 @@ apart_more (entry ∷ rest) last apart none = by (is_called last.0 entry) refl n
       where
         differ : (b : Bool) → is_called entry.0 last ≡ b → b ≡ false
         differ false d = refl
-        differ true d = sym (same_name_itself last.0) ∙ ap (same_name last.0) (sym (same_task_name entry.0 last.0 d)) ∙ c
+        differ true d =
+            sym (same_name_itself last.0) ∙ ap (same_name last.0) (sym (same_task_name entry.0 last.0 d)) ∙ c
 
 uses_more : (number : ℕ) (entries : List Entry) (last : Entry) → files_of last ≡ []
     → times_in number (flat_map files_of (entries ++ (last ∷ []))) ≡ times_in number (flat_map files_of entries)

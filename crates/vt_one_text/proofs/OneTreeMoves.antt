@@ -88,7 +88,8 @@ module _ (beside : Beside) (world : World ℕ) (task_name : TaskName) (task : Ta
   directory_on n =
       part_at is_directory_node node_off to (node_with_entry new object)
       (is_directory-node_with_entry new object (node_off to)) n
-      ∙ part_at is_directory_node tree.node from (node_without_entry old) (is_directory-node_without_entry old (tree.node from)) n
+      ∙ part_at is_directory_node tree.node from (node_without_entry old)
+      (is_directory-node_without_entry old (tree.node from)) n
 
   directory_moved : (n : ℕ) → is_directory_node (node_moved replaced n) ≡ is_directory_node (tree.node n)
   directory_moved n = by replaced
@@ -109,7 +110,8 @@ module _ (beside : Beside) (world : World ℕ) (task_name : TaskName) (task : Ta
       under : is_some (node_under n) ≡ is_some (tree.node n)
       under =
           part_at is_some node_on object (node_with_parent to) (is_some-node_with_parent to (node_on object)) n
-          ∙ part_at is_some node_off to (node_with_entry new object) (is_some-node_with_entry new object (node_off to)) n
+          ∙ part_at is_some node_off to (node_with_entry new object)
+          (is_some-node_with_entry new object (node_off to)) n
           ∙ part_at is_some tree.node from (node_without_entry old) (is_some-node_without_entry old (tree.node from)) n
 
       by : (o : Option ℕ) → is_some (node_moved o n) ≡ is_some (tree.node n)
@@ -130,8 +132,10 @@ module _ (beside : Beside) (world : World ℕ) (task_name : TaskName) (task : Ta
 
   parent_on : (n : ℕ) → parent_in n (node_on n) ≡ parent_in n (tree.node n)
   parent_on n =
-      part_at (parent_in n) node_off to (node_with_entry new object) (parent-node_with_entry new object n (node_off to)) n
-      ∙ part_at (parent_in n) tree.node from (node_without_entry old) (parent-node_without_entry old n (tree.node from)) n
+      part_at (parent_in n) node_off to (node_with_entry new object)
+      (parent-node_with_entry new object n (node_off to)) n
+      ∙ part_at (parent_in n) tree.node from (node_without_entry old)
+      (parent-node_without_entry old n (tree.node from)) n
 
   not_gone : (n : ℕ) (change : ℕ → Option (Node ℕ) → Option (Node ℕ)) (o : Option ℕ) → one_if_some n o ≡ 0
       → node_moved o n ≡ node_under n

@@ -455,8 +455,10 @@ module _ (beside : Beside) (world : World ℕ) (task_name : TaskName) (task : Ta
     counted = counted_removed;
     root_same = refl;
     some_same =
-        λ n. part_at is_some node_off object (node_with_parent object) (is_some-node_with_parent object (node_off object)) n
-        ∙ part_at is_some tree_r.node directory (node_without_entry name) (is_some-node_without_entry name (tree_r.node directory)) n;
+        λ n. part_at is_some node_off object (node_with_parent object)
+        (is_some-node_with_parent object (node_off object)) n
+        ∙ part_at is_some tree_r.node directory (node_without_entry name)
+        (is_some-node_without_entry name (tree_r.node directory)) n;
     names = λ n. refl;
     one_use = λ d there is_d.
         let was : IsDirectory tree_r d = sym (removed_directory d) ∙ is_d in

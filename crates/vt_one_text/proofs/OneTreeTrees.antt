@@ -283,7 +283,8 @@ module _ (numbers : List ℕ) (world : World ℕ) (fit : IsFit numbers world) wh
 
   -- what is a directory is among the numbers
   pub directory_once : (directory : ℕ) → IsDirectory tree directory → times_in directory numbers ≡ 1
-  directory_once directory is = fit.each_once directory ∙ ap (λ b. cond b 1 0) (directory_inode_is_there (world.inodes.inode directory) is)
+  directory_once directory is =
+      fit.each_once directory ∙ ap (λ b. cond b 1 0) (directory_inode_is_there (world.inodes.inode directory) is)
 
   -- the root is not as many steps away as there are inodes
   pub near : (steps directory : ℕ) → IsDirectory tree directory → IsAway tree steps directory

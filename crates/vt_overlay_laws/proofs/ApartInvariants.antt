@@ -338,8 +338,10 @@ module _ (fresh : Fresh ℕ) (world : World ℕ) (location : Location ℕ) (chan
             (filesystem_then f m));
         one_filesystem = ap (λ w. any_pair (λ (a b : Filesystem ℕ). nat_eq a.number b.number) w.filesystems) later_is
             ∙ pair_same (replaced_if_numbered nat_eq changed_upper)
-            (map (replaced_if_numbered nat_eq changed) world.filesystems) (λ f. number-replaced_if_numbered changed_upper f)
-            ∙ pair_same (replaced_if_numbered nat_eq changed) world.filesystems (λ f. number-replaced_if_numbered changed f)
+            (map (replaced_if_numbered nat_eq changed) world.filesystems)
+            (λ f. number-replaced_if_numbered changed_upper f)
+            ∙ pair_same (replaced_if_numbered nat_eq changed) world.filesystems
+            (λ f. number-replaced_if_numbered changed f)
             ∙ conditions.files.one_filesystem;
         reached = upper_reached;
       }

@@ -2,7 +2,7 @@
 use Rattle.std.proofs.Common.{◌≡◌, ◌≢◌, refl, sym, ap, subst, ◌∙◌, true≢false, eqb-true, eq-eqb, ne_eqb, ◌⊎◌, ⊎_elim, inl, inr, ℕ, nat_eq, Bool, true, false, not, cond, ◌&&◌, ◌||◌, List, [], ◌∷◌, ◌++◌, map, Option, Some, None, is_some}
 use Rattle.std.proofs.lemmas.Bool.Decides.{eqb_tells}
 use Rattle.std.specs.List.{list_any}
-use Rattle.std.specs.Prelude.{filter, flat_map, option_to_list}
+use Rattle.std.specs.Prelude.{flat_map, option_to_list}
 use Rattle.vt_spec.specs.FileTree.{is_under}
 use Rattle.vt_spec.specs.Language.Changes.{Change}
 use Rattle.vt_spec.specs.Lists.{Fresh, any_pair, holds_of}
@@ -42,6 +42,7 @@ use Rattle.std.proofs.lemmas.Bool.{and_from, or_cases, or_left, or_right}
 use Rattle.std.proofs.lemmas.Option.{same_Some}
 use Rattle.vt_spec.proofs.Options.{none_is_some}
 use Rattle.vt_spec.proofs.Truths.{and_true_left, and_true_right, or_false_alone, or_false_left, or_false_right}
+use Rattle.vt_spec.proofs.Worlds.{layers_of_all}
 
 -- of two that differ in a list of which no pair passes
 two_apart : {A : Type 0} (test : A → A → Bool) (xs : List A) → any_pair test xs ≡ false → (a b : A) → Among a xs → Among b xs → a ≢ b
@@ -50,8 +51,10 @@ two_apart test [] e a b m n differ = absurd m
 two_apart test (x ∷ xs) e a b m n differ =
     ⊎_elim
     (λ (ax : a ≡ x). ⊎_elim (λ (bx : b ≡ x). absurd (differ (ax ∙ sym bx)))
-    (λ l. inl (ap (λ y. test y b) ax ∙ none_among (test x) xs (or_false_left (list_any (test x) xs) (any_pair test xs) e) b l)) n)
-    (λ k. ⊎_elim (λ (bx : b ≡ x). inr (ap (λ y. test y a) bx ∙ none_among (test x) xs (or_false_left (list_any (test x) xs) (any_pair test xs) e) a k))
+    (λ l. inl (ap (λ y. test y b) ax
+    ∙ none_among (test x) xs (or_false_left (list_any (test x) xs) (any_pair test xs) e) b l)) n)
+    (λ k. ⊎_elim (λ (bx : b ≡ x). inr (ap (λ y. test y a) bx
+    ∙ none_among (test x) xs (or_false_left (list_any (test x) xs) (any_pair test xs) e) a k))
     (λ l. two_apart test xs (or_false_right (list_any (test x) xs) (any_pair test xs) e) a b k l differ) n) m
 
 -- no pair passes where each that does passed another test of which none does
@@ -204,7 +207,9 @@ module _ (fresh : Fresh ℕ) (world : World ℕ) (location : Location ℕ) (chan
   pub stays : (n : ℕ) → n ≢ number → n ≢ upper.filesystem → filesystem_numbered nat_eq later n ≡ filesystem_numbered nat_eq world n
   stays n no_number no_upper =
       Rattle.vt_layer_laws.proofs.LowersWorld.others_elsewhere fresh world location change n no_number
-      (λ o u f g s. no_upper (s ∙ ap (λ l. l.filesystem) (same_Some u upper (sym g ∙ ap (λ v. v.upper) (same_Some o overlay (sym f ∙ is)) ∙ has))))
+      (λ o u f g s. no_upper (s
+      ∙ ap (λ l. l.filesystem) (same_Some u upper (sym g ∙ ap (λ v. v.upper) (same_Some o overlay (sym f ∙ is))
+      ∙ has))))
 
   tree_later : (layer : Layer ℕ) → is_plain_layer nat_eq world layer ≡ true → IsTree (filesystem_numbered nat_eq later layer.filesystem).files.tree
   tree_later layer plain = ⊎_elim here other (eqb_tells layer.filesystem upper.filesystem)
@@ -241,7 +246,8 @@ module _ (fresh : Fresh ℕ) (world : World ℕ) (location : Location ℕ) (chan
       and_from _ _ (eq-eqb n layer.filesystem same)
       (subst (λ k. is_under nat_eq (filesystem_numbered nat_eq world k).files layer.directory object ≡ true) (sym same)
       (led_under (filesystem_numbered nat_eq world layer.filesystem).files (layer_tree world conditions layer plain) layer.directory
-      (numbers_in layer.filesystem) (and_true_right (not (is_overlay (filesystem_numbered nat_eq world layer.filesystem))) _ plain) object way))
+      (numbers_in layer.filesystem)
+      (and_true_right (not (is_overlay (filesystem_numbered nat_eq world layer.filesystem))) _ plain) object way))
 
   pub lies_first : (layer : Layer ℕ) (n object : ℕ) → lies_in_layer nat_eq world n object layer ≡ true → Lies layer n object
   lies_first layer n object e = or_left (lies_in_layer nat_eq world n object layer) _ e
@@ -332,8 +338,10 @@ module _ (fresh : Fresh ℕ) (world : World ℕ) (location : Location ℕ) (chan
           (ne_eqb f.number x.number (λ same.
           true≢false (sym (eq-eqb x.number f.number (sym same))
           ∙ none_among (λ (g : Filesystem ℕ). nat_eq x.number g.number) fs
-          (or_false_left (list_any (λ (g : Filesystem ℕ). nat_eq x.number g.number) fs) (any_pair (λ (a b : Filesystem ℕ). nat_eq a.number b.number) fs) e) f l)))
-          ∙ by fs (or_false_right (list_any (λ (g : Filesystem ℕ). nat_eq x.number g.number) fs) (any_pair (λ (a b : Filesystem ℕ). nat_eq a.number b.number) fs) e) l
+          (or_false_left (list_any (λ (g : Filesystem ℕ). nat_eq x.number g.number) fs)
+          (any_pair (λ (a b : Filesystem ℕ). nat_eq a.number b.number) fs) e) f l)))
+          ∙ by fs (or_false_right (list_any (λ (g : Filesystem ℕ). nat_eq x.number g.number) fs)
+          (any_pair (λ (a b : Filesystem ℕ). nat_eq a.number b.number) fs) e) l
 
   -- What counts under a layer: the parts of it
   record Counts (w : World ℕ) (layer : Layer ℕ) (n object : ℕ) (g : Filesystem ℕ) : Type 0 where
@@ -370,14 +378,16 @@ module _ (fresh : Fresh ℕ) (world : World ℕ) (location : Location ℕ) (chan
       or_right (lies_in_layer nat_eq world n object layer) _
       (any_from_among (counts_in_layer nat_eq world n object layer) (overlays world) g m
       (ap (overlay_or false (λ v. holds_of (λ u. lies_in_layer nat_eq world u.filesystem u.directory layer) v.upper && is_object_of nat_eq n object g v)) parts.is_of
-      ∙ and_from _ _ (ap (holds_of (λ u. lies_in_layer nat_eq world u.filesystem u.directory layer)) parts.has_it ∙ parts.lies) parts.object_of))
+      ∙ and_from _ _ (ap (holds_of (λ u. lies_in_layer nat_eq world u.filesystem u.directory layer)) parts.has_it
+      ∙ parts.lies) parts.object_of))
 
   -- the object of which it is said is one of the upper layer
   real_of_object : (g : Filesystem ℕ) (v : Overlay ℕ) (u : Layer ℕ) → v.upper ≡ Some u → (n object : ℕ) → is_object_of nat_eq n object g v ≡ true
       → (n ≡ u.filesystem) × ((k : ℕ) × (v.real k ≡ Some (Upper object)))
   real_of_object g v u has_u n object e =
       let first = and_true_left (holds_of (λ l. nat_eq n l.filesystem) v.upper) _ e in
-      let found = any_among (is_real_upper nat_eq v object) g.files.numbers (and_true_right (holds_of (λ l. nat_eq n l.filesystem) v.upper) _ e) in (
+      let found = any_among (is_real_upper nat_eq v object) g.files.numbers
+      (and_true_right (holds_of (λ l. nat_eq n l.filesystem) v.upper) _ e) in (
         eqb-true n u.filesystem (sym (ap (holds_of (λ l. nat_eq n l.filesystem)) has_u) ∙ first),
         (found.0, by (v.real found.0) found.2),
       )
@@ -397,10 +407,12 @@ module _ (fresh : Fresh ℕ) (world : World ℕ) (location : Location ℕ) (chan
           let same = eqb-true n layer.filesystem (and_true_left (nat_eq n layer.filesystem) _ f) in
           let tree = layer_tree world conditions layer plain in
           let way = under_led (filesystem_numbered nat_eq world layer.filesystem).files tree layer.directory object
-          (subst (λ k. is_under nat_eq (filesystem_numbered nat_eq world k).files layer.directory object ≡ true) same (and_true_right (nat_eq n layer.filesystem) _ f)) in
+          (subst (λ k. is_under nat_eq (filesystem_numbered nat_eq world k).files layer.directory object ≡ true) same
+          (and_true_right (nat_eq n layer.filesystem) _ f)) in
           subst (λ k. is_some (inode_in world k object) ≡ true) (sym same)
           (led_is_there (open_layer nat_eq world layer) tree
-          (and_true_right (not (is_overlay (filesystem_numbered nat_eq world layer.filesystem))) _ plain) way.0 object way.1)
+          (and_true_right (not
+          (is_overlay (filesystem_numbered nat_eq world layer.filesystem))) _ plain) way.0 object way.1)
 
       counted : list_any (counts_in_layer nat_eq world n object layer) (overlays world) ≡ true → is_some (inode_in world n object) ≡ true
       counted f =
@@ -426,7 +438,8 @@ module _ (fresh : Fresh ℕ) (world : World ℕ) (location : Location ℕ) (chan
       → (lies_in_layer nat_eq w upper.filesystem upper.directory layer ≡ true) × ((n ≡ upper.filesystem) × ((k : ℕ) × (merge.real k ≡ Some (Upper object))))
   changed_parts w layer n object parts =
       let same = same_Some _ parts.overlay_of parts.is_of in
-      let one : upper ≡ parts.upper_of_it = same_Some upper parts.upper_of_it (sym has ∙ ap (λ v. v.upper) same ∙ parts.has_it) in
+      let one : upper ≡ parts.upper_of_it = same_Some upper parts.upper_of_it (sym has ∙ ap (λ v. v.upper) same
+      ∙ parts.has_it) in
       let real = real_of_object changed parts.overlay_of parts.upper_of_it parts.has_it n object parts.object_of in (
         subst (λ u. lies_in_layer nat_eq w u.filesystem u.directory layer ≡ true) (sym one) parts.lies,
         (real.0 ∙ ap (λ u. u.filesystem) (sym one), (real.1.0, ap (λ v. v.real real.1.0) same ∙ real.1.1)),
@@ -561,21 +574,6 @@ module _ (fresh : Fresh ℕ) (world : World ℕ) (location : Location ℕ) (chan
   abbrev IgnoresReal : (Overlay ℕ → List (Layer ℕ)) → Type 0
   IgnoresReal layers = (o : Overlay ℕ) (real : ℕ → Option (Real ℕ)) → layers (record o { real = real }) ≡ layers o
 
-  pub layers_of_all : (layers : Overlay ℕ → List (Layer ℕ)) (fs : List (Filesystem ℕ))
-      → flat_map (of_overlay [] layers) (filter is_overlay fs) ≡ flat_map (of_overlay [] layers) fs
-  layers_of_all layers [] = refl
-  layers_of_all layers (f ∷ fs) = by f.overlay refl (layers_of_all layers fs)
-    where
-      by : (o : Option (Overlay ℕ)) → f.overlay ≡ o → flat_map (of_overlay [] layers) (filter is_overlay fs) ≡ flat_map (of_overlay [] layers) fs
-          → flat_map (of_overlay [] layers) (cond (is_some f.overlay) (f ∷ filter is_overlay fs) (filter is_overlay fs))
-          ≡ overlay_or [] layers f.overlay ++ flat_map (of_overlay [] layers) fs
-      by None e rest =
-          ap (λ b. flat_map (of_overlay [] layers) (cond b (f ∷ filter is_overlay fs) (filter is_overlay fs))) (ap is_some e)
-          ∙ rest ∙ sym (ap (λ o. overlay_or [] layers o ++ flat_map (of_overlay [] layers) fs) e)
-      by (Some v) e rest =
-          ap (λ b. flat_map (of_overlay [] layers) (cond b (f ∷ filter is_overlay fs) (filter is_overlay fs))) (ap is_some e)
-          ∙ ap (λ l. overlay_or [] layers f.overlay ++ l) rest
-
   mapped_same : (layers : Overlay ℕ → List (Layer ℕ)) (r : Filesystem ℕ → Filesystem ℕ) (fs : List (Filesystem ℕ))
       → ((f : Filesystem ℕ) → Among f fs → of_overlay [] layers (r f) ≡ of_overlay [] layers f)
       → flat_map (of_overlay [] layers) (map r fs) ≡ flat_map (of_overlay [] layers) fs
@@ -619,7 +617,8 @@ module _ (fresh : Fresh ℕ) (world : World ℕ) (location : Location ℕ) (chan
       → flat_map (of_overlay [] layers) (overlays later) ≡ flat_map (of_overlay [] layers) (overlays world)
   layers_same layers ignores =
       ap (λ w. flat_map (of_overlay [] layers) (overlays w)) later_is
-      ∙ layers_of_all layers (map (replaced_if_numbered nat_eq changed_upper) (map (replaced_if_numbered nat_eq changed) world.filesystems))
+      ∙ layers_of_all layers
+      (map (replaced_if_numbered nat_eq changed_upper) (map (replaced_if_numbered nat_eq changed) world.filesystems))
       ∙ mapped_same layers (replaced_if_numbered nat_eq changed_upper) (map (replaced_if_numbered nat_eq changed) world.filesystems) (second_same layers)
       ∙ mapped_same layers (replaced_if_numbered nat_eq changed) world.filesystems (first_same layers ignores)
       ∙ sym (layers_of_all layers world.filesystems)
@@ -642,8 +641,10 @@ module _ (fresh : Fresh ℕ) (world : World ℕ) (location : Location ℕ) (chan
           × ((lies_or_counts_under nat_eq later a.filesystem o a && (lies_or_counts_under nat_eq later a.filesystem o b || false)) ≡ true)
           → overlap nat_eq world a b ≡ true
       from (o, m, f) =
-          overlap_before a b live_a live_b a.filesystem o refl (and_true_left (lies_or_counts_under nat_eq later a.filesystem o a) _ f)
-          (or_false_alone (lies_or_counts_under nat_eq later a.filesystem o b) (and_true_right (lies_or_counts_under nat_eq later a.filesystem o a) _ f))
+          overlap_before a b live_a live_b a.filesystem o refl
+          (and_true_left (lies_or_counts_under nat_eq later a.filesystem o a) _ f)
+          (or_false_alone (lies_or_counts_under nat_eq later a.filesystem o b)
+          (and_true_right (lies_or_counts_under nat_eq later a.filesystem o a) _ f))
 
   changed_stay : any_pair (overlap nat_eq later) (live_upper_and_work later) ≡ false
   changed_stay =
@@ -674,13 +675,15 @@ module _ (fresh : Fresh ℕ) (world : World ℕ) (location : Location ℕ) (chan
               (none_among (overlaps_one_of nat_eq world (live_lowers nat_eq world)) (live_upper_and_work world) conditions.overlays.lowers_apart a m) x l)
               (and_true_left (lies_or_counts_under nat_eq world a.filesystem x a) _ f)
               (any_from_among (lies_or_counts_under nat_eq world a.filesystem x) (live_lowers nat_eq world) b n
-              (or_false_alone (lies_or_counts_under nat_eq world a.filesystem x b) (and_true_right (lies_or_counts_under nat_eq world a.filesystem x a) _ f)))
+              (or_false_alone (lies_or_counts_under nat_eq world a.filesystem x b)
+              (and_true_right (lies_or_counts_under nat_eq world a.filesystem x a) _ f)))
 
       from : (a : Layer ℕ) → Among a (live_upper_and_work world) → (o : ℕ) × Among o (filesystem_numbered nat_eq later a.filesystem).files.numbers
           × ((lies_or_counts_under nat_eq later a.filesystem o a && list_any (lies_or_counts_under nat_eq later a.filesystem o) (live_lowers nat_eq world)) ≡ true) → ⊥
       from a m (o, l, f) =
           inner a m o (and_true_left (lies_or_counts_under nat_eq later a.filesystem o a) _ f)
-          (any_among (lies_or_counts_under nat_eq later a.filesystem o) (live_lowers nat_eq world) (and_true_right (lies_or_counts_under nat_eq later a.filesystem o a) _ f))
+          (any_among (lies_or_counts_under nat_eq later a.filesystem o) (live_lowers nat_eq world)
+          (and_true_right (lies_or_counts_under nat_eq later a.filesystem o a) _ f))
 
       by : (a : Layer ℕ) → Among a (live_upper_and_work world) → (b : Bool) → overlaps_one_of nat_eq later (live_lowers nat_eq world) a ≡ b
           → overlaps_one_of nat_eq later (live_lowers nat_eq world) a ≡ false

@@ -217,7 +217,8 @@ module _ (top : ℕ) (files : FileTree ℕ) (good : IsGood top files) (d : ℕ) 
   -- it is a removal, or nothing
   as_removed : (r : ℕ) → entry_at files.tree d w ≡ Some r → changed nat_eq files (Remove d w r) ≡ freed
   as_removed r e =
-      unchanged_node freed r (node_with_parent r) (node_with_parent-no_directory r (freed.tree.node r) (freed_kind r ∙ plain r e))
+      unchanged_node freed r (node_with_parent r) (node_with_parent-no_directory r (freed.tree.node r) (freed_kind r
+      ∙ plain r e))
 
   as_before : entry_at files.tree d w ≡ None → freed ≡ files
   as_before none = unchanged_node files d (node_without_entry w) (node_without_none w (files.tree.node d) in_order none)

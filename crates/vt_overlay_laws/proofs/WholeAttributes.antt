@@ -211,7 +211,8 @@ attr_keeps_whole stack merge object attr whole stands =
     (changes_keep_trees merge.files (SetAttr object attr) whole.tree tt)
     (changes_keep_numbers merge.files (SetAttr object attr) whole.numbers)
     (changes_keep_trees merge.upper (SetAttr (upper_of merge object) attr) top.0 tt)
-    (part-changed_node Rattle.vt_spec.specs.Tree.is_directory_node merge.upper (upper_of merge object) (node_with_attr attr)
+    (part-changed_node Rattle.vt_spec.specs.Tree.is_directory_node merge.upper (upper_of merge object)
+    (node_with_attr attr)
     (λ o. elim o as (λ o. Rattle.vt_spec.specs.Tree.is_directory_node (node_with_attr attr o)
     ≡ Rattle.vt_spec.specs.Tree.is_directory_node o) [ None ↦ refl | Some node ↦ refl ]) stack.directory ∙ top.1) (
       whole.reached.0,
@@ -229,7 +230,8 @@ bytes_keep_whole stack merge file bytes whole stands =
     (changes_keep_trees merge.files (SetBytes file bytes) whole.tree tt)
     (changes_keep_numbers merge.files (SetBytes file bytes) whole.numbers)
     (changes_keep_trees merge.upper (SetBytes (upper_of merge file) bytes) top.0 tt)
-    (part-changed_node Rattle.vt_spec.specs.Tree.is_directory_node merge.upper (upper_of merge file) (node_with_bytes bytes)
+    (part-changed_node Rattle.vt_spec.specs.Tree.is_directory_node merge.upper (upper_of merge file)
+    (node_with_bytes bytes)
     (Rattle.vt_spec.proofs.Nodes.is_directory-node_with_bytes bytes) stack.directory ∙ top.1) (
       whole.reached.0,
       (bytes_change_one_inode merge.upper merge.upper.tree.root

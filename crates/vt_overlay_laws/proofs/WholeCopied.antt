@@ -207,7 +207,8 @@ module _ (stack : Stack ℕ) (merge : Merge ℕ) (whole : IsWhole stack merge) (
     unnamed_empty = λ k d no_root unnamed.
         ⊎_elim
         (λ same. ap (λ n. entries_in (apart.tree.node n)) same
-        ∙ ap entries_in (node_set merge.upper.tree copy (Some (copy_node copy))) ∙ entries_of-copied_content copy node.content)
+        ∙ ap entries_in (node_set merge.upper.tree copy (Some (copy_node copy)))
+        ∙ entries_of-copied_content copy node.content)
         (λ old. inode_entries merge.upper copy (copy_node copy) vacant (entries_of-copied_content copy node.content) k
         ∙ top_tree.unnamed_empty k old no_root
         (λ named. unnamed (named.0, named.1, apart_entry named.0 named.1 ∙ named.2)))

@@ -328,7 +328,8 @@ module _ (stack : Stack ℕ) (fresh : Fresh ℕ) (distinct : (j k : ℕ) → fre
                     content = copied_content
                         (copy_parent merge (fresh k) (a_name nat_eq merge.files object)) node.content;
                   })
-                  (entries_of-copied_content (copy_parent merge (fresh k) (a_name nat_eq merge.files object)) node.content)
+                  (entries_of-copied_content
+                  (copy_parent merge (fresh k) (a_name nat_eq merge.files object)) node.content)
                   (a_name nat_eq merge.files object) (k, refl))
                   next.copied.names;
               objects = λ n o e. ⊎_elim (λ f. own_before merge object k n o f) inr (next.copied.objects n o e);
@@ -339,7 +340,8 @@ module _ (stack : Stack ℕ) (fresh : Fresh ℕ) (distinct : (j k : ℕ) → fre
                 (next.copied.grows object stands)) (λ l. next.all n l) m;
             cut = λ d path.
                 next.cut (λ x m. d x (inr m)) path
-                ∙ copy_cuts stack merge object (fresh k) node whole is (none_from_not_some (upper_object (merge.real object)) low)
+                ∙ copy_cuts stack merge object (fresh k) node whole is
+                (none_from_not_some (upper_object (merge.real object)) low)
                 (unused k (omega arith)) (λ name e. up name.0 (line.0 name e))
                 (ap is_directory_node (sym is) ∙ d object (inl refl)) path;
           }

@@ -252,7 +252,8 @@ module _ (world : World ℕ) (is : IsWorld nat_eq world) (number : ℕ) (overlay
             no_lower world is f.number v of top g inode
             (found.0, upper_real (v.real found.0) inode found.2) lower live_lower
             (subst (λ n. lies_or_counts_under nat_eq world n inode lower ≡ true)
-            (eqb-true lower.filesystem top.filesystem (and_true_left (nat_eq lower.filesystem top.filesystem) _ rest)) lies)
+            (eqb-true lower.filesystem top.filesystem
+            (and_true_left (nat_eq lower.filesystem top.filesystem) _ rest)) lies)
 
         by : (f : Filesystem ℕ) → filesystem_numbered nat_eq world f.number ≡ f → (o : Option (Overlay ℕ))
             → f.overlay ≡ o

@@ -122,7 +122,8 @@ module _ (world : World ℕ) (fresh : Fresh ℕ) (conditions : IsWorld nat_eq wo
     layer_stays layer m =
         inode_stays layer.filesystem layer.directory
         (directory_used (filesystem_numbered nat_eq world layer.filesystem).files.tree layer.directory
-        (and_true_right (Rattle.std.specs.Prelude.not (is_overlay (filesystem_numbered nat_eq world layer.filesystem))) _
+        (and_true_right (Rattle.std.specs.Prelude.not
+        (is_overlay (filesystem_numbered nat_eq world layer.filesystem))) _
         (plain_layer world (are_trees world conditions.files) conditions.overlays number after was layer m)))
 
     goes : GoesOn world later number after

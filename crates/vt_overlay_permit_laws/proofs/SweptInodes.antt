@@ -34,11 +34,10 @@ use Rattle.vt_overlay_permit_laws.proofs.SweptOverlays.{leads_same, shown_among,
 use Rattle.vt_overlay_permit_laws.proofs.SweptTrees.{led_same, led_used, node_led_same, reached_still, used_node}
 use Rattle.std.proofs.lemmas.Bool.{not-true}
 use Rattle.std.proofs.lemmas.Option.{same_Some}
-use Rattle.vt_overlay_permit_laws.proofs.SweptOverlays.{layers_of_all}
 use Rattle.vt_spec.proofs.Found.{is_among_left, is_among_right}
 use Rattle.vt_spec.proofs.Options.{none_is_some}
 use Rattle.vt_spec.proofs.Truths.{and_true_left, and_true_right}
-use Rattle.vt_spec.proofs.Worlds.{number-only_used}
+use Rattle.vt_spec.proofs.Worlds.{number-only_used, layers_of_all}
 
 -- trees of which each filesystem is one
 pub file_trees_are : (world : World ℕ) → HasFileTrees world
@@ -410,7 +409,8 @@ module _ (world : World ℕ) (files : HasFileTrees world)
 
       swept_is : filesystem_numbered nat_eq second_later layer.filesystem
           ≡ only_used_by nat_eq (list_all (λ n. is_among nat_eq n used) g.files.numbers) used g
-      swept_is = found.is_swept ∙ ap (λ b. only_used nat_eq world b g) (and_true_left (not (is_overlay g)) _ layer_is_plain)
+      swept_is =
+          found.is_swept ∙ ap (λ b. only_used nat_eq world b g) (and_true_left (not (is_overlay g)) _ layer_is_plain)
 
       directory_is_used : is_among nat_eq layer.directory used ≡ true
       directory_is_used =
@@ -441,7 +441,8 @@ module _ (world : World ℕ) (files : HasFileTrees world)
           (is_among nat_eq object (named_in g.files ++ located_in nat_eq world g.number
           ++ layers_in nat_eq world g.number
           ++ flat_map (objects_of_overlay nat_eq g.number) world.filesystems))
-          (is_among_right object (named_in g.files ++ located_in nat_eq world g.number ++ layers_in nat_eq world g.number)
+          (is_among_right object
+          (named_in g.files ++ located_in nat_eq world g.number ++ layers_in nat_eq world g.number)
           (flat_map (objects_of_overlay nat_eq g.number) world.filesystems)
           (is_among_numbers object (flat_map (objects_of_overlay nat_eq g.number) world.filesystems)
           (among-flat_map (objects_of_overlay nat_eq g.number) world.filesystems

@@ -22,26 +22,7 @@ use Rattle.vt_layer_laws.proofs.LowersWorld.{number_of_filesystem}
 use Rattle.vt_spec.proofs.Truths.{and_true_left, and_true_right}
 use Rattle.vt_overlay_laws.proofs.WholeOthers.{stays_merged}
 use Rattle.vt_overlay_permit_laws.proofs.OverlaysGoOn.{AreTrees, GoesOn, overlay_among, overlays_go_on, plain_layer}
-
--- Layers of all filesystems are those of overlays
-pub layers_of_all : (layers : Overlay ℕ → List (Layer ℕ)) (list : List (Filesystem ℕ))
-    → flat_map (of_overlay [] layers) (filter is_overlay list) ≡ flat_map (of_overlay [] layers) list
-layers_of_all layers [] = refl
-layers_of_all layers (f ∷ rest) = by f.overlay refl (layers_of_all layers rest)
-  where
-    by : (o : Option (Overlay ℕ)) → f.overlay ≡ o
-        → flat_map (of_overlay [] layers) (filter is_overlay rest) ≡ flat_map (of_overlay [] layers) rest
-        → flat_map (of_overlay [] layers)
-        (cond (is_some f.overlay) (f ∷ filter is_overlay rest) (filter is_overlay rest))
-        ≡ overlay_or [] layers f.overlay ++ flat_map (of_overlay [] layers) rest
-    by None e same =
-        ap (λ b. flat_map (of_overlay [] layers) (cond b (f ∷ filter is_overlay rest) (filter is_overlay rest)))
-        (ap is_some e)
-        ∙ same ∙ sym (ap (λ o. overlay_or [] layers o ++ flat_map (of_overlay [] layers) rest) e)
-    by (Some v) e same =
-        ap (λ b. flat_map (of_overlay [] layers) (cond b (f ∷ filter is_overlay rest) (filter is_overlay rest)))
-        (ap is_some e)
-        ∙ ap (λ l. overlay_or [] layers f.overlay ++ l) same
+use Rattle.vt_spec.proofs.Worlds.{layers_of_all}
 
 -- of which fewer pairs pass
 pairs_behind : {A : Type 0} (test : A → A → Bool) (front back : List A) → any_pair test (front ++ back) ≡ false
@@ -193,7 +174,8 @@ module _ (world : World ℕ) (files : AreTrees world) (are : OverlayInvariants n
             (filesystem_numbered nat_eq living number).number layer.filesystem) (layers_of v) h in
             let plain = plain_layer world files are f.number v
             (ap (λ (x : Filesystem ℕ). x.overlay) itself ∙ e) found.0 found.1 in
-            true≢false (sym (and_true_left (not (is_overlay (filesystem_numbered nat_eq world found.0.filesystem))) _ plain)
+            true≢false (sym (and_true_left
+            (not (is_overlay (filesystem_numbered nat_eq world found.0.filesystem))) _ plain)
             ∙ ap (λ n. not (is_overlay (filesystem_numbered nat_eq world n)))
             (sym (sym (number_of_filesystem living number)
             ∙ eqb-true (filesystem_numbered nat_eq living number).number found.0.filesystem found.2))

@@ -244,7 +244,8 @@ module _ (world : World ℕ) (whole : IsWorld nat_eq world) (task : Task ℕ)
       let after_to = or_false_right locked_to (locked_old || others) after_from in
       record {
         spares = λ inode locked. (
-          differs from.parent (or_false_left locked_from (locked_to || (locked_old || others)) locks) _ refl inode locked,
+          differs from.parent (or_false_left locked_from
+              (locked_to || (locked_old || others)) locks) _ refl inode locked,
           differs to.parent (or_false_left locked_to (locked_old || others) after_from) _ at_to inode locked,
           differs (object_there from) (or_false_left locked_old others after_to) _
               (in_it from from_named from_is) inode locked,

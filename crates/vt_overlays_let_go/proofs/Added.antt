@@ -229,7 +229,8 @@ module _ (fresh : Fresh ℕ) (stack : Stack ℕ) (before : Merge ℕ) (fit : IsF
       (merge_changed nat_eq fresh stack before (Remove directory name object))
       (grows_up (evens fresh) before directory) refl refl
       (root-emptied _ (upper_directory_named (copied_up nat_eq (evens fresh) before directory) directory name)
-      ∙ root-name_left_by (is_some (shown_below nat_eq stack (copied_up nat_eq (evens fresh) before directory) directory name))
+      ∙ root-name_left_by (is_some
+      (shown_below nat_eq stack (copied_up nat_eq (evens fresh) before directory) directory name))
       (odds fresh) stack
       (copied_up nat_eq (evens fresh) before directory).upper
       (upper_of (copied_up nat_eq (evens fresh) before directory) directory) name)

@@ -20,13 +20,14 @@ use Rattle.vt_spec.specs.Machine.World.{Task, World, mount_at, mount_numbered, t
 use Rattle.vt_laws.proofs.GivenPermits.{permits_are_for_their_calls}
 use Rattle.vt_letting_go.specs.Unmounting.{numbers_of_trees}
 use Rattle.vt_letting_go.proofs.PlacesLeft.{nowhere_parts}
-use Rattle.vt_mount_laws.proofs.MountsReplaced.{found_itself, tree_among}
+use Rattle.vt_mount_laws.proofs.MountsReplaced.{found_itself}
 use Rattle.vt_tree_laws.proofs.Given.{Gives, given_is, gives_unless, gives_walk}
 use Rattle.vt_overlays_let_go.specs.OverlayCalls.{RemovingKeepsTheMount, ReplacingKeepsTheMount}
 use Rattle.vt_world_laws.specs.Worlds.Permits.{IsReached}
 use Rattle.vt_world_laws.proofs.Reached.{is_reached}
 use Rattle.vt_world_laws.proofs.ReachedPlaces.{IsFoundPlace, IsOldPlace, old_leaf_walk_found, old_walk_found, rename_new_walk_found}
 use Rattle.vt_world_laws.proofs.SeenMounts.{tree_namespace}
+use Rattle.vt_spec.proofs.Worlds.{tree_among}
 
 -- P1: no mount of the task's namespace stands on the directory
 abbrev IsFreeFor : World ℕ → Task ℕ → Location ℕ → Type 0

@@ -246,7 +246,8 @@ module _ (files : FileTree ℕ) (tree : IsTree files.tree) (numbers : ListsNumbe
             content = copied_content (copy_parent (MergeOf real upper) (fresh k)
                 (a_name nat_eq files object)) node.content;
           })
-          (entries_of-copied_content (copy_parent (MergeOf real upper) (fresh k) (a_name nat_eq files object)) node.content) f
+          (entries_of-copied_content
+          (copy_parent (MergeOf real upper) (fresh k) (a_name nat_eq files object)) node.content) f
           (a_name nat_eq files object) refl stand.0)
           (stand.1 (with_real nat_eq real object (Upper (fresh k)))
           (λ there. ap (λ b. is_some (upper_object (cond b (Some (Upper (fresh k))) (real object))))

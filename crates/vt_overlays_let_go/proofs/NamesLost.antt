@@ -165,7 +165,8 @@ module _ (fresh : Fresh ℕ) (stack : Stack ℕ) (merge : Merge ℕ)
             (part-changed_node entries_in (with_name nat_eq (without_name nat_eq apart (upper_of merge from) old)
             (upper_of merge to) new
             (upper_of merge object))
-            (upper_of merge object) (node_with_parent (upper_of merge to)) (entries-node_with_parent (upper_of merge to)) d)
+            (upper_of merge object) (node_with_parent (upper_of merge to))
+            (entries-node_with_parent (upper_of merge to)) d)
             ∙ put_same (without_name nat_eq apart (upper_of merge from) old) (upper_of merge to) new
             (upper_of merge object) d n put
             ∙ take_same apart (upper_of merge from) old d n left
@@ -350,7 +351,8 @@ module _ (fresh : Fresh ℕ) (stack : Stack ℕ) (before : Merge ℕ) (fit : IsF
       inl (
         d,
         n,
-        ap (entry_named n) (part-changed_node entries_in copied.upper (upper_of copied directory) (node_with_mark opaque)
+        ap (entry_named n) (part-changed_node entries_in copied.upper (upper_of copied directory)
+            (node_with_mark opaque)
             (entries-node_with_mark opaque) d) ∙ all_copied directory d n k e,
       )
   loses (CopyUp object) d n k e = inl (d, n, all_copied object d n k e)

@@ -4,7 +4,7 @@ use Rattle.std.proofs.lemmas.Bool.{and_parts}
 use Rattle.std.proofs.lemmas.List.Folds.{find-append}
 use Rattle.std.specs.Option.{option_or}
 use Rattle.std.specs.Prelude.{option_map}
-use Rattle.vt_letting_go.proofs.Lists.{Among, among-from_filter, filter_alike, passes}
+use Rattle.vt_letting_go.proofs.Lists.{Among, among-from_filter, passes}
 use Rattle.vt_spec.specs.FileTree.{is_directory_under}
 use Rattle.vt_spec.specs.Machine.Attach.{parts_of, receivers_of, takes_part}
 use Rattle.vt_spec.specs.Machine.Invariants.{IsWorld, has_its_root}
@@ -13,6 +13,7 @@ use Rattle.vt_spec.specs.Machine.Outcome.Mounting.{with_new_filesystem}
 use Rattle.vt_spec.specs.Machine.Receives.{receivers, receives}
 use Rattle.vt_spec.specs.Machine.World.{Filesystem, World, filesystem_numbered, mount_at, no_filesystem}
 use Rattle.vt_spec.specs.Tree.{is_directory_node}
+use Rattle.vt_spec.proofs.Found.{filter_alike}
 
 -- receivers are mounts of the world
 pub receivers_there : (world : World ℕ) (mount one : Mount ℕ) → Among one (receivers_of nat_eq world mount)

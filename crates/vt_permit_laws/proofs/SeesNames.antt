@@ -40,10 +40,10 @@ use Rattle.vt_tree_laws.proofs.TreesWalked.{Ends, IsFilePlace, IsNewFilePlace, I
 use Rattle.vt_world_laws.proofs.RaisedInUse.{unsettled_of}
 use Rattle.vt_world_laws.proofs.SettledTasks.{file_trees}
 use Rattle.vt_world_laws.specs.Worlds.Kept.{IsPlain}
-use Rattle.vt_call_laws.proofs.EffectsRights.{no_special}
 use Rattle.std.proofs.lemmas.Option.{same_Some}
 use Rattle.vt_spec.proofs.NodeChanges.{entries_in-no_directory, nil_from_not_some}
 use Rattle.vt_spec.proofs.Truths.{or_false_left}
+use Rattle.vt_spec.proofs.Worlds.{special_word}
 
 some_is : (o : Option (Location ℕ)) (default : Location ℕ) → is_some o ≡ true → o ≡ Some (unwrap_or o default)
 some_is None default e = absurd (true≢false (sym e))
@@ -270,7 +270,7 @@ module _ (world : World ℕ) (whole : IsWorld nat_eq world) (plain : IsPlain wor
       gives_walk (SeesTo world task) (IsOldPlace world task) (old_walk nat_eq looks task path) _
       (ends_old_walk world task path) (λ place is.
       gives_unless (SeesTo world task) (rmdir_word_rules place) _ (λ word.
-      let named = no_special place.last word.0 word.1.0 word.1.1.0 in
+      let named = special_word place.last word.0 word.1.0 word.1.1.0 in
       gives_unless (SeesTo world task) (rmdir_rules nat_eq looks task place (object_there place)) _ (λ passed. (
         old_mount place is named,
         old_removable world place named is.0 is.1

@@ -136,7 +136,8 @@ module _ (world : World ℕ) (whole : IsWorld nat_eq world) (plain : IsPlain wor
         ≡ with_change nat_eq again (without_mounts_on nat_eq world gone) location change
     taken_same gone location change =
         change_same (without_mounts_on nat_eq world gone)
-        (taken_plain world (without_mounts_on nat_eq world gone) (filesystems-taken_away world _) plain) fresh again location
+        (taken_plain world (without_mounts_on nat_eq world gone)
+        (filesystems-taken_away world _) plain) fresh again location
         change
 
     replaced_same : (replaced : Option (Location ℕ)) (location : Location ℕ) (change : Change ℕ)

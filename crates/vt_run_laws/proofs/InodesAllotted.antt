@@ -8,6 +8,7 @@ use Rattle.vt_run_laws.proofs.Counts.{counts, counts_from_hand, counts_keep, cou
 use Rattle.vt_run_laws.specs.Handed.{AllottedNumbersOpen, AllottedNumbersServe, AllottedNumbersServeNamed, NumbersAreAllotted, counts_from, handed_from, is_counted_before, is_named_before, lot_from, lot_of_counts, may_be_given}
 use Rattle.vt_run_laws.specs.Runs.{ServesInHand}
 use Rattle.vt_spec.specs.Machine.World.{World}
+use Rattle.vt_laws.proofs.Allotments.{kept_lot}
 
 -- One of the numbers that an allotment keeps stands for a new one of its numbers, which is kept in its place.
 module _ (allotment : Allotment) (place number : ℕ) (kept : allotment.lot number ≡ Kept) where
@@ -98,11 +99,6 @@ module _ (allotment : Allotment) (place number : ℕ) (kept : allotment.lot numb
 module _ (next place inode : ℕ) (even : inode % 2 ≡ 0) where
   even_before : is_counted_before next inode ≡ true
   even_before = ap (λ b. b || (inode % 4 == 1 && nat_lt (inode / 4) next)) (eq-eqb (inode % 2) 0 even)
-
-  kept_lot : (lot : Lot) → is_kept_lot lot ≡ true → lot ≡ Kept
-  kept_lot Kept e = refl
-  kept_lot (New k) e = absurd (true≢false (sym e))
-  kept_lot (LeftOver k) e = absurd (true≢false (sym e))
 
   pub inode_kept : lot_of_counts next inode ≡ Kept
   inode_kept = kept_lot (lot_of_counts next inode) (counts_keep next inode even_before)

@@ -7,7 +7,8 @@ use Rattle.vt_spec.specs.Machine.Outcome.Descriptors.{free_from}
 use Rattle.vt_spec.specs.Machine.World.{Descriptor}
 
 -- descriptors above a number are above a lower one
-pub ascending_lower : (lower least : ℕ) (list : List (Descriptor ℕ)) → lower ≤ least → are_ascending_from least list ≡ true
+pub ascending_lower : (lower least : ℕ) (list : List (Descriptor ℕ)) → lower ≤ least
+    → are_ascending_from least list ≡ true
     → are_ascending_from lower list ≡ true
 ascending_lower lower least [] le h = refl
 ascending_lower lower least (descriptor ∷ list) le h =

@@ -11,6 +11,9 @@ use Rattle.vt_spec.proofs.Options.{none_is_some}
 use Rattle.vt_spec.specs.Lists.{chain, is_among}
 use Rattle.vt_spec.specs.Machine.Mounts.{Mount}
 use Rattle.vt_spec.specs.Tree.{Entries, entry_named, name_cmp}
+use Rattle.std.proofs.Common.{filter}
+use Rattle.vt_spec.proofs.Lists.{filter_here}
+use Rattle.std.proofs.lemmas.Bool.{or_right}
 
 -- a number among the first is among all
 pub is_among_left : (x : ℕ) (xs ys : List ℕ) → is_among nat_eq x xs ≡ true → is_among nat_eq x (xs ++ ys) ≡ true
@@ -18,11 +21,8 @@ is_among_left x xs ys h = list_any-append (nat_eq x) xs ys ∙ ap (λ b. b || li
 
 -- and one among the last
 pub is_among_right : (x : ℕ) (xs ys : List ℕ) → is_among nat_eq x ys ≡ true → is_among nat_eq x (xs ++ ys) ≡ true
-is_among_right x xs ys h = list_any-append (nat_eq x) xs ys ∙ by (list_any (nat_eq x) xs) (list_any (nat_eq x) ys) h
-  where
-    by : (a b : Bool) → b ≡ true → (a || b) ≡ true
-    by true b h = refl
-    by false b h = h
+is_among_right x xs ys h = list_any-append (nat_eq x) xs ys
+    ∙ or_right (list_any (nat_eq x) xs) (list_any (nat_eq x) ys) h
 
 -- what is found is there
 pub found_among : {A : Type 0} (test : A → Bool) (list : List A) (a : A) → find test list ≡ Some a → Among a list
@@ -81,3 +81,17 @@ among_targets name (entry ∷ entries) number e =
         ap (λ b. b || is_among nat_eq number (map (λ e. e.1) entries))
         (eq-eqb number entry.1 (sym (same_Some entry.1 number is)))
     by false rest is = or_right (nat_eq number entry.1) _ (rest is)
+
+-- a filter that all pass takes nothing
+pub filter_all : {A : Type 0} (p : A → Bool) (xs : List A) → ((x : A) → Among x xs → p x ≡ true) → filter p xs ≡ xs
+filter_all p [] all = refl
+filter_all p (y ∷ ys) all =
+    filter_here p y ys (all y (inl refl)) ∙ ap (λ l. y ∷ l) (filter_all p ys (λ x m. all x (inr m)))
+
+-- two tests that agree on a list keep the same of it
+pub filter_alike : {A : Type 0} (p q : A → Bool) (xs : List A) → ((x : A) → Among x xs → p x ≡ q x)
+    → filter p xs ≡ filter q xs
+filter_alike p q [] same = refl
+filter_alike p q (y ∷ ys) same =
+    ap (λ b. cond b (y ∷ filter p ys) (filter p ys)) (same y (inl refl))
+    ∙ ap (λ l. cond (q y) (y ∷ l) l) (filter_alike p q ys (λ x m. same x (inr m)))

@@ -8,11 +8,10 @@ use Rattle.std.specs.Cmp.Lexicographic.{nat_list_cmp_total}
 use Rattle.std.specs.FinMap.Entries.{below_all, is_sorted}
 use Rattle.std.specs.List.{find, list_any}
 use Rattle.std.specs.Ordering.{eq_by_cmp, is_eq, is_lt}
-use Rattle.std.specs.declared.cmp.Ordering.{Ordering}
-use Rattle.std.specs.declared.cmp.Ordering.TheVariants.{Equal, Greater, Less}
+use Rattle.std.specs.declared.cmp.Ordering.TheVariants.{Equal}
 use Rattle.vt_spec.proofs.Nodes.{none_is_not, same_name}
 use Rattle.vt_spec.proofs.Options.{none_is_some}
-use Rattle.vt_spec.proofs.Truths.{and_true_left, and_true_right}
+use Rattle.vt_spec.proofs.Truths.{and_true_left, and_true_right, less_is_not_equal}
 use Rattle.vt_spec.specs.FileTree.{FileTree, has_entry_to, is_kind, is_kind_in}
 use Rattle.vt_spec.specs.Language.Changes.{changed_node, content_with_mark, content_with_parent, node_with_attr, node_with_mark, node_with_parent, node_without_entries, node_without_entry, without_entry, without_parent}
 use Rattle.vt_spec.specs.Lists.{is_empty_list}
@@ -25,11 +24,8 @@ use Rattle.vt_spec.specs.Tree.Content.{Directory, Regular, Symlink, Whiteout}
 use Rattle.vt_spec.specs.TreeLaws.{IsTree, entry_at}
 use Rattle.vt_spec.specs.declared.attributes.Attr.{Attr}
 use Rattle.vt_spec.specs.declared.attributes.Kind.TheVariants.{File, White}
-
--- a directory is there
-pub directory_is_there : (o : Option (Node ℕ)) → is_directory_node o ≡ true → is_some o ≡ true
-directory_is_there None e = e
-directory_is_there (Some node) e = refl
+use Rattle.std.proofs.lemmas.Bool.{or_right}
+pub use Rattle.vt_spec.proofs.Nodes.{directory_is_there}
 
 -- entries above a name lead it nowhere
 pub entry_named-below : (name : List ℕ) (entries : Entries ℕ) → below_all name_cmp name entries ≡ true
@@ -37,16 +33,12 @@ pub entry_named-below : (name : List ℕ) (entries : Entries ℕ) → below_all 
 entry_named-below name [] e = refl
 entry_named-below name (entry ∷ entries) e =
     let parts = and_parts (is_lt (name_cmp name entry.0)) (below_all name_cmp name entries) e in
-    ap (λ b. cond b (Some entry.1) (entry_named name entries)) (apart (name_cmp name entry.0) parts.0)
+    ap (λ b. cond b (Some entry.1) (entry_named name entries)) (less_is_not_equal (name_cmp name entry.0) parts.0)
     ∙ entry_named-below name entries parts.1
-  where
-    apart : (o : Ordering) → is_lt o ≡ true → is_eq o ≡ false
-    apart Less e = refl
-    apart Equal e = absurd (true≢false (sym e))
-    apart Greater e = refl
 
 -- another parent: the entries stay
-pub entries-node_with_parent : (parent : ℕ) (o : Option (Node ℕ)) → entries_in (node_with_parent parent o) ≡ entries_in o
+pub entries-node_with_parent : (parent : ℕ) (o : Option (Node ℕ))
+    → entries_in (node_with_parent parent o) ≡ entries_in o
 entries-node_with_parent parent None = refl
 entries-node_with_parent parent (Some node) = by node.content
   where
@@ -88,7 +80,8 @@ is_some-node_with_parent parent None = refl
 is_some-node_with_parent parent (Some node) = refl
 
 -- what is no directory gets no parent
-pub node_with_parent-no_directory : (parent : ℕ) (o : Option (Node ℕ)) → is_directory_node o ≡ false → node_with_parent parent o ≡ o
+pub node_with_parent-no_directory : (parent : ℕ) (o : Option (Node ℕ)) → is_directory_node o ≡ false
+    → node_with_parent parent o ≡ o
 node_with_parent-no_directory parent None is = refl
 node_with_parent-no_directory parent (Some node) is = by node.content refl is
   where
@@ -117,7 +110,8 @@ entries_of-content_with_parent p (Symlink b) = refl
 entries_of-content_with_parent p Whiteout = refl
 
 -- a mark: the entries stay
-pub entries-node_with_mark : (mark : Bool) (inode : Option (Node ℕ)) → entries_in (node_with_mark mark inode) ≡ entries_in inode
+pub entries-node_with_mark : (mark : Bool) (inode : Option (Node ℕ))
+    → entries_in (node_with_mark mark inode) ≡ entries_in inode
 entries-node_with_mark mark None = refl
 entries-node_with_mark mark (Some node) = by node.content
   where
@@ -204,7 +198,8 @@ entries_of-copied_content parent (Symlink text) = refl
 entries_of-copied_content parent Whiteout = refl
 
 -- a copy is of the kind of what is copied
-pub kind_of-copied_content : (parent : ℕ) (content : Content ℕ) → kind_of (copied_content parent content) ≡ kind_of content
+pub kind_of-copied_content : (parent : ℕ) (content : Content ℕ)
+    → kind_of (copied_content parent content) ≡ kind_of content
 kind_of-copied_content parent (Directory old entries opaque) = refl
 kind_of-copied_content parent (Regular bytes) = refl
 kind_of-copied_content parent (Symlink text) = refl
@@ -243,7 +238,8 @@ directory_from_entry name number (Some node) e = by node.content e
     by Whiteout h = none_is_not None number refl h
 
 -- contents that are the same are of one kind
-pub same_content_kind : (a b : Content ℕ) → same_content a b ≡ true → is_directory (kind_of a) ≡ is_directory (kind_of b)
+pub same_content_kind : (a b : Content ℕ) → same_content a b ≡ true
+    → is_directory (kind_of a) ≡ is_directory (kind_of b)
 same_content_kind (Directory parent entries opaque) (Directory other_parent other_entries other_opaque) e = refl
 same_content_kind (Directory parent entries opaque) (Regular bytes) e = absurd (true≢false (sym e))
 same_content_kind (Directory parent entries opaque) (Symlink text) e = absurd (true≢false (sym e))
@@ -317,17 +313,13 @@ entry_to tree directory name object e = searched (entries_in (tree.node director
     searched [] e = none_is_some object e
     searched (entry ∷ entries) e = by (eq_by_cmp name_cmp name entry.0) e (searched entries)
       where
-        right : (a b : Bool) → b ≡ true → (a || b) ≡ true
-        right true b e = refl
-        right false b e = e
-
         by : (b : Bool) → cond b (Some entry.1) (entry_named name entries) ≡ Some object
             → (entry_named name entries ≡ Some object
             → list_any (nat_eq object) (map (λ entry. entry.1) entries) ≡ true)
             → (nat_eq object entry.1 || list_any (nat_eq object) (map (λ entry. entry.1) entries)) ≡ true
         by true e rest = ap (λ b. b || list_any (nat_eq object) (map (λ entry. entry.1) entries))
             (eq-eqb object entry.1 (sym (same_Some entry.1 object e)))
-        by false e rest = right (nat_eq object entry.1) _ (rest e)
+        by false e rest = or_right (nat_eq object entry.1) _ (rest e)
 
 -- and what has an entry has a name
 pub entry_from : (tree : Tree ℕ) → IsTree tree → (directory object : ℕ)

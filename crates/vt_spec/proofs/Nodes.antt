@@ -42,12 +42,12 @@ entry_named-without_entry q name entries =
     (λ x tied. ap (λ y. not (bytes_eq y name)) (sym (same_name q x (ap is_eq tied)))) entries
 
 -- a directory is there
+pub directory_is_there : (o : Option (Node ℕ)) → is_directory_node o ≡ true → is_some o ≡ true
+directory_is_there None e = e
+directory_is_there (Some node) e = refl
+
 pub directory_used : (tree : Tree ℕ) (number : ℕ) → IsDirectory tree number → is_some (tree.node number) ≡ true
-directory_used tree number d = by (tree.node number) d
-  where
-    by : (o : Option (Node ℕ)) → is_directory_node o ≡ true → is_some o ≡ true
-    by None e = e
-    by (Some node) e = refl
+directory_used tree number d = directory_is_there (tree.node number) d
 
 -- a directory with an entry more
 

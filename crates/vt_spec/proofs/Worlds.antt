@@ -26,6 +26,14 @@ use Rattle.vt_spec.specs.Machine.Walk.{LastWord, is_dot, is_dot_dot, is_no_word,
 use Rattle.vt_spec.specs.Machine.Walk.LastWord.{Dot, DotDot, Named, NoWord}
 use Rattle.vt_spec.specs.Machine.World.{Filesystem, Layer, Overlay, Real, Task, World, filesystem_at, layers_of, mount_at, mount_numbered, replaced_if_called, replaced_if_numbered, upper_object, with_mounts}
 use Rattle.vt_spec.specs.Machine.World.Real.{Below, Upper}
+use Rattle.std.proofs.Common.{zero, suc, ◌++◌, filter}
+use Rattle.vt_spec.specs.Machine.Mounts.{children, stands_on, tree_from}
+use Rattle.vt_spec.proofs.Lists.{among-from_filter, among-from_flat_map}
+use Rattle.std.specs.Prelude.{flat_map}
+use Rattle.vt_spec.specs.Machine.Locked.{of_overlay, overlay_or}
+use Rattle.vt_spec.specs.Machine.World.{is_overlay}
+use Rattle.vt_spec.specs.Machine.Invariants.{SameObject}
+use Rattle.vt_spec.specs.Tree.{Node}
 
 -- names of tasks that are the same are one
 pub same_task_name : (a b : TaskName) → same_name a b ≡ true → a ≡ b
@@ -69,7 +77,10 @@ number-after_going world gone mount = by _
   where
     by : (b : Bool)
         → (cond b (detached mount)
-        (record mount { mount_point = option_map (mount_point_left nat_eq world gone) mount.mount_point })).number ≡ mount.number
+        (record mount {
+          mount_point = option_map
+              (mount_point_left nat_eq world gone) mount.mount_point;
+        })).number ≡ mount.number
     by true = refl
     by false = refl
 
@@ -80,7 +91,10 @@ filesystem-after_going world gone mount = by _
   where
     by : (b : Bool)
         → (cond b (detached mount)
-        (record mount { mount_point = option_map (mount_point_left nat_eq world gone) mount.mount_point })).filesystem ≡ mount.filesystem
+        (record mount {
+          mount_point = option_map
+              (mount_point_left nat_eq world gone) mount.mount_point;
+        })).filesystem ≡ mount.filesystem
     by true = refl
     by false = refl
 
@@ -184,7 +198,8 @@ tasks-with_change fresh world location change = by (filesystem_at nat_eq world l
     by (Some overlay) = by_upper overlay overlay.upper
 
 -- a mount whose number is listed is among the mounts
-pub mount_in-among : (mounts : List (Mount ℕ)) (number : ℕ) → is_among nat_eq number (map (λ mount. mount.number) mounts)
+pub mount_in-among : (mounts : List (Mount ℕ)) (number : ℕ)
+    → is_among nat_eq number (map (λ mount. mount.number) mounts)
     ≡ true
     → Among (mount_in nat_eq mounts number) mounts
 mount_in-among [] number h = absurd (true≢false (sym h))
@@ -252,7 +267,8 @@ root-without_parent files None = refl
 root-without_parent files (Some object) = refl
 
 -- a name that is left keeps the root
-pub root-name_left_by : (hidden : Bool) (fresh : Fresh ℕ) (stack : Stack ℕ) (upper : FileTree ℕ) (directory : ℕ) (name : List ℕ)
+pub root-name_left_by : (hidden : Bool) (fresh : Fresh ℕ) (stack : Stack ℕ) (upper : FileTree ℕ) (directory : ℕ)
+    (name : List ℕ)
     → (name_left_by nat_eq hidden fresh stack upper directory name).tree.root ≡ upper.tree.root
 root-name_left_by true fresh stack upper directory name = refl
 root-name_left_by false fresh stack upper directory name = refl
@@ -292,7 +308,8 @@ among-folded_mounts mounts (copy ∷ copies) mount m =
     by old false n = inr n
 
 -- a lower layer is a layer
-pub lower_is_layer : (overlay : Overlay ℕ) (lower : Layer ℕ) → Among lower overlay.lowers → Among lower (layers_of overlay)
+pub lower_is_layer : (overlay : Overlay ℕ) (lower : Layer ℕ) → Among lower overlay.lowers
+    → Among lower (layers_of overlay)
 lower_is_layer overlay lower m =
     among-append_right (upper_and_work overlay) overlay.lowers lower m
 
@@ -321,3 +338,57 @@ special_word NoWord a b c = c
 special_word Dot a b c = b
 special_word DotDot a b c = a
 special_word (Named name) a b c = refl
+
+-- a mount that is looked for is there, or is none
+pub found_or_none : (mounts : List (Mount ℕ)) (number : ℕ) → Among (mount_in nat_eq mounts number) mounts
+    ⊎ (mount_in nat_eq mounts number ≡ no_mount number)
+found_or_none [] number = inr refl
+found_or_none (first ∷ rest) number = by (nat_eq number first.number) (found_or_none rest number)
+  where
+    by : (b : Bool) → Among (mount_in nat_eq rest number) rest ⊎ (mount_in nat_eq rest number ≡ no_mount number)
+        → Among (unwrap_or (cond b (Some first) (find (λ x. nat_eq number x.number) rest)) (no_mount number))
+        (first ∷ rest)
+        ⊎ (unwrap_or (cond b (Some first) (find (λ x. nat_eq number x.number) rest)) (no_mount number)
+        ≡ no_mount number)
+    by true later = inl (inl refl)
+    by false later = ⊎_elim (λ m. inl (inr m)) inr later
+
+-- a mount of a tree is its root or one of the list
+pub tree_among : (depth : ℕ) (mounts : List (Mount ℕ)) (top mount : Mount ℕ)
+    → Among mount (tree_from nat_eq depth mounts top)
+    → (mount ≡ top) ⊎ Among mount mounts
+tree_among zero mounts top mount m = ⊎_elim inl (λ none. absurd none) m
+tree_among (suc depth) mounts top mount m =
+    ⊎_elim inl
+    (λ later.
+    let under = among-from_flat_map (tree_from nat_eq depth mounts) (children nat_eq mounts top.number) mount later in
+    let child : Among under.0 mounts × (stands_on nat_eq top.number under.0 ≡ true) =
+    among-from_filter (stands_on nat_eq top.number) mounts under.0 under.1 in
+    inr (⊎_elim (λ e. subst (λ x. Among x mounts) (sym e) child.0) (λ l. l)
+    (tree_among depth mounts under.0 mount under.2)))
+    m
+
+-- layers of all filesystems are those of overlays
+pub layers_of_all : (layers : Overlay ℕ → List (Layer ℕ)) (list : List (Filesystem ℕ))
+    → flat_map (of_overlay [] layers) (filter is_overlay list) ≡ flat_map (of_overlay [] layers) list
+layers_of_all layers [] = refl
+layers_of_all layers (f ∷ rest) = by f.overlay refl (layers_of_all layers rest)
+  where
+    by : (o : Option (Overlay ℕ)) → f.overlay ≡ o
+        → flat_map (of_overlay [] layers) (filter is_overlay rest) ≡ flat_map (of_overlay [] layers) rest
+        → flat_map (of_overlay [] layers)
+        (cond (is_some f.overlay) (f ∷ filter is_overlay rest) (filter is_overlay rest))
+        ≡ overlay_or [] layers f.overlay ++ flat_map (of_overlay [] layers) rest
+    by None e same =
+        ap (λ b. flat_map (of_overlay [] layers) (cond b (f ∷ filter is_overlay rest) (filter is_overlay rest)))
+        (ap is_some e)
+        ∙ same ∙ sym (ap (λ o. overlay_or [] layers o ++ flat_map (of_overlay [] layers) rest) e)
+    by (Some v) e same =
+        ap (λ b. flat_map (of_overlay [] layers) (cond b (f ∷ filter is_overlay rest) (filter is_overlay rest)))
+        (ap is_some e)
+        ∙ ap (λ l. overlay_or [] layers f.overlay ++ l) same
+
+-- what is there is not the same object as nothing
+pub nothing_is_no_object : (node : Option (Node ℕ)) → is_some node ≡ true → SameObject node None → ⊥
+nothing_is_no_object None t same = true≢false (sym t)
+nothing_is_no_object (Some node) t same = same

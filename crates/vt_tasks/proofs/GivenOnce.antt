@@ -34,7 +34,8 @@ module _ {X : Type 0} where
   all-kept : (p q : X → Bool) (xs : List X) → ((x : X) → p x ≡ true → q x ≡ true) → list_all p xs ≡ true
       → list_all q xs ≡ true
   all-kept p q [] keeps e = refl
-  all-kept p q (x ∷ xs) keeps e = and_from _ _ (keeps x (and_true_left _ _ e)) (all-kept p q xs keeps (and_true_right _ _ e))
+  all-kept p q (x ∷ xs) keeps e =
+      and_from _ _ (keeps x (and_true_left _ _ e)) (all-kept p q xs keeps (and_true_right _ _ e))
 
   pub all-behind : (p : X → Bool) (xs : List X) (y : X) → list_all p xs ≡ true → p y ≡ true
       → list_all p (xs ++ y ∷ []) ≡ true
@@ -91,7 +92,8 @@ pub all-replaced : (p q : Task ℕ → Bool) (new : Task ℕ) (tasks : Tasks) �
     → list_all q (replaced new tasks) ≡ true
 all-replaced p q new [] e here others = refl
 all-replaced p q new (first ∷ tasks) e here others =
-    and_from _ _ (by (same_name new.name first.name) refl) (all-replaced p q new tasks (and_true_right _ _ e) here others)
+    and_from _ _ (by (same_name new.name first.name) refl)
+    (all-replaced p q new tasks (and_true_right _ _ e) here others)
   where
     by : (b : Bool) → same_name new.name first.name ≡ b → q (cond b new first) ≡ true
     by true is = here
@@ -210,7 +212,8 @@ given-without name tasks given =
 pub apart-replaced : (new : Task ℕ) (tasks : Tasks) → AreNamedApart tasks → AreNamedApart (replaced new tasks)
 apart-replaced new tasks apart =
     pair-map (λ a b. same_name a.name b.name) (λ a b. same_name a.name b.name) (replaced_if_called new) tasks
-    (λ a b m n differs. (λ i. same_name (name-replaced_if_called new a i) (name-replaced_if_called new b i)) ∙ differs) apart
+    (λ a b m n differs. (λ i. same_name (name-replaced_if_called new a i) (name-replaced_if_called new b i))
+    ∙ differs) apart
 
 pub apart-without : (name : TaskName) (tasks : Tasks) → AreNamedApart tasks → AreNamedApart (without_called name tasks)
 apart-without name tasks apart =

@@ -226,7 +226,8 @@ module _ (test : Location ℕ → Bool) where
       ap (λ b. cond (not b) (d ∷ filter (λ d. not (nat_eq number d.number)) ds)
       (filter (λ d. not (nat_eq number d.number)) ds))
       (ne_eqb number d.number (λ same. omega (arith, less, same, at)))
-      ∙ ap (λ rest. d ∷ rest) (others-above number (d.number + 1) ds (omega (arith, less, at)) (and_true_right _ _ rising))
+      ∙ ap (λ rest. d ∷ rest)
+      (others-above number (d.number + 1) ds (omega (arith, less, at)) (and_true_right _ _ rising))
 
   files-closed : (number least : ℕ) (ds : List (Descriptor ℕ)) (descriptor : Descriptor ℕ)
       → are_ascending_from least ds ≡ true

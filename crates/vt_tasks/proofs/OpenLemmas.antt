@@ -41,7 +41,8 @@ pub ascending_from : (low least : ℕ) (es : List (ℕ × OpenFile)) → low ≤
     → are_ascending low es ≡ true
 ascending_from low least [] lower e = refl
 ascending_from low least (x ∷ es) lower e =
-    and_from (nat_le low x.0) _ (le-leb low x.0 (omega (arith, lower, first_number least x es e))) (and_true_right _ _ e)
+    and_from (nat_le low x.0) _ (le-leb low x.0 (omega (arith, lower, first_number least x es e)))
+    (and_true_right _ _ e)
 
 -- one that is taken out leaves the others rising
 pub ascending-removed : (number least : ℕ) (es : List (ℕ × OpenFile)) → are_ascending least es ≡ true

@@ -323,7 +323,8 @@ module _ (fresh : Fresh ℕ) (world : World ℕ) (task : Task ℕ) (conditions :
       (fit_file_walk world task path) (λ place last.
       judged_holds IsFitWorld world (file_word_rules place)
       (written nat_eq fresh world task place bytes place.object) conditions
-      (λ passed. fit_written place bytes place.object last (or_false_left (is_special place.last) place.slash passed.0)))
+      (λ passed. fit_written place bytes place.object last
+      (or_false_left (is_special place.last) place.slash passed.0)))
 
   fit_pwritten : (file : Location ℕ) (offset : ℕ) (bytes : List ℕ)
       → Passed (pwrite_rules nat_eq world file offset bytes)

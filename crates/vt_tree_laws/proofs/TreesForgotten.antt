@@ -90,7 +90,8 @@ module _ (used : List ℕ) (files : FileTree ℕ) (holds : HoldsTree used files)
       → entry_at files.tree directory name ≡ Some number
   entry_was directory name number e =
       ap (λ o. entry_named name (entries_in o))
-      (sym (kept_node directory (kept_directory directory (directory_from_entry name number (kept.node directory) e)))) ∙ e
+      (sym (kept_node directory (kept_directory directory (directory_from_entry name number (kept.node directory) e))))
+      ∙ e
 
   name_was : (number : ℕ) → HasName kept number → HasName files.tree number
   name_was number named = (named.0, named.1, entry_was named.0 named.1 number named.2)

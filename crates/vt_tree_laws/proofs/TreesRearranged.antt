@@ -133,7 +133,8 @@ module _ (tree : Tree ℕ) (node : ℕ → Option (Node ℕ)) (Leaves : ℕ → 
       (λ leaves. ⊎_elim
       (λ arrives. subst (IsDirectory after)
       (sym (moves.arrives_parent arrives.0 arrives.1 number arrives.2 (before_directory number is)))
-      (directory_from_entry arrives.1 number (node arrives.0) (moves.arrives_entry arrives.0 arrives.1 number arrives.2)))
+      (directory_from_entry arrives.1 number (node arrives.0)
+      (moves.arrives_entry arrives.0 arrives.1 number arrives.2)))
       (λ gone. subst (IsDirectory after) (sym gone.own_parent) is)
       (moves.leaves_how number (before_directory number is) leaves))
       (λ stays. subst (IsDirectory after) (sym (moves.stays_parent number (before_directory number is) stays))

@@ -43,7 +43,8 @@ module _ (world : World ℕ) where
           ⊎ ((cond b (record (mount_numbered nat_eq world number) { flags = flags }) mount).namespace ≡ None)
       by true e =
           inl (ap (λ n. (mount_numbered nat_eq world n).namespace)
-          (sym (number-mount_in world.mounts number) ∙ eqb-true (mount_numbered nat_eq world number).number mount.number e)
+          (sym (number-mount_in world.mounts number)
+          ∙ eqb-true (mount_numbered nat_eq world number).number mount.number e)
           ∙ ap (λ (x : Mount ℕ). x.namespace) (found_itself world.mounts whole.mounts.one_number mount m))
       by false e = inl refl
 

@@ -16,10 +16,9 @@ use Rattle.vt_mount_laws.proofs.GroupsLiving.{all_live, tested_live}
 use Rattle.vt_mount_laws.proofs.AttachedKept.{binds_keep_groups, moves_keep_groups, new_mounts_keep_groups}
 use Rattle.vt_mount_laws.proofs.AttachedNowhere.{binds_keep_nowhere, moves_keep_nowhere, new_mounts_keep_nowhere}
 use Rattle.vt_mount_laws.proofs.BindsStand.{binds_keep_numbers, binds_keep_places, binds_keep_standing, moves_keep_numbers, new_mounts_keep_numbers, new_mounts_keep_places, new_mounts_keep_standing}
-use Rattle.vt_mount_laws.proofs.MountsFound.{found_or_none}
 use Rattle.vt_mount_laws.proofs.Moving.{moves_keep_places, moves_keep_standing}
 use Rattle.vt_world_laws.specs.Worlds.Permits.{IsDestination, IsOwn, MayMoveTo}
-use Rattle.vt_spec.proofs.Worlds.{number-mount_in}
+use Rattle.vt_spec.proofs.Worlds.{number-mount_in, found_or_none}
 
 -- The supply for what a new filesystem is mounted with serves beside it: its number and its root are of the other half.
 module _ (world : World ℕ) (fresh : Fresh ℕ) (serves : Serves nat_eq world fresh) where

@@ -26,7 +26,7 @@ use Rattle.vt_world_laws.specs.Worlds.Kept.{MountsShow}
 use Rattle.vt_world_laws.proofs.TasksNamed.{opening_counts_forks}
 use Rattle.vt_world_laws.proofs.RaisedInUse.{world_of}
 use Rattle.vt_mount_laws.proofs.GroupsLiving.{all_live}
-use Rattle.vt_spec.proofs.NodeChanges.{directory_is_there}
+use Rattle.vt_spec.proofs.Nodes.{directory_is_there}
 
 module _ (fresh : Fresh ℕ) where
   abbrev first_world : World ℕ

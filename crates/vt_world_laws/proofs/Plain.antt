@@ -15,7 +15,8 @@ use Rattle.vt_spec.proofs.Options.{none_from_not_some}
 module _ (world : World ℕ) (plain : IsPlain world) where
   pub no_overlay : (filesystem : Filesystem ℕ) → Among filesystem world.filesystems → filesystem.overlay ≡ None
   no_overlay filesystem m =
-      none_from_not_some filesystem.overlay (among_from_all (λ f. is_overlay f ≡ false) world.filesystems plain filesystem m)
+      none_from_not_some filesystem.overlay
+      (among_from_all (λ f. is_overlay f ≡ false) world.filesystems plain filesystem m)
 
   pub plain_numbered : (number : ℕ) → (filesystem_numbered nat_eq world number).overlay ≡ None
   plain_numbered number =

@@ -22,7 +22,7 @@ use Rattle.vt_spec.specs.Machine.Invariants.Stands.{at_root, on_parent}
 use Rattle.vt_spec.proofs.Lists.{Among, among_from_all, among_from_list_all}
 use Rattle.vt_spec.proofs.Nodes.{directory_used, none_is_not}
 use Rattle.vt_mount_laws.specs.Mounts.Attaching.{numbers_of}
-use Rattle.vt_mount_laws.proofs.MountsFound.{found_in, found_or_none, placed_among}
+use Rattle.vt_mount_laws.proofs.MountsFound.{found_in, placed_among}
 use Rattle.vt_mount_laws.proofs.MountsNumbered.{is_one_of}
 use Rattle.vt_mount_laws.proofs.MountsPlaces.{stands_there}
 use Rattle.vt_mount_laws.proofs.MountsReplaced.{found_itself}
@@ -31,7 +31,7 @@ use Rattle.vt_tree_laws.proofs.TreesOfMounts.{worlds_are_standing}
 use Rattle.vt_tree_laws.proofs.TreesOfWorlds.{numbered_all}
 use Rattle.vt_tree_laws.proofs.TreesWalked.{ok_same}
 use Rattle.vt_world_laws.specs.Worlds.Permits.{IsReached, IsReachedDirectory}
-use Rattle.vt_spec.proofs.Worlds.{number-mount_in}
+use Rattle.vt_spec.proofs.Worlds.{number-mount_in, found_or_none}
 
 -- a directory is no link
 pub directory_no_link : (o : Option (Node ℕ)) → is_directory_node o ≡ true → symlink_text o ≡ None

@@ -14,7 +14,7 @@ use Rattle.vt_spec.specs.Machine.Invariants.Stands.{at_root, on_parent}
 use Rattle.vt_spec.specs.Tree.{is_directory_node}
 use Rattle.vt_spec.proofs.Lists.{Among, among-append_right, among-filter, among-from_filter, among-from_map, among-map, among_from_all, among_from_list_all, among_numbers, any_among, chain_ends, chain_goes_on, is_among_numbers, none_among}
 use Rattle.vt_mount_laws.specs.Mounts.Attaching.{is_mount, numbers_of}
-use Rattle.vt_mount_laws.proofs.MountsFound.{found_in, found_or_none, found_there}
+use Rattle.vt_mount_laws.proofs.MountsFound.{found_in, found_there}
 use Rattle.vt_mount_laws.proofs.MountsNumbered.{unshare_keeps_numbers}
 use Rattle.vt_mount_laws.proofs.MountsPlaces.{stands_there}
 use Rattle.vt_mount_laws.proofs.MountsReplaced.{found_itself}
@@ -22,8 +22,8 @@ use Rattle.vt_spec.specs.Machine.Run.{Serves}
 use Rattle.vt_world_laws.proofs.PermitsSeen.{unshared_seen}
 use Rattle.vt_world_laws.proofs.Placed.{IsPlaced, StandsAt, opens_after, stands_after}
 use Rattle.vt_world_laws.proofs.Seen.{KeepsWhatIsSeen, is_in, mount_of_located}
-use Rattle.vt_spec.proofs.NodeChanges.{directory_is_there}
-use Rattle.vt_spec.proofs.Worlds.{number-mount_in}
+use Rattle.vt_spec.proofs.Nodes.{directory_is_there}
+use Rattle.vt_spec.proofs.Worlds.{number-mount_in, found_or_none}
 pub use Rattle.vt_spec.proofs.NodeChanges.{directory_is_there as directory_there}
 
 -- what holds from step to step holds of the last

@@ -16,14 +16,14 @@ use Rattle.vt_spec.proofs.Lists.{Among, among-from_filter, among-from_flat_map, 
 use Rattle.vt_mount_laws.specs.Mounts.Attaching.{OneNumberAMount, is_mount, numbers_of}
 use Rattle.vt_mount_laws.proofs.MountsAttached.{arrives, arriving, attach_keeps_mounts, found_attached, moved_mounts_show, moved_ones, numbers_attached, others, push_keeps, supplied}
 use Rattle.vt_mount_laws.proofs.MountsFound.{found-map_there, numbers-map}
-use Rattle.vt_mount_laws.proofs.MountsReplaced.{found-append, found_itself, numbers-with_mount, related-with_mount, tree_among}
+use Rattle.vt_mount_laws.proofs.MountsReplaced.{found-append, found_itself, numbers-with_mount, related-with_mount}
 use Rattle.vt_mount_laws.proofs.MountsRetyped.{numbers_with_type, type_is_all_that_changes, types_are_of_mounts}
 use Rattle.vt_mount_laws.proofs.Unmounting.{numbers_taken}
 use Rattle.vt_mount_laws.proofs.UnmountingEnds.{others_are_kept, taken_are_detached}
 use Rattle.vt_tree_laws.proofs.TreesOfWorlds.{numbered}
 use Rattle.vt_world_laws.proofs.Seen.{KeepsKind, KeepsView, KeepsWhatIsSeen, is_in, kind_seen, same_seen, same_view, seen_alike, seen_by_mounts, seen_on}
 use Rattle.vt_spec.proofs.Found.{is_among_left}
-use Rattle.vt_spec.proofs.Worlds.{filesystems-taken_away, number-mount_in, number-pivoted_mount}
+use Rattle.vt_spec.proofs.Worlds.{filesystems-taken_away, number-mount_in, number-pivoted_mount, tree_among}
 
 -- Mounts are taken away
 module _ (world : World ℕ) (gone : List ℕ) where
@@ -182,7 +182,8 @@ module _ (root new : Mount ℕ) (put : Location ℕ) where
       (numbers-map (pivoted_mount nat_eq root new put) (number-pivoted_mount root new put) world.mounts) ∙ is)
       (λ number is.
       subst (KeepsView (mount_numbered nat_eq world number))
-      (sym (found-map_there (pivoted_mount nat_eq root new put) (number-pivoted_mount root new put) world.mounts number is))
+      (sym (found-map_there (pivoted_mount nat_eq root new put)
+      (number-pivoted_mount root new put) world.mounts number is))
       (pivoted_view (mount_numbered nat_eq world number)))
 
 -- The mounts of a namespace are copied

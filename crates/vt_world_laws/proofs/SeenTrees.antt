@@ -170,7 +170,8 @@ module _ (new : Filesystem ℕ) where
   found_other [] number other = refl
   found_other (first ∷ rest) number other =
       ap (λ n. unwrap_or (cond (nat_eq number n) (Some (replaced_if_numbered nat_eq new first))
-      (find (λ f. nat_eq number f.number) (replaced rest))) (no_filesystem number)) (number-replaced_if_numbered new first)
+      (find (λ f. nat_eq number f.number) (replaced rest))) (no_filesystem number))
+      (number-replaced_if_numbered new first)
       ∙ by (nat_eq number first.number) refl (found_other rest number other)
     where
       by : (b : Bool) → nat_eq number first.number ≡ b → numbered number (replaced rest) ≡ numbered number rest

@@ -1,16 +1,16 @@
 -- Mounts and namespaces where what nothing uses goes.
-use Rattle.std.proofs.Common.{◌≡◌, refl, sym, ap, ◌∙◌, cond, find, inl, inr, ℕ, nat_eq, Bool, true, false, List, ◌∷◌, [], Option, Some, None, filter, is_some, true≢false, ◌&&◌}
-use Rattle.std.specs.Prelude.{length, nat_lt, unwrap_or, option_to_list, ◌==◌}
+use Rattle.std.proofs.Common.{◌≡◌, refl, sym, ap, ◌∙◌, ℕ, nat_eq, Bool, true, false, List, Option, Some, None, filter, is_some, ◌&&◌}
+use Rattle.std.specs.Prelude.{length, nat_lt, option_to_list, ◌==◌}
 use Rattle.std.specs.List.{list_all, list_any}
 use Rattle.vt_spec.specs.Language.Limits.{most_mounts}
 use Rattle.vt_spec.specs.Lists.{holds_of}
-use Rattle.vt_spec.specs.Machine.Mounts.{Location, Mount, mount_in, no_mount}
+use Rattle.vt_spec.specs.Machine.Mounts.{Location, Mount}
 use Rattle.vt_spec.specs.Machine.Settled.{mount_lives, settled}
 use Rattle.vt_spec.specs.Machine.World.{Namespace, World, mount_at, mount_numbered, mounts_of}
 use Rattle.vt_spec.specs.Machine.Invariants.{MountInvariants, NamespaceInvariants, Stands, is_listed, is_root_mount}
 use Rattle.vt_spec.specs.Machine.Invariants.Stands.{at_root, on_parent}
 use Rattle.vt_spec.proofs.Lists.{all-filter}
-use Rattle.vt_letting_go.proofs.Lists.{Among, all_from_among, among-from_filter, among_from_all, filter_twice}
+use Rattle.vt_letting_go.proofs.Lists.{all_from_among, among-from_filter, among_from_all, filter_twice}
 use Rattle.vt_mount_laws.proofs.GroupsLiving.{all_live, tested_live}
 use Rattle.vt_mount_laws.proofs.GroupsKept.{settling_keeps_groups}
 use Rattle.vt_mount_laws.proofs.MountsApart.{settling_keeps_apart}
@@ -18,20 +18,7 @@ use Rattle.vt_mount_laws.proofs.MountsKept.{settling_keeps_nowhere}
 use Rattle.vt_mount_laws.specs.Mounts.Conditions.{AreApart}
 use Rattle.vt_world_laws.specs.Worlds.Kept.{IsUnderWay}
 use Rattle.vt_world_laws.proofs.SettledSeen.{attached_lives, found_still, itself, placed_attached}
-
--- what is found with a place is there
-found_placed : (mounts : List (Mount ℕ)) (number : ℕ) → is_some (mount_in nat_eq mounts number).mount_point ≡ true
-    → Among (mount_in nat_eq mounts number) mounts
-found_placed [] number e = absurd (true≢false (sym e))
-found_placed (first ∷ rest) number e = by (nat_eq number first.number) e (found_placed rest number)
-  where
-    by : (b : Bool) → is_some (unwrap_or (cond b (Some first) (find (λ x. nat_eq number x.number) rest))
-        (no_mount number)).mount_point ≡ true
-        → (is_some (mount_in nat_eq rest number).mount_point ≡ true → Among (mount_in nat_eq rest number) rest)
-        → Among (unwrap_or (cond b (Some first) (find (λ x. nat_eq number x.number) rest)) (no_mount number))
-        (first ∷ rest)
-    by true f later = inl refl
-    by false f later = inr (later f)
+use Rattle.vt_mount_laws.proofs.Moving.{placed_there}
 
 module _ (world : World ℕ) (unsettled : IsUnderWay world) where
   abbrev later : World ℕ
@@ -42,7 +29,7 @@ module _ (world : World ℕ) (unsettled : IsUnderWay world) where
       → is_some (mount_numbered nat_eq world number).namespace ≡ true
   found_attached number place e =
       placed_attached world unsettled (mount_numbered nat_eq world number)
-      (found_placed world.mounts number (ap is_some e)) (ap is_some e)
+      (placed_there world.mounts number (ap is_some e)) (ap is_some e)
 
   -- A mount with a place is in a namespace, and so are those below it, so none of them goes
   stands_still : (number : ℕ) → Stands nat_eq world number

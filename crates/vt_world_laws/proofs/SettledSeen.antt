@@ -120,7 +120,8 @@ module _ (world : World ℕ) (unsettled : IsUnderWay world) where
       (no_filesystem number)).files.tree.node object)
       (map_twice second first living.filesystems)
       ∙ node_kept (filesystem_lives nat_eq mounted) (λ f. second (first f))
-      (λ f. number-only_used first_round (not (is_overlay (first f))) (first f) ∙ number-only_used living (is_overlay f) f)
+      (λ f. number-only_used first_round (not (is_overlay (first f))) (first f)
+      ∙ number-only_used living (is_overlay f) f)
       number object world.filesystems
       (λ f e. or_first (is_mounted nat_eq mounted f.number) _ (ap (is_mounted nat_eq mounted) e ∙ shown))
       (λ f e.

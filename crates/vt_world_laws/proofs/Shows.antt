@@ -27,7 +27,7 @@ use Rattle.vt_world_laws.proofs.PermitsSeen.{unshared_seen}
 use Rattle.vt_world_laws.proofs.Roots.{copy_stands, in_own, is_numbered, itself, last_has, own_there}
 use Rattle.vt_world_laws.proofs.Seen.{KeepsWhatIsSeen, directory_after, directory_kept, node_in, seen_alike}
 use Rattle.vt_world_laws.proofs.SeenMounts.{flags_seen, pivoted_seen, retyped_seen, taken_seen}
-use Rattle.vt_spec.proofs.NodeChanges.{directory_is_there}
+use Rattle.vt_spec.proofs.Nodes.{directory_is_there}
 use Rattle.vt_spec.proofs.Worlds.{number-mount_in}
 
 -- a directory, seen through a mount of the list

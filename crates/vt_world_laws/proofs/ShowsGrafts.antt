@@ -13,7 +13,6 @@ use Rattle.vt_spec.specs.Tree.{is_directory_node, new_directory}
 use Rattle.vt_spec.proofs.Lists.{Among, among-append, among-append_left, among-append_right, among-flat_map, among-from_filter, among-from_flat_map, none_from_among}
 use Rattle.vt_mount_laws.proofs.BindsStand.{binds_keep_numbers, moves_keep_numbers, new_mounts_keep_numbers}
 use Rattle.vt_mount_laws.proofs.MountsAttached.{graft, supplied}
-use Rattle.vt_mount_laws.proofs.MountsReplaced.{tree_among}
 use Rattle.vt_mount_laws.proofs.Standing.{bindable_child}
 use Rattle.vt_tree_laws.proofs.TreesOfWorlds.{numbered}
 use Rattle.vt_world_laws.proofs.Roots.{is_numbered, itself}
@@ -22,7 +21,7 @@ use Rattle.vt_world_laws.proofs.SeenMounts.{added_seen, attached_seen}
 use Rattle.vt_world_laws.proofs.SeenTrees.{unused_by_filesystem, unused_number}
 use Rattle.vt_world_laws.proofs.Shows.{AllShow, IsPlace, all_show_after, world_shows}
 use Rattle.vt_world_laws.proofs.ShowsAttached.{attached_show}
-use Rattle.vt_spec.proofs.Worlds.{number-mount_in}
+use Rattle.vt_spec.proofs.Worlds.{number-mount_in, tree_among}
 
 module _ (world : World ℕ) (is : IsWorld nat_eq world) where
   -- the mount of a tree on which another one stands

@@ -5,9 +5,10 @@ use Rattle.std.proofs.lemmas.Iterator.Splits.{YieldsList-from_slice_split}
 use Rattle.std.proofs.lemmas.Iterator.Consumers.{YieldsList-at, YieldsList-turn, YieldsList-end}
 use Rattle.vt_spec.specs.PathText.{parts}
 use Rattle.vt_spec.specs.Language.Script.{each_of, child_number}
-use Rattle.vt_line.proofs.Splits.{YieldsList-parts, YieldsList-others, each_of-end, each_of-goes, each_of-none, is_none}
+use Rattle.vt_line.proofs.Splits.{YieldsList-parts, YieldsList-others, each_of-end, each_of-goes, each_of-none}
 use Rattle.vt_line.proofs.WordLemmas.{task_word-other, task_word-children}
 use Rattle.vt_line.proofs.words.is_task.Goals as goal
+use Rattle.vt_spec.proofs.Options.{none_from_not_some}
 
 pub returns-then-ne : goal.returns-then-ne
 returns-then-ne c =
@@ -31,7 +32,8 @@ returns-then-is_none c =
     let n = length c.loop-part.yielded in
     let turn = YieldsList-turn others c.loop-part.yielded _ c.loop-part.yielded_by _ _ c.in-Some-part.part c.in-Some-part.is c.next-in-loop-part.ensures.steps in
     let none : child_number c.in-Some-part.part.now ≡ None =
-    sym c.child_number.ensures.value ∙ is_none c.child_number.result (c.is_none.ensures ∙ ap not c.if-is_none.true) in
+    sym c.child_number.ensures.value
+    ∙ none_from_not_some c.child_number.result (c.is_none.ensures ∙ ap not c.if-is_none.true) in
     ap is_some (sym (each_of-none child_number (drop 1 all) n c.in-Some-part.part.now turn none))
     ∙ c.loop-part.invariant.read
     ∙ ap is_some (sym (task_word-children text c.in-Some.first.now (drop 1 all) first.0 same))

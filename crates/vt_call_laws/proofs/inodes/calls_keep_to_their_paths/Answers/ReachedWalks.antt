@@ -1,7 +1,7 @@
 -- What a permit names lies where the walks of its call lead, or its descriptors are.
 use Rattle.std.proofs.Common.{◌≡◌, refl, sym, ap, subst, ◌∙◌, inl, inr, true≢false, ℕ, nat_eq, eqb-true, nat_lt, length, Bool, true, false, not, ◌&&◌, ◌||◌, List, [], ◌∷◌, ◌++◌, map, Option, Some, None, is_some, option_map, option_to_list, unwrap_or, Result, Ok, Err, IfOk}
 use Rattle.std.specs.Prelude.{⊤}
-use Rattle.vt_call_laws.proofs.EffectsRights.{no_special, open_found, ruled}
+use Rattle.vt_call_laws.proofs.EffectsRights.{open_found, ruled}
 use Rattle.vt_laws.proofs.GivenPermits.{permits_are_for_their_calls}
 use Rattle.vt_laws.specs.Given.{IsFor, IsForAttr, NoneFails, makes_a_name}
 use Rattle.vt_call_laws.specs.Inodes.{changes_names, is_own, sets_mark, sets_mode, sets_owner, writes_bytes}
@@ -35,6 +35,7 @@ use Rattle.std.proofs.lemmas.Bool.{or_parts}
 use Rattle.std.proofs.Math.Bool.{and-false}
 use Rattle.vt_call_laws.proofs.WaysSearched.{at_end}
 use Rattle.vt_spec.proofs.Truths.{or_false_left}
+use Rattle.vt_spec.proofs.Worlds.{special_word}
 
 -- a walk that is only checked further ended before
 checked_same : {A : Type 0} (steps : List (List ℕ)) (rows : Rules) (a b : A) → walk_unless steps rows a ≡ Ok b → a ≡ b
@@ -362,7 +363,7 @@ module _ (fresh : Fresh ℕ) (world : World ℕ) (task : Task ℕ) (filesystem n
       passing (rmdir_rules nat_eq looks task place (object_there place)) _ (λ pass.
       spared_removed place
       (at_end (IsOldPlace world task) (old_walk nat_eq world task path) place (ends_old_walk world task path) e)
-      (no_special place.last word.0 word.1.0 word.1.1.0)
+      (special_word place.last word.0 word.1.0 word.1.1.0)
       (subst (λ walk. Apart (directory_and_object_at walk)) e apart))))
   spares (Rename old new) apart root =
       walked (old_leaf_walk nat_eq world task old) _ (λ from e.

@@ -83,7 +83,8 @@ moved_roots fresh stack merge from old to new object = (
   changed_root merge.files (Move from old to new object),
   root-marked (hides_directory nat_eq stack merge to new)
       (name_left nat_eq fresh stack merge renamed from old) (upper_of merge object)
-      ∙ root-name_left_by (is_some (shown_below nat_eq stack merge from old)) fresh stack renamed (upper_of merge from) old
+      ∙ root-name_left_by (is_some (shown_below nat_eq stack merge from old)) fresh stack renamed
+      (upper_of merge from) old
       ∙ changed_root upper (Move (upper_of merge from) old (upper_of merge to) new (upper_of merge object))
       ∙ root-emptied merge.upper (upper_directory_named merge to new),
 )

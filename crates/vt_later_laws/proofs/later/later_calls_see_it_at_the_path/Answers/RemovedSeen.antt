@@ -18,8 +18,7 @@ use Rattle.vt_spec.specs.Machine.Policy.{policy, raised_task}
 use Rattle.vt_spec.specs.Machine.Rightful.{node_allows}
 use Rattle.vt_spec.specs.Machine.Rules.Removing.{object_there, rmdir_rules, rmdir_word_rules}
 use Rattle.vt_spec.specs.Machine.Run.{Serves}
-use Rattle.vt_spec.specs.Machine.Walking.{LastWord, Place, is_dot, is_dot_dot, is_no_word, is_special, name_of, old_walk, place_walk, walk_end}
-use Rattle.vt_spec.specs.Machine.Walking.LastWord.{Dot, DotDot, Named, NoWord}
+use Rattle.vt_spec.specs.Machine.Walking.{Place, is_special, name_of, old_walk, place_walk, walk_end}
 use Rattle.vt_spec.specs.Machine.World.{Task, World, is_directory_at, mount_at, mount_numbered, node_at, task_called}
 use Rattle.vt_spec.specs.Rights.{execute_right}
 use Rattle.vt_spec.specs.Tree.{entries_in, entry_named, is_directory_node}
@@ -39,6 +38,7 @@ use Rattle.vt_later_laws.proofs.WaysLeft.{Known, node_here, ways_lead}
 use Rattle.vt_later_laws.proofs.WaysPlaces.{named_place, symlink_missing}
 use Rattle.vt_later_laws.proofs.WaysStay.{StandsAs, node_in}
 use Rattle.vt_spec.proofs.Options.{and_then-Ok}
+use Rattle.vt_spec.proofs.Worlds.{special_word}
 
 -- a name may be missing, or a directory lost
 abbrev MissingOrLost : Deny → Type 0
@@ -49,13 +49,6 @@ record RmdirParts (looks : Looks ℕ) (task : Task ℕ) (path : List ℕ) (place
   walked : place_walk nat_eq looks task path ≡ Ok place
   named : is_special place.last ≡ false
   permit_is : permit ≡ ToRemoveDirectory place.parent (name_of place.last) (object_there place)
-
-names_an_entry : (last : LastWord) → is_dot_dot last ≡ false → is_dot last ≡ false → is_no_word last ≡ false
-    → is_special last ≡ false
-names_an_entry NoWord e f g = g
-names_an_entry Dot e f g = f
-names_an_entry DotDot e f g = e
-names_an_entry (Named name) e f g = refl
 
 rmdir_parts : (looks : Looks ℕ) (task : Task ℕ) (path : List ℕ) (place : Place ℕ) (permit : Permit ℕ)
     → old_walk nat_eq looks task path ≡ Ok place → rmdir_permit nat_eq looks task path ≡ Ok permit
@@ -69,7 +62,7 @@ rmdir_parts looks task path place permit walk e =
     record {
       walked = (old_parts looks task path place walk).0;
       named = ap (λ (p : Place ℕ). is_special p.last) (sym same)
-          ∙ names_an_entry steps.0.last word.0.0 word.0.1.0 word.0.1.1.0;
+          ∙ special_word steps.0.last word.0.0 word.0.1.0 word.0.1.1.0;
       permit_is = sym (same_ok _ permit rules.1)
           ∙ ap (λ (p : Place ℕ). ToRemoveDirectory p.parent (name_of p.last) (object_there p)) same;
     }

@@ -24,7 +24,9 @@ pub returns : goal.returns
 returns c =
     let mounts = mounts_in c.args.self.now in
     let empty : c.loop-next.waiting.items
-    ≡ [] = nil_from_length c.loop-next.waiting.items (omega (arith, c.loop-next.waiting.ok.0, c.in_default.ensures.cases.0)) in
+    ≡ [] =
+    nil_from_length c.loop-next.waiting.items
+    (omega (arith, c.loop-next.waiting.ok.0, c.in_default.ensures.cases.0)) in
     told-all mounts c.loop-next.tree.items _
     (ap (λ waiting. counts c.loop-next.tree.items ++ to_come mounts waiting) (sym empty) ∙ c.loop-next.invariant)
     ∙ numbers-whole mounts (counted c.args.id.count)
