@@ -1,5 +1,5 @@
 -- What lower layers show after a whole change, with the copies that it needs.
-use Rattle.std.proofs.Common.{◌≡◌, refl, sym, ap, subst, ◌∙◌, true≢false, inl, inr, ◌⊎◌, ⊎_elim, ℕ, nat_eq, Bool, true, false, List, [], ◌∷◌, ◌++◌, Some, None}
+use Rattle.std.proofs.Common.{◌≡◌, refl, sym, ap, subst, ◌∙◌, true≢false, inl, inr, ◌⊎◌, ⊎_elim, ℕ, nat_eq, Bool, true, false, List, [], ◌∷◌, ◌++◌, Some, None, Option, option_and_then, ◌≢◌}
 use Rattle.vt_spec.specs.FileTree.{FileTree}
 use Rattle.vt_spec.specs.Language.Changes.{Change}
 use Rattle.vt_spec.specs.Language.Changes.Change.{AddName, Make, Move, Remove}
@@ -7,12 +7,18 @@ use Rattle.vt_spec.specs.Lists.{Fresh, evens, front_of, odds}
 use Rattle.vt_spec.specs.Machine.CopyUp.{Merge, Stack, copied_up, is_directory_shown, merge_changed, upper_of}
 use Rattle.vt_spec.specs.Machine.Invariants.{number_at_path}
 use Rattle.vt_spec.specs.Machine.Views.{cuts}
-use Rattle.vt_spec.specs.TreeLaws.{IsDirectory, entry_at}
+use Rattle.vt_spec.specs.TreeLaws.{IsDirectory, entry_at, led}
 use Rattle.vt_spec.proofs.Nodes.{directory_used}
-use Rattle.vt_tree_laws.specs.Trees.{MayAddName, MayMake, MayRemove}
+use Rattle.vt_tree_laws.specs.Trees.{MayAddName, MayMake, MayMove, MayRemove}
 use Rattle.vt_layer_laws.specs.Layers.Upper.{IsThere}
 use Rattle.vt_layer_laws.specs.Layers.Views.{goes_through, view_in}
-use Rattle.vt_layer_laws.proofs.ShownAtPath.{none_is_some}
+use Rattle.vt_layer_laws.proofs.ShownAtPath.{none_is_some, some_is_one}
+use Rattle.vt_layer_laws.proofs.ShownDirectories.{append_assoc, last_of}
+use Rattle.vt_layer_laws.proofs.ShownFronts.{cons_is_not_empty}
+use Rattle.vt_layer_laws.proofs.ShownPaths.{not_empty}
+use Rattle.vt_layer_laws.proofs.UpperShown.{front_of_longer}
+use Rattle.vt_layer_laws.proofs.ViewsMoves.{led_parts}
+use Rattle.vt_layer_laws.proofs.ViewsNames.{no_entries}
 use Rattle.vt_layer_laws.proofs.UpperLine.{has_entries}
 use Rattle.vt_overlay_laws.specs.WhatIsShown.{IsWhole}
 use Rattle.vt_overlay_laws.specs.WholeChanges.{IsAskedWell}
@@ -23,7 +29,7 @@ use Rattle.vt_overlay_laws.proofs.WholeTogether.{IsReadyToMove, both_copied, is_
 use Rattle.vt_merge_laws.specs.UpperChanges.{AreNew, LeadsToDirectory, directory_below, layers_with, seen_below}
 use Rattle.vt_merge_laws.specs.UpperCalls.{Asks, ChangeAt}
 use Rattle.vt_merge_laws.specs.UpperCalls.Asks.{copies, links, makes, moves, removes, sets_attr, sets_bytes, sets_mark}
-use Rattle.vt_merge_laws.specs.BelowChanges.{BelowEnds, BelowNew, BelowStays, IsEnded, IsGiven, LiesUnder}
+use Rattle.vt_merge_laws.specs.BelowChanges.{BelowEnds, BelowNames, BelowNew, BelowStays, IsEnded, IsGiven, LiesUnder}
 use Rattle.vt_merge_laws.proofs.BelowKept.{none_below}
 use Rattle.vt_merge_laws.proofs.BelowMade.{at_each_path, attr_below, bytes_below, copied_below, linked_below, made_below}
 use Rattle.vt_merge_laws.proofs.BelowRemoved.{moved_kept, new_ends, old_ends, removed_ends, removed_kept, through_under, under_through}
@@ -305,3 +311,78 @@ below_new fresh stack merge whole new change at top path asked asks e under =
       (below_stays fresh stack merge whole new change at path asked asks (λ other ended. absurd (none.1 other ended))).0
           ∙ none.0,
     )
+
+-- The ended names
+no_longer : (top : List (List ℕ)) (word : List ℕ) (rest : List (List ℕ)) → top ++ word ∷ rest ≢ top
+no_longer [] word rest e = cons_is_not_empty word rest e
+no_longer (first ∷ top) word rest e = no_longer top word rest
+    (ap (λ l. elim l as (λ l. List (List ℕ)) [ [] ↦ [] | a ∷ b ↦ b ]) e)
+
+-- a name under another is in a directory that is at that, or under it
+under_front : (one other : List (List ℕ)) (a b : List ℕ) → LiesUnder (one ++ a ∷ []) (other ++ b ∷ [])
+    → (rest : List (List ℕ)) × (one ++ a ∷ rest ≡ other)
+under_front one other a b under =
+    let last = last_of (under.0 ∷ under.1) (not_empty under.0 under.1) in
+    let split : ((one ++ a ∷ []) ++ last.0) ++ last.1 ∷ [] ≡ other ++ b ∷ [] =
+    append_assoc (one ++ a ∷ []) last.0 (last.1 ∷ []) ∙ ap (λ r. (one ++ a ∷ []) ++ r) last.2 ∙ under.2 in (
+      last.0,
+      sym (append_assoc one (a ∷ []) last.0)
+          ∙ sym (front_of_longer ((one ++ a ∷ []) ++ last.0) last.1)
+          ∙ ap front_of split ∙ front_of_longer other b,
+    )
+
+module _ (merge : Merge ℕ) (from_path to_path : List (List ℕ)) (f t o : ℕ) (old new : List ℕ)
+    (from_leads : number_at_path merge.files from_path ≡ Some f)
+    (to_leads : number_at_path merge.files to_path ≡ Some t)
+    (may : MayMove merge.files.tree f old t new o) where
+  new_not_under : ¬ (LiesUnder (from_path ++ old ∷ []) (to_path ++ new ∷ []))
+  new_not_under under =
+      let found = under_front from_path to_path old new under in
+      may.not_under found.0
+      (sym (ap (option_and_then (λ next. led merge.files.tree next found.0)) may.named)
+      ∙ sym (led_parts merge.files.tree from_path (old ∷ found.0) merge.files.tree.root f from_leads)
+      ∙ ap (number_at_path merge.files) found.1 ∙ to_leads)
+
+  old_not_under : ¬ (LiesUnder (to_path ++ new ∷ []) (from_path ++ old ∷ []))
+  old_not_under under =
+      let found = under_front to_path from_path new old under in
+      by (entry_at merge.files.tree t new) refl found.0
+      (sym (led_parts merge.files.tree to_path (new ∷ found.0) merge.files.tree.root t to_leads)
+      ∙ ap (number_at_path merge.files) found.1 ∙ from_leads)
+    where
+      by : (x : Option ℕ) → entry_at merge.files.tree t new ≡ x → (rest : List (List ℕ))
+          → option_and_then (λ next. led merge.files.tree next rest) x ≡ Some f → ⊥
+      by None e rest l = none_is_some f l
+      by (Some r) e [] l =
+          none_is_some o (sym (no_entries merge.files.tree r (may.replaced_empty r e) old)
+          ∙ ap (λ k. entry_at merge.files.tree k old) (some_is_one r f l) ∙ may.named)
+      by (Some r) e (word ∷ rest) l =
+          none_is_some f
+          (sym (ap (option_and_then (λ next. led merge.files.tree next rest))
+          (no_entries merge.files.tree r (may.replaced_empty r e) word)) ∙ l)
+
+names_apart : (merge : Merge ℕ) (change : Change ℕ) (at : ChangeAt) → Asks merge change at
+    → (top other : List (List ℕ)) → IsEnded at top → IsEnded at other → ¬ (LiesUnder other top)
+names_apart merge change at (makes path d w number node is) top other e f under = e
+names_apart merge change at (links place path d object w is used) top other e f under = e
+names_apart merge change at (removes path d object w is) top other e f under =
+    no_longer other under.0 under.1 (under.2 ∙ e ∙ sym f)
+names_apart merge change at (moves from_path to_path from to o old last from_leads to_leads may) top other e f under =
+    ⊎_elim
+    (λ a. ⊎_elim
+    (λ b. no_longer other under.0 under.1 (under.2 ∙ a ∙ sym b))
+    (λ b. old_not_under merge from_path to_path from to o old last from_leads to_leads may
+    (under.0, under.1, ap (λ p. p ++ under.0 ∷ under.1) (sym b) ∙ under.2 ∙ a)) f)
+    (λ a. ⊎_elim
+    (λ b. new_not_under merge from_path to_path from to o old last from_leads to_leads may
+    (under.0, under.1, ap (λ p. p ++ under.0 ∷ under.1) (sym b) ∙ under.2 ∙ a))
+    (λ b. no_longer other under.0 under.1 (under.2 ∙ a ∙ sym b)) f) e
+names_apart merge change at (sets_bytes file place bytes is) top other e f under = e
+names_apart merge change at (sets_attr object place attr is) top other e f under = e
+names_apart merge change at (sets_mark directory place opaque is) top other e f under = e
+names_apart merge change at (copies object place is) top other e f under = e
+
+pub below_names : BelowNames
+below_names fresh stack merge whole new change at top asked asks e =
+    below_stays fresh stack merge whole new change at top asked asks
+    (λ other f. names_apart merge change at asks top other e f)

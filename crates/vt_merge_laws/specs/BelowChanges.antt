@@ -19,7 +19,7 @@ IsEnded (MoveAt from old to new) top = (top ≡ from ++ old ∷ []) ⊎ (top ≡
 IsEnded at top = ⊥
 
 -- What lower layers show at a path that does not go on from such a name, and whether it is a directory, is the same
--- before a change and after it: at every path, if no name is ended; and at the ended names themselves.
+-- before a change and after it: at every path, if no name is ended.
 abbrev pub BelowStays : Type 0
 BelowStays =
     OfCopies (λ fresh stack merge.
@@ -28,6 +28,17 @@ BelowStays =
     → (seen_below stack (changed_above fresh stack merge.upper at) path ≡ seen_below stack merge.upper path)
     × (directory_below stack (changed_above fresh stack merge.upper at) path
     ≡ directory_below stack merge.upper path))
+
+-- None of these names goes on from another, so at each of them it is the same: a removed or left name shows what lay
+-- below it, but for a whiteout.
+abbrev pub BelowNames : Type 0
+BelowNames =
+    OfCopies (λ fresh stack merge.
+    (change : Change ℕ) (at : ChangeAt) (top : List (List ℕ)) → IsAskedWell stack merge change → Asks merge change at
+    → IsEnded at top
+    → (seen_below stack (changed_above fresh stack merge.upper at) top ≡ seen_below stack merge.upper top)
+    × (directory_below stack (changed_above fresh stack merge.upper at) top
+    ≡ directory_below stack merge.upper top))
 
 -- At a path that goes on from one they show nothing after it.
 abbrev pub BelowEnds : Type 0
