@@ -29,8 +29,8 @@ BelowStays =
     × (directory_below stack (changed_above fresh stack merge.upper at) path
     ≡ directory_below stack merge.upper path))
 
--- None of these names goes on from another, so at each of them it is the same: a removed or left name shows what lay
--- below it, but for a whiteout.
+-- None of these names goes on from another, so at each of them it is the same: what a whiteout then hides at a name
+-- that was removed or left is what lay below it before.
 abbrev pub BelowNames : Type 0
 BelowNames =
     OfCopies (λ fresh stack merge.
