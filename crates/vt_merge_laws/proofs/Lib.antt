@@ -3,6 +3,10 @@ pub mod UpperCopying
 pub mod UpperFronts
 pub mod UpperPlaces
 pub mod UpperKinds
+pub mod BelowKept
+pub mod BelowMade
+pub mod BelowRemoved
+pub mod BelowWhole
 pub mod UpperWorlds
 pub mod UpperAsked
 pub mod MountedLeft

@@ -133,7 +133,7 @@ real_stays fresh k m (first ∷ list) object stands =
         at false same = refl
 
 -- New numbers, in parts
-even_new : (fresh : Fresh ℕ) (upper : FileTree ℕ) → AreNew fresh upper → AreNew (evens fresh) upper
+pub even_new : (fresh : Fresh ℕ) (upper : FileTree ℕ) → AreNew fresh upper → AreNew (evens fresh) upper
 even_new fresh upper new = record { distinct = even_distinct fresh new.distinct; unused = λ k. new.unused (2 * k) }
 
 -- An object at a path is copied.

@@ -1,4 +1,5 @@
 pub mod MergedTrees
 pub mod UpperChanges
 pub mod UpperCalls
+pub mod BelowChanges
 pub mod MountedAnew

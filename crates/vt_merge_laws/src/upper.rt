@@ -1,6 +1,7 @@
 //! Laws of what a change of an overlay makes of its upper layer, in terms of layers alone.
 ghost use Rattle.vt_merge_laws.specs.UpperChanges.{AttrIsSetAbove, BytesAreSetAbove, CopiesAreOfFronts, CopiesHideNothing, FrontsHaveTheirCopies, FrontsLeadToCopies};
 ghost use Rattle.vt_merge_laws.specs.UpperChanges.{HeldHaveTheirCopies, LinkedAbove, MadeAbove, MarkIsSetAbove, MovedAbove, OpenedIsCopied, RemovedAbove};
+ghost use Rattle.vt_merge_laws.specs.BelowChanges.{BelowEnds, BelowNames, BelowNew, BelowStays};
 ghost use Rattle.vt_merge_laws.specs.UpperCalls.{AskedChangesHavePlaces, ChangesAreByLayers, UpperLayersAfterCalls, UpperLayersAfterWholeCalls};
 
 /// What a path leads to is copied up with what is shown at the fronts of the path, where the upper layer has nothing;
@@ -35,4 +36,14 @@ pub fn calls_change_the_upper_layer_by_layers()
     ensures places { AskedChangesHavePlaces }
     ensures calls { UpperLayersAfterCalls }
     ensures whole { UpperLayersAfterWholeCalls }
+{}
+
+/// What lower layers show at a path, whatever the upper layer has there, is the same before a change and after it; but
+/// under a name that is removed or left, and under one that a move gives, they show nothing after it. Under the name of
+/// a new object, or a further name, they show nothing before it and after it.
+pub fn changes_leave_what_is_below()
+    ensures stays { BelowStays }
+    ensures names { BelowNames }
+    ensures ends { BelowEnds }
+    ensures new { BelowNew }
 {}

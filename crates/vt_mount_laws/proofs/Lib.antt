@@ -37,6 +37,7 @@ pub mod MovingLeaves
 pub mod MovingPlaces
 pub mod MovingRoots
 pub mod MovingStands
+pub mod PropagationAbove
 pub mod PropagationAttaching
 pub mod PropagationCopies
 pub mod PropagationHeard

@@ -1,5 +1,5 @@
 //! Propagation: what copies of mounts are, who hears of their events, and how lists of mounts read.
-ghost use Rattle.vt_mount_laws.specs.Mounts.Propagation.{BindsCan, CopiesAreNew, CopiesAtLowerGroupsFollow, CopiesAtPeersArePeers, CopiesAtSlavesAreSlaves, CopiesHearAsTheirOrigins, CopiesHearOneAnother, EachIsCopied, FirstStandsOnItsPart, MovesCan, NewMountsCan, OthersStandOnCopies, PrivateOnShared, SharedOnShared, SlaveOnShared, TypeOnNotShared, UnmountUndoesBind, UnmountUndoesNewMount, UnshareListsOthersTheSame, UnshareListsTheSame};
+ghost use Rattle.vt_mount_laws.specs.Mounts.Propagation.{BindsCan, CopiesAreNew, CopiesAtLowerGroupsFollow, CopiesAtPeersArePeers, CopiesAtSlavesAreSlaves, CopiesHearAsTheirOrigins, CopiesHearOneAnother, EachIsCopied, FirstStandsOnItsPart, LowerGroupsHaveAGroupAbove, MovesCan, NewMountsCan, OthersStandOnCopies, PrivateOnShared, SharedOnShared, SlaveOnShared, SlavesHaveAGroupAbove, TypeOnNotShared, UnmountUndoesBind, UnmountUndoesNewMount, UnshareListsOthersTheSame, UnshareListsTheSame};
 
 /// A bind, a new mount and a move give each part, the destination and each receiver that takes part, a copy of each
 /// mount of the tree, with a number of its own: what it shows, and where it stands. At the destination of a move it
@@ -16,7 +16,7 @@ pub fn copies_take_their_place()
 
 /// At the destination a mount of the tree has its type by the table of sharedsubtree, at a receiver by the type of
 /// that: copies at peers are peers, copies at slaves are slaves, and copies at members of slave groups are in a new
-/// group below.
+/// group below. Each such receiver has a group above it of which a part is a member.
 pub fn copies_take_their_type()
     ensures not_shared { TypeOnNotShared }
     ensures shared { SharedOnShared }
@@ -25,6 +25,8 @@ pub fn copies_take_their_type()
     ensures peers { CopiesAtPeersArePeers }
     ensures slaves { CopiesAtSlavesAreSlaves }
     ensures lower_groups { CopiesAtLowerGroupsFollow }
+    ensures above_slaves { SlavesHaveAGroupAbove }
+    ensures above_groups { LowerGroupsHaveAGroupAbove }
 {}
 
 /// The copies of a mount hear one another just as the destination and its receivers do, and of groups that there were

@@ -1,5 +1,5 @@
 -- What a granted call makes of the upper layer of the overlay that it changes, by layers alone.
-use Rattle.std.proofs.Common.{◌≡◌, refl, subst, ℕ, nat_eq, Bool, true, false, [], ◌∷◌, Option, Some, None}
+use Rattle.std.proofs.Common.{◌≡◌, refl, ap, ◌∙◌, subst, ℕ, nat_eq, Bool, true, false, [], ◌∷◌, Option, Some, None}
 use Rattle.std.specs.Prelude.{⊤}
 use Rattle.vt_spec.specs.Language.Changes.{Change}
 use Rattle.vt_spec.specs.Language.Changes.Change.{CopyUp}
@@ -9,14 +9,16 @@ use Rattle.vt_spec.specs.Machine.Mounts.{Location}
 use Rattle.vt_spec.specs.Machine.Outcome.Descriptors.{is_copied_up}
 use Rattle.vt_spec.specs.Machine.Permits.{Permit}
 use Rattle.vt_spec.specs.Machine.Permits.Permit.{Allowed, ToBind, ToChange, ToClose, ToEnterNamespace, ToExit, ToFork, ToList, ToListMounts, ToMake, ToMountOverlay, ToMountPlain, ToMove, ToOpen, ToOpenNew, ToPivot, ToRead, ToReadPart, ToRemoveDirectory, ToRename, ToSetCredentials, ToSetDirectory, ToSetFlags, ToSetRoot, ToSetType, ToSetUmask, ToStat, ToUnmount, ToUnmountLazily, ToUnshare, ToWritePart}
-use Rattle.vt_spec.specs.Machine.World.{World, filesystem_at, mount_at}
+use Rattle.vt_spec.specs.Machine.World.{World, filesystem_at, filesystem_numbered, mount_at}
 use Rattle.vt_overlay_laws.proofs.WholeWorlds.{overlays_are_whole}
 use Rattle.vt_merge_laws.specs.UpperCalls.{Does}
 use Rattle.vt_merge_laws.specs.UpperCalls.Does.{does_change, does_make, does_open, does_open_new, does_remove, does_rename, does_write}
+use Rattle.vt_merge_laws.specs.UpperChanges.{AreNew, seen_below}
+use Rattle.vt_merge_laws.proofs.BelowWhole.{below_ends, below_stays}
 use Rattle.vt_merge_laws.proofs.UpperAsked.{asked_changes_have_places}
 use Rattle.vt_merge_laws.proofs.UpperWorlds.{upper_layers_after_whole_calls}
 use Rattle.vt_overlay_permit_laws.specs.Asked.{change_asked}
-use Rattle.vt_overlay_permit_laws.specs.Changed.{GrantedCallsAreByLayers, numbers_left}
+use Rattle.vt_overlay_permit_laws.specs.Changed.{GrantedCallsAreByLayers, GrantedCallsLeaveBelow, numbers_left}
 use Rattle.vt_overlay_permit_laws.proofs.AskedOverlays.{permits_ask_overlays_well}
 use Rattle.vt_overlay_permit_laws.proofs.ChangedOverlays.{are_left}
 
@@ -82,3 +84,23 @@ granted_calls_are_by_layers world fresh task call permit location change overlay
           conditions judged (subst (DoesIf world fresh permit) asks (does world fresh permit)) is has
           (record { distinct = left.0; unused = left.1 upper.filesystem }) place.1;
     }
+
+pub granted_calls_leave_below : GrantedCallsLeaveBelow
+granted_calls_leave_below world fresh task call permit location change overlay upper at path conditions serves called
+    judged asks is has places =
+    let numbers = numbers_left fresh permit in
+    let left = are_left world fresh conditions serves permit in
+    let new : AreNew numbers (filesystem_numbered nat_eq world upper.filesystem).files =
+    record { distinct = left.0; unused = left.1 upper.filesystem } in
+    let stack = stack_of nat_eq world overlay upper in
+    let merge = merge_of nat_eq world (filesystem_at nat_eq world location) overlay upper in
+    let whole = overlays_are_whole world (mount_at nat_eq world location).filesystem overlay upper conditions is has in
+    let asked = permits_ask_overlays_well world fresh task call permit location change overlay upper conditions serves
+    called judged asks is has in
+    let files = upper_layers_after_whole_calls fresh numbers world task call permit location change at overlay upper
+    conditions judged (subst (DoesIf world fresh permit) asks (does world fresh permit)) is has new places in (
+      λ out. ap (λ u. seen_below stack u path) files
+          ∙ (below_stays numbers stack merge whole new change at path asked places out).0,
+      λ top ended under. ap (λ u. seen_below stack u path) files
+          ∙ below_ends numbers stack merge whole new change at top path asked places ended under,
+    )

@@ -1,5 +1,5 @@
 -- What a permit asks of an overlay can be done: what the laws of letting go ask for (`CanChange`) holds of it.
-use Rattle.std.specs.Prelude.{None, Ok, Some, nat_eq, ℕ, ◌≡◌}
+use Rattle.std.specs.Prelude.{List, None, Ok, Some, nat_eq, ℕ, ◌≡◌}
 use Rattle.vt_spec.specs.Language.Calls.{Call}
 use Rattle.vt_spec.specs.Language.Changes.{Change}
 use Rattle.vt_spec.specs.Lists.{Fresh, odds}
@@ -15,7 +15,9 @@ use Rattle.vt_spec.specs.Machine.World.{Layer, Overlay, Task, World, filesystem_
 use Rattle.vt_layer_laws.specs.Layers.Untouched.{inode_in}
 use Rattle.vt_overlay_laws.specs.WholeChanges.{IsAskedWell}
 use Rattle.vt_overlays_let_go.specs.OverlayChanges.{CanChange}
+use Rattle.vt_merge_laws.specs.UpperChanges.{seen_below}
 use Rattle.vt_merge_laws.specs.UpperCalls.{Asks, ChangeAt, changed_above}
+use Rattle.vt_merge_laws.specs.BelowChanges.{IsEnded, LiesUnder}
 use Rattle.vt_overlay_permit_laws.specs.Asked.{change_asked}
 
 -- The change of an overlay that asks for what it may leaves both trees trees.
@@ -67,3 +69,24 @@ GrantedCallsAreByLayers =
     → (filesystem_at nat_eq world location).overlay ≡ Some overlay → overlay.upper ≡ Some upper
     → IsByLayers (numbers_left fresh permit) world (call_outcome nat_eq fresh world task call).world location change
     overlay upper
+
+-- Such a call leaves what the overlay's lower layers show, but under names that it ends: before what nothing uses is
+-- gone.
+abbrev pub GrantedCallsLeaveBelow : Type 0
+GrantedCallsLeaveBelow =
+    (world : World ℕ) (fresh : Fresh ℕ) (task : Task ℕ) (call : Call) (permit : Permit ℕ) (location : Location ℕ)
+    (change : Change ℕ)
+    (overlay : Overlay ℕ) (upper : Layer ℕ) (at : ChangeAt) (path : List (List ℕ))
+    → IsWorld nat_eq world → Serves nat_eq world fresh → task_called world task.name ≡ Some task
+    → judge_in nat_eq fresh world task call ≡ Ok permit → change_asked fresh world permit ≡ Some (location, change)
+    → (filesystem_at nat_eq world location).overlay ≡ Some overlay → overlay.upper ≡ Some upper
+    → Asks (merge_of nat_eq world (filesystem_at nat_eq world location) overlay upper) change at
+    → (((top : List (List ℕ)) → IsEnded at top → ¬ (LiesUnder top path))
+    → seen_below (stack_of nat_eq world overlay upper)
+    (filesystem_numbered nat_eq (call_outcome nat_eq fresh world task call).world upper.filesystem).files path
+    ≡ seen_below (stack_of nat_eq world overlay upper)
+    (filesystem_numbered nat_eq world upper.filesystem).files path)
+    × ((top : List (List ℕ)) → IsEnded at top → LiesUnder top path
+    → seen_below (stack_of nat_eq world overlay upper)
+    (filesystem_numbered nat_eq (call_outcome nat_eq fresh world task call).world upper.filesystem).files path
+    ≡ None)

@@ -240,6 +240,25 @@ CopiesAtLowerGroupsFollow =
     → (above : ℕ) × ((copy_of it other origin).propagation ≡ Shared above)
     × IsOfNewGroup it (copy_of it one origin).propagation (Some above)
 
+-- a part is a member of the nearest group up from this one
+abbrev pub HasGroupAbove : Attachment → ℕ → Type 0
+HasGroupAbove it master =
+    (group : ℕ) × (other : Mount ℕ) × (nearest_part_group it master ≡ Some group) × IsPart it other
+    × (other.propagation ≡ Shared group)
+
+-- A slave that takes part has such a group above it,
+abbrev pub SlavesHaveAGroupAbove : Type 0
+SlavesHaveAGroupAbove =
+    (it : Attachment) (one : Mount ℕ) (master : ℕ) → IsPart it one
+    → nat_eq one.number it.mount_point.mount ≡ false → one.propagation ≡ Slave master → HasGroupAbove it master
+
+-- and so has a member of another group than the destination's, whose group has a master.
+abbrev pub LowerGroupsHaveAGroupAbove : Type 0
+LowerGroupsHaveAGroupAbove =
+    (it : Attachment) (one : Mount ℕ) (own : ℕ) → IsPart it one → one.propagation ≡ Shared own
+    → is_member_of nat_eq own (destination_of it) ≡ false
+    → (master : ℕ) × (it.world.master own ≡ Some master) × HasGroupAbove it master
+
 -- Hearing: sharedsubtree, "Propagation"
 
 -- The copies of a mount hear one another just as the parts do: the copy at one part receives from the group of the

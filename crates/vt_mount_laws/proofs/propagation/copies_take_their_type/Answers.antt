@@ -1,3 +1,4 @@
+use Rattle.vt_mount_laws.proofs.PropagationAbove.{lower_groups_have_a_group_above, slaves_have_a_group_above}
 use Rattle.vt_mount_laws.proofs.PropagationAttaching.{copies_at_lower_groups_follow, copies_at_peers_are_peers, copies_at_slaves_are_slaves, private_on_shared, shared_on_shared, slave_on_shared, type_on_not_shared}
 use Rattle.vt_mount_laws.proofs.propagation.copies_take_their_type.Goals as goal
 
@@ -21,3 +22,9 @@ returns-clause-slaves c = copies_at_slaves_are_slaves
 
 pub returns-clause-lower_groups : goal.returns-clause-lower_groups
 returns-clause-lower_groups c = copies_at_lower_groups_follow
+
+pub returns-clause-above_slaves : goal.returns-clause-above_slaves
+returns-clause-above_slaves c = slaves_have_a_group_above
+
+pub returns-clause-above_groups : goal.returns-clause-above_groups
+returns-clause-above_groups c = lower_groups_have_a_group_above
