@@ -11,11 +11,12 @@ use Rattle.vt_spec.specs.Machine.World.{upper_object}
 use Rattle.vt_spec.specs.Machine.World.Real.{Upper}
 use Rattle.vt_spec.specs.Tree.{Node, Tree, is_directory_node}
 use Rattle.vt_spec.specs.TreeLaws.{entry_at, led}
-use Rattle.vt_tree_laws.proofs.TreesWalked.{no_some}
+use Rattle.std.proofs.lemmas.Option.{same_Some}
+use Rattle.vt_spec.proofs.Options.{none_from_not_some, none_is_some}
 use Rattle.vt_layer_laws.specs.Layers.Mounted.{IsAlike}
 use Rattle.vt_layer_laws.specs.Layers.Views.{view_in}
-use Rattle.vt_layer_laws.proofs.ShownAtPath.{none_is_some}
-use Rattle.vt_layer_laws.proofs.ShownDirectories.{AreOpen, ShowsDirectory, append_assoc, last_of, led_is_there, longer_is_not_empty, no_white_directory}
+use Rattle.vt_spec.proofs.NodeChanges.{directory_no_whiteout}
+use Rattle.vt_layer_laws.proofs.ShownDirectories.{AreOpen, ShowsDirectory, append_assoc, last_of, led_is_there, longer_is_not_empty}
 use Rattle.vt_layer_laws.proofs.ShownFronts.{cons_is_not_empty, front_passes}
 use Rattle.vt_layer_laws.proofs.ShownPaths.{not_empty}
 use Rattle.vt_layer_laws.proofs.UpperFit.{same_directory}
@@ -81,7 +82,7 @@ module _ (stack : Stack ℕ) (m : Merge ℕ) (whole : IsWhole stack m) where
           ∙ sym (ap upper_object (upper_real m n stands))
       by false low =
           led_none (λ k. k) stack m whole n (path_there stack m whole path n e) path e low
-          ∙ sym (no_some (upper_object (m.real n)) low)
+          ∙ sym (none_from_not_some (upper_object (m.real n)) low)
 
   -- the inode of a directory that lower layers show
   shown_node : (layers : List (OpenLayer ℕ)) (seen : Shown ℕ) → is_directory_shown layers (Some seen) ≡ true
@@ -133,7 +134,7 @@ module _ (stack : Stack ℕ) (m : Merge ℕ) (whole : IsWhole stack m) where
       top : (way : List (List ℕ)) → cuts view way ≡ false → (u : ℕ) → led m.upper.tree stack.directory way ≡ Some u
           → is_directory_node (m.upper.tree.node u) ≡ true
       top [] none u e = subst (λ k. is_directory_node (m.upper.tree.node k) ≡ true)
-          (Rattle.vt_layer_laws.proofs.ShownAtPath.some_is_one stack.directory u e) (top_open stack m whole).1
+          (same_Some stack.directory u e) (top_open stack m whole).1
       top (word ∷ way) none u e = kind (is_directory_node (m.upper.tree.node u)) refl
         where
           there : is_some (m.upper.tree.node u) ≡ true
@@ -155,7 +156,7 @@ module _ (stack : Stack ℕ) (m : Merge ℕ) (whole : IsWhole stack m) where
           (then_some o (layer_node (layers_under stack m)))) (low e) (whole.shown.shows way))
       by (Some u) e =
           let d = top way uncut u e in
-          let found = above_named stack m whole way u e (no_white_directory (m.upper.tree.node u) d) in
+          let found = above_named stack m whole way u e (directory_no_whiteout (m.upper.tree.node u) d) in
           (found.0, (found.1, sym (directory_above stack m whole found.0 u found.2) ∙ d))
 
   -- nothing is shown below where the upper layer cuts,

@@ -20,7 +20,8 @@ use Rattle.vt_layer_laws.specs.Layers.Mounted.{IsAlike}
 use Rattle.vt_layer_laws.specs.Layers.Upper.{IsThere}
 use Rattle.vt_layer_laws.specs.Layers.Views.{goes_through, names_entry, view_in}
 use Rattle.vt_layer_laws.proofs.LowersKept.{kept_elsewhere}
-use Rattle.vt_layer_laws.proofs.ShownAtPath.{none_is_some, some_is_one}
+use Rattle.std.proofs.lemmas.Option.{same_Some}
+use Rattle.vt_spec.proofs.Options.{none_is_some}
 use Rattle.vt_layer_laws.proofs.ShownDirectories.{append_assoc, last_of}
 use Rattle.vt_layer_laws.proofs.ShownFronts.{cons_is_not_empty, front_passes}
 use Rattle.vt_layer_laws.proofs.ShownPaths.{not_empty}
@@ -276,7 +277,7 @@ module _ (stack : Stack ℕ) (m : Merge ℕ) (whole : IsWhole stack m) (d : ℕ)
           → names_entry (view_in m.files m.files.tree.root) d w way ≡ b → (k : ℕ)
           → cond b (Some object) (number_at_path m.files way) ≡ Some k → IsDirectory further.files.tree k → ⊥
       no_way way through true e k leads is =
-          no_directory (subst (IsDirectory further.files.tree) (sym (some_is_one object k leads)) is)
+          no_directory (subst (IsDirectory further.files.tree) (sym (same_Some object k leads)) is)
       no_way way through false e k leads is = none_is_some k (sym (none way through) ∙ leads)
 
       by : (way : List (List ℕ)) (name : List ℕ) (b : Bool)

@@ -19,7 +19,7 @@ use Rattle.vt_layer_laws.specs.Layers.Mounted.{IsAlike}
 use Rattle.vt_layer_laws.specs.Layers.Views.{CanMove, goes_through, names_entry, view_in}
 use Rattle.vt_layer_laws.proofs.CopyingParts.{entry_keeps, without_entry_keeps}
 use Rattle.vt_layer_laws.proofs.LowersKept.{kept_elsewhere}
-use Rattle.vt_layer_laws.proofs.ShownAtPath.{none_is_some}
+use Rattle.vt_spec.proofs.Options.{none_is_some}
 use Rattle.vt_layer_laws.proofs.ShownDirectories.{append_assoc, last_of, longer_is_not_empty}
 use Rattle.vt_layer_laws.proofs.ShownFronts.{front_passes}
 use Rattle.vt_layer_laws.proofs.ShownPaths.{not_empty, one_path}

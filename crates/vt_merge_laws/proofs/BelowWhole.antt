@@ -12,7 +12,8 @@ use Rattle.vt_spec.proofs.Nodes.{directory_used}
 use Rattle.vt_tree_laws.specs.Trees.{MayAddName, MayMake, MayMove, MayRemove}
 use Rattle.vt_layer_laws.specs.Layers.Upper.{IsThere}
 use Rattle.vt_layer_laws.specs.Layers.Views.{goes_through, view_in}
-use Rattle.vt_layer_laws.proofs.ShownAtPath.{none_is_some, some_is_one}
+use Rattle.std.proofs.lemmas.Option.{same_Some}
+use Rattle.vt_spec.proofs.Options.{none_is_some}
 use Rattle.vt_layer_laws.proofs.ShownDirectories.{append_assoc, last_of}
 use Rattle.vt_layer_laws.proofs.ShownFronts.{cons_is_not_empty}
 use Rattle.vt_layer_laws.proofs.ShownPaths.{not_empty}
@@ -355,7 +356,7 @@ module _ (merge : Merge ℕ) (from_path to_path : List (List ℕ)) (f t o : ℕ)
       by None e rest l = none_is_some f l
       by (Some r) e [] l =
           none_is_some o (sym (no_entries merge.files.tree r (may.replaced_empty r e) old)
-          ∙ ap (λ k. entry_at merge.files.tree k old) (some_is_one r f l) ∙ may.named)
+          ∙ ap (λ k. entry_at merge.files.tree k old) (same_Some r f l) ∙ may.named)
       by (Some r) e (word ∷ rest) l =
           none_is_some f
           (sym (ap (option_and_then (λ next. led merge.files.tree next rest))

@@ -18,7 +18,7 @@ use Rattle.vt_layer_laws.specs.Layers.ChangesUpper.{StandsInUpper}
 use Rattle.vt_layer_laws.specs.Layers.ShownAfter.{leads_over}
 use Rattle.vt_layer_laws.specs.Layers.Views.{view_in}
 use Rattle.vt_spec.proofs.NodeChanges.{part-changed_node}
-use Rattle.vt_layer_laws.proofs.ShownAtPath.{none_is_some}
+use Rattle.vt_spec.proofs.Options.{none_is_some}
 use Rattle.vt_layer_laws.proofs.ShownFronts.{front_found}
 use Rattle.vt_layer_laws.proofs.ViewsAfter.{on_top, shown_elsewhere_stays}
 use Rattle.vt_layer_laws.proofs.ViewsStay.{mark_changes_one_inode}
