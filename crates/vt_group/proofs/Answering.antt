@@ -1,7 +1,7 @@
 -- What the answers of several functions share.
 use Rattle.std.proofs.Common.{◌≡◌, ℕ, Bool, true, false, cond, suc, refl, sym, ap, ◌∙◌, map, nat_eq, nat_lt, Option, None, Some, option_map, is_some, List, [], ◌∷◌, ◌++◌, ◌||◌, true≢false, ne_eqb, eq-eqb}
 use Rattle.std.proofs.lemmas.Bool.{eqb-false}
-use Rattle.std.specs.Prelude.{Err, Ok, OnOk, Result, unwrap_or}
+use Rattle.std.specs.Prelude.{Err, Ok, OnErr, OnOk, Result, is_err, unwrap_or}
 use Rattle.std.specs.BTreeMap.{insert_entry, is_at}
 use Rattle.std.specs.List.{list_any}
 use Rattle.std.specs.Map.{lookup, remove_entry, values_of}
@@ -85,3 +85,16 @@ on-ok (Err e) so _ = tt
 pub nothing-behind : (numbers : List ℕ) → numbers ++ [] ≡ numbers
 nothing-behind [] = refl
 nothing-behind (number ∷ rest) = ap (λ l. number ∷ l) (nothing-behind rest)
+
+pub unlisted : {T E P : Type 0} (r : Result T E) → OnErr r P → is_err r ≡ true → P
+unlisted (Ok t) p err = absurd (true≢false (sym err))
+unlisted (Err e) p err = p
+
+pub listed_ok : {T E P : Type 0} (r : Result T E) → OnOk r P → is_err r ≡ false → P
+listed_ok (Ok t) p err = p
+listed_ok (Err e) p err = absurd (true≢false err)
+
+pub unlisted_none : {A : Type 0} {b : Bool} (found : Option A) → ((one : A) → found ≡ Some one → b ≡ true) → b ≡ false
+    → found ≡ None
+unlisted_none None listed not = refl
+unlisted_none (Some one) listed not = absurd (true≢false (sym (listed one refl) ∙ not))

@@ -292,14 +292,14 @@ join_regroups world groups has live number group there fresh =
 
 -- Entries of masters, with one more
 
-pub lookup-inserted : (other group master : ℕ) (masters : List (ℕ × ℕ))
+pub lookup-inserted : {V : Type 0} (other group : ℕ) (master : V) (masters : List (ℕ × V))
     → lookup (nat_eq other) (insert_entry nat_cmp masters group master)
     ≡ cond (nat_eq other group) (Some master) (lookup (nat_eq other) masters)
-lookup-inserted other group master [] = refl
-lookup-inserted other group master (e ∷ masters) =
+lookup-inserted {V} other group master [] = refl
+lookup-inserted {V} other group master (e ∷ masters) =
     by (nat_lt group e.0) refl (nat_eq group e.0) refl (lookup-inserted other group master masters)
   where
-    shadow : (a b : Bool) (x : ℕ) (rest : Option ℕ) → (a ≡ true → b ≡ false)
+    shadow : (a b : Bool) (x : V) (rest : Option V) → (a ≡ true → b ≡ false)
         → cond a (Some x) (cond b (Some master) rest) ≡ cond b (Some master) (cond a (Some x) rest)
     shadow true true x rest apart = absurd (true≢false (apart refl))
     shadow true false x rest apart = refl

@@ -1,5 +1,5 @@
 -- Mounts that leave their groups one after another, where no group ends.
-use Rattle.std.proofs.Common.{◌≡◌, nat_lt, map, option_map, Some, refl, ap, sym, ◌∙◌, ℕ, nat_eq, Bool, true, false, true≢false, cond, ◌||◌, List, [], ◌∷◌, ◌++◌, Option, None}
+use Rattle.std.proofs.Common.{◌≡◌, nat_lt, option_map, Some, refl, ap, sym, ◌∙◌, ℕ, nat_eq, Bool, true, false, true≢false, cond, ◌||◌, List, [], ◌∷◌, ◌++◌, Option, None}
 use Rattle.std.specs.Prelude.{if◌then◌else◌, unwrap_or}
 use Rattle.std.proofs.lemmas.Bool.{and_from, and_parts}
 use Rattle.std.specs.List.{cons_option, list_all}

@@ -181,7 +181,7 @@ numbers-retyped number kind (mount ∷ rest) = λ i. same (nat_eq number mount.n
     same true = refl
     same false = refl
 
-remove-absent : (number : ℕ) (peers : List (ℕ × Propagation ℕ)) → lookup (nat_eq number) peers ≡ None
+pub remove-absent : (number : ℕ) (peers : List (ℕ × Propagation ℕ)) → lookup (nat_eq number) peers ≡ None
     → remove_entry (nat_eq number) peers ≡ peers
 remove-absent number [] e = refl
 remove-absent number (peer ∷ rest) e = by (nat_eq number peer.0) e (remove-absent number rest)

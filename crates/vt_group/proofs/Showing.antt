@@ -16,20 +16,20 @@ use Rattle.vt_group.proofs.Regrouping.{lookup-low}
 pub opening_has_no_groups : OpeningHasNoGroups
 opening_has_no_groups fresh = record { order = refl; peers = refl; masters_order = refl; masters = λ group. refl }
 
-abbrev keys : List (ℕ × ℕ) → List ℕ
+abbrev keys : {V : Type 0} → List (ℕ × V) → List ℕ
 keys masters = map (λ entry. entry.0) masters
 
 -- lists that rise and find the same are the same
-same_entries : (xs ys : List (ℕ × ℕ)) → are_rising (keys xs) ≡ true → are_rising (keys ys) ≡ true
+pub same_entries : {V : Type 0} (xs ys : List (ℕ × V)) → are_rising (keys xs) ≡ true → are_rising (keys ys) ≡ true
     → ((group : ℕ) → lookup (nat_eq group) xs ≡ lookup (nat_eq group) ys) → xs ≡ ys
-same_entries [] [] r s same = refl
-same_entries [] (y ∷ ys) r s same =
+same_entries {V} [] [] r s same = refl
+same_entries {V} [] (y ∷ ys) r s same =
     absurd (true≢false (sym (ap is_some
     (same y.0 ∙ ap (λ b. cond b (Some y.1) (lookup (nat_eq y.0) ys)) (eq-eqb y.0 y.0 refl)))))
-same_entries (x ∷ xs) [] r s same =
+same_entries {V} (x ∷ xs) [] r s same =
     absurd (true≢false (ap is_some
     (sym (ap (λ b. cond b (Some x.1) (lookup (nat_eq x.0) xs)) (eq-eqb x.0 x.0 refl)) ∙ same x.0)))
-same_entries (x ∷ xs) (y ∷ ys) r s same = by (nat_lt x.0 y.0) refl (nat_lt y.0 x.0) refl (same_entries xs ys rx.1 sy.1)
+same_entries {V} (x ∷ xs) (y ∷ ys) r s same = by (nat_lt x.0 y.0) refl (nat_lt y.0 x.0) refl (same_entries xs ys rx.1 sy.1)
   where
     rx : (list_all (nat_lt x.0) (keys xs) ≡ true) × (are_rising (keys xs) ≡ true)
     rx = and_parts _ _ r
@@ -37,17 +37,17 @@ same_entries (x ∷ xs) (y ∷ ys) r s same = by (nat_lt x.0 y.0) refl (nat_lt y
     sy : (list_all (nat_lt y.0) (keys ys) ≡ true) × (are_rising (keys ys) ≡ true)
     sy = and_parts _ _ s
 
-    further : (low high : ℕ) (es : List (ℕ × ℕ)) → nat_lt low high ≡ true → list_all (nat_lt high) (keys es) ≡ true
+    further : (low high : ℕ) (es : List (ℕ × V)) → nat_lt low high ≡ true → list_all (nat_lt high) (keys es) ≡ true
         → list_all (nat_lt low) (keys es) ≡ true
     further low high [] l all = refl
     further low high (e ∷ es) l all =
         and_from _ _ (lt-ltb low e.0 (omega (arith, ltb-true low high l, ltb-true high e.0 (and_parts _ _ all).0)))
         (further low high es l (and_parts _ _ all).1)
 
-    first_of : (e : ℕ × ℕ) (es : List (ℕ × ℕ)) → lookup (nat_eq e.0) (e ∷ es) ≡ Some e.1
+    first_of : (e : ℕ × V) (es : List (ℕ × V)) → lookup (nat_eq e.0) (e ∷ es) ≡ Some e.1
     first_of e es = ap (λ b. cond b (Some e.1) (lookup (nat_eq e.0) es)) (eq-eqb e.0 e.0 refl)
 
-    lower : (low : ℕ) (e : ℕ × ℕ) (es : List (ℕ × ℕ)) → nat_lt low e.0 ≡ true → list_all (nat_lt e.0) (keys es) ≡ true
+    lower : (low : ℕ) (e : ℕ × V) (es : List (ℕ × V)) → nat_lt low e.0 ≡ true → list_all (nat_lt e.0) (keys es) ≡ true
         → lookup (nat_eq low) (e ∷ es) ≡ None
     lower low e es l all = lookup-low low (e ∷ es) (and_from _ _ l (further low e.0 es l all))
 

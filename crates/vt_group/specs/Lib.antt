@@ -1,4 +1,11 @@
+pub mod Families
 pub mod Grouping
+pub mod Handing
 pub mod Steps
 pub mod Together
+pub mod Indexed
+pub mod Leaving
 pub mod Laws
+pub mod Listing
+pub mod Receiving
+pub mod Sets

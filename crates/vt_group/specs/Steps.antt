@@ -38,8 +38,8 @@ handed lost heir master = if nat_eq master lost then heir else Some master
 abbrev pub handed_type : ℕ → Option ℕ → Type_of_mount ℕ → Option (Type_of_mount ℕ)
 handed_type lost heir (Shared group) = Some (Shared group)
 handed_type lost heir (Slave master) = option_map Slave (handed lost heir master)
-handed_type lost heir Private = None
-handed_type lost heir Unbindable = None
+handed_type lost heir Private = Some Private
+handed_type lost heir Unbindable = Some Unbindable
 
 abbrev pub handed_peer : ℕ → Option ℕ → ℕ × Type_of_mount ℕ → Option (ℕ × Type_of_mount ℕ)
 handed_peer lost heir peer = option_map (λ kind. (peer.0, kind)) (handed_type lost heir peer.1)

@@ -1,5 +1,5 @@
 //! Peer groups.
-ghost use Rattle.std.specs.Prelude.{◌≡◌, ◌∷◌, [], ⊤, ℕ, None, Some, false, true, if◌then◌else◌, length, nat_eq, map, IfOk, IfErr, IfSome, OnOk, OnErr, option_map};
+ghost use Rattle.std.specs.Prelude.{◌≡◌, ◌∷◌, ◌&&◌, filter_map, not, [], ⊤, ℕ, None, Some, false, true, if◌then◌else◌, length, nat_eq, map, IfOk, IfErr, IfSome, OnOk, OnErr, option_map};
 ghost use Rattle.vt_spec.specs.Errors.{denial};
 ghost use Rattle.vt_spec.specs.Lists.{chain, holds_of, is_among};
 ghost use Rattle.vt_spec.specs.Machine.Mounts.Propagation.{Private, Shared as SharedIn, Slave as SlaveOf};
@@ -13,9 +13,17 @@ ghost use Rattle.vt_group.specs.Grouping.{Follows, GroupsLive, Has, HasGroup, Ha
 ghost use Rattle.vt_spec.specs.Language.Calls.TypeWord.{ToPrivate, ToSlave, ToUnbindable};
 ghost use Rattle.vt_group.specs.Together.{GrowsTo, LeaveAlone, Retypes, Shares, TakesAway, all_added, is_ordered, new_group, pair_of};
 ghost use Rattle.vt_group.specs.Together.{shared_group, shared_type, typed, with_master_of, with_type_of};
+ghost use Rattle.vt_group.specs.Leaving.{is_member_of, lone_group, lost_group, master_after_end, type_after_end, type_once_ended, type_once_left, type_once_retyped, type_once_slave};
+ghost use Rattle.std.specs.BTreeMap.{IsOrdered, get};
+ghost use Rattle.std.specs.Ordering.{nat_cmp};
+ghost use Rattle.vt_spec.specs.Lists.{or_else};
+ghost use Rattle.vt_group.specs.Receiving.{receiving_peer, receiving_type};
+ghost use Rattle.vt_group.specs.Steps.{numbered_peer};
 ghost use Rattle.vt_group.specs.Steps.{ended, ended_if_lost, group_number, handed, handed_type, has_peers, retyped, type_or_private};
 
-use crate::propagation::{hand_over, is_in, own_group, replace_master, source};
+use crate::handing::{hand_groups, hand_mounts};
+use crate::index::Index;
+use crate::propagation::{is_in, own_group, source};
 use std::alloc::{AllocError, Global};
 use std::collections::BTreeMap;
 use std::marker::Model;
@@ -36,6 +44,7 @@ pub struct Groups {
     mounts: BTreeMap<u64, Propagation>,
     // By the counts of the groups.
     above: BTreeMap<u64, GroupId>,
+    index: Index,
 }
 
 impl Model for Groups {
@@ -46,6 +55,10 @@ impl Model for Groups {
     ghost Value = { Grouping };
 
     ghost view = { λ g. record { peers = map numbered_peer g.mounts.entries; masters = map numbered_master g.above.entries } };
+
+    ghost use Rattle.vt_group.specs.Indexed.{Lists};
+
+    ghost invariant = { λ g. Lists g.index g.mounts g.above };
 }
 
 impl Groups {
@@ -56,7 +69,15 @@ impl Groups {
         Groups {
             mounts: BTreeMap::new(alloc),
             above: BTreeMap::new(alloc),
+            index: Index::new(alloc),
         }
+    }
+
+    /// A theorem, which does nothing: each mount has one type.
+    pub fn are_ordered(&self)
+        ensures { is_ordered self.now ≡ true }
+    {
+        let _ = &self.mounts;
     }
 
     /// The propagation type of a mount that is in a group or a slave of one. Any other is private or unbindable.
@@ -73,6 +94,54 @@ impl Groups {
         self.above.get(&group.count).copied()
     }
 
+    /// The group that a mount is the only member of: it ends once the mount leaves it. It does not allocate.
+    pub fn ends_with(&self, mount: MountId) -> Option<GroupId>
+        ensures { option_map group_number result ≡ lone_group self.now (counted mount.count) }
+    {
+        self.are_ordered();
+        let group = own_group(self.propagation_of(mount)?)?;
+        for other in self.members(group) {
+            if self.is_other_member(*other, mount, group) {
+                return None;
+            }
+        }
+        Some(group)
+    }
+
+    // Whether a mount is a member of a group, and another one than this.
+    fn is_other_member(&self, other: MountId, mount: MountId, group: GroupId) -> bool
+        ensures { result ≡ (not (nat_eq (counted other.count) (counted mount.count))
+            && is_member_of (counted group.count) self.now (counted other.count)) }
+    {
+        other != mount && self.is_member(other, group)
+    }
+
+    // Mounts among which each member of a group is.
+    fn members(&self, group: GroupId) -> &[MountId]
+        ensures { (mount : ℕ) → is_member_of (counted group.count) self.now mount ≡ true
+            → is_among nat_eq mount (map (λ mount. counted mount.count) result.now) ≡ true }
+    {
+        self.index.members(group)
+    }
+
+    // Whether a mount is a member of a group.
+    fn is_member(&self, mount: MountId, group: GroupId) -> bool
+        ensures { result ≡ is_member_of (counted group.count) self.now (counted mount.count) }
+    {
+        match self.propagation_of(mount) {
+            Some(kind) => is_in(kind, group),
+            None => false,
+        }
+    }
+
+    /// Mounts among which each member and each slave of a group is; others may be among them too.
+    pub fn relatives(&self, group: GroupId) -> &[MountId]
+        ensures { (mount : ℕ) → source_of (propagation_in self.now mount) ≡ Some (counted group.count)
+            → is_among nat_eq mount (map (λ mount. counted mount.count) result.now) ≡ true }
+    {
+        self.index.relatives(group)
+    }
+
     /// The mounts that receive the events of a group, in order of attachment: its members and slaves, and those of
     /// every group below it.
     ///
@@ -83,15 +152,55 @@ impl Groups {
             ≡ numbers_of (receivers nat_eq world (counted group.count))) }
         ensures memory { IfErr result (λ deny. deny ≡ denial S5) }
     {
-        let mut receivers = Vec::new(alloc);
-        for (count, kind) in self.mounts.iter() {
-            if self.receives(*kind, group) {
-                let Ok(_) = receivers.push(MountId::new(*count)) else {
-                    return Err(Rule::S5.denial());
-                };
-            }
+        let Ok(receivers) = self.receiving(alloc, group) else {
+            return Err(Rule::S5.denial());
+        };
+        let mut ids = Vec::new(alloc);
+        for count in receivers.keys() {
+            let Ok(_) = ids.push(MountId::new(*count)) else {
+                return Err(Rule::S5.denial());
+            };
         }
-        Ok(receivers)
+        Ok(ids)
+    }
+
+    // The types of the mounts that receive the events of a group.
+    fn receiving(
+        &self,
+        alloc: Global,
+        group: GroupId,
+    ) -> Result<BTreeMap<u64, Propagation>, AllocError>
+        ensures { IfOk result (λ types. map numbered_peer types.entries
+            ≡ filter_map (receiving_peer self.now (counted group.count)) self.now.peers) }
+    {
+        let mut types = BTreeMap::new(alloc);
+        for mount in self.index.relatives(group) {
+            self.add_receiver(&mut types, *mount, group)?;
+        }
+        Ok(types)
+    }
+
+    // Adds the type of a mount, if it receives the events of a group.
+    fn add_receiver(
+        &self,
+        types: &mut BTreeMap<u64, Propagation>,
+        mount: MountId,
+        group: GroupId,
+    ) -> Result<(), AllocError>
+        ensures ordered { OnOk result (IsOrdered nat_cmp types.old → IsOrdered nat_cmp types.new) }
+        ensures each { OnOk result ((other : ℕ) → option_map propagation_of (get nat_cmp types.new other)
+            ≡ (if nat_eq other mount.count then or_else
+            (receiving_type self.now (counted group.count) (propagation_in self.now (counted other)))
+            (option_map propagation_of (get nat_cmp types.old other))
+            else option_map propagation_of (get nat_cmp types.old other))) }
+    {
+        let Some(kind) = self.propagation_of(mount) else {
+            return Ok(());
+        };
+        if self.receives(kind, group) {
+            types.insert(mount.count, kind)?;
+        }
+        Ok(())
     }
 
     // Whether a mount of this type receives the events of a group.
@@ -162,10 +271,13 @@ impl Groups {
     pub fn leave(&mut self, mount: MountId) -> bool
         ensures left { Follows self.old self.new (λ world. ⊤)
             (λ world. with_propagation world (counted mount.count) Private) }
+        ensures types { (other : ℕ) → propagation_in self.new other
+            ≡ type_once_left self.old (counted mount.count) other }
         ensures alone { result ≡ false → is_ordered self.old ≡ true
             → LeaveAlone self.old self.new (counted mount.count ∷ []) }
     {
         let old = self.mounts.remove(&mount.count);
+        self.index.leave(mount, old);
         self.end_if_lost(old)
     }
 
@@ -198,13 +310,17 @@ impl Groups {
         changed
     }
 
-    // A mount becomes a slave of the group that it is in. Tells whether it is in one.
-    fn make_slave_of_own(&mut self, mount: MountId) -> bool
+    /// A mount that is a member of a group becomes a slave of it. If it was the last member, the group ends. Tells
+    /// whether it was in one. It does not allocate.
+    pub fn make_slave_of_own(&mut self, mount: MountId) -> bool
         ensures member { (group : ℕ) → propagation_in self.old (counted mount.count) ≡ SharedIn group
             → self.new ≡ retyped (counted mount.count) (SlaveOf group) self.old }
         ensures other { group_of (propagation_in self.old (counted mount.count)) ≡ None → self.new ≡ self.old }
+        ensures types { (other : ℕ) → propagation_in self.new other
+            ≡ type_once_slave self.old (counted mount.count) other }
         ensures same { result ≡ false → self.new ≡ self.old }
     {
+        self.are_ordered();
         let Some(kind) = self.propagation_of(mount) else {
             return false;
         };
@@ -225,10 +341,14 @@ impl Groups {
         ensures memory { IfErr result (λ deny. deny ≡ denial S5) }
         ensures err { OnErr result (self.new ≡ self.old) }
     {
+        if self.index.join_all(new).is_err() || self.index.list_all(mounts).is_err() {
+            return Err(Rule::S5.denial());
+        }
         let Ok(grown) = self.with_all(mounts, new) else {
             return Err(Rule::S5.denial());
         };
-        *self = grown;
+        self.mounts = grown.mounts;
+        self.above = grown.above;
         Ok(())
     }
 
@@ -241,10 +361,14 @@ impl Groups {
         ensures memory { IfErr result (λ deny. deny ≡ denial S5) }
         ensures err { OnErr result (self.new ≡ self.old) }
     {
+        if self.index.share(named, &self.mounts).is_err() {
+            return Err(Rule::S5.denial());
+        }
         let Ok(grown) = self.with_shared(named) else {
             return Err(Rule::S5.denial());
         };
-        *self = grown;
+        self.mounts = grown.mounts;
+        self.above = grown.above;
         Ok(())
     }
 
@@ -308,8 +432,9 @@ impl Groups {
         ensures { IfOk result (λ copy. copy ≡ self.now) }
     {
         Ok(Groups {
-            mounts: self.mounts.clone()?,
-            above: self.above.clone()?,
+            mounts: types_copied(&self.mounts)?,
+            above: masters_copied(&self.above)?,
+            index: self.index.copied()?,
         })
     }
 
@@ -319,7 +444,9 @@ impl Groups {
             ≡ record self.old { peers = with_type_of self.old.peers (counted mount.count, propagation_of kind) }) }
     {
         if source(kind).is_some() {
-            self.mounts.insert(mount.count, kind)?;
+            self.index.list(mount, kind)?;
+            let old = self.mounts.insert(mount.count, kind)?;
+            self.index.change(mount, old, kind);
         }
         Ok(())
     }
@@ -331,6 +458,7 @@ impl Groups {
     {
         match new.master {
             Some(master) => {
+                self.index.join(new.group, master)?;
                 self.above.insert(new.group.count, master)?;
             }
             None => {
@@ -365,6 +493,11 @@ impl Groups {
         if self.master_of(group).is_some() {
             return self.set(mount, Propagation::Shared(group));
         }
+        if self.index.list(mount, Propagation::Shared(group)).is_err()
+            || self.index.join(group, master).is_err()
+        {
+            return Err(Rule::S5.denial());
+        }
         let Ok(_) = self.above.insert(group.count, master) else {
             return Err(Rule::S5.denial());
         };
@@ -372,6 +505,7 @@ impl Groups {
             self.above.remove(&group.count);
             return Err(Rule::S5.denial());
         };
+        self.index.change(mount, old, Propagation::Shared(group));
         self.end_if_lost(old);
         Ok(())
     }
@@ -379,13 +513,19 @@ impl Groups {
     // A mount gets a type.
     fn set(&mut self, mount: MountId, kind: Propagation) -> Result<(), Deny>
         ensures ok { OnOk result (self.new ≡ retyped (counted mount.count) (propagation_of kind) self.old) }
+        ensures types { OnOk result ((other : ℕ) → propagation_in self.new other
+            ≡ type_once_retyped self.old (counted mount.count) (propagation_of kind) other) }
         ensures memory { IfErr result (λ deny. deny ≡ denial S5) }
         ensures private { OnErr result (propagation_in self.old (counted mount.count) ≡ Private) }
         ensures err { OnErr result (self.new ≡ self.old) }
     {
+        if self.index.list(mount, kind).is_err() {
+            return Err(Rule::S5.denial());
+        }
         let Ok(old) = self.mounts.insert(mount.count, kind) else {
             return Err(Rule::S5.denial());
         };
+        self.index.change(mount, old, kind);
         self.end_if_lost(old);
         Ok(())
     }
@@ -393,6 +533,8 @@ impl Groups {
     // A mount had this type: its group ends if that was the last member. Tells whether it does.
     fn end_if_lost(&mut self, old: Option<Propagation>) -> bool
         ensures ended { self.new ≡ ended_if_lost (group_of (type_or_private old)) self.old }
+        ensures types { (mount : ℕ) → propagation_in self.new mount ≡ type_once_ended self.old
+            (lost_group self.old (group_of (type_or_private old))) (propagation_in self.old mount) }
         ensures kept { result ≡ false → self.new ≡ self.old }
     {
         let Some(kind) = old else {
@@ -404,15 +546,20 @@ impl Groups {
         if self.has_members(group) {
             return false;
         }
+        let heir = self.master_of(group);
         self.end(group);
+        if heir != Some(group) {
+            self.index.forget(group);
+        }
         true
     }
 
     fn has_members(&self, group: GroupId) -> bool
         ensures { result ≡ has_peers (counted group.count) self.now }
     {
-        for kind in self.mounts.values() {
-            if is_in(*kind, group) {
+        self.are_ordered();
+        for mount in self.members(group) {
+            if self.is_member(*mount, group) {
                 return true;
             }
         }
@@ -421,21 +568,31 @@ impl Groups {
 
     // A group has no members left: its slaves and lower groups get its master.
     fn end(&mut self, group: GroupId)
-        ensures { self.new ≡ ended (counted group.count) self.old }
+        ensures ended { self.new ≡ ended (counted group.count) self.old }
+        ensures types { (mount : ℕ) → propagation_in self.new mount
+            ≡ type_after_end (counted group.count) (master_in self.old (counted group.count))
+            (propagation_in self.old mount) }
+        ensures masters { (other : ℕ) → master_in self.new other
+            ≡ master_after_end (counted group.count) (master_in self.old (counted group.count)) self.old other }
     {
-        let heir = self.master_of(group);
-        self.mounts.retain(
-            |_, kind| -> bool
-                ensures { (if result then Some (propagation_of kind.new) else None)
-                    ≡ handed_type (counted group.count) (option_map group_number heir) (propagation_of kind.old) }
-            { hand_over(kind, group, heir) },
-        );
-        self.above.retain(
-            |count, master| -> bool
-                ensures { (if result then Some (group_number master.new) else None)
-                    ≡ (if nat_eq (counted count.now) (counted group.count) then None
-                    else handed (counted group.count) (option_map group_number heir) (group_number master.old)) }
-            { *count != group.count && replace_master(master, group, heir) },
-        );
+        let heir = self.above.get(&group.count).copied();
+        hand_mounts(&mut self.mounts, self.index.relatives(group), group, heir);
+        hand_groups(&mut self.above, self.index.kindred(group), group, heir);
+        self.above.remove(&group.count);
+        self.index.settle(group, &self.mounts, &self.above);
     }
+}
+
+fn types_copied(
+    types: &BTreeMap<u64, Propagation>,
+) -> Result<BTreeMap<u64, Propagation>, AllocError>
+    ensures { IfOk result (λ copy. copy.entries ≡ types.now.entries) }
+{
+    Ok(types.clone()?)
+}
+
+fn masters_copied(above: &BTreeMap<u64, GroupId>) -> Result<BTreeMap<u64, GroupId>, AllocError>
+    ensures { IfOk result (λ copy. copy.entries ≡ above.now.entries) }
+{
+    Ok(above.clone()?)
 }

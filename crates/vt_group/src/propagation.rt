@@ -1,10 +1,11 @@
 //! What the groups ask of the propagation types of mounts.
-ghost use Rattle.std.specs.Prelude.{◌≡◌, None, Some, nat_eq, option_map, if◌then◌else◌};
+ghost use Rattle.std.specs.Prelude.{◌≡◌, None, Some, nat_eq, option_map};
 ghost use Rattle.vt_spec.specs.Lists.{holds_of};
 ghost use Rattle.vt_spec.specs.Machine.Mounts.{group_of, source_of};
 ghost use Rattle.vt_location.specs.MountValue.{propagation_of};
 ghost use Rattle.vt_location.specs.Numbers.{counted};
-ghost use Rattle.vt_group.specs.Steps.{group_number, handed, handed_type};
+ghost use Rattle.vt_group.specs.Handing.{group_handed, kind_handed};
+ghost use Rattle.vt_group.specs.Steps.{group_number};
 
 use vt_location::{GroupId, Propagation};
 
@@ -39,29 +40,26 @@ pub(crate) fn source(kind: Propagation) -> Option<GroupId>
     }
 }
 
-// Gives a slave of a lost group the heir as its master. Without an heir it is to be private, and the answer is false.
-pub(crate) fn hand_over(kind: &mut Propagation, lost: GroupId, heir: Option<GroupId>) -> bool
-    ensures { (if result then Some (propagation_of kind.new) else None)
-        ≡ handed_type (counted lost.count) (option_map group_number heir) (propagation_of kind.old) }
+// The type of a mount after a group was lost, to which this one is the heir. A slave of the group is private if there is
+// no heir.
+pub(crate) fn handed(kind: Propagation, lost: GroupId, heir: Option<GroupId>) -> Option<Propagation>
+    ensures { result ≡ kind_handed lost heir kind }
 {
     match kind {
-        Propagation::Shared(_) => true,
-        Propagation::Slave(master) => replace_master(master, lost, heir),
-        Propagation::Private | Propagation::Unbindable => false,
+        Propagation::Slave(master) => {
+            handed_master(master, lost, heir).map(|master| Propagation::Slave(master))
+        }
+        Propagation::Shared(_) | Propagation::Private | Propagation::Unbindable => Some(kind),
     }
 }
 
-// Puts the heir of a lost group in its place, and tells whether there is a master then.
-pub(crate) fn replace_master(master: &mut GroupId, lost: GroupId, heir: Option<GroupId>) -> bool
-    ensures { (if result then Some (group_number master.new) else None)
-        ≡ handed (counted lost.count) (option_map group_number heir) (group_number master.old) }
+// The master of a group after another was lost, to which this one is the heir.
+pub(crate) fn handed_master(
+    master: GroupId,
+    lost: GroupId,
+    heir: Option<GroupId>,
+) -> Option<GroupId>
+    ensures { result ≡ group_handed lost heir master }
 {
-    if *master != lost {
-        return true;
-    }
-    let Some(heir) = heir else {
-        return false;
-    };
-    *master = heir;
-    true
+    if master == lost { heir } else { Some(master) }
 }

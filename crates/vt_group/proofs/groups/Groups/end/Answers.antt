@@ -1,23 +1,107 @@
-use Rattle.std.proofs.Common.{option_map, rules, None, nat_eq, ◌∙◌}
+use Rattle.std.proofs.Common.{◌≡◌, None, Option, Some, ap, is_some, nat_eq, option_map, sym, ⊎_elim, ◌∙◌, ℕ}
+use Rattle.std.proofs.lemmas.Bool.{and_parts}
+use Rattle.std.specs.BTreeMap.{get}
+use Rattle.std.specs.Ordering.{nat_cmp}
 use Rattle.std.specs.Prelude.{filter_map, if◌then◌else◌}
-use Rattle.vt_location.specs.Numbers.{counted}
+use Rattle.vt_location.specs.declared.numbers.GroupId.{GroupId}
 use Rattle.vt_location.specs.MountValue.{propagation_of}
+use Rattle.vt_location.specs.Numbers.{counted}
+use Rattle.vt_group.specs.Families.{has_source}
+use Rattle.vt_group.specs.Grouping.{are_rising, master_in, propagation_in}
+use Rattle.vt_group.specs.Handing.{group_handed, kind_handed}
+use Rattle.vt_group.specs.Indexed.{group_at, is_listed, is_lower, mount_at}
+use Rattle.vt_group.specs.Sets.{same_group}
 use Rattle.vt_group.specs.Steps.{group_number, handed, handed_entry, handed_peer, handed_type}
-use Rattle.vt_group.proofs.CountLemmas.{kept-numbered}
+use Rattle.vt_group.proofs.CountLemmas.{lookup-numbered}
+use Rattle.vt_group.proofs.Ending.{entries_ended, group_lower, held_not, kind_listed, none_or, not_removed, removed_at, was_found}
+use Rattle.vt_group.proofs.EndedTypes.{lookup-changed, rising_numbers, type-ended}
+use Rattle.vt_group.proofs.Handed.{group_seen, kind_seen, left_at, unhanded_group, unhanded_kind}
+use Rattle.vt_group.proofs.Regrouping.{keys}
+use Rattle.vt_group.proofs.Relatives.{relative_listed}
+use Rattle.vt_group.proofs.SetsLemmas.{same_id}
 use Rattle.vt_group.proofs.groups.Groups.end.Goals as goal
 
-pub returns : goal.returns
-returns c =
-    let lost = counted c.args.group.count in
-    let heir = option_map group_number c.master_of-heir.result in
+pub returns-clause-ended : goal.returns-clause-ended
+returns-clause-ended c =
+    let lost = c.args.group in
+    let number = counted c.args.group.count in
+    let left : Option ℕ = option_map group_number c.copied-heir.result in
+    let heir : Option GroupId = c.copied-heir.result in
+    let told = ap (option_map group_number) (c.copied-heir.ensures ∙ c.get.ensures.value)
+    ∙ sym (lookup-numbered group_number c.args.group.count c.self.inside.above.entries)
+    ∙ ap (λ groups. master_in groups (counted c.args.group.count)) c.self.view_is in
     (λ i. record {
-      peers = kept-numbered propagation_of _ (λ number kind. handed_type lost heir kind) _
-          (λ k v b w test t. search rules) _ _ c.retain.ensures.filtered i;
-      masters = kept-numbered group_number _
-          (λ group master. if nat_eq group lost then None else handed lost heir master) _
-          (λ k v b w test t. search rules) _ _ c.retain-2.ensures.filtered i;
+      peers = entries_ended propagation_of (λ mount. handed_type number left)
+          c.self.inside.mounts c.hand_mounts.new.types c.self.invariant.ordered
+          (c.hand_mounts.ensures.ordered c.self.invariant.ordered)
+          (λ count. left_at propagation_of (kind_handed lost heir) (handed_type number left) (kind_seen lost heir)
+          (get nat_cmp c.self.inside.mounts count) (get nat_cmp c.hand_mounts.new.types count) _
+          (c.hand_mounts.ensures.each count)
+          (λ kind at apart. unhanded_kind lost heir kind (held_not (has_source lost kind) _
+          (λ source. c.relatives.ensures (mount_at count)
+          (relative_listed c.self.inside.index (mount_at count) kind lost source (c.self.invariant.listed count kind at)))
+          apart))) i;
+      masters = entries_ended group_number
+          (λ group master. if nat_eq group number then None else handed number left master)
+          c.self.inside.above c.remove.new.self c.self.invariant.ordered_above c.remove.ensures.ordered
+          (λ count. removed_at group_number (handed number left) c.args.group.count count
+          (get nat_cmp c.self.inside.above count) (get nat_cmp c.hand_groups.new.above count)
+          (get nat_cmp c.remove.new.self count) (c.remove.ensures.updates.0 count)
+          (left_at group_number (group_handed lost heir) (handed number left) (group_seen lost heir)
+          (get nat_cmp c.self.inside.above count) (get nat_cmp c.hand_groups.new.above count) _
+          (c.hand_groups.ensures.each count)
+          (λ master at apart. unhanded_group lost heir master (held_not (same_group master lost) _
+          (λ same. c.kindred.ensures (group_at count)
+          (ap (is_lower c.self.inside.index (group_at count)) (same_id master lost same)
+          ∙ c.self.invariant.lower count master at)) apart)))) i;
     })
     ∙ (λ i. record {
-      peers = filter_map (handed_peer lost (c.master_of-heir.ensures i)) (c.self.view_is i).peers;
-      masters = filter_map (handed_entry lost (c.master_of-heir.ensures i)) (c.self.view_is i).masters;
+      peers = filter_map (handed_peer number (told i)) (c.self.view_is i).peers;
+      masters = filter_map (handed_entry number (told i)) (c.self.view_is i).masters;
     })
+
+pub returns-clause-types : goal.returns-clause-types
+returns-clause-types c mount =
+    let groups = c.args.self.now in
+    ap (λ now. propagation_in now mount) (returns-clause-ended c)
+    ∙ type-ended (counted c.args.group.count) (master_in groups (counted c.args.group.count)) groups.peers
+    (ap (λ old. are_rising (keys old.peers)) (sym c.self.view_is)
+    ∙ rising_numbers propagation_of c.self.inside.mounts c.self.invariant.ordered) mount
+
+pub returns-clause-masters : goal.returns-clause-masters
+returns-clause-masters c other =
+    let groups = c.args.self.now in
+    let number = counted c.args.group.count in
+    ap (λ now. master_in now other) (returns-clause-ended c)
+    ∙ lookup-changed
+    (λ group master. if nat_eq group number then None else handed number (master_in groups number) master) groups.masters
+    (ap (λ old. are_rising (keys old.masters)) (sym c.self.view_is)
+    ∙ rising_numbers group_number c.self.inside.above c.self.invariant.ordered_above) other
+    ∙ none_or (nat_eq other number) (master_in groups other) (handed number (master_in groups number))
+
+pub invariant_of-self : goal.invariant_of-self
+invariant_of-self c =
+    let lost = c.args.group in
+    let heir : Option GroupId = c.copied-heir.result in
+    let index = c.self.inside.index in
+    let above = λ (master : GroupId) (is : heir ≡ Some master). (and_parts _ _ (c.self.invariant.lower c.args.group.count master
+    (sym c.get.ensures.value ∙ sym c.copied-heir.ensures ∙ is))).1 in
+    record {
+      listed = λ mount kind at.
+          let was = was_found (kind_handed lost heir) (get nat_cmp c.self.inside.mounts mount)
+          (get nat_cmp c.hand_mounts.new.types mount) _ kind (c.hand_mounts.ensures.each mount) at in
+          let listed = c.self.invariant.listed mount was.0 was.1 in
+          c.settle.ensures.kept (mount_at mount) kind (ap is_some at)
+          (⊎_elim (λ same. ap (is_listed index (mount_at mount)) (sym same) ∙ listed)
+          (λ hands. kind_listed index lost heir above (mount_at mount) was.0 kind listed hands) was.2);
+      lower = λ lower upper at.
+          let mid = not_removed _ _ _ upper (c.remove.ensures.updates.0 lower) at in
+          let was = was_found (group_handed lost heir) (get nat_cmp c.self.inside.above lower)
+          (get nat_cmp c.hand_groups.new.above lower) _ upper (c.hand_groups.ensures.each lower) mid in
+          let listed = c.self.invariant.lower lower was.0 was.1 in
+          c.settle.ensures.lower (group_at lower) upper (ap is_some at)
+          (⊎_elim (λ same. ap (is_lower index (group_at lower)) (sym same) ∙ listed)
+          (λ hands. group_lower index lost heir above (group_at lower) was.0 upper listed hands) was.2);
+      ordered = c.hand_mounts.ensures.ordered c.self.invariant.ordered;
+      ordered_above = c.remove.ensures.ordered;
+    }

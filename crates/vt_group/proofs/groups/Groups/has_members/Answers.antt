@@ -1,24 +1,31 @@
-use Rattle.std.proofs.Common.{◌||◌, ap, sym, ◌∙◌}
+use Rattle.std.proofs.Common.{◌≡◌, ◌||◌, ap, false, sym, ◌∙◌, take, true}
+use Rattle.std.proofs.lemmas.List.{take_all}
+use Rattle.std.proofs.lemmas.List.Folds.{list_any_at, list_any_more}
+use Rattle.std.specs.List.{list_any}
+use Rattle.vt_location.specs.declared.numbers.MountId.{MountId}
 use Rattle.vt_location.specs.Numbers.{counted}
-use Rattle.vt_group.specs.Steps.{has_peers}
-use Rattle.vt_group.proofs.Answering.{any_in, members-valued}
+use Rattle.vt_group.specs.Leaving.{is_member_of}
+use Rattle.vt_group.proofs.Members.{peers-told}
 use Rattle.vt_group.proofs.groups.Groups.has_members.Goals as goal
 
-pub returns-then-is_in : goal.returns-then-is_in
-returns-then-is_in c =
-    sym (ap (has_peers (counted c.args.group.count)) (sym c.self.view_is)
-    ∙ sym (members-valued (counted c.args.group.count) c.self.inside.mounts.entries)
-    ∙ ap (any_in (counted c.args.group.count))
-    (sym (c.into_iter-kind-iterator.ensures.into_iter_gives ∙ c.values-kind-items.ensures.rest))
-    ∙ sym c.loop-kind.invariant
-    ∙ ap (any_in (counted c.args.group.count)) c.in-Some.ensures.steps
-    ∙ ap (λ b. b || any_in (counted c.args.group.count) c.next.new.self) (sym c.is_in.ensures ∙ c.if-is_in.true))
+pub loop-mount-preserved : goal.loop-mount-preserved
+loop-mount-preserved c =
+    let test : MountId → Rattle.std.proofs.Common.Bool = λ id. is_member_of (counted c.args.group.count) c.args.self.now (counted id.count) in
+    list_any_more test c.members-mount-items.result.now c.loop-mount.mount-index _ c.loop-mount-test.true
+    ∙ (λ i. c.loop-mount.invariant i || (sym c.is_member.ensures ∙ c.if-is_member.false) i)
+
+pub returns-then-is_member : goal.returns-then-is_member
+returns-then-is_member c =
+    let test : MountId → Rattle.std.proofs.Common.Bool = λ id. is_member_of (counted c.args.group.count) c.args.self.now (counted id.count) in
+    sym (list_any_at test c.members-mount-items.result.now c.loop-mount.mount-index _ c.loop-mount-test.true
+    (sym c.is_member.ensures ∙ c.if-is_member.true))
+    ∙ peers-told c.args.self.now c.are_ordered.ensures (counted c.args.group.count) c.members-mount-items.result.now
+    c.members-mount-items.ensures
 
 pub returns : goal.returns
 returns c =
-    sym (ap (has_peers (counted c.args.group.count)) (sym c.self.view_is)
-    ∙ sym (members-valued (counted c.args.group.count) c.self.inside.mounts.entries)
-    ∙ ap (any_in (counted c.args.group.count))
-    (sym (c.into_iter-kind-iterator.ensures.into_iter_gives ∙ c.values-kind-items.ensures.rest))
-    ∙ sym c.loop-kind.invariant
-    ∙ ap (any_in (counted c.args.group.count)) c.in-None.ensures.steps.0)
+    let test : MountId → Rattle.std.proofs.Common.Bool = λ id. is_member_of (counted c.args.group.count) c.args.self.now (counted id.count) in
+    sym c.loop-mount.invariant
+    ∙ ap (list_any test) (take_all c.loop-mount.mount-index c.members-mount-items.result.now c.loop-mount-test.false)
+    ∙ peers-told c.args.self.now c.are_ordered.ensures (counted c.args.group.count) c.members-mount-items.result.now
+    c.members-mount-items.ensures

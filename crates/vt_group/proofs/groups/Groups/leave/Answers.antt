@@ -1,9 +1,18 @@
+use Rattle.std.proofs.Common.{◌≡◌, true}
+use Rattle.std.specs.Ordering.{nat_cmp}
+use Rattle.std.specs.BTreeMap.{get}
+use Rattle.vt_group.specs.Indexed.{group_at, is_listed, mount_at}
+use Rattle.vt_group.proofs.Invariant.{left_each}
 use Rattle.std.proofs.Common.{[], ap, sym, subst, ◌∙◌, ◌∷◌, map, nat_eq}
 use Rattle.std.specs.Map.{remove_entry}
 use Rattle.vt_spec.specs.Machine.Mounts.{group_of}
 use Rattle.vt_spec.specs.Machine.Mounts.Propagation.{Private}
 use Rattle.vt_spec.specs.Machine.Receives.{regrouped}
-use Rattle.vt_group.specs.Grouping.{Has, with_propagation}
+use Rattle.vt_group.specs.Grouping.{Grouping, Has, are_rising, propagation_in, with_propagation}
+use Rattle.vt_group.specs.Leaving.{lost_group, type_once_ended}
+use Rattle.vt_group.proofs.EndedTypes.{rising_numbers}
+use Rattle.vt_group.proofs.LeavingTypes.{types-left}
+use Rattle.vt_group.proofs.Regrouping.{keys}
 use Rattle.vt_location.specs.Numbers.{counted}
 use Rattle.vt_location.specs.MountValue.{propagation_of}
 use Rattle.vt_group.specs.Steps.{ended_if_lost, numbered_peer}
@@ -36,3 +45,29 @@ returns-clause-alone c kept ordered =
     ∙ (λ i. record { peers = removed i; masters = (c.self.view_is i).masters }) in
     subst (λ groups. LeaveAlone c.args.self.now groups (counted count ∷ [])) (sym new)
     (left_alone c.args.self.now (counted count) ordered)
+
+pub returns-clause-types : goal.returns-clause-types
+returns-clause-types c other =
+    let es = c.self.inside.mounts.entries in
+    let count = c.args.mount.count in
+    let old = shown-type count es _ c.args.self.now c.self.view_is c.remove-old.result c.remove-old.ensures.value in
+    let removed = ap (map numbered_peer) c.remove-old.ensures.entries ∙ removed-numbered propagation_of count es
+    ∙ (λ i. remove_entry (nat_eq (counted count)) (c.self.view_is i).peers) in
+    c.end_if_lost.ensures.types other
+    ∙ (λ i. let now : Grouping = record { peers = removed i; masters = (c.self.view_is i).masters } in
+    type_once_ended now (lost_group now (group_of (old i))) (propagation_in now other))
+    ∙ types-left c.args.self.now (counted count)
+    (ap (λ groups. are_rising (keys groups.peers)) (sym c.self.view_is)
+    ∙ rising_numbers propagation_of c.self.inside.mounts c.self.invariant.ordered) other
+
+pub invariant_of-self : goal.invariant_of-self
+invariant_of-self c = record {
+  listed = left_each (λ mount kind. is_listed c.leave.new.self (mount_at mount) kind ≡ true)
+      (get nat_cmp c.self.inside.mounts) (get nat_cmp c.remove-old.new.self) c.args.mount.count
+      c.remove-old.ensures.updates.0
+      (λ mount kind apart at. c.leave.ensures.others (mount_at mount) kind apart
+      (c.self.invariant.listed mount kind at));
+  lower = λ lower upper at. c.leave.ensures.lower (group_at lower) upper (c.self.invariant.lower lower upper at);
+  ordered = c.remove-old.ensures.ordered;
+  ordered_above = c.self.invariant.ordered_above;
+}

@@ -1,3 +1,7 @@
+use Rattle.std.specs.BTreeMap.{get}
+use Rattle.vt_location.specs.declared.mounts.Propagation.TheVariants.{Shared as SharedIn}
+use Rattle.vt_group.specs.Indexed.{group_at, is_listed, is_lower, mount_at}
+use Rattle.vt_group.proofs.Invariant.{put_each}
 use Rattle.std.proofs.Common.{◌≡◌, None, Option, Some, ap, cond, false, is_some, map, nat_eq, option_map, subst, sym, true, true≢false, ℕ, ◌∙◌}
 use Rattle.std.specs.Prelude.{IfSome}
 use Rattle.std.specs.BTreeMap.{insert_entry}
@@ -12,7 +16,7 @@ use Rattle.vt_group.specs.Grouping.{Grouping, Has, HasGroup, below, master_in, w
 use Rattle.vt_location.specs.Numbers.{counted}
 use Rattle.vt_location.specs.MountValue.{propagation_of}
 use Rattle.vt_group.specs.Steps.{ended_if_lost, group_number, numbered_master, numbered_peer}
-use Rattle.vt_group.proofs.Answering.{on-ok, shown-type, undone}
+use Rattle.vt_group.proofs.Answering.{listed_ok, on-ok, shown-type, undone}
 use Rattle.vt_group.proofs.Changes.{start_alone, start_below}
 use Rattle.vt_group.proofs.CountLemmas.{inserted-numbered, removed-numbered}
 use Rattle.vt_group.proofs.groups.Groups.start_group.Goals as goal
@@ -93,3 +97,27 @@ returns-clause-ok c world has live is =
     (subst (Has (regrouped nat_eq (below (with_propagation world (counted count) (Shared group)) group
     (Some (group_number c.in-Some.master))))) (sym new)
     (start_below world c.args.self.now has live (counted count) group (group_number c.in-Some.master) is.0 is.1 lives))
+
+pub invariant_of-self-2 : goal.invariant_of-self-2
+invariant_of-self-2 c =
+    let listed = listed_ok c.list.result c.list.ensures.ok (sym c.is_err.ensures.value ∙ c.if-is_err.false) in
+    let joined = listed_ok c.join.result c.join.ensures.ok
+    (sym c.is_err-else-is_err.ensures.value ∙ c.if-is_err-2.false) in
+    record {
+      listed = put_each (λ mount kind. is_listed c.change.new.self (mount_at mount) kind ≡ true)
+          (get nat_cmp c.self.inside.mounts) (get nat_cmp c.insert-2.new.self) c.args.mount.count (SharedIn c.args.group)
+          c.in-Ok-insert.ensures.updates.0
+          (c.change.ensures.own (c.join.ensures.kept c.args.mount (SharedIn c.args.group) listed))
+          (λ mount kind apart at. c.change.ensures.others (mount_at mount) kind apart
+          (c.join.ensures.kept (mount_at mount) kind
+          (c.list.ensures.kept (mount_at mount) kind (c.self.invariant.listed mount kind at))));
+      lower = put_each (λ lower upper. is_lower c.change.new.self (group_at lower) upper ≡ true)
+          (get nat_cmp c.self.inside.above) (get nat_cmp c.insert.new.self) c.args.group.count c.in-Some.master
+          c.in-Ok.ensures.updates.0
+          (c.change.ensures.lower c.args.group c.in-Some.master joined)
+          (λ lower upper apart at. c.change.ensures.lower (group_at lower) upper
+          (c.join.ensures.lower (group_at lower) upper
+          (c.list.ensures.lower (group_at lower) upper (c.self.invariant.lower lower upper at))));
+      ordered = c.in-Ok-insert.ensures.ordered;
+      ordered_above = c.in-Ok.ensures.ordered;
+    }

@@ -1,0 +1,133 @@
+-- Entries in order that a group's end changes or drops, found by their keys.
+use Rattle.std.proofs.Common.{◌≡◌, ℕ, Bool, true, false, cond, List, [], ◌∷◌, map, nat_eq, nat_lt, Option, None, Some, option_map, refl, sym, ap, ◌∙◌}
+use Rattle.std.proofs.lemmas.Bool.{and_from, and_parts, eqb-true}
+use Rattle.std.proofs.lemmas.Map.Keys.{sorted_head, sorted_tail}
+use Rattle.std.specs.BTreeMap.{BTreeMap, IsOrdered}
+use Rattle.std.specs.Prelude.{filter_map, if◌then◌else◌, unwrap_or}
+use Rattle.std.specs.List.{AllByRecursion, cons_option, list_all}
+use Rattle.std.specs.List.Sorted.{IsStrictlySortedBy}
+use Rattle.std.specs.Map.{keys_of, lookup}
+use Rattle.std.specs.Ordering.{nat_cmp}
+use Rattle.std.specs.declared.cmp.Ordering.TheVariants.{Less, Equal, Greater}
+use Rattle.vt_spec.specs.Lists.{then_some}
+use Rattle.vt_spec.specs.Machine.Mounts.{Propagation}
+use Rattle.vt_spec.specs.Machine.Mounts.Propagation.{Private, Shared, Slave, Unbindable}
+use Rattle.vt_location.specs.Numbers.{counted}
+use Rattle.vt_group.specs.Grouping.{are_rising}
+use Rattle.vt_group.specs.Leaving.{slave_or_private, type_after_end}
+use Rattle.vt_group.specs.Steps.{handed_peer, handed_type}
+use Rattle.vt_group.proofs.CountLemmas.{less_count}
+use Rattle.vt_group.proofs.Regrouping.{keys, lookup-low}
+
+-- the keys of a map rise
+
+less_nat : (a b : ℕ) → nat_cmp a b ≡ Less → nat_lt a b ≡ true
+less_nat a b e = by (nat_lt a b) (nat_eq a b) e
+  where
+    by : (less same : Bool) → cond less Less (cond same Equal Greater) ≡ Less → less ≡ true
+    by true same e = refl
+    by false true e = cc
+    by false false e = cc
+
+low_counted : {V W : Type 0} (f : V → W) (low : ℕ) (es : List (ℕ × V))
+    → AllByRecursion (λ key. nat_cmp low key ≡ Less) (keys_of es)
+    → list_all (nat_lt (counted low)) (keys (map (λ (e : ℕ × V). (counted e.0, f e.1)) es)) ≡ true
+low_counted f low [] all = refl
+low_counted f low (e ∷ es) all =
+    and_from _ _ (less_count low e.0 ∙ less_nat low e.0 all.0) (low_counted f low es all.1)
+
+rising_sorted : {V W : Type 0} (f : V → W) (es : List (ℕ × V)) → IsStrictlySortedBy nat_cmp (keys_of es)
+    → are_rising (keys (map (λ (e : ℕ × V). (counted e.0, f e.1)) es)) ≡ true
+rising_sorted f [] sorted = refl
+rising_sorted f (e ∷ es) sorted =
+    and_from _ _ (low_counted f e.0 es (sorted_head nat_cmp e.0 (keys_of es) sorted))
+    (rising_sorted f es (sorted_tail nat_cmp e.0 (keys_of es) sorted))
+
+pub rising_numbers : {V W : Type 0} (f : V → W) (entries : BTreeMap ℕ V) → IsOrdered nat_cmp entries
+    → are_rising (keys (map (λ (e : ℕ × V). (counted e.0, f e.1)) entries.entries)) ≡ true
+rising_numbers f entries ordered = rising_sorted f entries.entries ordered
+
+-- entries that a function changes or drops
+
+module _ {V : Type 0} (change : ℕ → V → Option V) where
+  abbrev pub changed_entry : ℕ × V → Option (ℕ × V)
+  changed_entry entry = option_map (λ value. (entry.0, value)) (change entry.0 entry.1)
+
+  low-changed : (low : ℕ) (es : List (ℕ × V)) → list_all (nat_lt low) (keys es) ≡ true
+      → list_all (nat_lt low) (keys (filter_map changed_entry es)) ≡ true
+  low-changed low [] all = refl
+  low-changed low (e ∷ es) all = by (change e.0 e.1) (low-changed low es (and_parts _ _ all).1)
+    where
+      by : (o : Option V) → list_all (nat_lt low) (keys (filter_map changed_entry es)) ≡ true
+          → list_all (nat_lt low) (keys (cons_option (option_map (λ value. (e.0, value)) o) (filter_map changed_entry es)))
+          ≡ true
+      by None later = later
+      by (Some v) later = and_from _ _ (and_parts _ _ all).0 later
+
+  pub rising-changed : (es : List (ℕ × V)) → are_rising (keys es) ≡ true
+      → are_rising (keys (filter_map changed_entry es)) ≡ true
+  rising-changed [] rising = refl
+  rising-changed (e ∷ es) rising =
+      by (change e.0 e.1) (low-changed e.0 es (and_parts _ _ rising).0) (rising-changed es (and_parts _ _ rising).1)
+    where
+      by : (o : Option V) → list_all (nat_lt e.0) (keys (filter_map changed_entry es)) ≡ true
+          → are_rising (keys (filter_map changed_entry es)) ≡ true
+          → are_rising (keys (cons_option (option_map (λ value. (e.0, value)) o) (filter_map changed_entry es))) ≡ true
+      by None low later = later
+      by (Some v) low later = and_from _ _ low later
+
+  pub lookup-changed : (es : List (ℕ × V)) → are_rising (keys es) ≡ true → (key : ℕ)
+      → lookup (nat_eq key) (filter_map changed_entry es) ≡ then_some (lookup (nat_eq key) es) (change key)
+  lookup-changed [] rising key = refl
+  lookup-changed (e ∷ es) rising key = by (nat_eq key e.0) refl (lookup-changed es (and_parts _ _ rising).1 key)
+    where
+      here : (o : Option V) → change e.0 e.1 ≡ o → lookup (nat_eq key) (filter_map changed_entry es) ≡ None
+          → nat_eq key e.0 ≡ true
+          → lookup (nat_eq key) (cons_option (option_map (λ value. (e.0, value)) o) (filter_map changed_entry es)) ≡ o
+      here None f absent same = absent
+      here (Some v) f absent same =
+          ap (λ b. cond b (Some v) (lookup (nat_eq key) (filter_map changed_entry es))) same
+
+      there : (o : Option V) → nat_eq key e.0 ≡ false
+          → lookup (nat_eq key) (cons_option (option_map (λ value. (e.0, value)) o) (filter_map changed_entry es))
+          ≡ lookup (nat_eq key) (filter_map changed_entry es)
+      there None apart = refl
+      there (Some v) apart =
+          ap (λ b. cond b (Some v) (lookup (nat_eq key) (filter_map changed_entry es))) apart
+
+      by : (b : Bool) → nat_eq key e.0 ≡ b
+          → lookup (nat_eq key) (filter_map changed_entry es) ≡ then_some (lookup (nat_eq key) es) (change key)
+          → lookup (nat_eq key) (cons_option (option_map (λ value. (e.0, value)) (change e.0 e.1))
+          (filter_map changed_entry es))
+          ≡ then_some (cond b (Some e.1) (lookup (nat_eq key) es)) (change key)
+      by true is later =
+          here (change e.0 e.1) refl
+          (lookup-low key (filter_map changed_entry es)
+          (ap (λ k. list_all (nat_lt k) (keys (filter_map changed_entry es))) (eqb-true key e.0 is)
+          ∙ low-changed e.0 es (and_parts _ _ rising).0)) is
+          ∙ ap (λ k. change k e.1) (sym (eqb-true key e.0 is))
+      by false is later = there (change e.0 e.1) is ∙ later
+
+-- what a mount's type is after a group ended
+once_ended : (lost : ℕ) (heir : Option ℕ) (found : Option (Propagation ℕ))
+    → unwrap_or (then_some found (handed_type lost heir)) Private ≡ type_after_end lost heir (unwrap_or found Private)
+once_ended lost heir None = refl
+once_ended lost heir (Some (Shared group)) = refl
+once_ended lost heir (Some (Slave master)) = by (nat_eq master lost) heir
+  where
+    by : (b : Bool) (o : Option ℕ)
+        → unwrap_or (option_map Slave (if b then o else Some master)) Private
+        ≡ (if b then slave_or_private o else Slave master)
+    by true None = refl
+    by true (Some above) = refl
+    by false o = refl
+once_ended lost heir (Some Private) = refl
+once_ended lost heir (Some Unbindable) = refl
+
+pub type-ended : (lost : ℕ) (heir : Option ℕ) (peers : List (ℕ × Propagation ℕ)) → are_rising (keys peers) ≡ true
+    → (mount : ℕ)
+    → unwrap_or (lookup (nat_eq mount) (filter_map (handed_peer lost heir) peers)) Private
+    ≡ type_after_end lost heir (unwrap_or (lookup (nat_eq mount) peers) Private)
+type-ended lost heir peers rising mount =
+    ap (λ o. unwrap_or o Private) (lookup-changed (λ number. handed_type lost heir) peers rising mount)
+    ∙ once_ended lost heir (lookup (nat_eq mount) peers)

@@ -1,0 +1,157 @@
+-- What a group that ends leaves, one by one.
+use Rattle.std.proofs.Common.{◌≡◌, ℕ, Bool, true, false, ◌||◌, ◌+◌, ◌<◌, List, nat_eq, Option, None, Some, get_or, length, refl, sym, ap, ◌∙◌, take, option_map}
+use Rattle.std.proofs.lemmas.Bool.{eqb-true}
+use Rattle.std.proofs.lemmas.List.Folds.{list_any_more}
+use Rattle.std.specs.List.{list_any}
+use Rattle.std.specs.Prelude.{if◌then◌else◌}
+use Rattle.vt_spec.specs.Lists.{then_some}
+use Rattle.vt_location.specs.declared.mounts.Propagation.{Propagation}
+use Rattle.vt_location.specs.declared.mounts.Propagation.TheVariants.{Private, Shared, Slave, Unbindable}
+use Rattle.vt_location.specs.declared.numbers.GroupId.{GroupId}
+use Rattle.vt_group.specs.Handing.{group_handed, kind_handed}
+use Rattle.vt_spec.specs.Machine.Mounts.Propagation.{Slave as SlaveOf}
+use Rattle.vt_location.specs.MountValue.{propagation_of}
+use Rattle.vt_location.specs.Numbers.{counted}
+use Rattle.vt_group.specs.Families.{has_source}
+use Rattle.vt_group.specs.Sets.{same_group}
+use Rattle.vt_group.specs.Steps.{group_number, handed, handed_type}
+use Rattle.vt_group.proofs.CountLemmas.{same_count}
+use Rattle.vt_group.proofs.Together.{eqb-swapped}
+
+-- what was handed is not handed again
+
+pub group_handed-twice : (lost : GroupId) (heir : Option GroupId) (master : GroupId)
+    → then_some (group_handed lost heir master) (group_handed lost heir) ≡ group_handed lost heir master
+group_handed-twice lost heir master = by (same_group master lost) refl heir refl
+  where
+    kept : (above : GroupId) → heir ≡ Some above → (b : Bool) → group_handed lost (Some above) above ≡ Some above
+    kept above is true = self (same_group above lost)
+      where
+        self : (b : Bool) → (if b then Some above else Some above) ≡ Some above
+        self true = refl
+        self false = refl
+    kept above is false = self (same_group above lost)
+      where
+        self : (b : Bool) → (if b then Some above else Some above) ≡ Some above
+        self true = refl
+        self false = refl
+
+    by : (b : Bool) → same_group master lost ≡ b → (o : Option GroupId) → heir ≡ o
+        → then_some (if b then heir else Some master) (group_handed lost heir) ≡ (if b then heir else Some master)
+    by true at None is = ap (λ found. then_some found (group_handed lost heir)) is ∙ sym is
+    by true at (Some above) is =
+        ap (λ found. then_some found (group_handed lost found)) is
+        ∙ kept above is true ∙ sym is
+    by false at o is = ap (λ b. if b then heir else Some master) at
+
+pub kind_handed-twice : (lost : GroupId) (heir : Option GroupId) (kind : Propagation)
+    → then_some (kind_handed lost heir kind) (kind_handed lost heir) ≡ kind_handed lost heir kind
+kind_handed-twice lost heir (Shared group) = refl
+kind_handed-twice lost heir (Slave master) =
+    slave (group_handed lost heir master) ∙ ap (option_map Slave) (group_handed-twice lost heir master)
+  where
+    slave : (found : Option GroupId)
+        → then_some (option_map Slave found) (kind_handed lost heir)
+        ≡ option_map Slave (then_some found (group_handed lost heir))
+    slave None = refl
+    slave (Some above) = refl
+kind_handed-twice lost heir Private = refl
+kind_handed-twice lost heir Unbindable = refl
+
+module _ {A K : Type 0} (hand : A → Option A) (twice : (value : A) → then_some (hand value) hand ≡ hand value)
+    (ids : List K) (i : ℕ) (default : K) (less : i < length ids) (count : K → ℕ) (number : ℕ)
+    (old now new : ℕ → Option A) where
+  pub handed_more : new number
+      ≡ (if nat_eq number (count (get_or ids i default)) then then_some (now (count (get_or ids i default))) hand
+      else now number)
+      → now number ≡ (if list_any (λ id. nat_eq number (count id)) (take i ids) then then_some (old number) hand
+      else old number)
+      → new number
+      ≡ (if list_any (λ id. nat_eq number (count id)) (take (i + 1) ids) then then_some (old number) hand
+      else old number)
+  handed_more step sofar =
+      step
+      ∙ by (nat_eq number (count (get_or ids i default))) refl (list_any (λ id. nat_eq number (count id)) (take i ids)) sofar
+      ∙ ap (λ b. if b then then_some (old number) hand else old number)
+      (sym (list_any_more (λ id. nat_eq number (count id)) ids i default less))
+    where
+      again : (found : Option A) → then_some (then_some found hand) hand ≡ then_some found hand
+      again None = refl
+      again (Some value) = twice value
+
+      by : (b : Bool) → nat_eq number (count (get_or ids i default)) ≡ b → (a : Bool)
+          → now number ≡ (if a then then_some (old number) hand else old number)
+          → (if b then then_some (now (count (get_or ids i default))) hand else now number)
+          ≡ (if a || b then then_some (old number) hand else old number)
+      by true same true was =
+          ap (λ n. then_some (now n) hand) (sym (eqb-true number (count (get_or ids i default)) same))
+          ∙ ap (λ found. then_some found hand) was ∙ again (old number)
+      by true same false was =
+          ap (λ n. then_some (now n) hand) (sym (eqb-true number (count (get_or ids i default)) same))
+          ∙ ap (λ found. then_some found hand) was
+      by false apart true was = was
+      by false apart false was = was
+
+pub unhanded_kind : (lost : GroupId) (heir : Option GroupId) (kind : Propagation) → has_source lost kind ≡ false
+    → kind_handed lost heir kind ≡ Some kind
+unhanded_kind lost heir (Shared group) apart = refl
+unhanded_kind lost heir (Slave master) apart =
+    ap (λ b. option_map Slave (if b then heir else Some master)) (eqb-swapped lost.count master.count false apart)
+unhanded_kind lost heir Private apart = refl
+unhanded_kind lost heir Unbindable apart = refl
+
+pub unhanded_group : (lost : GroupId) (heir : Option GroupId) (master : GroupId) → same_group master lost ≡ false
+    → group_handed lost heir master ≡ Some master
+unhanded_group lost heir master apart = ap (λ b. if b then heir else Some master) apart
+
+-- as contracts see it
+
+pub group_seen : (lost : GroupId) (heir : Option GroupId) (master : GroupId)
+    → option_map group_number (group_handed lost heir master)
+    ≡ handed (counted lost.count) (option_map group_number heir) (group_number master)
+group_seen lost heir master =
+    by (same_group master lost)
+    ∙ ap (λ b. if b then option_map group_number heir else Some (group_number master))
+    (sym (same_count master.count lost.count))
+  where
+    by : (b : Bool) → option_map group_number (if b then heir else Some master)
+        ≡ (if b then option_map group_number heir else Some (group_number master))
+    by true = refl
+    by false = refl
+
+pub kind_seen : (lost : GroupId) (heir : Option GroupId) (kind : Propagation)
+    → option_map propagation_of (kind_handed lost heir kind)
+    ≡ handed_type (counted lost.count) (option_map group_number heir) (propagation_of kind)
+kind_seen lost heir (Shared group) = refl
+kind_seen lost heir (Slave master) =
+    slave (group_handed lost heir master) ∙ ap (option_map SlaveOf) (group_seen lost heir master)
+  where
+    slave : (found : Option GroupId) → option_map propagation_of (option_map Slave found)
+        ≡ option_map SlaveOf (option_map group_number found)
+    slave None = refl
+    slave (Some above) = refl
+kind_seen lost heir Private = refl
+kind_seen lost heir Unbindable = refl
+
+-- what is left at a key
+
+module _ {V W : Type 0} (see : V → W) (hand : V → Option V) (change : W → Option W)
+    (seen : (value : V) → option_map see (hand value) ≡ change (see value)) where
+  both_seen : (found : Option V) → option_map see (then_some found hand) ≡ then_some (option_map see found) change
+  both_seen None = refl
+  both_seen (Some value) = seen value
+
+  pub left_at : (old new : Option V) (among : Bool) → new ≡ (if among then then_some old hand else old)
+      → ((value : V) → old ≡ Some value → among ≡ false → hand value ≡ Some value)
+      → option_map see new ≡ then_some (option_map see old) change
+  left_at old new among is kept = ap (option_map see) is ∙ by among refl ∙ both_seen old
+    where
+      same : (found : Option V) → old ≡ found → among ≡ false → option_map see found
+          ≡ option_map see (then_some found hand)
+      same None at apart = refl
+      same (Some value) at apart = ap (option_map see) (sym (kept value at apart))
+
+      by : (b : Bool) → among ≡ b → option_map see (if b then then_some old hand else old)
+          ≡ option_map see (then_some old hand)
+      by true apart = refl
+      by false apart = same old refl apart

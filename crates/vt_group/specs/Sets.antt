@@ -1,0 +1,19 @@
+-- Sets of mounts or groups, each under a group.
+use Rattle.std.specs.Prelude.{Bool, List, [], nat_eq, option_map, unwrap_or}
+use Rattle.std.specs.List.{list_any}
+use Rattle.std.specs.Map.{lookup}
+use Rattle.vt_location.specs.declared.numbers.GroupId.{GroupId}
+use Rattle.vt_location.specs.declared.numbers.MountId.{MountId}
+use Rattle.vt_group.specs.declared.sets.Sets.{Sets}
+
+abbrev pub same_group : GroupId → GroupId → Bool
+same_group a b = nat_eq a.count b.count
+
+abbrev pub same_id : MountId → MountId → Bool
+same_id a b = nat_eq a.count b.count
+
+abbrev pub kept_in : {T : Type 0} → GroupId → Sets T → List T
+kept_in group sets = unwrap_or (option_map (λ set. set.keys) (lookup (same_group group) sets.sets.entries)) []
+
+abbrev pub has : {T : Type 0} → (T → T → Bool) → GroupId → T → Sets T → Bool
+has eq group one sets = list_any (eq one) (kept_in group sets)

@@ -1,0 +1,86 @@
+//! Sets of mounts or groups, each under a group.
+ghost use Rattle.std.specs.Prelude.{◌≡◌, IsSome, ◌&&◌, false, true, IfOk, OnOk};
+ghost use Rattle.vt_location.specs.declared.numbers.GroupId.{GroupId as GroupNumber};
+ghost use Rattle.vt_location.specs.declared.numbers.MountId.{MountId as MountNumber};
+ghost use Rattle.std.specs.BTreeMap.{get};
+ghost use Rattle.std.specs.Ordering.{nat_cmp};
+ghost use Rattle.vt_group.specs.Sets.{same_id, has, kept_in, same_group};
+
+use indexmap::{IndexMap, IndexSet};
+use std::alloc::{AllocError, Global};
+use std::collections::BTreeMap;
+use std::hash::Hash;
+use vt_location::{GroupId, MountId, Propagation};
+
+/// Sets, each under a group. None is empty.
+#[derive(Debug, Drop)]
+pub(crate) struct Sets<T: Eq + Hash> {
+    sets: IndexMap<GroupId, IndexSet<T>>,
+}
+
+impl<T: Eq + Hash + Copy + Clone + Drop> Sets<T> {
+    /// No sets. It does not allocate.
+    pub(crate) fn new(alloc: Global) -> Self {
+        Sets {
+            sets: IndexMap::new(alloc),
+        }
+    }
+
+    /// What is under a group.
+    pub(crate) fn get(&self, group: GroupId) -> &[T]
+        ensures { result.now ≡ kept_in group self.now }
+    {
+        match self.sets.get(&group) {
+            Some(set) => set.as_slice(),
+            None => &[],
+        }
+    }
+
+    /// Adds one under a group. If it fails, the sets are of no use.
+    pub(crate) fn insert(&mut self, group: GroupId, one: T) -> Result<(), AllocError>
+        ensures there { OnOk result (has T.eq group one self.new ≡ true) }
+        ensures kept { OnOk result ((at : GroupNumber) (other : T) → has T.eq at other self.old ≡ true
+            → has T.eq at other self.new ≡ true) }
+    {
+        if let Some(set) = self.sets.get_mut(&group) {
+            set.insert(one)?;
+            return Ok(());
+        }
+        let mut set = IndexSet::new(*self.sets.allocator());
+        set.insert(one)?;
+        self.sets.insert(group, set)?;
+        Ok(())
+    }
+
+    /// Takes out one from under a group. It does not allocate.
+    pub(crate) fn remove(&mut self, group: GroupId, one: T)
+        ensures { (at : GroupNumber) (other : T) → (same_group group at && T.eq one other) ≡ false
+            → has T.eq at other self.old ≡ true → has T.eq at other self.new ≡ true }
+    {
+        let Some(set) = self.sets.get_mut(&group) else {
+            return;
+        };
+        set.swap_remove(&one);
+        if set.is_empty() {
+            self.sets.swap_remove(&group);
+        }
+    }
+}
+
+/// Takes out the mounts under a group that have no type. It does not allocate.
+pub(crate) fn keep_typed(
+    sets: &mut Sets<MountId>,
+    group: GroupId,
+    types: &BTreeMap<u64, Propagation>,
+)
+    ensures { (at : GroupNumber) (mount : MountNumber) → IsSome (get nat_cmp types.now mount.count)
+        → has same_id at mount sets.old ≡ true → has same_id at mount sets.new ≡ true }
+{
+    let Some(set) = sets.sets.get_mut(&group) else {
+        return;
+    };
+    set.retain(|mount| types.contains_key(&mount.count));
+    if set.is_empty() {
+        sets.sets.swap_remove(&group);
+    }
+}
