@@ -38,6 +38,11 @@ impl Index {
         }
     }
 
+    /// The allocator of its lists.
+    pub(crate) fn allocator(&self) -> Global {
+        *self.mounts.allocator()
+    }
+
     /// The same mounts and groups once more, without their families.
     pub(crate) fn copied(&self) -> Result<Self, AllocError>
         ensures mounts { IfOk result (λ copy. (mount : MountNumber) (kind : TypeKept)
@@ -282,6 +287,32 @@ impl Index {
     {
         if let Some(families) = &mut self.families {
             families.leave(mount, was, Some(is));
+        }
+    }
+
+    /// Takes mounts out of where they are listed for these types, unless they have them. It does not allocate.
+    pub(crate) fn unlist_all(
+        &mut self,
+        mounts: &[(MountId, Propagation)],
+        types: &BTreeMap<u64, Propagation>,
+    )
+        ensures kept { (mount : MountNumber) (kind : TypeKept) → get nat_cmp types.now mount.count ≡ Some kind
+            → is_listed self.old mount kind ≡ true → is_listed self.new mount kind ≡ true }
+        ensures lower { (low up : GroupNumber) → is_lower self.old low up ≡ true → is_lower self.new low up ≡ true }
+    {
+        for pair in mounts {
+            self.unlist(pair.0, pair.1, types);
+        }
+    }
+
+    fn unlist(&mut self, mount: MountId, kind: Propagation, types: &BTreeMap<u64, Propagation>)
+        ensures kept { (other : MountNumber) (type : TypeKept) → get nat_cmp types.now other.count ≡ Some type
+            → is_listed self.old other type ≡ true → is_listed self.new other type ≡ true }
+        ensures lower { (low up : GroupNumber) → is_lower self.old low up ≡ true → is_lower self.new low up ≡ true }
+    {
+        match types.get(&mount.count).copied() {
+            Some(own) => self.change(mount, Some(kind), own),
+            None => self.leave(mount, Some(kind)),
         }
     }
 
