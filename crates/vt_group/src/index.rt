@@ -43,7 +43,7 @@ impl Index {
         *self.mounts.allocator()
     }
 
-    /// The same mounts and groups once more, without their families.
+    /// The same mounts and groups once more.
     pub(crate) fn copied(&self) -> Result<Self, AllocError>
         ensures mounts { IfOk result (λ copy. (mount : MountNumber) (kind : TypeKept)
             → is_listed self.now mount kind ≡ true → is_listed copy mount kind ≡ true) }
@@ -53,7 +53,7 @@ impl Index {
         Ok(Index {
             mounts: self.mounts.clone()?,
             groups: self.groups.clone()?,
-            families: None,
+            families: families_copied(&self.families)?,
         })
     }
 
@@ -351,6 +351,18 @@ impl Index {
         if let Some(families) = &mut self.families {
             families.forget(group);
         }
+    }
+}
+
+fn families_copied(families: &Option<Families>) -> Result<Option<Families>, AllocError>
+    ensures mounts { IfOk result (λ copy. (mount : MountNumber) (kind : TypeKept)
+        → all_list families.now mount kind ≡ true → all_list copy mount kind ≡ true) }
+    ensures groups { IfOk result (λ copy. (lower upper : GroupNumber)
+        → all_join families.now lower upper ≡ true → all_join copy lower upper ≡ true) }
+{
+    match families {
+        Some(families) => Ok(Some(families.copied()?)),
+        None => Ok(None),
     }
 }
 
