@@ -15,9 +15,7 @@ use Rattle.vt_spec.proofs.Lists.{Among, among_from_all}
 use Rattle.vt_location.specs.declared.numbers.GroupId.{GroupId}
 use Rattle.vt_group.specs.Grouping.{Grouping, Has, HasGroup, are_rising, master_in}
 use Rattle.vt_group.specs.Steps.{group_number}
-use Rattle.vt_location.specs.declared.mounts.Mount.{Mount as CodeMount}
-use Rattle.vt_group.specs.declared.groups.NewGroup.{NewGroup}
-use Rattle.vt_group.specs.Together.{Grows, all_added, if_sourced, new_group, typed, with_entry_of, with_master_of, with_type_of}
+use Rattle.vt_group.specs.Together.{Grows, all_added, if_sourced, with_entry_of, with_master_of, with_type_of}
 use Rattle.vt_group.proofs.Changes.{lookup-inserted, rising-inserted}
 use Rattle.vt_group.proofs.Regrouping.{keys, lookup-low}
 
@@ -36,54 +34,12 @@ folded_more add b see list i default less =
     ∙ ap (folded add b) (map-append see (take i list) (get_or list i default ∷ []))
     ∙ folded-snoc add b (map see (take i list)) (see (get_or list i default))
 
--- one more of the types and of the masters
-pub typed_more : (self grown next : Grouping) (mounts : List CodeMount) (i : ℕ) (default : CodeMount)
-    → i < length mounts
-    → next ≡ record grown { peers = with_type_of grown.peers (typed (get_or mounts i default)) }
-    → grown ≡ record self { peers = folded with_type_of self.peers (map typed (take i mounts)) }
-    → next ≡ record self { peers = folded with_type_of self.peers (map typed (take (i + 1) mounts)) }
-typed_more self grown next mounts i default less step so_far =
-    step
-    ∙ (λ j. record {
-      peers = with_type_of (so_far j).peers (typed (get_or mounts i default));
-      masters =
-          (so_far j).masters;
-    })
-    ∙ (λ j. record {
-      peers = sym (folded_more with_type_of self.peers typed mounts i default less) j;
-      masters =
-          self.masters;
-    })
-
-pub mastered_more : (self grown next : Grouping) (mounts : List CodeMount) (new : List NewGroup) (i : ℕ)
-    (default : NewGroup) → i < length new
-    → next ≡ record grown { masters = with_master_of grown.masters (new_group (get_or new i default)) }
-    → grown ≡ all_added self (map typed mounts) (map new_group (take i new))
-    → next ≡ all_added self (map typed mounts) (map new_group (take (i + 1) new))
-mastered_more self grown next mounts new i default less step so_far =
-    step
-    ∙ (λ j. record {
-      peers = (so_far j).peers;
-      masters = with_master_of (so_far j).masters (new_group
-          (get_or new i default));
-    })
-    ∙ (λ j. record {
-      peers = folded with_type_of self.peers (map typed mounts);
-      masters = sym (folded_more with_master_of self.masters new_group new i default less) j;
-    })
-
--- whether there is a source
+-- where there is a source
 pub put_sourced : (found : Option GroupId) (source : Option ℕ) (peers more : List (ℕ × Propagation ℕ))
     → option_map group_number found ≡ source
     → is_some found ≡ true → more ≡ if_sourced source peers more
 put_sourced None source peers more e is = absurd (true≢false (sym is))
 put_sourced (Some group) source peers more e is = ap (λ o. if_sourced o peers more) e
-
-pub put_nothing : (found : Option GroupId) (source : Option ℕ) (peers more : List (ℕ × Propagation ℕ))
-    → option_map group_number found ≡ source
-    → is_some found ≡ false → peers ≡ if_sourced source peers more
-put_nothing None source peers more e is = ap (λ o. if_sourced o peers more) e
-put_nothing (Some group) source peers more e is = absurd (true≢false is)
 
 -- Entries of masters
 
@@ -169,7 +125,7 @@ lookup-one group masters new rising = by new.1
     by None = lookup-removed group new.0 masters rising
     by (Some master) = lookup-inserted group new.0 master masters
 
-rising-all : (masters : List (ℕ × ℕ)) (new : List (ℕ × Option ℕ)) → are_rising (keys masters) ≡ true
+pub rising-all : (masters : List (ℕ × ℕ)) (new : List (ℕ × Option ℕ)) → are_rising (keys masters) ≡ true
     → are_rising (keys (folded with_master_of masters new)) ≡ true
 rising-all masters [] rising = rising
 rising-all masters (first ∷ new) rising = rising-all (with_master_of masters first) new
@@ -195,7 +151,7 @@ module _ (group : ℕ) where
           ap (λ b. if b then first.1 else one group) is ∙ same (λ i. is i || unnamed i)
           ∙ ap (λ b. if b then first.1 else other group) (sym is)
 
-  lookup-all : (masters : List (ℕ × ℕ)) (new : List (ℕ × Option ℕ)) → are_rising (keys masters) ≡ true
+  pub lookup-all : (masters : List (ℕ × ℕ)) (new : List (ℕ × Option ℕ)) → are_rising (keys masters) ≡ true
       → lookup (nat_eq group) (folded with_master_of masters new)
       ≡ folded (masters_with nat_eq) (λ other. lookup (nat_eq other) masters) new group
   lookup-all masters [] rising = refl

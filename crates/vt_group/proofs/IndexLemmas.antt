@@ -1,5 +1,5 @@
 -- What an index lists, once a part of it changed.
-use Rattle.std.proofs.Common.{◌≡◌, ℕ, Bool, true, false, cond, List, filter, nat_eq, Option, is_some, sym, ap, ◌∙◌, true≢false, ne_eqb}
+use Rattle.std.proofs.Common.{◌≡◌, ℕ, Bool, true, false, cond, List, filter, nat_eq, Option, Some, is_some, refl, sym, ap, subst, ◌∙◌, true≢false, ne_eqb}
 use Rattle.std.proofs.lemmas.Bool.{and_from, and_parts, eqb-true}
 use Rattle.std.proofs.lemmas.Map.Views.{any-filter_same}
 use Rattle.std.specs.List.{list_any}
@@ -42,3 +42,19 @@ kin_of_source families mount (Slave master) group source listed =
     ap (is_kin families mount) (sym (same_number group master source)) ∙ listed
 kin_of_source families mount Private group source listed = absurd (true≢false (sym source))
 kin_of_source families mount Unbindable group source listed = absurd (true≢false (sym source))
+
+-- where a mount is taken out for another type than its own, each is still listed for its type
+pub unlisted_still : (Was Is : MountId → Propagation → Type 0) (types : ℕ → Option Propagation) (mount : MountId)
+    (found : Option Propagation) → found ≡ types mount.count
+    → ((other : MountId) (kind : Propagation) → nat_eq mount.count other.count ≡ false → Was other kind → Is other kind)
+    → ((kind : Propagation) → found ≡ Some kind → Was mount kind → Is mount kind)
+    → (other : MountId) (kind : Propagation) → types other.count ≡ Some kind → Was other kind → Is other kind
+unlisted_still Was Is types mount found is others own other kind at =
+    by (nat_eq mount.count other.count) refl
+  where
+    by : (b : Bool) → nat_eq mount.count other.count ≡ b → Was other kind → Is other kind
+    by true same =
+        let one : mount ≡ other = λ i. record { count = eqb-true mount.count other.count same i } in
+        subst (λ (id : MountId). types id.count ≡ Some kind → Was id kind → Is id kind) one
+        (λ found_at. own kind (is ∙ found_at)) at
+    by false apart = others other kind apart

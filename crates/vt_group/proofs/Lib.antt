@@ -13,9 +13,12 @@ pub mod Alike
 pub mod Handed
 pub mod IndexLemmas
 pub mod Invariant
+pub mod Undoing
+pub mod Mastering
 pub mod EndedTypes
 pub mod Ending
 pub mod Coming
+pub mod GrownMaps
 pub mod Forgetting
 pub mod Relatives
 pub mod LeavingTypes

@@ -1,5 +1,5 @@
 -- Mounts become shared, all at once.
-use Rattle.std.proofs.Common.{◌≡◌, refl, sym, ap, subst, ◌∙◌, true, false, Bool, List, Option, Some, [], is_some, map, true≢false, ℕ, nat_eq, ◌||◌, ◌∷◌, inl, inr, ⊎_elim, eq-eqb, ◌⊎◌, length, take, get_or, ◌<◌, ◌+◌}
+use Rattle.std.proofs.Common.{◌≡◌, refl, sym, ap, subst, ◌∙◌, true, false, Bool, List, Option, Some, [], is_some, map, true≢false, ℕ, nat_eq, ◌||◌, ◌∷◌, inl, inr, ⊎_elim, eq-eqb, ◌⊎◌}
 use Rattle.std.proofs.lemmas.Bool.{and_parts, eqb-true, eqb-false}
 use Rattle.std.proofs.lemmas.Option.{same_Some}
 use Rattle.std.specs.Prelude.{All, Contains, if◌then◌else◌}
@@ -21,42 +21,12 @@ use Rattle.vt_location.specs.declared.numbers.GroupId.{GroupId}
 use Rattle.vt_location.specs.declared.numbers.MountId.{MountId}
 use Rattle.vt_group.specs.Grouping.{Grouping, GroupsLive, Has, HasGroup, LacksGroup, are_rising, numbers_of, peers_of, propagation_in, retyped_if}
 use Rattle.vt_group.specs.Laws.{shown}
-use Rattle.vt_group.specs.Together.{Grows, all_added, if_sourced, pair_of, shared_group, shared_type, with_master_of, with_type_of}
-use Rattle.vt_group.proofs.Adding.{folded_more, grown_has}
+use Rattle.vt_group.specs.Together.{Grows, all_added, if_sourced, pair_of, shared_group, shared_type, with_type_of}
+use Rattle.vt_group.proofs.Adding.{grown_has}
 use Rattle.vt_group.proofs.Peers.{above_first, numbers-retyped, peers-set}
 use Rattle.vt_group.proofs.Regrouping.{member_shared, shared_member}
 use Rattle.vt_group.proofs.Showing.{shows_types}
 use Rattle.vt_group.proofs.Together.{map_alike, map-twice, old_masters, regrouped_living}
-
--- one more of the mounts that become shared
-pub shared_more : (self grown typed next : Grouping) (named : List (MountId × GroupId)) (i : ℕ) (default : MountId
-    × GroupId) → i < length named
-    → typed ≡ record grown { peers = with_type_of grown.peers (shared_type self (pair_of (get_or named i default))) }
-    → next ≡ record typed {
-      masters = with_master_of typed.masters (shared_group self (pair_of
-          (get_or named i default)));
-    }
-    → grown ≡ all_added self (map (λ pair. shared_type self (pair_of pair)) (take i named)) (map
-    (λ pair. shared_group self (pair_of pair)) (take i named))
-    → next ≡ all_added self (map (λ pair. shared_type self (pair_of pair)) (take (i + 1) named)) (map
-    (λ pair. shared_group self (pair_of pair)) (take (i + 1) named))
-shared_more self grown typed next named i default less one two so_far =
-    two
-    ∙ (λ j. record {
-      peers = (one j).peers;
-      masters = with_master_of (one j).masters (shared_group self (pair_of
-          (get_or named i default)));
-    })
-    ∙ (λ j. record {
-      peers = with_type_of (so_far j).peers (shared_type self (pair_of (get_or named i default)));
-      masters = with_master_of (so_far j).masters (shared_group self (pair_of (get_or named i default)));
-    })
-    ∙ (λ j. record {
-      peers = sym (folded_more with_type_of self.peers (λ pair. shared_type self
-          (pair_of pair)) named i default less) j;
-      masters = sym (folded_more with_master_of self.masters (λ pair. shared_group self
-          (pair_of pair)) named i default less) j;
-    })
 
 -- mounts with one number are one
 one_number : (mounts : List (Mount ℕ)) → are_rising (numbers_of mounts) ≡ true → (a b : Mount ℕ) → Among a mounts

@@ -9,3 +9,5 @@ pub mod Laws
 pub mod Listing
 pub mod Receiving
 pub mod Sets
+pub mod Insertions
+pub mod Additions

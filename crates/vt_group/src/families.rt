@@ -12,7 +12,7 @@ ghost use Rattle.vt_group.specs.Families.{Grows, Keeps, are_joined, family, is_k
 ghost use Rattle.vt_group.specs.Sets.{has, kept_in, same_group, same_id};
 
 use crate::propagation::{own_group, source};
-use crate::sets::{Sets, keep_typed};
+use crate::sets::{Sets, groups_copied, keep_typed, mounts_copied};
 use indexmap::IndexMap;
 use std::alloc::{AllocError, Global};
 use std::collections::BTreeMap;
@@ -40,6 +40,18 @@ impl Families {
             mounts: Sets::new(alloc),
             members: Sets::new(alloc),
         }
+    }
+
+    /// The same families once more.
+    pub(crate) fn copied(&self) -> Result<Self, AllocError>
+        ensures { IfOk result (λ copy. Keeps self.now copy) }
+    {
+        Ok(Families {
+            names: names_copied(&self.names)?,
+            groups: groups_copied(&self.groups)?,
+            mounts: mounts_copied(&self.mounts)?,
+            members: mounts_copied(&self.members)?,
+        })
     }
 
     // The family of a group.
@@ -187,6 +199,14 @@ impl Families {
     {
         self.members.get(group)
     }
+}
+
+fn names_copied(
+    names: &IndexMap<GroupId, GroupId>,
+) -> Result<IndexMap<GroupId, GroupId>, AllocError>
+    ensures { IfOk result (λ copy. copy.entries ≡ names.now.entries) }
+{
+    Ok(names.clone()?)
 }
 
 // The group that a mount of a type is in.

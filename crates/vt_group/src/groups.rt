@@ -11,8 +11,9 @@ ghost use Rattle.vt_location.specs.MountValue.{propagation_of};
 ghost use Rattle.vt_location.specs.Numbers.{counted};
 ghost use Rattle.vt_group.specs.Grouping.{Follows, GroupsLive, Has, HasGroup, HasMount, LacksGroup, below, master_in, no_groups, numbers_of, propagation_in, with_propagation};
 ghost use Rattle.vt_spec.specs.Language.Calls.TypeWord.{ToPrivate, ToSlave, ToUnbindable};
-ghost use Rattle.vt_group.specs.Together.{GrowsTo, LeaveAlone, Retypes, Shares, TakesAway, all_added, is_ordered, new_group, pair_of};
-ghost use Rattle.vt_group.specs.Together.{shared_group, shared_type, typed, with_master_of, with_type_of};
+ghost use Rattle.vt_group.specs.Additions.{typed_pair};
+ghost use Rattle.vt_group.specs.Together.{GrowsTo, LeaveAlone, Retypes, Shares, TakesAway, is_ordered, new_group, pair_of};
+ghost use Rattle.vt_group.specs.Together.{shared_group, shared_type, typed};
 ghost use Rattle.vt_group.specs.Leaving.{is_member_of, lone_group, lost_group, master_after_end, type_after_end, type_once_ended, type_once_left, type_once_retyped, type_once_slave};
 ghost use Rattle.std.specs.BTreeMap.{IsOrdered, get};
 ghost use Rattle.std.specs.Ordering.{nat_cmp};
@@ -21,6 +22,7 @@ ghost use Rattle.vt_group.specs.Receiving.{receiving_peer, receiving_type};
 ghost use Rattle.vt_group.specs.Steps.{numbered_peer};
 ghost use Rattle.vt_group.specs.Steps.{ended, ended_if_lost, group_number, handed, handed_type, has_peers, retyped, type_or_private};
 
+use crate::additions::{add_all, types_of};
 use crate::handing::{hand_groups, hand_mounts};
 use crate::index::Index;
 use crate::propagation::{is_in, own_group, source};
@@ -341,14 +343,24 @@ impl Groups {
         ensures memory { IfErr result (λ deny. deny ≡ denial S5) }
         ensures err { OnErr result (self.new ≡ self.old) }
     {
-        if self.index.join_all(new).is_err() || self.index.list_all(mounts).is_err() {
-            return Err(Rule::S5.denial());
-        }
-        let Ok(grown) = self.with_all(mounts, new) else {
+        let alloc = self.index.allocator();
+        let Ok(types) = types_of(alloc, mounts) else {
             return Err(Rule::S5.denial());
         };
-        self.mounts = grown.mounts;
-        self.above = grown.above;
+        if self.index.join_all(new).is_err()
+            || self.index.list_all(mounts).is_err()
+            || add_all(
+                alloc,
+                &mut self.mounts,
+                &mut self.above,
+                types.as_slice(),
+                new,
+            )
+            .is_err()
+        {
+            self.index.unlist_all(types.as_slice(), &self.mounts);
+            return Err(Rule::S5.denial());
+        }
         Ok(())
     }
 
@@ -361,29 +373,59 @@ impl Groups {
         ensures memory { IfErr result (λ deny. deny ≡ denial S5) }
         ensures err { OnErr result (self.new ≡ self.old) }
     {
-        if self.index.share(named, &self.mounts).is_err() {
-            return Err(Rule::S5.denial());
-        }
-        let Ok(grown) = self.with_shared(named) else {
+        let alloc = self.index.allocator();
+        let Ok(types) = self.types_when_shared(alloc, named) else {
             return Err(Rule::S5.denial());
         };
-        self.mounts = grown.mounts;
-        self.above = grown.above;
+        let Ok(new) = self.groups_when_shared(alloc, named) else {
+            return Err(Rule::S5.denial());
+        };
+        if self.index.share(named, &self.mounts).is_err()
+            || add_all(
+                alloc,
+                &mut self.mounts,
+                &mut self.above,
+                types.as_slice(),
+                new.as_slice(),
+            )
+            .is_err()
+        {
+            self.index.unlist_all(types.as_slice(), &self.mounts);
+            return Err(Rule::S5.denial());
+        }
         Ok(())
     }
 
-    // The groups with these mounts shared.
-    fn with_shared(&self, named: &[(MountId, GroupId)]) -> Result<Groups, AllocError>
-        ensures { IfOk result (λ grown. grown
-            ≡ all_added self.now (map (λ pair. shared_type self.now (pair_of pair)) named.now)
-            (map (λ pair. shared_group self.now (pair_of pair)) named.now)) }
+    // The types of mounts that become shared.
+    fn types_when_shared(
+        &self,
+        alloc: Global,
+        named: &[(MountId, GroupId)],
+    ) -> Result<Vec<(MountId, Propagation)>, AllocError>
+        ensures { IfOk result (λ types. map typed_pair types.items
+            ≡ map (λ pair. shared_type self.now (pair_of pair)) named.now) }
     {
-        let mut grown = self.copied()?;
+        let mut types = Vec::new(alloc);
         for pair in named {
-            grown.put_type(pair.0, self.when_shared(pair.0, pair.1))?;
-            grown.put_master(self.group_when_shared(pair.0, pair.1))?;
+            types.push((pair.0, self.when_shared(pair.0, pair.1)))?;
         }
-        Ok(grown)
+        Ok(types)
+    }
+
+    // The groups of mounts that become shared.
+    fn groups_when_shared(
+        &self,
+        alloc: Global,
+        named: &[(MountId, GroupId)],
+    ) -> Result<Vec<NewGroup>, AllocError>
+        ensures { IfOk result (λ groups. map new_group groups.items
+            ≡ map (λ pair. shared_group self.now (pair_of pair)) named.now) }
+    {
+        let mut groups = Vec::new(alloc);
+        for pair in named {
+            groups.push(self.group_when_shared(pair.0, pair.1))?;
+        }
+        Ok(groups)
     }
 
     // The type of a mount that becomes shared.
@@ -413,20 +455,6 @@ impl Groups {
         }
     }
 
-    // The groups with these types of mounts, and these groups.
-    fn with_all(&self, mounts: &[Mount], new: &[NewGroup]) -> Result<Groups, AllocError>
-        ensures { IfOk result (λ grown. grown ≡ all_added self.now (map typed mounts.now) (map new_group new.now)) }
-    {
-        let mut grown = self.copied()?;
-        for mount in mounts {
-            grown.put_type(mount.number, mount.propagation)?;
-        }
-        for group in new {
-            grown.put_master(*group)?;
-        }
-        Ok(grown)
-    }
-
     /// All groups once more, for one who makes changes on trial. It passes over all mounts that are in groups.
     pub fn copied(&self) -> Result<Groups, AllocError>
         ensures { IfOk result (λ copy. copy ≡ self.now) }
@@ -436,36 +464,6 @@ impl Groups {
             above: masters_copied(&self.above)?,
             index: self.index.copied()?,
         })
-    }
-
-    // A mount gets a type.
-    fn put_type(&mut self, mount: MountId, kind: Propagation) -> Result<(), AllocError>
-        ensures { OnOk result (self.new
-            ≡ record self.old { peers = with_type_of self.old.peers (counted mount.count, propagation_of kind) }) }
-    {
-        if source(kind).is_some() {
-            self.index.list(mount, kind)?;
-            let old = self.mounts.insert(mount.count, kind)?;
-            self.index.change(mount, old, kind);
-        }
-        Ok(())
-    }
-
-    // A group gets a master, or none.
-    fn put_master(&mut self, new: NewGroup) -> Result<(), AllocError>
-        ensures { OnOk result (self.new
-            ≡ record self.old { masters = with_master_of self.old.masters (new_group new) }) }
-    {
-        match new.master {
-            Some(master) => {
-                self.index.join(new.group, master)?;
-                self.above.insert(new.group.count, master)?;
-            }
-            None => {
-                self.above.remove(&new.group.count);
-            }
-        }
-        Ok(())
     }
 
     /// A mount becomes the first member of a new group, which has this master, if any. A group that has a master keeps

@@ -38,7 +38,12 @@ impl Index {
         }
     }
 
-    /// The same mounts and groups once more, without their families.
+    /// The allocator of its lists.
+    pub(crate) fn allocator(&self) -> Global {
+        *self.mounts.allocator()
+    }
+
+    /// The same mounts and groups once more.
     pub(crate) fn copied(&self) -> Result<Self, AllocError>
         ensures mounts { IfOk result (λ copy. (mount : MountNumber) (kind : TypeKept)
             → is_listed self.now mount kind ≡ true → is_listed copy mount kind ≡ true) }
@@ -48,7 +53,7 @@ impl Index {
         Ok(Index {
             mounts: self.mounts.clone()?,
             groups: self.groups.clone()?,
-            families: None,
+            families: families_copied(&self.families)?,
         })
     }
 
@@ -285,6 +290,32 @@ impl Index {
         }
     }
 
+    /// Takes mounts out of where they are listed for these types, unless they have them. It does not allocate.
+    pub(crate) fn unlist_all(
+        &mut self,
+        mounts: &[(MountId, Propagation)],
+        types: &BTreeMap<u64, Propagation>,
+    )
+        ensures kept { (mount : MountNumber) (kind : TypeKept) → get nat_cmp types.now mount.count ≡ Some kind
+            → is_listed self.old mount kind ≡ true → is_listed self.new mount kind ≡ true }
+        ensures lower { (low up : GroupNumber) → is_lower self.old low up ≡ true → is_lower self.new low up ≡ true }
+    {
+        for pair in mounts {
+            self.unlist(pair.0, pair.1, types);
+        }
+    }
+
+    fn unlist(&mut self, mount: MountId, kind: Propagation, types: &BTreeMap<u64, Propagation>)
+        ensures kept { (other : MountNumber) (type : TypeKept) → get nat_cmp types.now other.count ≡ Some type
+            → is_listed self.old other type ≡ true → is_listed self.new other type ≡ true }
+        ensures lower { (low up : GroupNumber) → is_lower self.old low up ≡ true → is_lower self.new low up ≡ true }
+    {
+        match types.get(&mount.count).copied() {
+            Some(own) => self.change(mount, Some(kind), own),
+            None => self.leave(mount, Some(kind)),
+        }
+    }
+
     /// Takes out what has no type or no master any longer, once a group has ended. It does not allocate.
     pub(crate) fn settle(
         &mut self,
@@ -320,6 +351,18 @@ impl Index {
         if let Some(families) = &mut self.families {
             families.forget(group);
         }
+    }
+}
+
+fn families_copied(families: &Option<Families>) -> Result<Option<Families>, AllocError>
+    ensures mounts { IfOk result (λ copy. (mount : MountNumber) (kind : TypeKept)
+        → all_list families.now mount kind ≡ true → all_list copy mount kind ≡ true) }
+    ensures groups { IfOk result (λ copy. (lower upper : GroupNumber)
+        → all_join families.now lower upper ≡ true → all_join copy lower upper ≡ true) }
+{
+    match families {
+        Some(families) => Ok(Some(families.copied()?)),
+        None => Ok(None),
     }
 }
 

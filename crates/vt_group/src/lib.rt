@@ -1,10 +1,12 @@
 //! Peer groups of mounts: mount_namespaces(7), and the kernel's document sharedsubtree.
 #![tactic(auto)]
 
+mod additions;
 mod families;
 mod groups;
 mod handing;
 mod index;
+mod insertions;
 pub mod laws;
 mod propagation;
 mod sets;

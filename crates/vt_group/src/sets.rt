@@ -67,6 +67,24 @@ impl<T: Eq + Hash + Copy + Clone + Drop> Sets<T> {
     }
 }
 
+/// The same sets of mounts once more.
+pub(crate) fn mounts_copied(sets: &Sets<MountId>) -> Result<Sets<MountId>, AllocError>
+    ensures { IfOk result (λ copy. (at : GroupNumber) → kept_in at copy ≡ kept_in at sets.now) }
+{
+    Ok(Sets {
+        sets: sets.sets.clone()?,
+    })
+}
+
+/// The same sets of groups once more.
+pub(crate) fn groups_copied(sets: &Sets<GroupId>) -> Result<Sets<GroupId>, AllocError>
+    ensures { IfOk result (λ copy. (at : GroupNumber) → kept_in at copy ≡ kept_in at sets.now) }
+{
+    Ok(Sets {
+        sets: sets.sets.clone()?,
+    })
+}
+
 /// Takes out the mounts under a group that have no type. It does not allocate.
 pub(crate) fn keep_typed(
     sets: &mut Sets<MountId>,
