@@ -1,25 +1,32 @@
 -- Mounts that moved go back: what they were, and the room for it.
-use Rattle.std.proofs.Common.{◌≡◌, ◌≤◌, Bool, true, false, cond, List, [], ◌∷◌, ◌++◌, length, nat_lt, Option, None, Some, option_map, refl, sym, ap, subst, ◌∙◌, arith}
-use Rattle.std.proofs.lemmas.List.{append_assoc}
-use Rattle.std.specs.Prelude.{IfSome}
+use Rattle.std.proofs.Common.{◌≡◌, ◌≤◌, Bool, true, false, cond, List, [], ◌∷◌, ◌++◌, length, map, nat_lt, Option, None, Some, option_map, refl, sym, ap, subst, ◌∙◌, arith}
+use Rattle.std.proofs.lemmas.List.{append-nil, append_assoc, map-append}
+use Rattle.std.specs.Prelude.{IfSome, option_to_list, ℕ}
 use Rattle.std.specs.Map.{lookup}
 use Rattle.vt_location.specs.declared.locations.Location.{Location}
 use Rattle.vt_location.specs.declared.locations.NodeRef.{NodeRef}
 use Rattle.vt_location.specs.declared.numbers.MountId.{MountId}
 use Rattle.vt_mount.specs.declared.indexes.Indexes.{Indexes}
 use Rattle.vt_mount.specs.declared.mounted.Mounted.{Mounted}
+use Rattle.vt_mount.specs.declared.moving.NewPoint.{NewPoint}
 use Rattle.vt_mount.specs.declared.moving.OldPoint.{OldPoint}
 use Rattle.vt_mount.specs.Capacity.{KeepRoom, capacity_of}
 use Rattle.vt_mount.specs.GoingBack.{AllFit, Fits, GoesBack, all_back, one_back}
 use Rattle.vt_mount.specs.Indexed.{IsIndexed}
 use Rattle.vt_mount.specs.Indexes.{listed_at, listed_on, listed_over, relisted, same_inode, same_place, stood_at, stood_on, stood_over}
 use Rattle.vt_mount.specs.Listed.{same_id}
-use Rattle.vt_mount.specs.MountsValue.{in_order}
+use Rattle.vt_mount.specs.Moving.{left_by, left_of}
+use Rattle.vt_mount.specs.MountsValue.{MountEntry, entries_of, entry_of, in_order}
+use Rattle.vt_spec.specs.Machine.Mounts.{Location as Place}
+use Rattle.vt_mount.proofs.EntryLemmas.{kept-entry}
 use Rattle.vt_mount.proofs.IndexLemmas.{same_mount_id}
 use Rattle.vt_mount.proofs.MoveLemmas.{has_small_slot, inode-placed, parent-placed, place-placed, placed_kept}
 use Rattle.vt_mount.proofs.OrderLemmas.{found-in_order, in_order-changed, rises-in_order}
 use Rattle.vt_mount.proofs.RoomLemmas.{listed-within}
 use Rattle.vt_mount.proofs.WriteLemmas.{IsWritten}
+
+abbrev left_entry : MountEntry → ℕ × Option (Place ℕ)
+left_entry entry = (entry.mount.number, entry.mount.mount_point)
 
 -- What fits
 
@@ -161,3 +168,22 @@ pub small-point : (point : Option Location)
     → IfSome point (λ place. nat_lt place.node.slot 18446744073709551616 ≡ true) → has_small_slot point ≡ true
 small-point None small = refl
 small-point (Some place) small = small
+
+-- What is noted
+
+pub left-noted : (olds new : List OldPoint) (point : NewPoint) (x : Mounted) (es : List (MountId × Mounted))
+    → new ≡ olds ++ record { mount = point.mount; point = x.mount_point } ∷ []
+    → lookup (same_id point.mount) es ≡ Some x
+    → map left_of new ≡ map left_of olds ++ left_by point (entries_of es)
+left-noted olds new point x es is there =
+    ap (map left_of) is ∙ map-append left_of olds (record { mount = point.mount; point = x.mount_point } ∷ [])
+    ∙ ap (λ (found : Option MountEntry). map left_of olds ++ option_to_list (option_map left_entry found))
+    (sym (kept-entry point.mount es ∙ ap (option_map (λ one. entry_of (point.mount, one))) there))
+
+pub left-absent : (olds : List OldPoint) (point : NewPoint) (es : List (MountId × Mounted))
+    → lookup (same_id point.mount) es ≡ None
+    → map left_of olds ≡ map left_of olds ++ left_by point (entries_of es)
+left-absent olds point es none =
+    sym (append-nil (map left_of olds))
+    ∙ ap (λ (found : Option MountEntry). map left_of olds ++ option_to_list (option_map left_entry found))
+    (sym (kept-entry point.mount es ∙ ap (option_map (λ one. entry_of (point.mount, one))) none))

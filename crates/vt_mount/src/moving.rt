@@ -1,7 +1,8 @@
 //! Several mounts get other mount points, or none: mount(2) with `MS_MOVE`, and the kernel's document sharedsubtree.
 //!
 //! A mount that moved goes back without memory: while mounts move, lists that get empty stay, and none loses room.
-ghost use Rattle.std.specs.Prelude.{List, ◌≡◌, IfErr, OnErr, OnOk};
+ghost use Rattle.std.specs.Prelude.{List, Err, Ok, ◌≡◌, ◌++◌, ◌⊎◌, IfErr, IfOk, OnErr, OnOk, map};
+ghost use Rattle.std.specs.Fn.{FnOnceReturnsAtMut};
 ghost use Rattle.vt_spec.specs.declared.errors.Rule.TheVariants.{S5};
 ghost use Rattle.vt_spec.specs.Errors.{denial};
 ghost use Rattle.vt_location.specs.declared.numbers.MountId.{MountId};
@@ -9,7 +10,7 @@ ghost use Rattle.vt_mount.specs.declared.mounted.Mounted.{Mounted};
 ghost use Rattle.vt_mount.specs.Capacity.{KeepRoom};
 ghost use Rattle.vt_mount.specs.GoingBack.{AllFit, Fits, GoesBack, all_back, one_back};
 ghost use Rattle.vt_mount.specs.Indexed.{IsIndexed};
-ghost use Rattle.vt_mount.specs.Moving.{moved_to, with_points};
+ghost use Rattle.vt_mount.specs.Moving.{all_left, left_by, left_of, moved_to, with_points};
 ghost use Rattle.vt_mount.specs.MountsValue.{entries_of, in_order};
 
 use crate::indexes::Indexes;
@@ -27,11 +28,11 @@ pub struct NewPoint {
     pub place: Location,
 }
 
-// A mount that moved, and the mount point that it left.
-#[derive(Clone, Copy, Debug)]
-struct OldPoint {
-    mount: MountId,
-    point: Option<Location>,
+/// A mount that moved, and the mount point that it left.
+#[derive(Clone, Copy, Debug, PartialEq, Eq)]
+pub struct OldPoint {
+    pub mount: MountId,
+    pub point: Option<Location>,
 }
 
 impl Mounts {
@@ -46,12 +47,43 @@ impl Mounts {
     {
         let mut left = Vec::new(*self.by_number.allocator());
         if move_each(&mut self.by_number, &mut self.indexes, points, &mut left).is_err() {
-            move_back(&mut self.by_number, &mut self.indexes, &left);
-            drop_taken(&mut self.indexes, points);
+            take_back(&mut self.by_number, &mut self.indexes, points, &left);
             return Err(Rule::S5.denial());
         }
         drop_left(&mut self.indexes, &left);
         Ok(())
+    }
+
+    /// Moves mounts as `move_all` does, and then takes one more step, which may fail and change something else. If it
+    /// fails, the mounts are back where they were. It returns which mounts moved and where they stood, in the order of
+    /// the moves.
+    ///
+    /// S5 (ENOMEM): an allocation failed; that step has not been taken then.
+    pub fn move_all_then<S, F: FnOnce(&mut S) -> Result<(), Deny>>(
+        &mut self,
+        points: &[NewPoint],
+        other: &mut S,
+        last: F,
+    ) -> Result<Vec<OldPoint>, Deny>
+        requires { F.IsAlwaysCallable last }
+        ensures ok { OnOk result (self.new ≡ with_points points.now self.old) }
+        ensures left { IfOk result (λ left. map left_of left.items ≡ all_left points.now self.old) }
+        ensures last_ok { OnOk result (FnOnceReturnsAtMut F.FnOnce last other.old (Ok tt) other.new) }
+        ensures last_err { IfErr result (λ deny. ((deny ≡ denial S5) × (other.new ≡ other.old))
+            ⊎ FnOnceReturnsAtMut F.FnOnce last other.old (Err deny) other.new) }
+        ensures err { OnErr result (self.new ≡ self.old) }
+    {
+        let mut left = Vec::new(*self.by_number.allocator());
+        if move_each(&mut self.by_number, &mut self.indexes, points, &mut left).is_err() {
+            take_back(&mut self.by_number, &mut self.indexes, points, &left);
+            return Err(Rule::S5.denial());
+        }
+        if let Err(deny) = last(other) {
+            take_back(&mut self.by_number, &mut self.indexes, points, &left);
+            return Err(deny);
+        }
+        drop_left(&mut self.indexes, &left);
+        Ok(left)
     }
 }
 
@@ -69,6 +101,8 @@ fn move_each(
     ensures back { (first : List (MountId × Mounted))
         → GoesBack indexes.old left.old.items (in_order by_number.old.entries) first
         → GoesBack indexes.new left.new.items (in_order by_number.new.entries) first }
+    ensures left { OnOk result (map left_of left.new.items
+        ≡ map left_of left.old.items ++ all_left points.now (entries_of by_number.old.entries)) }
 {
     for point in points.iter().rev() {
         move_one(by_number, indexes, *point, left)?;
@@ -89,6 +123,8 @@ fn move_one(
     ensures back { (first : List (MountId × Mounted))
         → GoesBack indexes.old left.old.items (in_order by_number.old.entries) first
         → GoesBack indexes.new left.new.items (in_order by_number.new.entries) first }
+    ensures left { OnOk result (map left_of left.new.items
+        ≡ map left_of left.old.items ++ left_by point (entries_of by_number.old.entries)) }
 {
     let Some(kept) = by_number.get_mut(&point.mount) else {
         return Ok(());
@@ -100,6 +136,22 @@ fn move_one(
     indexes.shift(kept.mount_point, point.place, point.mount)?;
     kept.mount_point = Some(point.place);
     Ok(())
+}
+
+// Moves mounts back, and drops the lists of the mount points that were for them, where they are empty.
+fn take_back(
+    by_number: &mut IndexMap<MountId, Mounted>,
+    indexes: &mut Indexes,
+    points: &[NewPoint],
+    left: &[OldPoint],
+)
+    requires indexed { IsIndexed indexes.old (in_order by_number.old.entries) }
+    requires room { AllFit indexes.old left.now (in_order by_number.old.entries) }
+    ensures indexed { IsIndexed indexes.new (in_order by_number.new.entries) }
+    ensures back { in_order by_number.new.entries ≡ all_back left.now (in_order by_number.old.entries) }
+{
+    move_back(by_number, indexes, left);
+    drop_taken(indexes, points);
 }
 
 // Moves mounts back, the last one that moved first. It does not allocate.

@@ -4,7 +4,7 @@ use Rattle.vt_mount.specs.Capacity.{KeepRoom}
 use Rattle.vt_mount.specs.Indexed.{IsIndexed}
 use Rattle.vt_mount.specs.Moving.{placed_entry}
 use Rattle.vt_mount.specs.MountsValue.{in_order}
-use Rattle.vt_mount.proofs.GoingBackLemmas.{goes_back-last, goes_back-same, one_back-written}
+use Rattle.vt_mount.proofs.GoingBackLemmas.{goes_back-last, goes_back-same, left-absent, left-noted, one_back-written}
 use Rattle.vt_mount.proofs.MoveLemmas.{indexed-placed, indexed-same, moved_kept}
 use Rattle.vt_mount.proofs.OrderLemmas.{found-in_order, in_order-changed, rises-in_order}
 use Rattle.vt_mount.proofs.WriteLemmas.{entries-written, is-written, not-written, order-unwritten}
@@ -98,3 +98,15 @@ returns-clause-back c first goes =
     (one_back-written c.args.point.mount change c.in-Some.kept.now map.entries _ refl there
     (is-written c.args.point.mount change map _ c.in-Some.kept.now _ there refl (c.get_mut.follows.holds _)))
     goes
+
+pub returns-in_default-clause-left : goal.returns-in_default-clause-left
+returns-in_default-clause-left c =
+    let map = c.args.by_number.now in
+    left-absent c.args.left.now.items c.args.point map.entries
+    (sym c.get_mut.ensures.value ∙ ap option_copied_mut c.in_default.is)
+
+pub returns-clause-left : goal.returns-clause-left
+returns-clause-left c =
+    let map = c.args.by_number.now in
+    left-noted c.args.left.now.items _ c.args.point c.in-Some.kept.now map.entries c.in_ok-push.ensures.items
+    (sym c.get_mut.ensures.value ∙ ap option_copied_mut c.in-Some.is)
