@@ -11,3 +11,5 @@ pub mod MoveLemmas
 mod CopiedLemmas
 mod RetypeLemmas
 pub mod SourceLemmas
+mod RoomLemmas
+mod GoingBackLemmas

@@ -1,5 +1,6 @@
 -- The lists stay right where a mount moves.
-use Rattle.std.proofs.Common.{◌≡◌, ℕ, Bool, true, false, cond, ◌&&◌, T, List, [], ◌∷◌, map, not, nat_lt, ◌%◌, ◌==◌, eq-eqb, None, Some, refl, sym, ap, subst, ◌∙◌, arith, le-ltb}
+use Rattle.std.proofs.Common.{◌≡◌, ℕ, Bool, true, false, cond, ◌&&◌, T, List, [], ◌∷◌, map, not, nat_lt, ◌%◌, ◌==◌, eq-eqb, Option, None, Some, option_map, refl, sym, ap, subst, ◌∙◌, arith, le-ltb}
+use Rattle.std.specs.Prelude.{unwrap_or}
 use Rattle.std.specs.Cmp.{nat_cmp_is}
 use Rattle.std.specs.Ordering.{eq_by_cmp, is_lt, nat_cmp}
 use Rattle.std.specs.declared.cmp.Ordering.TheVariants.{Equal, Greater}
@@ -14,7 +15,7 @@ use Rattle.vt_location.specs.declared.numbers.NamespaceId.{NamespaceId}
 use Rattle.vt_mount.specs.declared.indexes.Indexes.{Indexes}
 use Rattle.vt_mount.specs.declared.mounted.Mounted.{Mounted}
 use Rattle.vt_mount.specs.Indexed.{IsIndexed, is_in_slot, numbers_where}
-use Rattle.vt_mount.specs.Indexes.{is_at, is_in, is_on, is_over, listed_at, listed_in, listed_on, listed_over, relisted, same_inode, same_namespace, same_place, stood_at, stood_on, stood_over, was_in}
+use Rattle.vt_mount.specs.Indexes.{is_at, is_in, is_on, is_over, listed_at, listed_in, listed_on, listed_over, relisted, same_namespace, stood_at, stood_on, stood_over, was_in}
 use Rattle.vt_mount.specs.Listed.{inserted, same_id}
 use Rattle.vt_mount.specs.MountsValue.{are_ascending, entries_of, id_cmp, in_order, mount_kept, mounts_in}
 use Rattle.vt_location.specs.Numbers.{counted}
@@ -24,9 +25,17 @@ use Rattle.vt_mount.proofs.IndexLemmas.{absent-others, below-none, cons-numbers,
 use Rattle.vt_mount.proofs.OrderLemmas.{change_kept, found, rises, rises-in_order, tied}
 use Rattle.vt_spec.proofs.Truths.{T_and_left, T_and_right, and_true_left, and_true_right}
 
+-- what is kept of a mount with another mount point
+abbrev pub placed_kept : Option Location → Mounted → Mounted
+placed_kept point one = record one { mount_point = point }
+
 -- what is kept of a mount that was moved
 abbrev pub moved_kept : Location → Mounted → Mounted
-moved_kept place one = record one { mount_point = Some place }
+moved_kept place one = placed_kept (Some place) one
+
+-- the slot of a mount point is below 2^64
+abbrev pub has_small_slot : Option Location → Bool
+has_small_slot point = unwrap_or (option_map (λ place. nat_lt place.node.slot 18446744073709551616) point) true
 
 less-than : (a b : ℕ) → T (is_lt (nat_cmp a b)) → nat_lt a b ≡ true
 less-than a b less = by (nat_lt a b) (nat_lt b a) refl refl
@@ -151,43 +160,58 @@ module _ (id : MountId) where
   relisted-numbers test false change never x kept rising there =
       others-taken test id x kept rising there ∙ sym (numbers-left test id change never kept)
 
-slots-moved : (id : MountId) (place : Location) (kept : List (MountId × Mounted))
-    → nat_lt place.node.slot 18446744073709551616 ≡ true → list_all is_in_slot kept ≡ true
-    → list_all is_in_slot (map (change_kept id (moved_kept place)) kept) ≡ true
-slots-moved id place [] slot slots = refl
-slots-moved id place (one ∷ kept) slot slots =
-    ap (λ b. b && list_all is_in_slot (map (change_kept id (moved_kept place)) kept)) (by (same_id id one.0))
-    ∙ slots-moved id place kept slot (and_true_right _ _ slots)
+slots-placed : (id : MountId) (point : Option Location) (kept : List (MountId × Mounted))
+    → has_small_slot point ≡ true → list_all is_in_slot kept ≡ true
+    → list_all is_in_slot (map (change_kept id (placed_kept point)) kept) ≡ true
+slots-placed id point [] slot slots = refl
+slots-placed id point (one ∷ kept) slot slots =
+    ap (λ b. b && list_all is_in_slot (map (change_kept id (placed_kept point)) kept)) (by (same_id id one.0))
+    ∙ slots-placed id point kept slot (and_true_right _ _ slots)
   where
-    by : (b : Bool) → is_in_slot (one.0, cond b (moved_kept place one.1) one.1) ≡ true
+    by : (b : Bool) → is_in_slot (one.0, cond b (placed_kept point one.1) one.1) ≡ true
     by true = slot
     by false = and_true_left _ _ slots
 
-pub indexed-moved : (id : MountId) (place : Location) (x : Mounted) (kept : List (MountId × Mounted))
-    (old new : Indexes) → T (rises kept) → found id kept ≡ Some x
-    → nat_lt place.node.slot 18446744073709551616 ≡ true
-    → ((q : NamespaceId) → listed_in new q ≡ listed_in old q)
-    → ((q : MountId) → listed_on new q
-    ≡ relisted (stood_on q x.mount_point) (same_id q place.mount) id (listed_on old q))
-    → ((q : Location) → listed_at new q ≡ relisted (stood_at q x.mount_point) (same_place q place) id (listed_at old q))
-    → ((q : NodeRef) → listed_over new q
-    ≡ relisted (stood_over q x.mount_point) (same_inode q place.node) id (listed_over old q))
-    → IsIndexed old kept → IsIndexed new (map (change_kept id (moved_kept place)) kept)
-indexed-moved id place x kept old new rising there slot namespace parent location inode indexed = record {
-  namespace = λ q. namespace q ∙ indexed.namespace q
-      ∙ sym (numbers-changed (is_in q) id (moved_kept place) (λ n one. refl) kept);
-  parent = λ q. parent q
-      ∙ ap (relisted (stood_on q x.mount_point) (same_id q place.mount) id) (indexed.parent q)
-      ∙ relisted-numbers id (is_on q) (same_id q place.mount) (moved_kept place) (λ n one. refl) x kept rising there;
-  place = λ q. location q
-      ∙ ap (relisted (stood_at q x.mount_point) (same_place q place) id) (indexed.place q)
-      ∙ relisted-numbers id (is_at q) (same_place q place) (moved_kept place) (λ n one. refl) x kept rising there;
-  inode = λ q. inode q
-      ∙ ap (relisted (stood_over q x.mount_point) (same_inode q place.node) id) (indexed.inode q)
-      ∙ relisted-numbers id (is_over q) (same_inode q place.node) (moved_kept place)
-      (λ n one. refl) x kept rising there;
-  slots = slots-moved id place kept slot indexed.slots;
-}
+module _ (id : MountId) (point : Option Location) (x : Mounted) (kept : List (MountId × Mounted))
+    (rising : T (rises kept)) (there : found id kept ≡ Some x) where
+  pub parent-placed : (q : MountId)
+      → relisted (stood_on q x.mount_point) (stood_on q point) id (numbers_where (is_on q) kept)
+      ≡ numbers_where (is_on q) (map (change_kept id (placed_kept point)) kept)
+  parent-placed q =
+      relisted-numbers id (is_on q) (stood_on q point) (placed_kept point) (λ n one. refl) x kept rising there
+
+  pub place-placed : (q : Location)
+      → relisted (stood_at q x.mount_point) (stood_at q point) id (numbers_where (is_at q) kept)
+      ≡ numbers_where (is_at q) (map (change_kept id (placed_kept point)) kept)
+  place-placed q =
+      relisted-numbers id (is_at q) (stood_at q point) (placed_kept point) (λ n one. refl) x kept rising there
+
+  pub inode-placed : (q : NodeRef)
+      → relisted (stood_over q x.mount_point) (stood_over q point) id (numbers_where (is_over q) kept)
+      ≡ numbers_where (is_over q) (map (change_kept id (placed_kept point)) kept)
+  inode-placed q =
+      relisted-numbers id (is_over q) (stood_over q point) (placed_kept point) (λ n one. refl) x kept rising there
+
+  pub indexed-placed : (old new : Indexes) → has_small_slot point ≡ true
+      → ((q : NamespaceId) → listed_in new q ≡ listed_in old q)
+      → ((q : MountId) → listed_on new q
+      ≡ relisted (stood_on q x.mount_point) (stood_on q point) id (listed_on old q))
+      → ((q : Location) → listed_at new q
+      ≡ relisted (stood_at q x.mount_point) (stood_at q point) id (listed_at old q))
+      → ((q : NodeRef) → listed_over new q
+      ≡ relisted (stood_over q x.mount_point) (stood_over q point) id (listed_over old q))
+      → IsIndexed old kept → IsIndexed new (map (change_kept id (placed_kept point)) kept)
+  indexed-placed old new slot namespace parent location inode indexed = record {
+    namespace = λ q. namespace q ∙ indexed.namespace q
+        ∙ sym (numbers-changed (is_in q) id (placed_kept point) (λ n one. refl) kept);
+    parent = λ q. parent q
+        ∙ ap (relisted (stood_on q x.mount_point) (stood_on q point) id) (indexed.parent q) ∙ parent-placed q;
+    place = λ q. location q
+        ∙ ap (relisted (stood_at q x.mount_point) (stood_at q point) id) (indexed.place q) ∙ place-placed q;
+    inode = λ q. inode q
+        ∙ ap (relisted (stood_over q x.mount_point) (stood_over q point) id) (indexed.inode q) ∙ inode-placed q;
+    slots = slots-placed id point kept slot indexed.slots;
+  }
 
 -- what is kept of a mount in another namespace
 abbrev pub rehomed_kept : NamespaceId → Mounted → Mounted

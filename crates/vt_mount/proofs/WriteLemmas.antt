@@ -109,11 +109,14 @@ unchanged id (one ∷ kept) = λ i. (one.0, by (same_id id one.0) i) ∷ unchang
     by true = refl
     by false = refl
 
+pub order-unwritten : (id : MountId) (es new : List (MountId × Mounted)) → IsWritten id (λ one. one) es new
+    → in_order new ≡ in_order es
+order-unwritten id es new writes = in_order-changed id (λ one. one) es new writes ∙ unchanged id (in_order es)
+
 pub entries-unwritten : (id : MountId) (es new : List (MountId × Mounted)) (old : List MountEntry)
     → IsWritten id (λ one. one) es new → entries_of es ≡ old
     → entries_of new ≡ old
-entries-unwritten id es new old writes is = ap (map entry_of)
-    (in_order-changed id (λ one. one) es new writes ∙ unchanged id (in_order es)) ∙ is
+entries-unwritten id es new old writes is = ap (map entry_of) (order-unwritten id es new writes) ∙ is
 
 -- Counted and counted no more
 

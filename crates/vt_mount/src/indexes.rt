@@ -1,7 +1,8 @@
 //! The lists of mounts by namespace, parent, mount point and inode.
-ghost use Rattle.std.specs.Prelude.{◌≡◌, [], nat_lt, true, IfOk, OnErr, OnOk};
+ghost use Rattle.std.specs.Prelude.{◌≡◌, ◌≤◌, [], length, nat_lt, true, IfOk, IfSome, OnErr, OnOk};
 ghost use Rattle.vt_location.specs.declared.numbers.MountId.{MountId};
 ghost use Rattle.vt_location.specs.declared.numbers.NamespaceId.{NamespaceId};
+ghost use Rattle.vt_mount.specs.Capacity.{KeepsCapacity, capacity_of};
 ghost use Rattle.vt_mount.specs.Listed.{has_room, same_id};
 ghost use Rattle.vt_location.specs.declared.locations.Location.{Location};
 ghost use Rattle.vt_location.specs.declared.locations.NodeRef.{NodeRef};
@@ -126,11 +127,68 @@ impl Indexes {
         ensures place_err { OnErr result ((q : Location) → listed_at self.new q ≡ listed_at self.old q) }
         ensures inode_err { OnErr result ((q : NodeRef) → listed_over self.new q ≡ listed_over self.old q) }
     {
+        self.shift(was, place, mount)?;
+        self.drop_empty(was);
+        Ok(())
+    }
+
+    /// The same, but the lists of the old mount point stay even if they are empty, so that the mount can go back.
+    pub(crate) fn shift(
+        &mut self,
+        was: Option<Location>,
+        place: Location,
+        mount: MountId,
+    ) -> Result<(), AllocError>
+        ensures slot { nat_lt place.node.slot 18446744073709551616 ≡ true }
+        ensures namespace { (q : NamespaceId) → listed_in self.new q ≡ listed_in self.old q }
+        ensures parent_ok { OnOk result ((q : MountId) → listed_on self.new q
+            ≡ relisted (stood_on q was) (same_id q place.mount) mount (listed_on self.old q)) }
+        ensures place_ok { OnOk result ((q : Location) → listed_at self.new q
+            ≡ relisted (stood_at q was) (same_place q place) mount (listed_at self.old q)) }
+        ensures inode_ok { OnOk result ((q : NodeRef) → listed_over self.new q
+            ≡ relisted (stood_over q was) (same_inode q place.node) mount (listed_over self.old q)) }
+        ensures parent_err { OnErr result ((q : MountId) → listed_on self.new q ≡ listed_on self.old q) }
+        ensures place_err { OnErr result ((q : Location) → listed_at self.new q ≡ listed_at self.old q) }
+        ensures inode_err { OnErr result ((q : NodeRef) → listed_over self.new q ≡ listed_over self.old q) }
+        ensures parent_capacity { KeepsCapacity same_id self.old.by_parent self.new.by_parent }
+        ensures place_capacity { KeepsCapacity same_place self.old.by_location self.new.by_location }
+        ensures inode_capacity { KeepsCapacity same_inode self.old.by_inode self.new.by_inode }
+    {
         self.prepare(place)?;
         self.take_out(was, mount);
         self.put_in(place, mount);
-        self.drop_empty(was);
         Ok(())
+    }
+
+    /// Moves a mount back to the lists of a mount point that it left, in which there is room. It does not allocate.
+    pub(crate) fn shift_back(
+        &mut self,
+        now: Option<Location>,
+        was: Option<Location>,
+        mount: MountId,
+    )
+        requires parent { (q : MountId) → length (relisted (stood_on q now) (stood_on q was) mount (listed_on self.old q))
+            ≤ capacity_of same_id q self.old.by_parent }
+        requires place { (q : Location) → length (relisted (stood_at q now) (stood_at q was) mount (listed_at self.old q))
+            ≤ capacity_of same_place q self.old.by_location }
+        requires inode { (q : NodeRef) → length (relisted (stood_over q now) (stood_over q was) mount
+            (listed_over self.old q)) ≤ capacity_of same_inode q self.old.by_inode }
+        ensures slot { IfSome was (λ place. nat_lt place.node.slot 18446744073709551616 ≡ true) }
+        ensures namespace { (q : NamespaceId) → listed_in self.new q ≡ listed_in self.old q }
+        ensures parent { (q : MountId) → listed_on self.new q
+            ≡ relisted (stood_on q now) (stood_on q was) mount (listed_on self.old q) }
+        ensures place { (q : Location) → listed_at self.new q
+            ≡ relisted (stood_at q now) (stood_at q was) mount (listed_at self.old q) }
+        ensures inode { (q : NodeRef) → listed_over self.new q
+            ≡ relisted (stood_over q now) (stood_over q was) mount (listed_over self.old q) }
+        ensures parent_capacity { KeepsCapacity same_id self.old.by_parent self.new.by_parent }
+        ensures place_capacity { KeepsCapacity same_place self.old.by_location self.new.by_location }
+        ensures inode_capacity { KeepsCapacity same_inode self.old.by_inode self.new.by_inode }
+    {
+        self.take_out(now, mount);
+        if let Some(place) = was {
+            self.put_in(place, mount);
+        }
     }
 
     /// Moves a mount from the list of its old namespace to that of the new one, in the order of numbers.
@@ -190,6 +248,9 @@ impl Indexes {
         ensures parent_room { OnOk result (has_room same_id place.mount self.new.by_parent ≡ true) }
         ensures place_room { OnOk result (has_room same_place place self.new.by_location ≡ true) }
         ensures inode_room { OnOk result (has_room same_inode place.node self.new.by_inode ≡ true) }
+        ensures parent_capacity { KeepsCapacity same_id self.old.by_parent self.new.by_parent }
+        ensures place_capacity { KeepsCapacity same_place self.old.by_location self.new.by_location }
+        ensures inode_capacity { KeepsCapacity same_inode self.old.by_inode self.new.by_inode }
     {
         self.by_parent.prepare(place.mount)?;
         self.by_location.prepare(place)?;
@@ -209,6 +270,9 @@ impl Indexes {
             ≡ true → has_room same_place q self.new.by_location ≡ true }
         ensures inode_room { (q : NodeRef) → has_room same_inode q self.old.by_inode
             ≡ true → has_room same_inode q self.new.by_inode ≡ true }
+        ensures parent_capacity { KeepsCapacity same_id self.old.by_parent self.new.by_parent }
+        ensures place_capacity { KeepsCapacity same_place self.old.by_location self.new.by_location }
+        ensures inode_capacity { KeepsCapacity same_inode self.old.by_inode self.new.by_inode }
     {
         if let Some(was) = was {
             self.by_parent.take_out(&was.mount, mount);
@@ -230,14 +294,17 @@ impl Indexes {
             → listed_at self.new q ≡ put_in_place (same_place q place) mount (listed_at self.old q) }
         ensures inode { (q : NodeRef) → listed_over self.new q
             ≡ put_in_place (same_inode q place.node) mount (listed_over self.old q) }
+        ensures parent_capacity { KeepsCapacity same_id self.old.by_parent self.new.by_parent }
+        ensures place_capacity { KeepsCapacity same_place self.old.by_location self.new.by_location }
+        ensures inode_capacity { KeepsCapacity same_inode self.old.by_inode self.new.by_inode }
     {
         self.by_parent.put_in(&place.mount, mount);
         self.by_location.put_in(&place, mount);
         self.by_inode.put_in(&place.node, mount);
     }
 
-    // Drops the lists at a location that are empty.
-    fn drop_empty(&mut self, was: Option<Location>)
+    /// Drops the lists at a location that are empty.
+    pub(crate) fn drop_empty(&mut self, was: Option<Location>)
         ensures namespace { self.new.by_namespace ≡ self.old.by_namespace }
         ensures parent { (q : MountId) → listed_on self.new q ≡ listed_on self.old q }
         ensures place { (q : Location) → listed_at self.new q ≡ listed_at self.old q }

@@ -6,7 +6,9 @@ mod indexes;
 mod lists;
 mod mounted;
 mod mounts;
+mod moving;
 mod places;
 mod trees;
 
 pub use mounts::Mounts;
+pub use moving::{NewPoint, OldPoint};

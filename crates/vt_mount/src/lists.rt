@@ -1,5 +1,6 @@
 //! Lists of mounts under keys.
 ghost use Rattle.std.specs.Prelude.{◌≡◌, ◌++◌, ◌∷◌, [], filter, if◌then◌else◌, not, true, vec_capacity, vec_len, ◌<◌, ◌≤◌, IfOk, OnErr, OnOk};
+ghost use Rattle.vt_mount.specs.Capacity.{KeepsCapacity};
 ghost use Rattle.vt_mount.specs.Listed.{has_room, inserted, listed, same_id};
 
 use indexmap::IndexMap;
@@ -66,6 +67,7 @@ impl<K: Eq + Hash + Copy + Clone + Drop> MountsBy<K> {
     pub(crate) fn prepare(&mut self, key: K) -> Result<(), AllocError>
         ensures same { (q : K) → listed K.eq q self.new ≡ listed K.eq q self.old }
         ensures ok { OnOk result (has_room K.eq key self.new ≡ true) }
+        ensures capacity { KeepsCapacity K.eq self.old self.new }
     {
         if let Some(list) = self.lists.get_mut(&key) {
             return list.reserve(1);
@@ -82,6 +84,7 @@ impl<K: Eq + Hash + Copy + Clone + Drop> MountsBy<K> {
             ≡ (if K.eq q key.now then filter (λ other. not (same_id other mount)) (listed K.eq q self.old)
             else listed K.eq q self.old) }
         ensures room { (q : K) → has_room K.eq q self.old ≡ true → has_room K.eq q self.new ≡ true }
+        ensures capacity { KeepsCapacity K.eq self.old self.new }
     {
         if let Some(list) = self.lists.get_mut(key) {
             take(list, mount);
@@ -91,8 +94,9 @@ impl<K: Eq + Hash + Copy + Clone + Drop> MountsBy<K> {
     /// Inserts a mount into the list under a key, in the order of numbers. It does not allocate.
     pub(crate) fn put_in(&mut self, key: &K, mount: MountId)
         requires { has_room K.eq key.now self.old ≡ true }
-        ensures { (q : K) → listed K.eq q self.new
+        ensures inserted { (q : K) → listed K.eq q self.new
             ≡ (if K.eq q key.now then inserted mount (listed K.eq q self.old) else listed K.eq q self.old) }
+        ensures capacity { KeepsCapacity K.eq self.old self.new }
     {
         if let Some(list) = self.lists.get_mut(key) {
             insert_in_order(list, mount);
@@ -136,7 +140,8 @@ fn take(list: &mut Vec<MountId>, mount: MountId)
 // Inserts a mount before the first of a list that has a greater number.
 fn insert_in_order(list: &mut Vec<MountId>, mount: MountId)
     requires { vec_len list.old < vec_capacity list.old }
-    ensures { list.new.items ≡ inserted mount list.old.items }
+    ensures items { list.new.items ≡ inserted mount list.old.items }
+    ensures capacity { vec_capacity list.old ≤ vec_capacity list.new }
 {
     let place = list
         .iter()

@@ -7,8 +7,8 @@ use Rattle.vt_mount.specs.Listed.{inserted}
 use Rattle.vt_mount.proofs.ListLemmas.{inserted-there}
 use Rattle.vt_mount.proofs.lists.insert_in_order.Goals as goal
 
-pub returns : goal.returns
-returns c =
+pub returns-clause-items : goal.returns-clause-items
+returns-clause-items c =
     let ids = c.deref.result.now in
     let list = c.args.list.now.items in
     let place = c.unwrap_or-place.result in

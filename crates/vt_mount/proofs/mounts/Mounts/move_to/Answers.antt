@@ -4,7 +4,7 @@ use Rattle.vt_location.specs.Locations.{location_of}
 use Rattle.vt_mount.specs.Indexed.{IsIndexed}
 use Rattle.vt_mount.specs.MountsValue.{MountEntry, in_order}
 use Rattle.vt_mount.proofs.KeptLemmas.{is-refused, not-err}
-use Rattle.vt_mount.proofs.MoveLemmas.{indexed-moved, indexed-same, moved_kept}
+use Rattle.vt_mount.proofs.MoveLemmas.{indexed-placed, indexed-same, moved_kept}
 use Rattle.vt_mount.proofs.OrderLemmas.{found-in_order, in_order-changed, rises-in_order}
 use Rattle.vt_mount.proofs.WriteLemmas.{entries-unwritten, entries-written, indexed-written, is-written, not-written}
 use Rattle.vt_mount.proofs.mounts.Mounts.move_to.Goals as goal
@@ -55,9 +55,9 @@ invariant_of-self-2 c =
     subst (IsIndexed c.relist.new.self)
     (sym (in_order-changed c.args.id change map.entries _
     (is-written c.args.id change map _ c.in-Some.kept.now _ there refl (c.get_mut.follows.holds _))))
-    (indexed-moved c.args.id c.args.place c.in-Some.kept.now
-    (in_order map.entries) c.self.inside.indexes c.relist.new.self (rises-in_order map.entries)
-    (found-in_order c.args.id map.entries ∙ there) c.relist.ensures.slot c.relist.ensures.namespace
+    (indexed-placed c.args.id (Some c.args.place) c.in-Some.kept.now (in_order map.entries)
+    (rises-in_order map.entries) (found-in_order c.args.id map.entries ∙ there)
+    c.self.inside.indexes c.relist.new.self c.relist.ensures.slot c.relist.ensures.namespace
     (not-err c.relist.result fine c.relist.ensures.parent_ok)
     (not-err c.relist.result fine c.relist.ensures.place_ok)
     (not-err c.relist.result fine c.relist.ensures.inode_ok)
