@@ -14,7 +14,7 @@ ghost use Rattle.vt_group.specs.Grouping.{propagation_in};
 ghost use Rattle.vt_group.specs.Together.{GrowsTo, Retypes, Shares, TakesAway, new_group, pair_of, typed};
 ghost use Rattle.vt_location.specs.MountValue.{propagation_of};
 ghost use Rattle.vt_location.specs.Numbers.{counted};
-ghost use Rattle.vt_propagate.specs.Retyping.{FollowsTypes, FollowsTypesLeft, shared_by, typed_entry, with_type_in};
+ghost use Rattle.vt_retype.specs.Retyping.{FollowsTypes, FollowsTypesLeft, shared_by, typed_entry, with_type_in};
 
 use vt_group::{Groups, NewGroup};
 use vt_location::{GroupId, Mount, MountId, Propagation};
@@ -95,8 +95,8 @@ pub fn add(
     Ok(())
 }
 
-// Every mount gets the type that the groups tell.
-fn follow(mounts: &mut Mounts, groups: &Groups)
+/// Every mount gets the type that the groups tell; an unbindable one stays so. It does not allocate.
+pub fn follow(mounts: &mut Mounts, groups: &Groups)
     ensures { mounts.new ≡ map (typed_entry groups.now) mounts.old }
 {
     mounts.retype(|id, kind| follows(groups, id, kind));

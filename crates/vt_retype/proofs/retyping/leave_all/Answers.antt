@@ -1,7 +1,7 @@
 use Rattle.std.proofs.Common.{map}
 use Rattle.vt_location.specs.Numbers.{counted}
-use Rattle.vt_propagate.proofs.Retyped.{left_typed}
-use Rattle.vt_propagate.proofs.retyping.leave_all.Goals as goal
+use Rattle.vt_retype.proofs.Retyped.{left_typed}
+use Rattle.vt_retype.proofs.retyping.leave_all.Goals as goal
 
 pub returns-else-leave_all-clause-types : goal.returns-else-leave_all-clause-types
 returns-else-leave_all-clause-types c ordered none typed =

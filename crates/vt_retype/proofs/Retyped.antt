@@ -16,7 +16,7 @@ use Rattle.vt_location.specs.declared.mounts.Mount.{Mount}
 use Rattle.vt_location.specs.declared.numbers.GroupId.{GroupId}
 use Rattle.vt_location.specs.declared.numbers.MountId.{MountId}
 use Rattle.vt_mount.specs.MountsValue.{MountEntry, changed}
-use Rattle.vt_propagate.specs.Retyping.{AreTyped, HaveNoSource, shared_by, typed_entry, with_kind, with_type_in}
+use Rattle.vt_retype.specs.Retyping.{AreTypedBut, HaveNoSource, shared_by, typed_entry, with_kind, with_type_in}
 
 module _ (groups : Grouping) (numbers : List ℕ) (number : ℕ) where
   abbrev told : MountEntry → MountEntry
@@ -91,7 +91,7 @@ none_shared groups (entry ∷ entries) = ap (λ rest. entry ∷ rest) (none_shar
 -- where no group ended, the mounts that left have the types that the groups tell, as all others
 pub left_typed : (before now : Grouping) (numbers : List ℕ) → LeaveAlone before now numbers
     → (entries : List MountEntry)
-    → HaveNoSource numbers entries → AreTyped before numbers entries → entries ≡ map (typed_entry now) entries
+    → HaveNoSource numbers entries → AreTypedBut before numbers entries → entries ≡ map (typed_entry now) entries
 left_typed before now numbers alone entries none typed =
     sym (map_same (typed_entry now) entries (λ entry m. by entry m (is_among nat_eq entry.mount.number numbers) refl))
   where
@@ -120,7 +120,7 @@ left_typed before now numbers alone entries none typed =
         → typed_entry before one ≡ one) entries typed entry m e
 
 -- where each mount has the type that the groups tell, it has it
-pub typed_already : (groups : Grouping) (entries : List MountEntry) → AreTyped groups [] entries
+pub typed_already : (groups : Grouping) (entries : List MountEntry) → AreTypedBut groups [] entries
     → entries ≡ map (typed_entry groups) entries
 typed_already groups entries typed =
     sym (map_same (typed_entry groups) entries (λ entry m.

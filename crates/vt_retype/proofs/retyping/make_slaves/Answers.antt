@@ -1,7 +1,7 @@
 use Rattle.std.proofs.Common.{ap, map, sym, ◌∙◌}
-use Rattle.vt_propagate.specs.Retyping.{typed_entry}
-use Rattle.vt_propagate.proofs.Retyped.{typed_already}
-use Rattle.vt_propagate.proofs.retyping.make_slaves.Goals as goal
+use Rattle.vt_retype.specs.Retyping.{typed_entry}
+use Rattle.vt_retype.proofs.Retyped.{typed_already}
+use Rattle.vt_retype.proofs.retyping.make_slaves.Goals as goal
 
 pub returns-else-make_slaves-clause-types : goal.returns-else-make_slaves-clause-types
 returns-else-make_slaves-clause-types c typed =

@@ -1,0 +1,6 @@
+//! Types of mounts that change with their peer groups: mount_namespaces(7).
+#![tactic(auto)]
+
+mod retyping;
+
+pub use retyping::{add, follow, leave_all, make_slaves, share};
