@@ -1,1 +1,3 @@
 pub mod Retyped
+pub mod TypesHanded
+pub mod Left
