@@ -29,7 +29,7 @@ use Rattle.vt_propagate.specs.Copying as planned
 use Rattle.vt_propagate.specs.Falling.{moved_by}
 use Rattle.vt_propagate.specs.Planned.{numbers_at}
 use Rattle.vt_propagate.specs.Pushing.{MovesOnce}
-use Rattle.vt_propagate.specs.Retyping.{with_kind, with_type_in}
+use Rattle.vt_retype.specs.Retyping.{with_kind, with_type_in}
 use Rattle.vt_run_laws.specs.Handed.{is_counted_before}
 use Rattle.vt_spec.specs.Language.Calls.{TaskName}
 use Rattle.vt_spec.specs.Lists.{Fresh, folded, is_among}

@@ -14,7 +14,7 @@ use Rattle.vt_propagate.specs.declared.copying.Graft.{Graft}
 use Rattle.vt_propagate.specs.Attaching.{AttachesBy}
 use Rattle.vt_propagate.specs.Planned.{planned_copies}
 use Rattle.vt_propagate.specs.Pushing.{EachOnce, KeepsLeaver, MovesOnce, OneChild}
-use Rattle.vt_propagate.specs.Retyping.{with_type_in}
+use Rattle.vt_retype.specs.Retyping.{with_type_in}
 use Rattle.vt_propagate.specs.Seen.{IsSeen}
 use Rattle.vt_spec.specs.Lists.{folded}
 use Rattle.vt_spec.specs.Machine.Attach.{parts_of}

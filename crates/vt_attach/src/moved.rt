@@ -22,8 +22,8 @@ use vt_fs::Filesystems;
 use vt_group::Groups;
 use vt_location::Mount;
 use vt_mount::Mounts;
-use vt_propagate::retyping::add;
 use vt_propagate::{Counts, Graft, NewPoint, attachment};
+use vt_retype::add;
 use vt_spec::errors::{Deny, Rule};
 
 /// Moves a tree to its destination and attaches copies of it at the receivers there, with the groups that they form.

@@ -5,7 +5,7 @@ ghost use Rattle.vt_group.specs.Together.{Shares, pair_of};
 ghost use Rattle.vt_location.specs.MountValue.{propagation_of};
 ghost use Rattle.vt_location.specs.Numbers.{counted};
 ghost use Rattle.vt_mount.specs.MountsValue.{retyped};
-ghost use Rattle.vt_propagate.specs.Retyping.{shared_by};
+ghost use Rattle.vt_retype.specs.Retyping.{shared_by};
 ghost use Rattle.vt_request.specs.Requests.{type_word_of};
 ghost use Rattle.vt_spec.specs.declared.errors.Rule.TheVariants.{S5};
 ghost use Rattle.vt_spec.specs.Errors.{denial};
@@ -20,8 +20,8 @@ use vt_cred::MountFlags;
 use vt_group::Groups;
 use vt_location::{GroupId, MountId, Propagation};
 use vt_mount::Mounts;
-use vt_propagate::retyping::{leave_all, make_slaves, share};
 use vt_request::{TaskName, TypeWord};
+use vt_retype::{leave_all, make_slaves, share};
 use vt_spec::errors::{Deny, Rule};
 
 impl World {

@@ -22,7 +22,7 @@ use Rattle.vt_propagate.specs.declared.lazily.Event.{Event}
 use Rattle.vt_propagate.specs.Falling.{LeavesBy, left_by, moved_by, point_of}
 use Rattle.vt_propagate.specs.LazyEvents.{all_placed, detached_by, placed}
 use Rattle.vt_propagate.specs.LazyUnmounts.{going_if_there, gone_by}
-use Rattle.vt_propagate.specs.Retyping.{FollowsTypesLeft, HaveNoSource}
+use Rattle.vt_retype.specs.Retyping.{FollowsTypesLeft, HaveNoSource}
 use Rattle.vt_propagate.specs.Seen.{IsSeen}
 use Rattle.vt_propagate.proofs.Found.{counts, numbers}
 use Rattle.vt_propagate.proofs.Seeing.{detaching_is_seen}

@@ -9,7 +9,6 @@ pub mod GoneSets
 pub mod Pushed
 pub mod PushedOnce
 pub mod Attached
-pub mod Retyped
 pub mod Seeing
 pub mod Moved
 pub mod Places

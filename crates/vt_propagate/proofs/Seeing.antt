@@ -24,7 +24,7 @@ use Rattle.vt_mount_laws.proofs.GroupsLiving.{all_live, tested_live}
 use Rattle.vt_mount_laws.proofs.GroupsRetyped as retyping
 use Rattle.vt_propagate.specs.Falling.{left_by, moved_by}
 use Rattle.vt_propagate.specs.Laws.{DetachingIsSeen, RetypingIsSeen, SharingIsSeen, SlavesAreSeen}
-use Rattle.vt_propagate.specs.Retyping.{AreTyped, shared_by, typed_entry, with_kind}
+use Rattle.vt_retype.specs.Retyping.{AreTypedBut, shared_by, typed_entry, with_kind}
 use Rattle.vt_propagate.specs.Seen.{IsSeen}
 
 kind_told : (kind told : Propagation ℕ) → told ≡ shown kind → (if is_unbindable kind then Unbindable else told) ≡ kind
@@ -51,7 +51,7 @@ module _ (world : World ℕ) (kept : List MountEntry) (before : Grouping) (seen 
       → mounts_in left ≡ map change world.mounts
       → ((mount : Mount ℕ) → is_among nat_eq (change mount).number numbers ≡ false
       → ((change mount).number ≡ mount.number) × ((change mount).propagation ≡ mount.propagation))
-      → AreTyped before numbers left
+      → AreTypedBut before numbers left
   are_typed numbers left change is keeps =
       all_from_among (λ entry. is_among nat_eq entry.mount.number numbers ≡ false
       → typed_entry before entry ≡ entry) left (λ entry m apart.

@@ -11,7 +11,7 @@ use Rattle.vt_group.specs.Grouping.{Grouping, LacksGroup, numbers_of}
 use Rattle.vt_group.specs.Together.{Retypes, Shares, TakesAway}
 use Rattle.vt_mount.specs.MountsValue.{MountEntry, mounts_in}
 use Rattle.vt_propagate.specs.Falling.{LeavesBy, left_by}
-use Rattle.vt_propagate.specs.Retyping.{FollowsTypes, shared_by}
+use Rattle.vt_retype.specs.Retyping.{FollowsTypes, shared_by}
 use Rattle.vt_propagate.specs.Seen.{IsSeen}
 
 -- Mounts are detached, and leave their groups.

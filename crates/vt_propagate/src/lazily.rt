@@ -19,12 +19,12 @@ ghost use Rattle.vt_propagate.specs.Seen.{IsSeen};
 
 use crate::detaching::Detachment;
 use crate::falling::{NewPoint, points_left};
-use crate::retyping::leave_all;
 use crate::unmounting::going;
 use std::alloc::{AllocError, Global};
 use vt_group::Groups;
 use vt_location::MountId;
 use vt_mount::Mounts;
+use vt_retype::leave_all;
 use vt_spec::errors::{Deny, Rule};
 
 // The event of one mount of the tree: the mount, and how many ancestors it has.

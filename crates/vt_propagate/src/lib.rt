@@ -14,7 +14,6 @@ mod numbering;
 mod pushing;
 mod reach;
 mod receiving;
-pub mod retyping;
 mod unmounting;
 
 pub use attaching::{Plan, attachment};

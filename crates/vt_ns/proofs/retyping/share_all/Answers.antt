@@ -2,7 +2,7 @@ use Rattle.std.proofs.Common.{ap, map, sym, ℕ, ◌∙◌}
 use Rattle.vt_group.specs.Together.{pair_of}
 use Rattle.vt_letting_go.proofs.Lists.{map_twice}
 use Rattle.vt_location.specs.Numbers.{counted}
-use Rattle.vt_propagate.specs.Retyping.{shared_by}
+use Rattle.vt_retype.specs.Retyping.{shared_by}
 use Rattle.vt_ns.proofs.RetypedMounts.{each_numbered}
 use Rattle.vt_ns.proofs.retyping.share_all.Goals as goal
 

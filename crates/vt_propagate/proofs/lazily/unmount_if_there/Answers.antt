@@ -7,7 +7,7 @@ use Rattle.vt_spec.specs.Machine.Detach.{taken_away}
 use Rattle.vt_spec.specs.Machine.Mounts.{mount_in}
 use Rattle.vt_propagate.specs.Falling.{LeavesBy, moved_by, point_of}
 use Rattle.vt_propagate.specs.LazyEvents.{detached_by}
-use Rattle.vt_propagate.specs.Retyping.{FollowsTypesLeft}
+use Rattle.vt_retype.specs.Retyping.{FollowsTypesLeft}
 use Rattle.vt_propagate.specs.Seen.{IsSeen}
 use Rattle.vt_propagate.proofs.Found.{counts}
 use Rattle.vt_propagate.proofs.LazyTrying.{all_fall, tried_is_seen, tried_world}

@@ -2,9 +2,9 @@ use Rattle.std.proofs.Common.{ap, map, ◌∙◌}
 use Rattle.std.proofs.lemmas.List.{take_all}
 use Rattle.vt_spec.specs.Lists.{folded}
 use Rattle.vt_group.specs.Together.{typed}
-use Rattle.vt_propagate.specs.Retyping.{with_type_in}
-use Rattle.vt_propagate.proofs.Retyped.{typed_next}
-use Rattle.vt_propagate.proofs.retyping.add.Goals as goal
+use Rattle.vt_retype.specs.Retyping.{with_type_in}
+use Rattle.vt_retype.proofs.Retyped.{typed_next}
+use Rattle.vt_retype.proofs.retyping.add.Goals as goal
 
 pub loop-mount-preserved : goal.loop-mount-preserved
 loop-mount-preserved c =

@@ -1,22 +1,21 @@
 -- Mounts that get types one after another.
-use Rattle.std.proofs.Common.{◌≡◌, None, is_some, true≢false, ℕ, Bool, true, false, ◌||◌, List, [], ◌∷◌, ◌++◌, ◌+◌, ◌<◌, get_or, length, map, nat_eq, refl, ap, sym, take, ◌∙◌}
+use Rattle.std.proofs.Common.{◌≡◌, ℕ, Bool, true, false, ◌||◌, List, [], ◌∷◌, ◌++◌, ◌+◌, ◌<◌, get_or, length, map, nat_eq, refl, ap, sym, take, ◌∙◌}
 use Rattle.std.proofs.lemmas.List.{map-append, take_more}
 use Rattle.std.specs.Prelude.{if◌then◌else◌}
 use Rattle.std.proofs.lemmas.Bool.{eqb-true}
 use Rattle.vt_spec.specs.Lists.{folded, is_among}
-use Rattle.vt_spec.specs.Machine.Mounts.{Propagation, is_unbindable, source_of}
-use Rattle.vt_spec.specs.Machine.Mounts.Propagation.{Private, Shared, Slave, Unbindable}
-use Rattle.vt_spec.proofs.Lists.{Among, among_from_all, map_same}
+use Rattle.vt_spec.specs.Machine.Mounts.{Propagation}
+use Rattle.vt_spec.proofs.Lists.{among_from_all, map_same}
 use Rattle.vt_group.specs.Grouping.{Grouping, propagation_in}
 use Rattle.vt_group.proofs.Together.{eqb-swapped, is_among-snoc}
 use Rattle.vt_group.proofs.Adding.{folded_more}
-use Rattle.vt_group.specs.Together.{LeaveAlone, typed}
+use Rattle.vt_group.specs.Together.{typed}
 use Rattle.vt_location.specs.Numbers.{counted}
 use Rattle.vt_location.specs.declared.mounts.Mount.{Mount}
 use Rattle.vt_location.specs.declared.numbers.GroupId.{GroupId}
 use Rattle.vt_location.specs.declared.numbers.MountId.{MountId}
 use Rattle.vt_mount.specs.MountsValue.{MountEntry, changed}
-use Rattle.vt_propagate.specs.Retyping.{AreTyped, HaveNoSource, shared_by, typed_entry, with_kind, with_type_in}
+use Rattle.vt_retype.specs.Retyping.{AreTypedBut, shared_by, typed_entry, with_kind, with_type_in}
 
 module _ (groups : Grouping) (numbers : List ℕ) (number : ℕ) where
   abbrev told : MountEntry → MountEntry
@@ -88,39 +87,8 @@ pub none_shared : (groups : Grouping) (entries : List MountEntry) → entries �
 none_shared groups [] = refl
 none_shared groups (entry ∷ entries) = ap (λ rest. entry ∷ rest) (none_shared groups entries)
 
--- where no group ended, the mounts that left have the types that the groups tell, as all others
-pub left_typed : (before now : Grouping) (numbers : List ℕ) → LeaveAlone before now numbers
-    → (entries : List MountEntry)
-    → HaveNoSource numbers entries → AreTyped before numbers entries → entries ≡ map (typed_entry now) entries
-left_typed before now numbers alone entries none typed =
-    sym (map_same (typed_entry now) entries (λ entry m. by entry m (is_among nat_eq entry.mount.number numbers) refl))
-  where
-    told_now : (number : ℕ) (b : Bool) → is_among nat_eq number numbers ≡ b
-        → propagation_in now number ≡ (if b then Private else propagation_in before number)
-    told_now number b e = alone.types number ∙ ap (λ c. if c then Private else propagation_in before number) e
-
-    left_alone : (number : ℕ) (kind : Propagation ℕ) → source_of kind ≡ None → propagation_in now number ≡ Private
-        → (if is_unbindable kind then Unbindable else propagation_in now number) ≡ kind
-    left_alone number (Shared group) e told = absurd (true≢false (ap is_some e))
-    left_alone number (Slave master) e told = absurd (true≢false (ap is_some e))
-    left_alone number Private e told = told
-    left_alone number Unbindable e told = refl
-
-    by : (entry : MountEntry) → Among entry entries → (b : Bool) → is_among nat_eq entry.mount.number numbers ≡ b
-        → typed_entry now entry ≡ entry
-    by entry m true e =
-        λ i. with_kind (left_alone entry.mount.number entry.mount.propagation
-        (among_from_all (λ (one : MountEntry). is_among nat_eq one.mount.number numbers ≡ true
-        → source_of one.mount.propagation ≡ None) entries none entry m e)
-        (told_now entry.mount.number true e) i) entry
-    by entry m false e =
-        (λ i. with_kind (if is_unbindable entry.mount.propagation then Unbindable
-        else told_now entry.mount.number false e i) entry)
-        ∙ among_from_all (λ (one : MountEntry). is_among nat_eq one.mount.number numbers ≡ false
-        → typed_entry before one ≡ one) entries typed entry m e
-
 -- where each mount has the type that the groups tell, it has it
-pub typed_already : (groups : Grouping) (entries : List MountEntry) → AreTyped groups [] entries
+pub typed_already : (groups : Grouping) (entries : List MountEntry) → AreTypedBut groups [] entries
     → entries ≡ map (typed_entry groups) entries
 typed_already groups entries typed =
     sym (map_same (typed_entry groups) entries (λ entry m.

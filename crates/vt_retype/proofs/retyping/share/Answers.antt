@@ -1,9 +1,9 @@
 use Rattle.std.proofs.Common.{ap, map, ◌∙◌}
 use Rattle.std.proofs.lemmas.List.{take_all}
 use Rattle.vt_location.specs.Numbers.{counted}
-use Rattle.vt_propagate.specs.Retyping.{shared_by}
-use Rattle.vt_propagate.proofs.Retyped.{none_shared, shared_next}
-use Rattle.vt_propagate.proofs.retyping.share.Goals as goal
+use Rattle.vt_retype.specs.Retyping.{shared_by}
+use Rattle.vt_retype.proofs.Retyped.{none_shared, shared_next}
+use Rattle.vt_retype.proofs.retyping.share.Goals as goal
 
 pub loop-pair-init : goal.loop-pair-init
 loop-pair-init c = none_shared c.share.new.self c.args.mounts.now

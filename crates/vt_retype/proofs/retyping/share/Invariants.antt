@@ -1,7 +1,7 @@
 use Rattle.std.proofs.Common.{◌≡◌, map, take}
 use Rattle.vt_location.specs.Numbers.{counted}
-use Rattle.vt_propagate.specs.Retyping.{shared_by}
-use Rattle.vt_propagate.proofs.retyping.share.Given as goal
+use Rattle.vt_retype.specs.Retyping.{shared_by}
+use Rattle.vt_retype.proofs.retyping.share.Given as goal
 
 abbrev pub invariant-loop-pair : goal.invariant-loop-pair
 invariant-loop-pair l =

@@ -11,14 +11,18 @@ use Rattle.vt_mount.specs.MountsValue.{MountEntry, changed}
 abbrev pub typed_entry : Grouping → MountEntry → MountEntry
 typed_entry groups entry = record entry { mount = typed_by groups entry.mount }
 
--- each mount but these has the type that the groups tell
-abbrev pub AreTyped : Grouping → List ℕ → List MountEntry → Type 0
-AreTyped groups numbers entries =
+-- each mount has the type that the groups tell
+abbrev pub AreTyped : Grouping → List MountEntry → Type 0
+AreTyped groups entries = All (λ entry. typed_by groups entry.mount ≡ entry.mount) entries
+
+-- and each but these
+abbrev pub AreTypedBut : Grouping → List ℕ → List MountEntry → Type 0
+AreTypedBut groups numbers entries =
     All (λ entry. is_among nat_eq entry.mount.number numbers ≡ false → typed_entry groups entry ≡ entry) entries
 
 -- If each mount but these had the type that the groups told, each has the type that they tell now.
 abbrev pub FollowsTypes : Grouping → Grouping → List ℕ → List MountEntry → List MountEntry → Type 0
-FollowsTypes before now numbers old new = AreTyped before numbers old → new ≡ map (typed_entry now) old
+FollowsTypes before now numbers old new = AreTypedBut before numbers old → new ≡ map (typed_entry now) old
 
 -- these mounts are private or unbindable
 abbrev pub HaveNoSource : List ℕ → List MountEntry → Type 0
@@ -29,6 +33,10 @@ HaveNoSource numbers entries =
 abbrev pub FollowsTypesLeft : Grouping → Grouping → List ℕ → List MountEntry → List MountEntry → Type 0
 FollowsTypesLeft before now numbers old new =
     is_ordered before ≡ true → HaveNoSource numbers old → FollowsTypes before now numbers old new
+
+-- If each mount had the type that the groups told, each that is left has the type that they tell now.
+abbrev pub FollowTypes : Grouping → List MountEntry → Grouping → List MountEntry → List MountEntry → Type 0
+FollowTypes before old now left new = is_ordered before ≡ true → AreTyped before old → new ≡ map (typed_entry now) left
 
 -- one mount with another type
 abbrev pub with_kind : Propagation ℕ → MountEntry → MountEntry

@@ -2,20 +2,25 @@
 //! umount(2).
 //!
 //! The type of a mount is kept twice, in the mounts and in the groups. These functions change both; where a group ends,
-//! they set the types of the slaves that it leaves.
-ghost use Rattle.std.specs.Prelude.{[], ◌≡◌, if◌then◌else◌, IfErr, OnErr, OnOk, map};
+//! they set the types of the slaves that it leaves, and of no other mount.
+ghost use Rattle.std.specs.Prelude.{[], ◌≡◌, ⊤, ℕ, if◌then◌else◌, IfErr, None, OnErr, OnOk, map};
 ghost use Rattle.vt_spec.specs.declared.errors.Rule.TheVariants.{S5};
 ghost use Rattle.vt_spec.specs.Errors.{denial};
 ghost use Rattle.vt_spec.specs.Language.Calls.TypeWord.{ToPrivate, ToSlave, ToUnbindable};
 ghost use Rattle.vt_spec.specs.Lists.{folded};
-ghost use Rattle.vt_spec.specs.Machine.Mounts.{is_unbindable};
-ghost use Rattle.vt_spec.specs.Machine.Mounts.Propagation.{Unbindable};
-ghost use Rattle.vt_group.specs.Grouping.{propagation_in};
+ghost use Rattle.vt_spec.specs.Machine.Mounts.{group_of, is_unbindable};
+ghost use Rattle.vt_spec.specs.Machine.Mounts.Propagation.{Private, Shared, Slave, Unbindable};
+ghost use Rattle.vt_group.specs.Grouping.{Follows, propagation_in, with_propagation};
+ghost use Rattle.vt_group.specs.Leaving.{type_once_left, type_once_slave};
+ghost use Rattle.vt_group.specs.Steps.{retyped};
 ghost use Rattle.vt_group.specs.Together.{GrowsTo, Retypes, Shares, TakesAway, new_group, pair_of, typed};
 ghost use Rattle.vt_location.specs.MountValue.{propagation_of};
 ghost use Rattle.vt_location.specs.Numbers.{counted};
-ghost use Rattle.vt_propagate.specs.Retyping.{FollowsTypes, FollowsTypesLeft, shared_by, typed_entry, with_type_in};
+ghost use Rattle.vt_mount.specs.MountsValue.{changed};
+ghost use Rattle.vt_retype.specs.Leaving.{HaveSources, OnlyTypesChange, once_left};
+ghost use Rattle.vt_retype.specs.Retyping.{FollowsTypes, FollowsTypesLeft, shared_by, typed_entry, with_type_in};
 
+use crate::handing::hand_on;
 use vt_group::{Groups, NewGroup};
 use vt_location::{GroupId, Mount, MountId, Propagation};
 use vt_mount::Mounts;
@@ -30,10 +35,24 @@ pub fn leave_all(mounts: &mut Mounts, groups: &mut Groups, ids: &[MountId])
     ensures types { FollowsTypesLeft groups.old groups.new
         (map (λ id. counted id.count) ids.now) mounts.old mounts.new }
 {
-    // Where no group ends, no other mount gets another type.
-    if groups.leave_all(ids) {
-        follow(mounts, groups);
+    for id in ids {
+        leave(mounts, groups, *id);
     }
+}
+
+/// A mount leaves its group; it was detached, or has become private or unbindable, in `mounts`. If it was the last
+/// member, the slaves of the group get its master, or become private. It does not allocate.
+pub fn leave(mounts: &mut Mounts, groups: &mut Groups, id: MountId)
+    ensures left { Follows groups.old groups.new (λ world. ⊤)
+        (λ world. with_propagation world (counted id.count) Private) }
+    ensures told { (mount : ℕ) → propagation_in groups.new mount
+        ≡ type_once_left groups.old (counted id.count) mount }
+    ensures slaves { HaveSources groups.old mounts.old
+        → mounts.new ≡ map (once_left groups.old (counted id.count)) mounts.old }
+    ensures types { OnlyTypesChange mounts.old mounts.new }
+{
+    hand_on(mounts, groups, id);
+    groups.leave(id);
 }
 
 /// Those of these mounts that are members of a group become slaves of it at once. Then the groups without members end.
@@ -42,10 +61,23 @@ pub fn make_slaves(mounts: &mut Mounts, groups: &mut Groups, ids: &[MountId])
     ensures groups { Retypes groups.old groups.new ToSlave (map (λ id. counted id.count) ids.now) }
     ensures types { FollowsTypes groups.old groups.new [] mounts.old mounts.new }
 {
-    // Where none is a member, no mount gets another type.
-    if groups.make_slaves(ids) {
-        follow(mounts, groups);
+    for id in ids {
+        make_slave(mounts, groups, *id);
     }
+}
+
+// If a mount is a member of a group, it becomes a slave of it.
+fn make_slave(mounts: &mut Mounts, groups: &mut Groups, id: MountId)
+    ensures member { (group : ℕ) → propagation_in groups.old (counted id.count) ≡ Shared group
+        → groups.new ≡ retyped (counted id.count) (Slave group) groups.old }
+    ensures other { group_of (propagation_in groups.old (counted id.count)) ≡ None → groups.new ≡ groups.old }
+    ensures told { (mount : ℕ) → propagation_in groups.new mount
+        ≡ type_once_slave groups.old (counted id.count) mount }
+    ensures types { FollowsTypes groups.old groups.new [] mounts.old mounts.new }
+{
+    hand_on(mounts, groups, id);
+    groups.make_slave_of_own(id);
+    follow(mounts, groups, id);
 }
 
 /// All these mounts become shared at once, unbindable ones too. One that is not shared yet is the first member of a new
@@ -95,11 +127,15 @@ pub fn add(
     Ok(())
 }
 
-// Every mount gets the type that the groups tell.
-fn follow(mounts: &mut Mounts, groups: &Groups)
-    ensures { mounts.new ≡ map (typed_entry groups.now) mounts.old }
+// A mount gets the type that the groups tell.
+fn follow(mounts: &mut Mounts, groups: &Groups, id: MountId)
+    ensures { mounts.new ≡ changed (counted id.count) (typed_entry groups.now) mounts.old }
 {
-    mounts.retype(|id, kind| follows(groups, id, kind));
+    mounts.are_ascending();
+    let Some(mount) = mounts.get(id) else {
+        return;
+    };
+    mounts.set_propagation(id, follows(groups, id, mount.propagation));
 }
 
 // The type of a mount that had this one: that of the groups, or it stays unbindable.

@@ -1,0 +1,3 @@
+pub mod Retyped
+pub mod TypesHanded
+pub mod Left

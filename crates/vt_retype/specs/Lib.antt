@@ -1,0 +1,2 @@
+pub mod Retyping
+pub mod Leaving
