@@ -2,7 +2,7 @@
 use Rattle.std.proofs.Common.{◌≡◌, ◌≢◌, refl, sym, ap, subst, ◌∙◌, inl, inr, ◌⊎◌, ⊎_elim, true≢false, ℕ, nat_eq, eqb-true, eq-eqb, Bool, true, false, not, ◌&&◌, ◌||◌, List, [], length, Option, Some, None, is_some}
 use Rattle.std.specs.List.{list_all, list_any}
 use Rattle.std.specs.Prelude.{option_map, option_to_list}
-use Rattle.std.proofs.lemmas.Bool.{and_from, and_parts, or_right}
+use Rattle.std.proofs.lemmas.Bool.{and_from, and_parts, not-false, or_parts, or_right}
 use Rattle.std.proofs.lemmas.Option.{same_Some}
 use Rattle.vt_spec.specs.declared.errors.Deny.{Deny}
 use Rattle.vt_spec.specs.declared.errors.Rule.TheVariants.{W8}
@@ -181,18 +181,10 @@ module _ (world : World ℕ) (fresh : Fresh ℕ) (name : TaskName) (call : Call)
           ∙ (λ i. present i || not (under i));
     }
       where
-        first : (a b : Bool) → (a || b) ≡ false → (a ≡ false) × (b ≡ false)
-        first true b f = absurd (true≢false f)
-        first false b f = (refl, f)
-
-        not_false : (b : Bool) → not b ≡ false → b ≡ true
-        not_false true f = refl
-        not_false false f = absurd (true≢false f)
-
         parts : (is_removed nat_eq (tree_in world number) here.node ≡ false)
             × (not (is_directory_under nat_eq (filesystem_numbered nat_eq world number).files
             (mount_at nat_eq world here).root here.node) ≡ false)
-        parts = first _ _ found
+        parts = or_parts _ _ found
 
         now_directory : is_directory_node (node_in later number here.node) ≡ true
         now_directory = ap (λ (f : FileTree ℕ). is_directory_node (f.tree.node here.node)) (sym files_here) ∙ known.1.1
@@ -209,7 +201,7 @@ module _ (world : World ℕ) (fresh : Fresh ℕ) (name : TaskName) (call : Call)
             (filesystem_numbered nat_eq later number).files tree_before.tree
             tree_later root_same above names
             (mount_at nat_eq world here).root here.node known.0.1 now_directory keeps root_there parts.0
-            (not_false _ parts.1)
+            (not-false _ parts.1)
 
         under : is_directory_under nat_eq (filesystem_numbered nat_eq later number).files
             (mount_at nat_eq world here).root here.node ≡ true
@@ -218,7 +210,7 @@ module _ (world : World ℕ) (fresh : Fresh ℕ) (name : TaskName) (call : Call)
             (filesystem_numbered nat_eq later number).files tree_before.tree
             tree_later root_same above names
             (mount_at nat_eq world here).root here.node known.0.1 now_directory keeps root_there parts.0
-            (not_false _ parts.1)
+            (not-false _ parts.1)
 
     -- and never to it
     up_outside : is_lost nat_eq world here ≡ false → IsRemoved (parent_location nat_eq world here) → ⊥
