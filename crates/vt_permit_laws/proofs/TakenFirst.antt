@@ -77,7 +77,8 @@ pub nonempty : (list : List (Mount ℕ)) → (length (filter (is_root_mount nat_
 nonempty [] e = absurd (true≢false (sym e))
 nonempty (mount ∷ rest) e = omega arith
 
-pub tree_some : (depth : ℕ) (mounts : List (Mount ℕ)) (mount : Mount ℕ) → 0 < length (tree_from nat_eq depth mounts mount)
+pub tree_some : (depth : ℕ) (mounts : List (Mount ℕ)) (mount : Mount ℕ)
+    → 0 < length (tree_from nat_eq depth mounts mount)
 tree_some zero mounts mount = omega arith
 tree_some (suc depth) mounts mount = omega arith
 

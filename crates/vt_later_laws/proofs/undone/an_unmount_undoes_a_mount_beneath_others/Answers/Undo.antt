@@ -127,7 +127,8 @@ unmount_takes_what_stood_beside = (
       mounts.standing there) in
       let places = new_mounts_keep_places world fresh place filesystem flags serves mounts.one_number mounts.nowhere
       mounts.standing there free mounts.one_child in
-      taken_beside larger fresh place first can there (stands_on_mount world mounts) ends places free group receiver mount
+      taken_beside larger fresh place first can there (stands_on_mount world mounts) ends places free group receiver
+      mount
       shared (among_from_contains world.mounts receiver r) hears (among_from_contains world.mounts mount n) stood
       apart may,
   λ world fresh source place serves mounts there free group receiver mount shared r hears n stood apart may.
@@ -140,7 +141,8 @@ unmount_takes_what_stood_beside = (
       there) in
       let places = binds_keep_places world fresh source place false serves mounts.one_number mounts.nowhere
       mounts.standing there free mounts.one_child in
-      taken_beside world fresh place first can there (stands_on_mount world mounts) ends places free group receiver mount
+      taken_beside world fresh place first can there (stands_on_mount world mounts) ends places free group receiver
+      mount
       shared (among_from_contains world.mounts receiver r) hears (among_from_contains world.mounts mount n) stood
       apart may,
 )
