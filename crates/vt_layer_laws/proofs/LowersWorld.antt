@@ -61,7 +61,8 @@ found_there new (first ∷ list) old e = by (nat_eq new.number first.number) ref
         → find (λ f. nat_eq new.number f.number) (cond b new first ∷ map (replaced_if_numbered nat_eq new) list)
         ≡ Some new
     by true t rest e = ap (λ b. cond b (Some new)
-        (find (λ f. nat_eq new.number f.number) (map (replaced_if_numbered nat_eq new) list))) (nat_eq_itself new.number)
+        (find (λ f. nat_eq new.number f.number) (map (replaced_if_numbered nat_eq new) list)))
+        (nat_eq_itself new.number)
     by false t rest e = ap (λ b. cond b (Some first)
         (find (λ f. nat_eq new.number f.number) (map (replaced_if_numbered nat_eq new) list))) t ∙ rest e
 
@@ -165,7 +166,8 @@ the_rest_stays fresh world location change =
         → overlay_changed nat_eq fresh world (filesystem_at nat_eq world location) overlay layer change
         ≡ record world {
           filesystems =
-              (overlay_changed nat_eq fresh world (filesystem_at nat_eq world location) overlay layer change).filesystems;
+              (overlay_changed nat_eq fresh world (filesystem_at nat_eq world location) overlay layer
+              change).filesystems;
         }
     layered overlay None = refl
     layered overlay (Some upper) = refl

@@ -115,8 +115,10 @@ moves_with_overlays_let_go fresh world task number place settles located at_atta
         → settled nat_eq (attach nat_eq world fresh place true (mount ∷ rest))
         ≡ let_go_all_inodes (attach nat_eq world fresh place true (mount ∷ rest)) (inodes_of_mount_point world mount)
     moves rest there =
-        all_losers_go world after.mounts after.master world.namespaces world.tasks [] (option_to_list mount.mount_point) [] settles
-        (attached_loses world world.filesystems new place true mount rest settles.in_use settles.mounts located at_attached (λ e. there))
+        all_losers_go world after.mounts after.master world.namespaces world.tasks []
+        (option_to_list mount.mount_point) [] settles
+        (attached_loses world world.filesystems new place true mount rest settles.in_use settles.mounts located
+        at_attached (λ e. there))
         (λ group among none.
         attached_groups world world.filesystems new place true mount rest settles.in_use settles.mounts located
         at_attached (λ e. there) group none)
