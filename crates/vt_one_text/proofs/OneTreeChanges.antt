@@ -167,7 +167,8 @@ module _ (numbers : List ℕ) (world : World ℕ) (fit : IsFit numbers world) wh
       (times_append number (named_by tree.node numbers) (opened_in world))
 
   -- what has a use is there
-  pub used_is_there : (number : ℕ) → 1 ≤ times_in number (used_in numbers world) → is_some (world.inodes.inode number) ≡ true
+  pub used_is_there : (number : ℕ) → 1 ≤ times_in number (used_in numbers world)
+      → is_some (world.inodes.inode number) ≡ true
   used_is_there number some = by (world.inodes.inode number) (fit.uses number)
     where
       by : (o : Option (Inode ℕ)) → uses_in o ≡ times_in number (used_in numbers world) → is_some o ≡ true
@@ -187,7 +188,8 @@ module _ (numbers : List ℕ) (world : World ℕ) (fit : IsFit numbers world) wh
       let once : times_in (parent_in directory (tree.node directory)) numbers ≡ 1 =
       fit.each_once (parent_in directory (tree.node directory))
       ∙ ap (λ b. cond b 1 0) (directory_there (parent_in directory (tree.node directory)) parent) in
-      let all : times_in directory (targets_in (tree.node (parent_in directory (tree.node directory)))) ≤ times_in directory
+      let all : times_in directory (targets_in (tree.node (parent_in directory (tree.node directory)))) ≤ times_in
+      directory
       (named_by tree.node numbers) =
       named_of directory tree.node (parent_in directory (tree.node directory)) numbers (omega arith) in
       omega arith

@@ -126,7 +126,8 @@ module _ (beside : Beside) (world : World â„•) (name : TaskName) (task : Task â„
   still_settled = (
     record beside { numbers = numbers_after beside world (tree_of world.inodes).node beside.numbers is },
     fit_after beside world
-        (tree_of world.inodes).node beside.numbers is fit.whole as_many fit.one_use fit.apart fit.forked fit.descriptors,
+        (tree_of world.inodes).node beside.numbers is fit.whole as_many fit.one_use fit.apart fit.forked
+        fit.descriptors,
     settled_is beside world (tree_of world.inodes).node beside.numbers is,
   )
     where

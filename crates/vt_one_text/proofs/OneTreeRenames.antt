@@ -113,7 +113,8 @@ module _ (numbers : List ℕ) (world : World ℕ) (fit : IsFit numbers world) wh
       → IsAway tree steps d → times_in top (way_up tree steps d) ≡ 0
   way_free top d is none steps far =
       not_on_way world.inodes.count steps top d far
-      (let h : suc steps ≤ length numbers = near numbers world fit steps d is far in let c = fit.counted in omega arith) none
+      (let h : suc steps ≤ length numbers = near numbers world fit steps d is far in let c = fit.counted in omega arith)
+      none
 
 -- tests
 
@@ -193,7 +194,8 @@ module _ (beside : Beside) (world : World ℕ) (name : TaskName) (task : Task �
         tree = record {
           root = world.inodes.root;
           node =
-              node_there beside world name task fit from old to new object replaced from_is leads to_is finds other empty
+              node_there beside world name task fit from old to new object replaced from_is leads to_is finds other
+              empty
               (λ is steps far. way_free beside.numbers world fit object to to_is (outside is) steps far) o;
         };
         numbers = beside.numbers;

@@ -27,7 +27,8 @@ abbrev pub raw : ℕ → (ℕ → Option (Node ℕ)) → List ℕ → ℕ → Li
 raw root node numbers filesystem_change tasks change = record {
   mounts = mount_there root ∷ [];
   master = λ group. None;
-  filesystems = record { number = 2; files = record { tree = record { root = root; node = node }; numbers = numbers }; overlay = None; change = filesystem_change } ∷ [];
+  filesystems =
+      record { number = 2; files = record { tree = record { root = root; node = node }; numbers = numbers }; overlay = None; change = filesystem_change } ∷ [];
   namespaces = record { number = 1; change = 0 } ∷ [];
   tasks = tasks;
   change = change;
@@ -360,7 +361,10 @@ raised_is name changed beside world root node numbers some_change tasks change =
     }
   where
     tree : (b : Bool) → cond b (record
-        (filesystem_there beside world.inodes) { change = Rattle.vt_spec.specs.Machine.Filesystems.raised beside.filesystem_change }) (filesystem_there beside world.inodes)
+        (filesystem_there beside world.inodes) {
+          change = Rattle.vt_spec.specs.Machine.Filesystems.raised
+              beside.filesystem_change;
+        }) (filesystem_there beside world.inodes)
         ≡ record (filesystem_there beside world.inodes) {
           change = cond b
               (Rattle.vt_spec.specs.Machine.Filesystems.raised beside.filesystem_change) beside.filesystem_change;
