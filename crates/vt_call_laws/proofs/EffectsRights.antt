@@ -182,7 +182,8 @@ module _ (fresh : Fresh ℕ) (world : World ℕ) (task : Task ℕ) where
           (ap (λ b. b || is_among same_entry (directory, name) ((to.parent.node, name_of to.last) ∷ [])) (sym f) ∙ e))
 
   names_by_right : (call : Call) → changes_names call ≡ true → Gave (judge_in nat_eq fresh world task call)
-  unfolding mkdir_permit symlink_permit whiteout_permit hard_link_permit write_permit unlink_permit rmdir_permit rename_permit open_permit
+  unfolding mkdir_permit symlink_permit whiteout_permit hard_link_permit write_permit unlink_permit rmdir_permit
+      rename_permit open_permit
   names_by_right (Write path bytes) e =
       walked fresh world task HasRights Searched (file_walk nat_eq looks task path) _
       (searched_file_walk world task path)
@@ -422,7 +423,8 @@ unchanged o p was now e f (inr gone) = none_now (sym gone ∙ f)
     none_now e = cc
 
 pub changes_are_by_right : ChangesAreByRight
-changes_are_by_right fresh world name call task permit filesystem number was now plain other called judged handed before after =
+changes_are_by_right fresh world name call task permit filesystem number was now plain other called judged handed before
+    after =
     record {
       bytes = by_own (λ r. (bytes_of r.content ≡ bytes_of was.content)
           ⊎ (MayDo world task filesystem number write_right
@@ -472,7 +474,8 @@ changes_are_by_right fresh world name call task permit filesystem number was now
     by_own P same own = either (is_own fresh world permit filesystem number) (λ e.
         subst P (unchanged (inode_in world filesystem number) (inode_in
         (policy nat_eq fresh world name call).world filesystem number) was now before after
-        (calls_change_their_own fresh world name call task permit filesystem number plain other called judged e)) same) own
+        (calls_change_their_own fresh world name call task permit filesystem number plain other called judged e)) same)
+        own
 
     entry_by : (entry : List ℕ) (b : Bool) → is_own_entry fresh world permit filesystem number entry ≡ b
         → (entry_named entry (entries_of now.content) ≡ entry_named entry (entries_of was.content))
@@ -481,7 +484,8 @@ changes_are_by_right fresh world name call task permit filesystem number was now
         inl (stays (λ node. entry_named entry (entries_of node.content)) (inode_in world filesystem number) (inode_in
         (policy nat_eq fresh world name call).world filesystem number)
         was now before after
-        (other_entries_stay entry fresh world name call task permit filesystem number plain other called judged e handed))
+        (other_entries_stay entry fresh world name call task permit filesystem number plain other called judged e
+        handed))
     entry_by entry true e = either (changes_names call)
         (λ f. inl (ap (entry_named entry)
         (stays (λ node. entries_of node.content) (inode_in world filesystem number) (inode_in

@@ -53,7 +53,8 @@ module _ (world : World ℕ) (task : Task ℕ) where
         way = name_in start here (reverse front) word before.passed before.way;
         searched = All-append (IsSearchable world task) before.passed (here ∷ []) before.searched
             (All-cons (IsSearchable world task) here []
-            (searched (some_word (bytes_eq word (codes ".")) (bytes_eq word (codes "..")) word)) (All-nil (IsSearchable world task)));
+            (searched (some_word (bytes_eq word (codes ".")) (bytes_eq word (codes "..")) word))
+            (All-nil (IsSearchable world task)));
       })
 
   pub text_name_searched : (start here : Location ℕ) (text : List ℕ) → IsFront start (reverse (words text)) here

@@ -70,7 +70,8 @@ module _ (world : World ℕ) (task : Task ℕ) where
             record {
               passed = here ∷ (inner.passed ++ []);
               way =
-                  follows here next.location end.location end.location word text [] inner.passed [] step.1 linked inner.way
+                  follows here next.location end.location end.location word text [] inner.passed [] step.1 linked
+                  inner.way
                   (arrives end.location);
               searched = All-cons (IsSearchable world task) here (inner.passed ++ []) step.0
                   (All-append (IsSearchable world task) inner.passed [] inner.searched

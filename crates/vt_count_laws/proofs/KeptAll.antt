@@ -20,6 +20,7 @@ use Rattle.vt_count_laws.proofs.NameCounts as Names
 use Rattle.vt_count_laws.proofs.Swept as Swept
 use Rattle.vt_count_laws.proofs.Swept.{base_of}
 use Rattle.vt_count_laws.proofs.TreeCounts.{IsStart, changed_same}
+use Rattle.vt_spec.proofs.Inodes.{is_some-node_in}
 
 -- a use more leaves the node
 pinned_same : (inodes : Inodes ℕ) (object n : ℕ)
@@ -103,10 +104,6 @@ names_keep_all fresh world location inodes change is keeps =
     tallied_once : (n : ℕ) → times_in n files.numbers ≡ cond (is_some (files.tree.node n)) 1 0
     tallied_once = (After.new_tallied fresh world location inodes change is).once
 
-    there_in : (o : Option (Inode ℕ)) → is_some o ≡ is_some (node_in o)
-    there_in None = refl
-    there_in (Some inode) = refl
-
     is_used : (n : ℕ) → is_among nat_eq n (Swept.used world number files in_use plain there)
         ≡ is_some ((changed nat_eq inodes change).inode n)
     is_used =
@@ -119,7 +116,7 @@ names_keep_all fresh world location inodes change is keeps =
 
     all_used : list_all (λ n. is_among nat_eq n (Swept.used world number files in_use plain there)) files.numbers ≡ true
     all_used = all_pass (λ n. is_among nat_eq n (Swept.used world number files in_use plain there)) files.numbers
-        (λ n m. is_used n ∙ there_in ((changed nat_eq inodes change).inode n)
+        (λ n m. is_used n ∙ sym (is_some-node_in ((changed nat_eq inodes change).inode n))
         ∙ ap is_some (nodes_same (base_of world
         (After.old fresh world location inodes change is)) before inodes begins change is.fits
         keeps n)

@@ -3,6 +3,7 @@ use Rattle.std.proofs.Common.{◌≡◌, refl, sym, ap, subst, ◌∙◌, ⊎_el
 use Rattle.std.specs.Prelude.{filter_map, option_to_list}
 use Rattle.std.specs.List.{cons_option, list_all}
 use Rattle.std.proofs.lemmas.Bool.{and_parts}
+use Rattle.std.proofs.lemmas.List.{append_assoc}
 use Rattle.vt_spec.specs.FileTree.{targets_in}
 use Rattle.vt_spec.specs.Lists.{any_pair, is_among}
 use Rattle.vt_spec.specs.Machine.Locked.{of_overlay}
@@ -223,14 +224,10 @@ mounts_are_uses world after front added back filesystems locations were are one 
     on_old = subst (λ m. list_all (is_on m) ((all_locations world ++ map root_of m) ++ points m) ≡ true) were
         (assoc (list_all (is_on world.mounts)) ∙ on)
       where
-        append_again : (a b c : List (Location ℕ)) → (a ++ b) ++ c ≡ a ++ (b ++ c)
-        append_again [] b c = refl
-        append_again (x ∷ a) b c = ap (λ l. x ∷ l) (append_again a b c)
-
         assoc : (p : List (Location ℕ) → Bool)
             → p ((all_locations world ++ map root_of world.mounts) ++ points world.mounts)
             ≡ p (all_locations world ++ (map root_of world.mounts ++ points world.mounts))
-        assoc p = ap p (append_again (all_locations world) (map root_of world.mounts) (points world.mounts))
+        assoc p = ap p (append_assoc (all_locations world) (map root_of world.mounts) (points world.mounts))
 
     same_counts : (n : ℕ) → count_in new k n ((all_locations world ++ map root_of old) ++ points old)
         ≡ count_in old k n ((all_locations world ++ map root_of old) ++ points old)

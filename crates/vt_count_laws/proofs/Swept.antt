@@ -231,7 +231,7 @@ start_counts world filesystem inodes tree used counted = record {
       (among_numbers n filesystem.files.numbers (tree.numbers n ∙ sym (same_there n) ∙ there))) in
       omega arith;
   kept = λ n there. sym (counted.node n);
-  emptied = λ n none. ap targets_in (sym (counted.node n)) ∙ no_targets (inodes.inode n) none;
+  emptied = λ n none. ap targets_in (sym (counted.node n)) ∙ ap targets_in (node_in-none (inodes.inode n) none);
   list = filesystem.files.numbers;
   listed = λ n. once_or_none n filesystem.files.numbers counted.once
       ∙ ap (λ b. cond b 1 0) (tree.numbers n ∙ sym (same_there n));
@@ -240,10 +240,6 @@ start_counts world filesystem inodes tree used counted = record {
   where
     same_there : (n : ℕ) → is_some (inodes.inode n) ≡ is_some (filesystem.files.tree.node n)
     same_there n = sym (is_some-node_in (inodes.inode n)) ∙ ap is_some (counted.node n)
-
-    no_targets : (o : Option (Inode ℕ)) → is_some o ≡ false → targets_in (node_in o) ≡ []
-    no_targets None e = refl
-    no_targets (Some inode) e = cc
 
 -- The counted inodes before a change
 pub counted_start : (world : World ℕ) (filesystem : Filesystem ℕ) (inodes : Inodes ℕ) → LettingGo.IsPlain world

@@ -239,7 +239,8 @@ module _ (world : World ℕ) (fresh : Fresh ℕ) (name : TaskName) (call : Call)
       let files = later_files world fresh name call answer is plain serves other few did filesystem in
       ap (λ (f : FileTree ℕ). f.tree.root) files
       ∙ root_settled spent
-      (spent_unsettled world fresh name call answer is plain serves other few did).files.one_filesystem filesystem number
+      (spent_unsettled world fresh name call answer is plain serves other few did).files.one_filesystem filesystem
+      number
       (ap (λ (f : FileTree ℕ). is_some (f.tree.node number)) (sym files) ∙ there)
       ∙ (each filesystem).root
 

@@ -203,7 +203,8 @@ module _ (world : World ℕ) (fresh : Fresh ℕ) (name : TaskName) (call : Call)
       (cond (is_entry from.node old directory word) None (entry_at (files_at nat_eq world from).tree directory word))
   entry_left directory word there =
       ap (λ o. entry_named word (entries_in o)) (node_left directory there)
-      ∙ move_told (files_at nat_eq world from) from.node old to.node new object.node may.moves.in_directory directory word
+      ∙ move_told (files_at nat_eq world from) from.node old to.node new object.node may.moves.in_directory directory
+      word
 
   entry_itself : (directory : ℕ) (word : List ℕ) → is_entry directory word directory word ≡ true
   entry_itself directory word = ap (λ b. b && bytes_eq word word) (eq-eqb directory directory refl)

@@ -126,7 +126,8 @@ module _ (call : Call) (path : List ℕ) (set : Attr → Attr) (world : World �
       (called : task_called later reader ≡ Some reading)
       (stands : StandsAs did.task reading)
       (leads : LeadsToo (looks_of nat_eq world) (looks_of nat_eq later) did.task reading Refused
-      (KnownToo world fresh name call Done is plain serves other few did here.location change fresh asks does something tt tree Refused
+      (KnownToo world fresh name call Done is plain serves other few did here.location change fresh asks does something
+      tt tree Refused
       (stay Refused)
       reading (own_name later reader reading called) stands))
       (later_fresh : Fresh ℕ)
@@ -137,7 +138,8 @@ module _ (call : Call) (path : List ℕ) (set : Attr → Attr) (world : World �
       by (object_too (looks_of nat_eq world) (looks_of nat_eq later) did.task reading Refused _ leads path here walked)
     where
       by : EndsToo (looks_of nat_eq world) (looks_of nat_eq later) did.task reading Refused
-          (KnownToo world fresh name call Done is plain serves other few did here.location change fresh asks does something tt tree
+          (KnownToo world fresh name call Done is plain serves other few did here.location change fresh asks does
+          something tt tree
           Refused (stay Refused)
           reading (own_name later reader reading called) stands) leads
           (object_walk nat_eq (looks_of nat_eq later) reading path) here
@@ -147,7 +149,8 @@ module _ (call : Call) (path : List ℕ) (set : Attr → Attr) (world : World �
       by (inl ends) =
           inl (stat_of later later_fresh reader reading called path _ ends.0.1
           ∙ ap (λ o. Ok (Told (stat_line o)))
-          (seen_there world fresh name call Done is plain serves other few did here.location change fresh asks does something tt tree
+          (seen_there world fresh name call Done is plain serves other few did here.location change fresh asks does
+          something tt tree
           Refused (stay Refused)
           reading (own_name later reader reading called) stands ends.1
           ∙ there (files_at nat_eq world here.location) here.location.node (node_with_attr attr))
@@ -156,7 +159,8 @@ module _ (call : Call) (path : List ℕ) (set : Attr → Attr) (world : World �
 
   caller_there : task_called later name ≡ Some (raised_task name did.task)
   caller_there =
-      caller world fresh name call Done is plain serves other few did here.location change fresh asks does something tt tree Never
+      caller world fresh name call Done is plain serves other few did here.location change fresh asks does something tt
+      tree Never
       (stay Never)
 
   own_told : (later_fresh : Fresh ℕ)
@@ -166,7 +170,8 @@ module _ (call : Call) (path : List ℕ) (set : Attr → Attr) (world : World �
   own_told later_fresh =
       ⊎_elim inl (λ refused. inr (refused.2 ∙ ap Err refused.1))
       (told Hidden name (raised_task name did.task) caller_there (raised_stands name did.task)
-      (leads_or_hides world fresh name call Done is plain serves other few did here.location change fresh asks does something tt tree
+      (leads_or_hides world fresh name call Done is plain serves other few did here.location change fresh asks does
+      something tt tree
       Hidden (stay Hidden)
       (raised_task name did.task) (own_name later name (raised_task name did.task) caller_there)
       (raised_stands name did.task) refl)
@@ -180,7 +185,8 @@ module _ (call : Call) (path : List ℕ) (set : Attr → Attr) (world : World �
   all_told reader reading called stands all later_fresh =
       ⊎_elim (λ e. e) (λ refused. absurd refused.1)
       (told Never reader reading called stands
-      (leads_all world fresh name call Done is plain serves other few did here.location change fresh asks does something tt tree Never
+      (leads_all world fresh name call Done is plain serves other few did here.location change fresh asks does something
+      tt tree Never
       (stay Never)
       reading (own_name later reader reading called) stands all)
       later_fresh)
@@ -235,7 +241,8 @@ tells call path set world fresh name task is plain serves other few called did h
   λ other_fresh. stat_of world other_fresh name did.task did.called path here walked,
   own_told call path set world fresh name is plain serves other few did here walked permit,
   λ reader reading looks.
-      all_told call path set world fresh name is plain serves other few did here walked permit reader reading looks.called
+      all_told call path set world fresh name is plain serves other few did here walked permit reader reading
+      looks.called
       (subst (λ t. StandsAs t reading) (same_Some task did.task (sym called ∙ did.called))
       (all_stands _ task reader reading looks)) looks.all,
 )
@@ -245,11 +252,13 @@ chmod_then_stat path mode world fresh name task is plain serves called granted =
     let did = permitted world fresh name (Chmod path mode) Done refl granted in
     let parts = chmod_parts (looks_of nat_eq world) did.task path mode did.permit did.judged in
     tells (Chmod path mode) path
-    (λ attr. attr_with_mode attr mode) world fresh name task is plain serves refl refl called did parts.0 parts.1 parts.2
+    (λ attr. attr_with_mode attr mode) world fresh name task is plain serves refl refl called did parts.0 parts.1
+    parts.2
 
 pub chown_then_stat : ChownThenStat
 chown_then_stat path uid gid world fresh name task is plain serves called granted =
     let did = permitted world fresh name (Chown path uid gid) Done refl granted in
     let parts = chown_parts (looks_of nat_eq world) did.task path uid gid did.permit did.judged in
     tells (Chown path uid gid) path
-    (λ attr. attr_with_owner attr uid gid) world fresh name task is plain serves refl refl called did parts.0 parts.1 parts.2
+    (λ attr. attr_with_owner attr uid gid) world fresh name task is plain serves refl refl called did parts.0 parts.1
+    parts.2

@@ -389,7 +389,8 @@ module _ (path : List ℕ) (world : World ℕ) (fresh : Fresh ℕ) (name : TaskN
 
       at_node : (here : Location ℕ) → node_at nat_eq later here
           ≡ node_in later (mount_at nat_eq world here).filesystem here.node
-      at_node here = node_here world later is plain is_later.0 is_later.1 did.task reading own self stands Never stays here
+      at_node here =
+          node_here world later is plain is_later.0 is_later.1 did.task reading own self stands Never stays here
 
       leads : LeadsToo (looks_of nat_eq world) (looks_of nat_eq later) did.task reading Never
           (Known world later is plain is_later.0 is_later.1 did.task reading own
@@ -469,14 +470,16 @@ exclusive_facts looks task path access mode permit e =
 pub exclusive_twice : ExclusiveTwice
 exclusive_twice path world fresh name task access again mode other number is plain serves called granted = (
   λ now there room later_fresh.
-      again_refused path world fresh name task access mode number is plain serves called did facts.0 facts.1 facts.2 facts.3 facts.4
+      again_refused path world fresh name task access mode number is plain serves called did facts.0 facts.1 facts.2
+      facts.3 facts.4
       name now there (subst (StandsAs did.task) (same_Some _ now (sym caller_here ∙ there)) raised_stands_so)
       (inl (ap (λ (t : Task ℕ). t.credentials) (sym (same_Some _ now (sym caller_here ∙ there)))
       ∙ raised_credentials name
       (with_descriptor did.task
       (record { mount = facts.0.parent.mount; node = fresh 0 }) access))) room again other later_fresh,
   λ reader reading looks room later_fresh.
-      again_refused path world fresh name task access mode number is plain serves called did facts.0 facts.1 facts.2 facts.3 facts.4
+      again_refused path world fresh name task access mode number is plain serves called did facts.0 facts.1 facts.2
+      facts.3 facts.4
       reader reading looks.called (subst (λ t. StandsAs t reading) (sym task_is)
       (all_stands _ task reader reading looks))
       (inr looks.all) room again other later_fresh,
@@ -497,7 +500,8 @@ exclusive_twice path world fresh name task access again mode other number is pla
         ≡ Some (raised_task name (with_descriptor did.task
         (record { mount = facts.0.parent.mount; node = fresh 0 }) access))
     caller_here =
-        caller_there path world fresh name task access mode number is plain serves called did facts.0 facts.1 facts.2 facts.3 facts.4
+        caller_there path world fresh name task access mode number is plain serves called did facts.0 facts.1 facts.2
+        facts.3 facts.4
 
     raised_stands_so : StandsAs did.task (raised_task name (with_descriptor did.task
         (record { mount = facts.0.parent.mount; node = fresh 0 }) access))

@@ -245,19 +245,23 @@ module _ (world : World ℕ) (fresh : Fresh ℕ) (name : TaskName) (task : Task 
 
   pub opens_new_file : OpensNewFile world fresh name task (OpenFile path access creation) place access mode number
   opens_new_file = (
-    opens_file world fresh name task path access creation number is plain serves called did base new_place outcome tasks,
+    opens_file world fresh name task path access creation number is plain serves called did base new_place outcome
+        tasks,
     file_seen world fresh name task path access creation number is plain serves called did base new_place outcome tasks
         ∙ seen,
     subst (ReadsBy world fresh name (OpenFile path access creation) access number) (ap bytes_in seen)
-        (reads_by world fresh name task path access creation number is plain serves called did base new_place outcome tasks),
+        (reads_by world fresh name task path access creation number is plain serves called did base new_place outcome
+        tasks),
   )
 
 pub open_then_pread : OpenThenPread
 open_then_pread world fresh name task path access number is plain serves called granted = (
   here,
   ap (λ t. object_walk nat_eq (looks_of nat_eq world) t path) (sym task_is) ∙ parts.1,
-  opens_file world fresh name task path access NoCreation number is plain serves called did world here.location outcome refl,
-  reads_by world fresh name task path access NoCreation number is plain serves called did world here.location outcome refl,
+  opens_file world fresh name task path access NoCreation number is plain serves called did world here.location outcome
+      refl,
+  reads_by world fresh name task path access NoCreation number is plain serves called did world here.location outcome
+      refl,
 )
   where
     did : IsPermitted world fresh name (OpenFile path access NoCreation) (Opened number)
@@ -280,11 +284,12 @@ open_then_pread world fresh name task path access number is plain serves called 
         ∙ ap (λ t. opened world t here.location access) task_is
 
 pub open_or_create_then_pread : OpenOrCreateThenPread
-open_or_create_then_pread world fresh name task path access mode number place file is plain serves called walk object granted = (
-  opens_file world fresh name task path access
-      (OrCreate mode) number is plain serves called did world file outcome refl,
-  reads_by world fresh name task path access (OrCreate mode) number is plain serves called did world file outcome refl,
-)
+open_or_create_then_pread world fresh name task path access mode number place file is plain serves called walk object
+    granted = (
+      opens_file world fresh name task path access
+          (OrCreate mode) number is plain serves called did world file outcome refl,
+      reads_by world fresh name task path access (OrCreate mode) number is plain serves called did world file outcome refl,
+    )
   where
     did : IsPermitted world fresh name (OpenFile path access (OrCreate mode)) (Opened number)
     did = permitted world fresh name (OpenFile path access (OrCreate mode)) (Opened number) refl granted

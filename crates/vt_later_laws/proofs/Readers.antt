@@ -131,7 +131,9 @@ module _ (world : World ℕ) (fresh : Fresh ℕ) (name : TaskName) (call : Call)
   left = (policy nat_eq fresh world name call).world
 
   pub stays : WorldStays world left Refused
-  stays = world_stays world fresh name call answer is plain serves other few did location change from asks does something allowed tree
+  stays =
+      world_stays world fresh name call answer is plain serves other few did location change from asks does something
+      allowed tree
       Refused stay
 
   pub is_left : IsWorld nat_eq left × IsPlain left
@@ -165,7 +167,8 @@ module _ (world : World ℕ) (fresh : Fresh ℕ) (name : TaskName) (call : Call)
     seen_there known =
         node_here world left is plain is_left.0 is_left.1 did.task reader
         (called_own world fresh name call answer is plain serves other few did) called stands Refused stays location
-        ∙ node_changed world fresh name call answer is plain serves other few did location change from asks does something allowed tree
+        ∙ node_changed world fresh name call answer is plain serves other few did location change from asks does
+        something allowed tree
         location.node (known_there location known)
 
     -- and at an inode of that filesystem
@@ -206,7 +209,8 @@ module _ (world : World ℕ) (fresh : Fresh ℕ) (name : TaskName) (call : Call)
         ∙ ap (node_allows did.task.credentials execute_right)
         (node_here world left is plain is_left.0 is_left.1 did.task reader
         (called_own world fresh name call answer is plain serves other few did) called stands Refused stays here)
-        ∙ world_rights world fresh name call answer is plain serves other few did location change from asks does something allowed tree
+        ∙ world_rights world fresh name call answer is plain serves other few did location change from asks does
+        something allowed tree
         rights (mount_at nat_eq world here).filesystem here.node execute_right did.task.credentials known.0.1
         (known_there here known)
         ∙ e))

@@ -2,7 +2,7 @@
 use Rattle.std.proofs.Common.{◌≡◌, ◌≢◌, refl, sym, ap, subst, ◌∙◌, inl, inr, ◌⊎◌, ⊎_elim, true≢false, ℕ, nat_eq, eqb-true, eq-eqb, Bool, true, false, not, ◌&&◌, ◌||◌, List, [], length, Option, Some, None, is_some}
 use Rattle.std.specs.List.{list_all, list_any}
 use Rattle.std.specs.Prelude.{option_map, option_to_list}
-use Rattle.std.proofs.lemmas.Bool.{and_from, and_parts, or_right}
+use Rattle.std.proofs.lemmas.Bool.{and_from, and_parts, not-false, or_parts, or_right}
 use Rattle.std.proofs.lemmas.Option.{same_Some}
 use Rattle.vt_spec.specs.declared.errors.Deny.{Deny}
 use Rattle.vt_spec.specs.declared.errors.Rule.TheVariants.{W8}
@@ -107,7 +107,8 @@ module _ (world : World ℕ) (fresh : Fresh ℕ) (name : TaskName) (call : Call)
 
     alike : SeenAlike (mount_at nat_eq world here) (mount_at nat_eq later here)
     alike =
-        (mounts_seen world fresh name call answer is plain serves other few did parent word object permit_is reader roots).own
+        (mounts_seen world fresh name call answer is plain serves other few did parent word object permit_is reader
+        roots).own
         here.mount known.0.0 known.1.0.0
 
     files_here : files_at nat_eq later here ≡ (filesystem_numbered nat_eq later number).files
@@ -119,7 +120,9 @@ module _ (world : World ℕ) (fresh : Fresh ℕ) (name : TaskName) (call : Call)
         ∙ directory_used (files_at nat_eq later here).tree here.node known.1.1
 
     as_spent : node_in later number here.node ≡ node_in spent_world number here.node
-    as_spent = node_left world fresh name call answer is plain serves other few did parent word object permit_is number here.node there
+    as_spent =
+        node_left world fresh name call answer is plain serves other few did parent word object permit_is number
+        here.node there
 
     tree_later : IsFileTree (filesystem_numbered nat_eq later number).files
     tree_later = subst IsFileTree files_here (tree_here later is_later.0 is_later.1 reader here known.1.1)
@@ -128,7 +131,9 @@ module _ (world : World ℕ) (fresh : Fresh ℕ) (name : TaskName) (call : Call)
     tree_before = tree_here world is plain did.task here known.0.1
 
     root_same : (tree_in later number).root ≡ (tree_in world number).root
-    root_same = root_left world fresh name call answer is plain serves other few did parent word object permit_is number here.node there
+    root_same =
+        root_left world fresh name call answer is plain serves other few did parent word object permit_is number
+        here.node there
 
     -- from it `..` leads nowhere
     lost_there : IsRemoved here → is_lost nat_eq later here ≡ true
@@ -157,10 +162,13 @@ module _ (world : World ℕ) (fresh : Fresh ℕ) (name : TaskName) (call : Call)
 
     names : DirectoryNamesStay Keeps (tree_in world number) (tree_in later number)
     names directory any next e is_one keeps now =
-        by ((each world fresh name call answer is plain serves other few did parent word object permit_is number).entry directory any next e)
+        by ((each world fresh name call answer is plain serves other few did parent word object permit_is number).entry
+        directory any next e)
       where
         node : node_in later number directory ≡ node_in spent_world number directory
-        node = node_left world fresh name call answer is plain serves other few did parent word object permit_is number directory now
+        node =
+            node_left world fresh name call answer is plain serves other few did parent word object permit_is number
+            directory now
 
         by : (entry_at (tree_in spent_world number) directory any ≡ Some next)
             ⊎ ((entry_at (tree_in spent_world number) directory any ≡ None)
@@ -174,25 +182,18 @@ module _ (world : World ℕ) (fresh : Fresh ℕ) (name : TaskName) (call : Call)
     goes_up keeps found = record {
       parent = ap (λ (f : FileTree ℕ). parent_in here.node (f.tree.node here.node)) files_here
           ∙ ap (parent_in here.node) as_spent
-          ∙ (each world fresh name call answer is plain serves other few did parent word object permit_is number).parents here.node keeps;
+          ∙ (each world fresh name call answer is plain serves other few did parent word object permit_is
+          number).parents here.node keeps;
       not_lost =
           (λ i. is_removed nat_eq (files_here i).tree here.node
           || not (is_directory_under nat_eq (files_here i) (alike.root i) here.node))
           ∙ (λ i. present i || not (under i));
     }
       where
-        first : (a b : Bool) → (a || b) ≡ false → (a ≡ false) × (b ≡ false)
-        first true b f = absurd (true≢false f)
-        first false b f = (refl, f)
-
-        not_false : (b : Bool) → not b ≡ false → b ≡ true
-        not_false true f = refl
-        not_false false f = absurd (true≢false f)
-
         parts : (is_removed nat_eq (tree_in world number) here.node ≡ false)
             × (not (is_directory_under nat_eq (filesystem_numbered nat_eq world number).files
             (mount_at nat_eq world here).root here.node) ≡ false)
-        parts = first _ _ found
+        parts = or_parts _ _ found
 
         now_directory : is_directory_node (node_in later number here.node) ≡ true
         now_directory = ap (λ (f : FileTree ℕ). is_directory_node (f.tree.node here.node)) (sym files_here) ∙ known.1.1
@@ -209,7 +210,7 @@ module _ (world : World ℕ) (fresh : Fresh ℕ) (name : TaskName) (call : Call)
             (filesystem_numbered nat_eq later number).files tree_before.tree
             tree_later root_same above names
             (mount_at nat_eq world here).root here.node known.0.1 now_directory keeps root_there parts.0
-            (not_false _ parts.1)
+            (not-false _ parts.1)
 
         under : is_directory_under nat_eq (filesystem_numbered nat_eq later number).files
             (mount_at nat_eq world here).root here.node ≡ true
@@ -218,7 +219,7 @@ module _ (world : World ℕ) (fresh : Fresh ℕ) (name : TaskName) (call : Call)
             (filesystem_numbered nat_eq later number).files tree_before.tree
             tree_later root_same above names
             (mount_at nat_eq world here).root here.node known.0.1 now_directory keeps root_there parts.0
-            (not_false _ parts.1)
+            (not-false _ parts.1)
 
     -- and never to it
     up_outside : is_lost nat_eq world here ≡ false → IsRemoved (parent_location nat_eq world here) → ⊥
@@ -253,7 +254,8 @@ module _ (world : World ℕ) (fresh : Fresh ℕ) (name : TaskName) (call : Call)
 
         is_directory : is_directory_node (tree.node object.node) ≡ true
         is_directory =
-            let seen = seen_to world fresh name call answer is plain serves other few did parent word object permit_is in
+            let seen =
+            seen_to world fresh name call answer is plain serves other few did parent word object permit_is in
             ap (λ m. is_directory_node (node_in world (mount_numbered nat_eq world m).filesystem object.node))
             (sym seen.0) ∙ seen.2
 
@@ -261,12 +263,14 @@ module _ (world : World ℕ) (fresh : Fresh ℕ) (name : TaskName) (call : Call)
         at =
             sym (file_tree.tree.one_parent here.node any object.node named is_directory)
             ∙ file_tree.tree.one_parent parent.node word object.node
-            (may world fresh name call answer is plain serves other few did parent word object permit_is).named is_directory
+            (may world fresh name call answer is plain serves other few did parent word object permit_is).named
+            is_directory
 
         word_is : any ≡ word
         word_is =
             file_tree.tree.one_name parent.node any word object.node (ap (λ n. entry_at tree n any) (sym at) ∙ named)
-            (may world fresh name call answer is plain serves other few did parent word object permit_is).named is_directory
+            (may world fresh name call answer is plain serves other few did parent word object permit_is).named
+            is_directory
 
   -- Mounts
   root_outside : (a b : Location ℕ) → option_map root_of (child_at nat_eq world.mounts a) ≡ Some b → IsOutside b

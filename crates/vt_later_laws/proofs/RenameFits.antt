@@ -152,7 +152,8 @@ module _ (world : World ℕ) (fresh : Fresh ℕ) (name : TaskName) (call : Call)
     (is_directory : is_directory_node ((files_at nat_eq world from).tree.node object.node) ≡ true)
     (outside : StandsOutside world did.task object) where
   abbrev pub later : World ℕ
-  later = left world fresh name call answer is plain serves other few did from old to new object None permit_is uncovered
+  later =
+      left world fresh name call answer is plain serves other few did from old to new object None permit_is uncovered
 
   abbrev pub spent : World ℕ
   spent = (apply nat_eq fresh world did.task did.permit).world
@@ -164,7 +165,8 @@ module _ (world : World ℕ) (fresh : Fresh ℕ) (name : TaskName) (call : Call)
   tree = (files_at nat_eq world from).tree
 
   abbrev pub left_is : IsWorld nat_eq later × IsPlain later
-  left_is = is_left world fresh name call answer is plain serves other few did from old to new object None permit_is uncovered
+  left_is =
+      is_left world fresh name call answer is plain serves other few did from old to new object None permit_is uncovered
 
   pub seen : MayBeRenamed world from old to new object None
   seen = may world fresh name call answer is plain serves other few did from old to new object None permit_is uncovered
@@ -203,13 +205,17 @@ module _ (world : World ℕ) (fresh : Fresh ℕ) (name : TaskName) (call : Call)
   allowed = record { named = seen.moves.named; in_directory = seen.moves.in_directory }
 
   pub mounts_same : later.mounts ≡ world.mounts
-  mounts_same = later_mounts world fresh name call answer is plain serves other few did from change fresh asks does something allowed file_tree
+  mounts_same =
+      later_mounts world fresh name call answer is plain serves other few did from change fresh asks does something
+      allowed file_tree
 
   pub each : (number : ℕ) → IsMovedIn object.node (number ≡ fs) (tree_in world number) (tree_in spent number)
   each =
-      in_each world fresh name call answer is plain serves other few did from change fresh asks does something allowed file_tree
+      in_each world fresh name call answer is plain serves other few did from change fresh asks does something allowed
+      file_tree
       (λ number f. IsMovedIn object.node (number ≡ fs) (tree_in world number) f.tree)
-      (moved_in (files_at nat_eq world from) from.node old to.node new object.node seen.moves.named seen.moves.in_directory free (fs ≡ fs) refl)
+      (moved_in (files_at nat_eq world from) from.node old to.node new object.node seen.moves.named
+      seen.moves.in_directory free (fs ≡ fs) refl)
       (λ number. record {
         root = refl;
         directory = λ n. refl;
@@ -228,7 +234,8 @@ module _ (world : World ℕ) (fresh : Fresh ℕ) (name : TaskName) (call : Call)
   pub object_later : is_some (node_in later fs object.node) ≡ true
   object_later =
       let files = files_at nat_eq world from in
-      ap is_some (all_stays world fresh name call answer is plain serves other few did from change fresh asks does something allowed file_tree
+      ap is_some (all_stays world fresh name call answer is plain serves other few did from change fresh asks does
+      something allowed file_tree
       (ap option_to_list free) object.node)
       ∙ directory_used (changed nat_eq files change).tree object.node
       ((moved_in files from.node old to.node new object.node seen.moves.named seen.moves.in_directory free
@@ -247,7 +254,8 @@ module _ (world : World ℕ) (fresh : Fresh ℕ) (name : TaskName) (call : Call)
       let files = later_files world fresh name call answer is plain serves other few did filesystem in
       ap (λ (f : FileTree ℕ). f.tree.root) files
       ∙ root_settled spent
-      (spent_unsettled world fresh name call answer is plain serves other few did).files.one_filesystem filesystem number
+      (spent_unsettled world fresh name call answer is plain serves other few did).files.one_filesystem filesystem
+      number
       (ap (λ (f : FileTree ℕ). is_some (f.tree.node number)) (sym files) ∙ there)
       ∙ (each filesystem).root
 
@@ -297,7 +305,9 @@ module _ (world : World ℕ) (fresh : Fresh ℕ) (name : TaskName) (call : Call)
       → is_directory_node (tree.node here.node) ≡ true → InIt here.node
       → lies_in world object here ≡ true
   lies_so here same directory way =
-      let shown_is = object_shown world fresh name call answer is plain serves other few did from old to new object None permit_is uncovered in
+      let shown_is =
+      object_shown world fresh name call answer is plain serves other few did from old to new object None permit_is
+      uncovered in
       and_from _ _ (eq-eqb _ _ (same ∙ sym shown_is))
       (ap (λ n. is_directory_under nat_eq (filesystem_numbered nat_eq world n).files object.node here.node) shown_is
       ∙ under_seen (files_at nat_eq world from) file_tree here.node directory

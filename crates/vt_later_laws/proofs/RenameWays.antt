@@ -59,19 +59,29 @@ module _ (world : World ℕ) (fresh : Fresh ℕ) (name : TaskName) (call : Call)
     (is_directory : is_directory_node ((files_at nat_eq world from).tree.node object.node) ≡ true)
     (outside : StandsOutside world did.task object) (reader : Task ℕ) (roots : reader.root ≡ did.task.root) where
   abbrev left_world : World ℕ
-  left_world = later world fresh name call answer is plain serves other few did from old to new object permit_is uncovered is_directory outside
+  left_world =
+      later world fresh name call answer is plain serves other few did from old to new object permit_is uncovered
+      is_directory outside
 
   abbrev own_fs : ℕ
-  own_fs = fs world fresh name call answer is plain serves other few did from old to new object permit_is uncovered is_directory outside
+  own_fs =
+      fs world fresh name call answer is plain serves other few did from old to new object permit_is uncovered
+      is_directory outside
 
   abbrev is_left : IsWorld nat_eq left_world × IsPlain left_world
-  is_left = left_is world fresh name call answer is plain serves other few did from old to new object permit_is uncovered is_directory outside
+  is_left =
+      left_is world fresh name call answer is plain serves other few did from old to new object permit_is uncovered
+      is_directory outside
 
   abbrev Inside : ℕ → Type 0
-  Inside = InIt world fresh name call answer is plain serves other few did from old to new object permit_is uncovered is_directory outside
+  Inside =
+      InIt world fresh name call answer is plain serves other few did from old to new object permit_is uncovered
+      is_directory outside
 
   abbrev FitsIn : Location ℕ → Type 0
-  FitsIn = Fits world fresh name call answer is plain serves other few did from old to new object permit_is uncovered is_directory outside
+  FitsIn =
+      Fits world fresh name call answer is plain serves other few did from old to new object permit_is uncovered
+      is_directory outside
 
   abbrev BothDirectories : Location ℕ → Type 0
   BothDirectories = BothAre world left_world is plain is_left.0 is_left.1 did.task reader
@@ -80,45 +90,70 @@ module _ (world : World ℕ) (fresh : Fresh ℕ) (name : TaskName) (call : Call)
   Up = GoesUp world left_world is plain is_left.0 is_left.1 did.task reader
 
   abbrev spent_world : World ℕ
-  spent_world = spent world fresh name call answer is plain serves other few did from old to new object permit_is uncovered is_directory outside
+  spent_world =
+      spent world fresh name call answer is plain serves other few did from old to new object permit_is uncovered
+      is_directory outside
 
   abbrev whole : Tree ℕ
-  whole = tree world fresh name call answer is plain serves other few did from old to new object permit_is uncovered is_directory outside
+  whole =
+      tree world fresh name call answer is plain serves other few did from old to new object permit_is uncovered
+      is_directory outside
 
   whole_is : IsFileTree (files_at nat_eq world from)
-  whole_is = file_tree world fresh name call answer is plain serves other few did from old to new object permit_is uncovered is_directory outside
+  whole_is =
+      file_tree world fresh name call answer is plain serves other few did from old to new object permit_is uncovered
+      is_directory outside
 
   each_in : (number : ℕ) → IsMovedIn object.node (number ≡ own_fs) (tree_in world number) (tree_in spent_world number)
-  each_in = each world fresh name call answer is plain serves other few did from old to new object permit_is uncovered is_directory outside
+  each_in =
+      each world fresh name call answer is plain serves other few did from old to new object permit_is uncovered
+      is_directory outside
 
   left_node : (filesystem number : ℕ) → is_some (node_in left_world filesystem number) ≡ true
       → node_in left_world filesystem number ≡ node_in spent_world filesystem number
-  left_node = node_left world fresh name call answer is plain serves other few did from old to new object permit_is uncovered is_directory outside
+  left_node =
+      node_left world fresh name call answer is plain serves other few did from old to new object permit_is uncovered
+      is_directory outside
 
   further : (here : ℕ) (any : List ℕ) (next : ℕ) → Inside here → entry_at whole here any ≡ Some next → Inside next
-  further = in_further world fresh name call answer is plain serves other few did from old to new object permit_is uncovered is_directory outside
+  further =
+      in_further world fresh name call answer is plain serves other few did from old to new object permit_is uncovered
+      is_directory outside
 
   not_around : Inside from.node → ⊥
-  not_around = from_outside world fresh name call answer is plain serves other few did from old to new object permit_is uncovered is_directory outside
+  not_around =
+      from_outside world fresh name call answer is plain serves other few did from old to new object permit_is uncovered
+      is_directory outside
 
   reached_in : (n : ℕ) → Inside n → IsReached whole n
-  reached_in = in_reached world fresh name call answer is plain serves other few did from old to new object permit_is uncovered is_directory outside
+  reached_in =
+      in_reached world fresh name call answer is plain serves other few did from old to new object permit_is uncovered
+      is_directory outside
 
   points_fit : (a b : Location ℕ) → IsFoundDirectory world is did.task a → hop nat_eq world did.task a ≡ Some b
       → FitsIn b
-  points_fit = point_fits world fresh name call answer is plain serves other few did from old to new object permit_is uncovered is_directory outside
+  points_fit =
+      point_fits world fresh name call answer is plain serves other few did from old to new object permit_is uncovered
+      is_directory outside
 
   places_fit : (place : Location ℕ) → FitsIn place → FitsIn (topmost nat_eq world.mounts place)
-  places_fit = over_fits world fresh name call answer is plain serves other few did from old to new object permit_is uncovered is_directory outside
+  places_fit =
+      over_fits world fresh name call answer is plain serves other few did from old to new object permit_is uncovered
+      is_directory outside
 
   only_entry : (here : ℕ) (any : List ℕ) → entry_at whole here any ≡ Some object.node → (here ≡ from.node) × (any ≡ old)
-  only_entry = its_entry world fresh name call answer is plain serves other few did from old to new object permit_is uncovered is_directory outside
+  only_entry =
+      its_entry world fresh name call answer is plain serves other few did from old to new object permit_is uncovered
+      is_directory outside
 
   pub mounts_seen : MountsSeen world
-      (later world fresh name call answer is plain serves other few did from old to new object permit_is uncovered is_directory outside)
+      (later world fresh name call answer is plain serves other few did from old to new object permit_is uncovered
+      is_directory outside)
       is plain
-      (left_is world fresh name call answer is plain serves other few did from old to new object permit_is uncovered is_directory outside).0
-      (left_is world fresh name call answer is plain serves other few did from old to new object permit_is uncovered is_directory outside).1
+      (left_is world fresh name call answer is plain serves other few did from old to new object permit_is uncovered
+      is_directory outside).0
+      (left_is world fresh name call answer is plain serves other few did from old to new object permit_is uncovered
+      is_directory outside).1
       did.task reader
   mounts_seen = record {
     own = λ number own listed. alike_by number;
@@ -127,7 +162,9 @@ module _ (world : World ℕ) (fresh : Fresh ℕ) (name : TaskName) (call : Call)
   }
     where
       same : left_world.mounts ≡ world.mounts
-      same = mounts_same world fresh name call answer is plain serves other few did from old to new object permit_is uncovered is_directory outside
+      same =
+          mounts_same world fresh name call answer is plain serves other few did from old to new object permit_is
+          uncovered is_directory outside
 
       mount_same : (number : ℕ) → mount_numbered nat_eq left_world number ≡ mount_numbered nat_eq world number
       mount_same number = ap (λ mounts. mount_in nat_eq mounts number) same
@@ -166,7 +203,8 @@ module _ (world : World ℕ) (fresh : Fresh ℕ) (name : TaskName) (call : Call)
 
     root_same : (tree_in left_world number).root ≡ (tree_in world number).root
     root_same =
-        root_left world fresh name call answer is plain serves other few did from old to new object permit_is uncovered is_directory outside
+        root_left world fresh name call answer is plain serves other few did from old to new object permit_is uncovered
+        is_directory outside
         number here.node there
 
     now_directory : is_directory_node (node_in left_world number here.node) ≡ true
@@ -340,7 +378,8 @@ module _ (world : World ℕ) (fresh : Fresh ℕ) (name : TaskName) (call : Call)
         inside_goes =
             goes parent_same (reached_not_removed
             (tree_in left_world number) tree_later.tree here.node now_directory reached_later)
-            (under_seen (filesystem_numbered nat_eq left_world number).files tree_later here.node now_directory reached_later top_of from_top.0
+            (under_seen (filesystem_numbered nat_eq left_world number).files tree_later here.node now_directory
+            reached_later top_of from_top.0
             (led_later top_of from_top.0 here.node root_in from_top.1 root_there))
 
   up_fits : (Refused : Deny → Type 0) (here : Location ℕ) → BothDirectories here → FitsIn here
@@ -412,8 +451,10 @@ module _ (world : World ℕ) (fresh : Fresh ℕ) (name : TaskName) (call : Call)
           none_is_not (entry_named any (entries_in (node_at nat_eq left_world here))) next
           (ap (λ (t : FileTree ℕ). entry_named any (entries_in (t.tree.node here.node))) (files_here here known)
           ∙ (λ i. entry_at (tree_in left_world (same i)) (was.0 i) (was.1 i))
-          ∙ old_left world fresh name call answer is plain serves other few did from old to new object None permit_is uncovered
-          (seen world fresh name call answer is plain serves other few did from old to new object permit_is uncovered is_directory outside).moves.replaced_other
+          ∙ old_left world fresh name call answer is plain serves other few did from old to new object None permit_is
+          uncovered
+          (seen world fresh name call answer is plain serves other few did from old to new object permit_is uncovered
+          is_directory outside).moves.replaced_other
           ((λ i. is_some (node_in left_world (sym same i) (sym was.0 i))) ∙ there here known))
           f
 
@@ -426,12 +467,16 @@ module _ (world : World ℕ) (fresh : Fresh ℕ) (name : TaskName) (call : Call)
 
   pub fits_ways : (Refused : Deny → Type 0)
       → FitsWays world
-      (later world fresh name call answer is plain serves other few did from old to new object permit_is uncovered is_directory outside)
+      (later world fresh name call answer is plain serves other few did from old to new object permit_is uncovered
+      is_directory outside)
       is plain
-      (left_is world fresh name call answer is plain serves other few did from old to new object permit_is uncovered is_directory outside).0
-      (left_is world fresh name call answer is plain serves other few did from old to new object permit_is uncovered is_directory outside).1
+      (left_is world fresh name call answer is plain serves other few did from old to new object permit_is uncovered
+      is_directory outside).0
+      (left_is world fresh name call answer is plain serves other few did from old to new object permit_is uncovered
+      is_directory outside).1
       did.task reader Refused
-      (Fits world fresh name call answer is plain serves other few did from old to new object permit_is uncovered is_directory outside)
+      (Fits world fresh name call answer is plain serves other few did from old to new object permit_is uncovered
+      is_directory outside)
   fits_ways Refused = record {
     named = λ here any next known fits e f. named_fits here any next known fits e f;
     over = λ place own fits. places_fit place fits;

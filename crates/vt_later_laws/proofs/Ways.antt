@@ -309,7 +309,12 @@ module _ (looks later : Looks ℕ) (task reader : Task ℕ) (Refused : Deny → 
             (reverse (words text)))
             (λ reached. walk_unless reached.steps (slash_rules nat_eq later text reached.location) reached))) end)
             (sym (walk_passed steps (follow_rules nat_eq later (at link steps) text) now pass
-            ∙ (λ i. Ok (record { location = start_same directory directory text refl i; left = link.left - 1; steps = now.steps }))))
+            ∙ (λ i. Ok (record {
+              location = start_same directory directory text refl i;
+              left = link.left -
+                  1;
+              steps = now.steps;
+            }))))
             (then_too (words_walked nat_eq later reader
             (λ inside next inner. symlink_walked nat_eq other later reader inside next inner) (at begun now.steps)
             (reverse

@@ -251,7 +251,8 @@ module _ (world later : World ℕ) (is : IsWorld nat_eq world) (is_later : IsWor
         node = (kept.root ∙ ap (λ (m : Mount ℕ). m.root) itself) i;
       }))
     where
-      in_namespace : (mount : Mount ℕ) → Among mount world.mounts → mount.mount_point ≡ Some place → is_some mount.namespace ≡ true
+      in_namespace : (mount : Mount ℕ) → Among mount world.mounts → mount.mount_point ≡ Some place
+          → is_some mount.namespace ≡ true
       in_namespace mount m e = by (is_some mount.namespace) refl
         where
           by : (b : Bool) → is_some mount.namespace ≡ b → is_some mount.namespace ≡ true

@@ -133,7 +133,8 @@ module _ (looks later : Looks ℕ) (task reader : Task ℕ) (Refused : Deny → 
   pub begun : (path : List ℕ) → walk_start reader path ≡ at (walk_start task path) []
   begun path = λ i.
       record {
-        location = start_same looks later task reader Refused Known leads reader.directory task.directory path leads.working i;
+        location =
+            start_same looks later task reader Refused Known leads reader.directory task.directory path leads.working i;
         left = most_symlinks;
         steps = [];
       }

@@ -1,6 +1,6 @@
 -- In a world that a call left, in which mounts stay and names stay or are missing, walks lead where they led.
 use Rattle.std.proofs.Common.{◌≡◌, refl, sym, ap, subst, ◌∙◌, inl, inr, ◌⊎◌, true≢false, ℕ, nat_eq, Bool, true, false, cond, not, ◌||◌, List, [], ◌∷◌, length, Option, Some, None, is_some, option_map, ok_or, Result, Ok, Err}
-use Rattle.std.proofs.lemmas.Bool.{and_parts, not-false}
+use Rattle.std.proofs.lemmas.Bool.{and_parts, not-false, or_parts}
 use Rattle.std.specs.Prelude.{⊤}
 use Rattle.vt_spec.specs.declared.errors.Deny.{Deny}
 use Rattle.vt_spec.specs.declared.errors.Rule.TheVariants.{W4, W6, W8}
@@ -235,15 +235,11 @@ module _ (world later : World ℕ) (is : IsWorld nat_eq world) (plain : IsPlain 
       files_later : FileTree ℕ
       files_later = (filesystem_numbered nat_eq later (mount_at nat_eq world here).filesystem).files
 
-      first : (a b : Bool) → (a || b) ≡ false → (a ≡ false) × (b ≡ false)
-      first true b f = cc
-      first false b f = (refl, f)
-
       parts : (is_removed nat_eq (tree_in world (mount_at nat_eq world here).filesystem) here.node ≡ false)
           × (not (is_directory_under nat_eq
           (filesystem_numbered nat_eq world (mount_at nat_eq world here).filesystem).files
           (mount_at nat_eq world here).root here.node) ≡ false)
-      parts = first _ _ e
+      parts = or_parts _ _ e
 
       tree_later : IsFileTree (filesystem_numbered nat_eq later (mount_at nat_eq world here).filesystem).files
       tree_later =

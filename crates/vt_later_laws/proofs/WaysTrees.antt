@@ -135,7 +135,8 @@ module _ (Keeps : ℕ → Type 0) (files later : FileTree ℕ) (before : IsTree 
   reached_later = (
     reached.0,
     ap (λ n. led later.tree n reached.0) root
-        ∙ led_stays Keeps files.tree later.tree before after.tree above stay files.tree.root reached.0 d reached.1 is keeps
+        ∙ led_stays Keeps files.tree later.tree before after.tree above stay files.tree.root reached.0 d reached.1 is
+        keeps
         (subst (λ n. is_some (later.tree.node n) ≡ true) root
         (directory_used later.tree later.tree.root after.tree.root_directory)),
   )

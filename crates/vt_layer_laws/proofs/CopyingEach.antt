@@ -9,6 +9,7 @@ use Rattle.vt_spec.specs.Machine.World.{Real, upper_object}
 use Rattle.vt_spec.specs.Tree.{Node}
 use Rattle.vt_layer_laws.proofs.CopyingSound.{IsSound, Soundly, State, soundly_copied}
 use Rattle.std.proofs.lemmas.Bool.{or_right}
+use Rattle.vt_spec.proofs.Truths.{or_false_left, or_false_right}
 use Rattle.vt_spec.proofs.Worlds.{stands_still}
 
 abbrev pub IsNew : Fresh ℕ → ℕ → Type 0
@@ -56,18 +57,10 @@ module _ (files : FileTree ℕ) (first : ℕ → Option (Real ℕ)) (spare : ℕ
         (λ t. inr (t.0, (let h = t.1 in omega arith), t.2))
         (copies.bound number seen e);
     others = λ number out.
-        copies.others number (later_out (nat_eq number object) (is_among nat_eq number rest) out)
-        ∙ apart_from number (first_out (nat_eq number object) (is_among nat_eq number rest) out);
+        copies.others number (or_false_right (nat_eq number object) (is_among nat_eq number rest) out)
+        ∙ apart_from number (or_false_left (nat_eq number object) (is_among nat_eq number rest) out);
   }
     where
-      first_out : (a b : Bool) → (a || b) ≡ false → a ≡ false
-      first_out true b e = e
-      first_out false b e = refl
-
-      later_out : (a b : Bool) → (a || b) ≡ false → b ≡ false
-      later_out true b e = absurd (true≢false e)
-      later_out false b e = e
-
       by : (number : ℕ) (b : Bool) → nat_eq number object ≡ b → (b || is_among nat_eq number rest) ≡ true
           → is_some (files.tree.node number) ≡ true → is_some (upper_object (copies.soundly.real number)) ≡ true
       by number true e among there =

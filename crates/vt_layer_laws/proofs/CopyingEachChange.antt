@@ -109,11 +109,14 @@ module _ (fresh : Fresh ℕ) (stack : Stack ℕ) (before : Merge ℕ) (fit : IsF
             (λ reached. (
               odds fresh 0,
               made_real before.files before.real
-                  (odds fresh) stack ready.soundly.real ready.soundly.upper ready.soundly.sound directory name number node seen.0 seen.1 reached,
+                  (odds fresh) stack ready.soundly.real ready.soundly.upper ready.soundly.sound directory name number
+                  node seen.0 seen.1 reached,
               made_named before.files before.real
-                  (odds fresh) stack ready.soundly.real ready.soundly.upper ready.soundly.sound directory name number node seen.0 seen.1 reached,
+                  (odds fresh) stack ready.soundly.real ready.soundly.upper ready.soundly.sound directory name number
+                  node seen.0 seen.1 reached,
               made_as before.files before.real
-                  (odds fresh) stack ready.soundly.real ready.soundly.upper ready.soundly.sound directory name number node seen.0 seen.1 reached,
+                  (odds fresh) stack ready.soundly.real ready.soundly.upper ready.soundly.sound directory name number
+                  node seen.0 seen.1 reached,
             ));
         stands = stands_now fresh before fit (IsNew (odds fresh)) (line_to nat_eq before.files directory) _ ready;
         names_left = tt;
@@ -121,7 +124,8 @@ module _ (fresh : Fresh ℕ) (stack : Stack ℕ) (before : Merge ℕ) (fit : IsF
         marks = subst (λ m. MarksAreRight stack m (made nat_eq (odds fresh) stack m directory name number node)
             (Make directory name number node)) (sym ready.soundly.is)
             (made_marked before.files fit.tree before.real
-            (odds fresh) stack ready.soundly.real ready.soundly.upper ready.soundly.sound directory name number node seen.0 seen.1);
+            (odds fresh) stack ready.soundly.real ready.soundly.upper ready.soundly.sound directory name number node
+            seen.0 seen.1);
         rest = rest_stays (Make directory name number node) there;
       }
   overlay_changes (AddName directory name object) there =
@@ -132,7 +136,8 @@ module _ (fresh : Fresh ℕ) (stack : Stack ℕ) (before : Merge ℕ) (fit : IsF
         tree = ap (λ m. (linked nat_eq m directory name object).files) ready.soundly.is;
         reaches = subst (λ m. ReachesUpper m (linked nat_eq m directory name object) (AddName directory name object))
             (sym ready.soundly.is)
-            (λ reached. linked_named before.files before.real nothing_spared ready.soundly.real ready.soundly.upper ready.soundly.sound directory seen.0 seen.1 reached name object);
+            (λ reached. linked_named before.files before.real nothing_spared ready.soundly.real ready.soundly.upper
+            ready.soundly.sound directory seen.0 seen.1 reached name object);
         stands = stands_now fresh before fit nothing_spared
             (line_to nat_eq before.files object ++ line_to nat_eq before.files directory) _ ready;
         names_left = tt;
@@ -150,7 +155,8 @@ module _ (fresh : Fresh ℕ) (stack : Stack ℕ) (before : Merge ℕ) (fit : IsF
         names_left = subst (λ m. NamesLeft stack m (removed nat_eq (odds fresh) stack m directory name object)
             (Remove directory name object)) (sym ready.soundly.is)
             (λ e. removed_left before.files fit.tree before.real
-            (odds fresh) stack ready.soundly.real ready.soundly.upper ready.soundly.sound directory name object seen.0 e seen.1);
+            (odds fresh) stack ready.soundly.real ready.soundly.upper ready.soundly.sound directory name object seen.0 e
+            seen.1);
         removed_empty = subst (λ m. RemovedIsEmpty m (removed nat_eq (odds fresh) stack m directory name object)
             (Remove directory name object)) (sym ready.soundly.is)
             (removed_empty before.files fit.tree before.real
@@ -177,22 +183,26 @@ module _ (fresh : Fresh ℕ) (stack : Stack ℕ) (before : Merge ℕ) (fit : IsF
         reaches = subst (λ m. ReachesUpper m (moved nat_eq (odds (odds fresh)) stack m from old to name object)
             (Move from old to name object)) (sym ready.soundly.is)
             (λ reached another. moved_named before.files before.real
-            (odds (odds fresh)) stack ready.soundly.real ready.soundly.upper ready.soundly.sound from old to name object seen_from.0 seen_to.0 there.0 seen_from.1 seen_to.1 reached another);
+            (odds (odds fresh)) stack ready.soundly.real ready.soundly.upper ready.soundly.sound from old to name object
+            seen_from.0 seen_to.0 there.0 seen_from.1 seen_to.1 reached another);
         stands = stands_now fresh before fit (IsNew (odds (odds fresh)))
             (line_to nat_eq before.files object ++ line_to nat_eq before.files to) _ ready;
         names_left = subst (λ m. IsLeft stack m
             (moved nat_eq (odds (odds fresh)) stack m from old to name object) from old) (sym ready.soundly.is)
             (moved_left before.files fit.tree before.real
-            (odds (odds fresh)) stack ready.soundly.real ready.soundly.upper ready.soundly.sound from old to name object seen_from.0 seen.0 there.0 seen_from.1 seen.1);
+            (odds (odds fresh)) stack ready.soundly.real ready.soundly.upper ready.soundly.sound from old to name object
+            seen_from.0 seen.0 there.0 seen_from.1 seen.1);
         removed_empty = subst (λ m. RemovedIsEmpty m (moved nat_eq (odds (odds fresh)) stack m from old to name object)
             (Move from old to name object)) (sym ready.soundly.is)
             (λ replaced number named empty is.
             moved_empty before.files fit.tree before.real
-            (odds (odds fresh)) stack ready.soundly.real ready.soundly.upper ready.soundly.sound from old to name object seen_from.0 seen.0 there.0 seen_from.1 seen.1 replaced number named empty is seen_to.0 seen_to.1);
+            (odds (odds fresh)) stack ready.soundly.real ready.soundly.upper ready.soundly.sound from old to name object
+            seen_from.0 seen.0 there.0 seen_from.1 seen.1 replaced number named empty is seen_to.0 seen_to.1);
         marks = subst (λ m. MarksAreRight stack m (moved nat_eq (odds (odds fresh)) stack m from old to name object)
             (Move from old to name object)) (sym ready.soundly.is)
             (moved_marked before.files fit.tree before.real
-            (odds (odds fresh)) stack ready.soundly.real ready.soundly.upper ready.soundly.sound from old to name object seen_from.0 seen.0 there.0 seen_from.1 seen.1);
+            (odds (odds fresh)) stack ready.soundly.real ready.soundly.upper ready.soundly.sound from old to name object
+            seen_from.0 seen.0 there.0 seen_from.1 seen.1);
         rest = rest_stays (Move from old to name object) there;
       }
   overlay_changes (SetBytes file bytes) there =

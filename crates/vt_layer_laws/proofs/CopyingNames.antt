@@ -183,7 +183,7 @@ marked_other true upper object inode differ =
     kept_elsewhere upper object (node_with_mark true) inode (ne_eqb inode object differ)
 marked_other false upper object inode differ = refl
 
-directory_marked : (inode : Option (Node ℕ)) → is_directory_node inode ≡ true
+pub directory_marked : (inode : Option (Node ℕ)) → is_directory_node inode ≡ true
     → is_opaque_in (node_with_mark true inode) ≡ true
 directory_marked None d = absurd (true≢false (sym d))
 directory_marked (Some node) d = by node.content d

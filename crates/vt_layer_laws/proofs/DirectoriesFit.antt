@@ -179,9 +179,12 @@ layers_fit : (world : World ℕ) (conditions : IsWorld nat_eq world) (overlay : 
     → fit_node (layer.tree.node object) ≡ true
 layers_fit world conditions overlay are_layers depth layer there object =
     let open_one = is_open world conditions overlay are_layers depth layer there in
-    let fit = all_of_found is_fit_filesystem open_one.test world.filesystems open_one.filesystem conditions.files.fit_filesystems open_one.found in
+    let fit =
+    all_of_found is_fit_filesystem open_one.test world.filesystems open_one.filesystem
+    conditions.files.fit_filesystems open_one.found in
     let listed = all_found (λ filesystem.
-    ListsNumbers nat_eq filesystem.files) open_one.test world.filesystems conditions.files.numbers open_one.filesystem open_one.found in
+    ListsNumbers nat_eq filesystem.files) open_one.test world.filesystems conditions.files.numbers open_one.filesystem
+    open_one.found in
     ap (λ tree. fit_node (tree.node object)) open_one.is
     ∙ by open_one.filesystem fit (listed object) (open_one.filesystem.files.tree.node object) refl
   where

@@ -227,7 +227,8 @@ module _ (world : World ℕ) (conditions : IsWorld nat_eq world) (overlay : Over
           ap (λ n. lies_in_layer nat_eq world n object layer) (eqb-true fs upper.filesystem one)
           ∙ ap (λ b. b && is_under nat_eq filesystem.files layer.directory object)
           (and_true_left (nat_eq upper.filesystem layer.filesystem) _ before)
-          ∙ led_below filesystem.files tree listed layer.directory upper.directory leads.0 object directory_under directory leads.1
+          ∙ led_below filesystem.files tree listed layer.directory upper.directory leads.0 object directory_under
+          directory leads.1
 
   overlays_later : overlays later ≡ overlays world ++ new ∷ []
   overlays_later = filter-append is_overlay world.filesystems (new ∷ [])

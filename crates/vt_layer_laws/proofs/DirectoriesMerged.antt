@@ -299,13 +299,15 @@ module _ (layers : List (OpenLayer ℕ)) (are_open : AreOpen layers) (longest : 
       above front name seen s =
           let shows = shown_in_directory layers are_open 0 front name seen s in
           let over : Shown ℕ = record { layer = 0 + shows.place; object = shows.object } in
-          let inode = inode_at layers are_open longest bounded fresh distinct has_upper top is_top front over shows.is in
+          let inode =
+          inode_at layers are_open longest bounded fresh distinct has_upper top is_top front over shows.is in
           let found = in_layer layers are_open longest bounded fresh distinct has_upper (at front over) shows.is in
           let node = same_Some inode.node found.node
           (sym inode.seen ∙ layer_node_of layers are_open longest bounded fresh distinct has_upper
           (at front over) found) in
           let d = ap (λ m. is_directory (kind_of m.content)) (sym node)
-          ∙ directory_above layers are_open longest bounded fresh distinct has_upper top is_top front name over shows.is inode seen s in
+          ∙ directory_above layers are_open longest bounded fresh distinct has_upper top is_top front name over shows.is
+          inode seen s in
           subst (IsDirectory tree) (sym (path_number front over shows.is found d))
           (shown_directory front over shows.is found d)
 

@@ -161,5 +161,6 @@ module _ (world : World ℕ) (conditions : IsWorld nat_eq world) (overlay : Over
           (made_merged world conditions overlay are_layers fresh distinct)))
 
 pub overlays_still_merge : OverlaysStillMerge
-overlays_still_merge fresh world overlay places conditions are_layers plain distinct unused passed number some_overlay e =
+overlays_still_merge fresh world overlay places conditions are_layers plain distinct unused passed number some_overlay
+    e =
     merge_after world conditions overlay are_layers fresh distinct unused number some_overlay e

@@ -37,7 +37,15 @@ kept_both old middle new a b = record {
 kept_parent : (parent : ℕ) (node : Option (Node ℕ)) → IsKept node (node_with_parent parent node)
 kept_parent parent None = kept_itself None
 kept_parent parent (Some node) =
-    record { there = refl; kind = kind node.content; attr = refl; names = names node.content; bytes = held node.content; mark = mark node.content }
+    record {
+      there = refl;
+      kind = kind node.content;
+      attr = refl;
+      names = names node.content;
+      bytes = held
+          node.content;
+      mark = mark node.content;
+    }
   where
     kind : (content : Content ℕ) → kind_of (content_with_parent parent content) ≡ kind_of content
     kind (Directory old entries opaque) = refl

@@ -2,6 +2,7 @@
 use Rattle.std.proofs.Common.{◌≡◌, ◌≢◌, refl, sym, ap, subst, ◌∙◌, true≢false, ℕ, nat_eq, ne_eqb, Bool, true, false, cond, List, [], ◌∷◌, map, ⊎_elim, Option, Some, None, unwrap_or}
 use Rattle.std.specs.List.{find}
 use Rattle.std.proofs.lemmas.Bool.Decides.{eqb_tells}
+use Rattle.vt_spec.proofs.Truths.{nat_eq_itself}
 use Rattle.vt_spec.specs.Language.Changes.{Change}
 use Rattle.vt_spec.specs.Machine.CopyUp.{Merge}
 use Rattle.vt_spec.specs.Machine.Filesystems.{filesystem_changed, overlay_changed, with_change, with_files, with_merge}
@@ -60,10 +61,8 @@ found_there new (first ∷ list) old e = by (nat_eq new.number first.number) ref
         → find (λ f. nat_eq new.number f.number) (cond b new first ∷ map (replaced_if_numbered nat_eq new) list)
         ≡ Some new
     by true t rest e = ap (λ b. cond b (Some new)
-        (find (λ f. nat_eq new.number f.number) (map (replaced_if_numbered nat_eq new) list))) (eqb_itself new.number)
-      where
-        eqb_itself : (n : ℕ) → nat_eq n n ≡ true
-        eqb_itself n = Rattle.std.proofs.Common.eq-eqb n n refl
+        (find (λ f. nat_eq new.number f.number) (map (replaced_if_numbered nat_eq new) list)))
+        (nat_eq_itself new.number)
     by false t rest e = ap (λ b. cond b (Some first)
         (find (λ f. nat_eq new.number f.number) (map (replaced_if_numbered nat_eq new) list))) t ∙ rest e
 
@@ -167,7 +166,8 @@ the_rest_stays fresh world location change =
         → overlay_changed nat_eq fresh world (filesystem_at nat_eq world location) overlay layer change
         ≡ record world {
           filesystems =
-              (overlay_changed nat_eq fresh world (filesystem_at nat_eq world location) overlay layer change).filesystems;
+              (overlay_changed nat_eq fresh world (filesystem_at nat_eq world location) overlay layer
+              change).filesystems;
         }
     layered overlay None = refl
     layered overlay (Some upper) = refl

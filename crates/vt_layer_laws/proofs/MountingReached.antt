@@ -1,10 +1,9 @@
 -- Names lead to the layers of an overlay when it is mounted.
-use Rattle.std.proofs.Common.{◌≡◌, refl, sym, ap, subst, ◌∙◌, true≢false, ⊎_elim, ℕ, nat_eq, eqb-true, Bool, true, false, not, ◌&&◌, ◌||◌, List, [], ◌∷◌, ◌++◌, map, Option, Some, None, is_some, Result, Ok, Err}
-use Rattle.std.specs.Prelude.{All, option_map, option_to_list, ⊤}
+use Rattle.std.proofs.Common.{◌≡◌, refl, sym, ap, subst, ◌∙◌, true≢false, ⊎_elim, ℕ, nat_eq, eqb-true, Bool, true, false, not, ◌&&◌, ◌||◌, List, [], ◌∷◌, ◌++◌, map, Option, Some, None, is_some, Ok}
+use Rattle.std.specs.Prelude.{All, option_map, option_to_list}
 use Rattle.std.proofs.lemmas.List.Elements.{All-cons, All-head, All-nil, All-tail}
-use Rattle.vt_spec.specs.declared.errors.Deny.{Deny}
+use Rattle.vt_layer_laws.proofs.MountingWalked.{gives_end, gives_then}
 use Rattle.vt_spec.specs.declared.errors.Rule.TheVariants.{W3, W8}
-use Rattle.vt_spec.specs.Errors.{and_then}
 use Rattle.vt_spec.specs.FileTree.{has_entry_to, is_removed}
 use Rattle.vt_spec.specs.Language.Calls.{OverlayWords}
 use Rattle.vt_spec.specs.Lists.{when}
@@ -13,13 +12,14 @@ use Rattle.vt_spec.specs.Machine.Looks.{looks_of}
 use Rattle.vt_spec.specs.Machine.Mounts.{Location}
 use Rattle.vt_spec.specs.Machine.Outcome.Mounting.{LayerPlaces, each_walked, layers_walked, overlay_at, source_walk, walked_if_given, work_walked}
 use Rattle.vt_spec.specs.Machine.Rules.Mounting.{layer_at}
-use Rattle.vt_spec.specs.Machine.Walk.{Stop, directory_walk, path_walked, walk_end}
+use Rattle.vt_spec.specs.Machine.Walk.{directory_walk, path_walked, walk_end}
 use Rattle.vt_spec.specs.Machine.World.{Filesystem, Layer, Task, World, filesystem_numbered, is_directory_at, is_removed_at, layers_of, mount_at}
 use Rattle.vt_spec.specs.Tree.{Tree, is_directory_node, parent_in}
 use Rattle.vt_spec.specs.TreeLaws.{IsDirectory, IsReached, IsTree}
 use Rattle.vt_tree_laws.proofs.TreesOfWorlds.{numbered_all}
 use Rattle.vt_tree_laws.proofs.TreesWalked.{Ends, ends_next, ends_then, ends_unless, not_true}
 use Rattle.vt_spec.proofs.NodeChanges.{entry_from}
+use Rattle.vt_tree_laws.proofs.Given.{Gives}
 
 -- a directory that is not removed is reached
 reached_tree : (tree : Tree ℕ) → IsTree tree → (directory : ℕ) → IsDirectory tree directory
@@ -42,21 +42,6 @@ reached_tree tree is directory is_directory stays = by (nat_eq directory tree.ro
         → IsReached tree directory
     by true e h = ([], ap Some (sym (eqb-true directory tree.root e)))
     by false e h = named (has_entry_to nat_eq tree (parent_in directory (tree.node directory)) directory) refl h
-
--- What holds of an answer, if it is one
-abbrev Gives : {A : Type 0} → (A → Type 0) → Result A Deny → Type 0
-Gives Q (Ok a) = Q a
-Gives Q (Err deny) = ⊤
-
-gives_then : {A B : Type 0} (Q : A → Type 0) (R : B → Type 0) (r : Result A Deny) (next : A → Result B Deny)
-    → Gives Q r
-    → ((a : A) → Q a → Gives R (next a)) → Gives R (and_then r next)
-gives_then Q R (Ok a) next q h = h a q
-gives_then Q R (Err deny) next q h = tt
-
-gives_end : {A : Type 0} (Q : A → Type 0) (r : Result A (Stop ℕ)) → Ends Q r → Gives Q (walk_end r)
-gives_end Q (Ok a) e = e
-gives_end Q (Err stop) e = tt
 
 module _ (world : World ℕ) (conditions : IsWorld nat_eq world) (task : Task ℕ) where
   abbrev ReachedLayer : Layer ℕ → Type 0

@@ -5,7 +5,7 @@ use Rattle.std.proofs.lemmas.Bool.Decides.{leb_tells}
 use Rattle.std.proofs.lemmas.List.{length-map}
 use Rattle.std.proofs.lemmas.List.Folds.{list_all-append}
 use Rattle.std.specs.List.{list_all, list_any}
-use Rattle.std.specs.Prelude.{nat_le, nat_lt, option_map, option_to_list, ⊤}
+use Rattle.std.specs.Prelude.{nat_le, nat_lt, option_map, option_to_list}
 use Rattle.vt_spec.specs.declared.errors.Deny.{Deny}
 use Rattle.vt_spec.specs.declared.errors.Rule.TheVariants.{W3, W8}
 use Rattle.vt_spec.specs.Errors.{and_then}
@@ -24,23 +24,16 @@ use Rattle.vt_spec.specs.Machine.Invariants.{has_fit_layers, is_plain_layer}
 use Rattle.vt_tree_laws.proofs.TreesWalked.{Ends, Passed, ends_next, ends_then, ends_unless, not_true}
 use Rattle.vt_layer_laws.specs.Layers.NewOverlays.{NoneRefuses}
 use Rattle.vt_spec.specs.Errors.{Rules}
+use Rattle.vt_tree_laws.proofs.Given.{Gives, given_is}
 
--- what holds of an answer, if it is one
-abbrev Gives : {A : Type 0} → (A → Type 0) → Result A Deny → Type 0
-Gives Q (Ok a) = Q a
-Gives Q (Err deny) = ⊤
-
-gives_then : {A B : Type 0} (Q : A → Type 0) (R : B → Type 0) (r : Result A Deny) (next : A → Result B Deny)
+pub gives_then : {A B : Type 0} (Q : A → Type 0) (R : B → Type 0) (r : Result A Deny) (next : A → Result B Deny)
     → Gives Q r → ((a : A) → Q a → Gives R (next a)) → Gives R (and_then r next)
 gives_then Q R (Ok a) next q h = h a q
 gives_then Q R (Err deny) next q h = tt
 
-gives_end : {A : Type 0} (Q : A → Type 0) (r : Result A (Stop ℕ)) → Ends Q r → Gives Q (walk_end r)
+pub gives_end : {A : Type 0} (Q : A → Type 0) (r : Result A (Stop ℕ)) → Ends Q r → Gives Q (walk_end r)
 gives_end Q (Ok a) e = e
 gives_end Q (Err stop) e = tt
-
-given : {A : Type 0} (Q : A → Type 0) (r : Result A Deny) (a : A) → r ≡ Ok a → Gives Q r → Q a
-given Q r a e g = Rattle.std.proofs.Common.subst (Gives Q) e g
 
 pub none_refuses : (rules : Rules) → Passed rules → NoneRefuses rules
 none_refuses [] p = refl
@@ -107,7 +100,7 @@ module _ (world : World ℕ) (task : Task ℕ) where
 
   pub are_walked : (words : OverlayWords) (places : LayerPlaces ℕ) → layers_walked nat_eq world task words ≡ Ok places
       → AreWalked places
-  are_walked words places e = given AreWalked (layers_walked nat_eq world task words) places e (layers_end words)
+  are_walked words places e = given_is AreWalked (layers_walked nat_eq world task words) places e (layers_end words)
 
   module _ (places : LayerPlaces ℕ) (walked : AreWalked places)
       (passed : Passed (layer_rules nat_eq world places (overlay_at nat_eq world task places))) where

@@ -90,13 +90,18 @@ module _ (layers : List (OpenLayer ℕ)) (are_open : AreOpen layers) (longest : 
     pub node : Node ℕ
     pub seen : layer_node layers object.seen ≡ Some node
     pub is : node_of (number object)
-        ≡ Some (record { attr = node.attr; content = merged_content nat_eq fresh has_upper objects other.path node.content })
+        ≡ Some (record {
+          attr = node.attr;
+          content = merged_content nat_eq fresh has_upper objects other.path
+              node.content;
+        })
     pub real : real_of nat_eq inodes (number object) ≡ Some (real_object has_upper other.seen.layer other)
 
   inode_made : Merged ℕ → Node ℕ → MergedInode ℕ
   inode_made object node = record {
     number = number object;
-    node = record { attr = node.attr; content = merged_content nat_eq fresh has_upper objects object.path node.content };
+    node =
+        record { attr = node.attr; content = merged_content nat_eq fresh has_upper objects object.path node.content };
     real = real_object has_upper object.seen.layer object;
   }
 
@@ -133,7 +138,12 @@ module _ (layers : List (OpenLayer ℕ)) (are_open : AreOpen layers) (longest : 
             node = own.node;
             seen = own_node;
             is = ap (λ o. option_map (λ inode. inode.node) o) found.is ∙ ap (λ inode. Some inode.node) (sym element)
-                ∙ ap (λ n. Some (record { attr = n.attr; content = merged_content nat_eq fresh has_upper objects other.path n.content })) same_node;
+                ∙ ap (λ n. Some
+                (record {
+                  attr = n.attr;
+                  content = merged_content nat_eq fresh has_upper objects other.path
+                      n.content;
+                })) same_node;
             real = ap (λ o. option_map (λ inode. inode.real) o) found.is ∙ ap (λ inode. Some inode.real) (sym element);
           }
 

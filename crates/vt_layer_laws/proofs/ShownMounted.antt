@@ -106,7 +106,8 @@ module _ (world : World ℕ) (conditions : IsWorld nat_eq world) (overlay : Over
       let open_one = is_open depth layer e in (
         subst IsTree (sym open_one.is)
             (all_found (λ filesystem.
-            IsTree filesystem.files.tree) open_one.test world.filesystems conditions.files.trees open_one.filesystem open_one.found),
+            IsTree filesystem.files.tree) open_one.test world.filesystems conditions.files.trees open_one.filesystem
+            open_one.found),
         open_one.directory,
       )
 
@@ -119,9 +120,11 @@ module _ (world : World ℕ) (conditions : IsWorld nat_eq world) (overlay : Over
       let has = shows.has_uncut.0 in
       let open_one = is_open seen.layer has.0 has.1 in
       let tree = all_found (λ filesystem.
-      IsTree filesystem.files.tree) open_one.test world.filesystems conditions.files.trees open_one.filesystem open_one.found in
+      IsTree filesystem.files.tree) open_one.test world.filesystems conditions.files.trees open_one.filesystem
+      open_one.found in
       let listed = all_found (λ filesystem.
-      ListsNumbers nat_eq filesystem.files) open_one.test world.filesystems conditions.files.numbers open_one.filesystem open_one.found in
+      ListsNumbers nat_eq filesystem.files) open_one.test world.filesystems conditions.files.numbers open_one.filesystem
+      open_one.found in
       let within = in_sum open_one.test world.filesystems open_one.filesystem open_one.found in
       let last = last_of (name ∷ path) (not_empty name path) in
       let longer = sym (length_longer last.0 last.1) ∙ ap length last.2 in
@@ -206,7 +209,8 @@ module _ (world : World ℕ) (conditions : IsWorld nat_eq world) (overlay : Over
     abbrev pub made : Overlay ℕ
     made = record overlay {
       real = real_of nat_eq
-          (merged_inodes nat_eq (odds fresh) (is_some overlay.upper) layers (merged_objects layers (inode_count world)));
+          (merged_inodes nat_eq (odds fresh) (is_some overlay.upper) layers
+          (merged_objects layers (inode_count world)));
     }
 
     pub made_merged : IsMerged nat_eq world (overlay_filesystem nat_eq fresh world overlay) made
@@ -302,7 +306,8 @@ objects_alike (Some x) (Some y) None e f = absurd e
 objects_alike (Some x) (Some y) (Some z) e f = (e.0 ∙ sym f.0, content_alike x.content y.content z.content e.1 f.1)
 
 pub remount_shows_the_same : RemountShowsTheSame
-remount_shows_the_same fresh before later number left anew conditions is later_conditions are_layers distinct as_left path =
+remount_shows_the_same fresh before later number left anew conditions is later_conditions are_layers distinct as_left
+    path =
     let alike : SameObject (node_shown nat_eq before left path) (node_shown nat_eq later anew path) =
     shown_alike (map (open_layer nat_eq before) (shown_layers left))
     (map (open_layer nat_eq later) (shown_layers anew)) as_left

@@ -1,5 +1,6 @@
 -- The names of a directory are those for which something is shown.
 use Rattle.std.proofs.Common.{◌≡◌, ◌<◌, ◌↔◌, Contains, refl, sym, ap, ◌∙◌, true≢false, arith, ℕ, zero, suc, Bool, true, false, cond, ◌||◌, ◌&&◌, List, [], ◌∷◌, ◌++◌, map, filter, length, get_or, Option, Some, None, is_some, option_and_then, slice_get}
+use Rattle.std.proofs.Math.Bool.{or-true}
 use Rattle.std.specs.List.{list_any}
 use Rattle.std.specs.Cmp.{tied_itself}
 use Rattle.std.specs.Cmp.Lexicographic.{nat_list_cmp_total}
@@ -15,6 +16,7 @@ use Rattle.vt_layer_laws.proofs.ShownAtPath.{computed}
 use Rattle.std.proofs.lemmas.Bool.{or_right}
 use Rattle.std.proofs.lemmas.Option.{same_Some}
 use Rattle.vt_spec.proofs.Options.{none_is_some, option_and_then-Some}
+use Rattle.vt_spec.proofs.Truths.{and_true_right}
 
 abbrev pub is_name : List ℕ → List ℕ → Bool
 is_name name other = eq_by_cmp name_cmp name other
@@ -78,11 +80,7 @@ all_put name (entry ∷ entries) names =
   where
     by : (b : Bool) → (is_some (entry_named name entries) || is_some (cond b (Some tt) (entry_named name names)))
         ≡ (is_some (cond b (Some entry.1) (entry_named name entries)) || is_some (entry_named name names))
-    by true = or_true (is_some (entry_named name entries))
-      where
-        or_true : (a : Bool) → (a || true) ≡ true
-        or_true true = refl
-        or_true false = refl
+    by true = or-true (is_some (entry_named name entries))
     by false = refl
 
 -- a name that a layer has is among the names of all of them
@@ -145,7 +143,7 @@ pub names_are_those_shown : (layers : List (OpenLayer ℕ)) (path : List (List �
     → Contains (names_shown layers path) name ↔ (seen : Shown ℕ) × IsShown layers (path ++ name ∷ []) seen
 names_are_those_shown layers path name = (
   λ has. is_there (shown layers (path ++ name ∷ [])) refl
-      (passed (list_any (is_name name) (all_names layers path)) (is_some (shown layers (path ++ name ∷ [])))
+      (and_true_right (list_any (is_name name) (all_names layers path)) (is_some (shown layers (path ++ name ∷ [])))
       (sym (filtered (shows_name layers path) name (all_names layers path))
       ∙ name_found name (names_shown layers path) has.0 has.1 has.2)),
   λ is. contains_name name (names_shown layers path)
@@ -154,10 +152,6 @@ names_are_those_shown layers path name = (
       ∙ ap is_some ((computed layers (path ++ name ∷ []) is.0).1 is.1)),
 )
   where
-    passed : (a b : Bool) → (a && b) ≡ true → b ≡ true
-    passed true b e = e
-    passed false b e = absurd (true≢false (sym e))
-
     is_there : (o : Option (Shown ℕ)) → shown layers (path ++ name ∷ []) ≡ o → is_some o ≡ true
         → (seen : Shown ℕ) × IsShown layers (path ++ name ∷ []) seen
     is_there None e h = absurd (true≢false (sym h))

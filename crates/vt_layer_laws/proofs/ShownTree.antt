@@ -195,8 +195,15 @@ module _ (layers : List (OpenLayer ℕ)) (are_open : AreOpen layers) (longest : 
           subst (λ o. SameObject (then_some o merged_tree.node) (layer_node layers seen)) (sym found)
           (subst (λ o. SameObject o (layer_node layers seen)) (sym inode.is)
           (subst (SameObject (Some
-          (record { attr = inode.node.attr; content = merged_content nat_eq fresh has_upper all inode.other.path inode.node.content }))) (sym inode.seen)
-          (refl, same_merged layers are_open longest bounded fresh distinct has_upper inode.other.path inode.node.content (no_white path seen s inode))))
+          (record {
+            attr = inode.node.attr;
+            content = merged_content nat_eq fresh has_upper all inode.other.path
+                inode.node.content;
+          }))) (sym inode.seen) (
+            refl,
+            same_merged layers are_open longest bounded fresh distinct has_upper inode.other.path
+                inode.node.content (no_white path seen s inode),
+          )))
 
   -- with its real object
   pub real_shown_there : (path : List (List ℕ)) (n : ℕ) → led merged_tree (fresh 0) path ≡ Some n

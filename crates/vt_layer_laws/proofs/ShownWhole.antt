@@ -60,7 +60,11 @@ module _ (layers : List (OpenLayer ℕ)) (are_open : AreOpen layers) (longest : 
     pub layer : InLayer layers are_open longest bounded fresh distinct has_upper object
     pub numbered : n ≡ num object
     pub node : inode.node
-        ≡ record { attr = layer.node.attr; content = merged_content nat_eq fresh has_upper all object.path layer.node.content }
+        ≡ record {
+          attr = layer.node.attr;
+          content = merged_content nat_eq fresh has_upper all object.path
+              layer.node.content;
+        }
     pub real : inode.real ≡ real_object has_upper object.seen.layer object
 
   pub is_of_object : (n : ℕ) (inode : MergedInode ℕ) → inode_of made n nat_eq ≡ Some inode → IsOfObject n inode
@@ -73,7 +77,8 @@ module _ (layers : List (OpenLayer ℕ)) (are_open : AreOpen layers) (longest : 
       of : Merged ℕ → Node ℕ → MergedInode ℕ
       of object node = record {
         number = num object;
-        node = record { attr = node.attr; content = merged_content nat_eq fresh has_upper all object.path node.content };
+        node =
+            record { attr = node.attr; content = merged_content nat_eq fresh has_upper all object.path node.content };
         real = real_object has_upper object.seen.layer object;
       }
 

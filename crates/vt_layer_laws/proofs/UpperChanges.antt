@@ -219,7 +219,8 @@ module _ (files : FileTree ℕ) (tree : IsTree files.tree) (numbers : ListsNumbe
         subst (λ m. After (linked nat_eq (copied_up nat_eq (odds fresh) m directory) directory name object))
         (sym first.is)
         (subst (λ m. After (linked nat_eq m directory name object)) (sym copied.is)
-        (same _ (linked_keeps fresh new stack copied.real copied.upper copied.fine directory name object copied.copied)))
+        (same _ (linked_keeps fresh new stack copied.real copied.upper copied.fine directory name object
+        copied.copied)))
     each_keeps (Remove directory name object) is there from_too =
         let copied = (up_arrives files tree numbers inode node (evens fresh)
         (λ k. new (2 * k)) real upper fine directory there).arrives in

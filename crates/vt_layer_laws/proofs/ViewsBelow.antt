@@ -18,7 +18,7 @@ use Rattle.vt_layer_laws.proofs.ViewsFronts.{cuts_alike}
 use Rattle.vt_layer_laws.proofs.ViewsMoves.{led_parts, no_way_up, old_leads_nowhere, through_is_split}
 use Rattle.vt_layer_laws.proofs.ViewsNames.{remove_ends_paths}
 use Rattle.vt_layer_laws.proofs.ViewsWalks.{ends_in, names_it}
-use Rattle.std.proofs.Math.Bool.{or-false}
+use Rattle.std.proofs.Math.Bool.{or-false, or_assoc}
 
 -- the path of an entry is a way to its directory, and the name
 abbrev pub IsNamed : Tree ℕ → ℕ → ℕ → List ℕ → List (List ℕ) → Type 0
@@ -52,12 +52,8 @@ fronts_longer test (word ∷ way) name =
     ap (λ b. test (word ∷ []) || b) (list_any_of_map test (λ front. word ∷ front) (fronts (way ++ name ∷ []))
     ∙ fronts_longer (λ front. test (word ∷ front)) way name
     ∙ ap (λ b. b || test (word ∷ way ++ name ∷ [])) (sym (list_any_of_map test (λ front. word ∷ front) (fronts way))))
-    ∙ shifted (test (word ∷ [])) (list_any test (map (λ front. word ∷ front) (fronts way)))
-    (test (word ∷ way ++ name ∷ []))
-  where
-    shifted : (a b c : Bool) → (a || (b || c)) ≡ ((a || b) || c)
-    shifted true b c = refl
-    shifted false b c = refl
+    ∙ sym (or_assoc (test (word ∷ [])) (list_any test (map (λ front. word ∷ front) (fronts way)))
+    (test (word ∷ way ++ name ∷ [])))
 
 -- a layer that leads nowhere at a path, and on the way there as another
 shown_under : (before after : View ℕ) (lowers : List (View ℕ)) (way : List (List ℕ)) (name : List ℕ)

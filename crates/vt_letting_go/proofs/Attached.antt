@@ -240,7 +240,8 @@ module _ (world : World ℕ) (filesystems : List (Filesystem ℕ)) (new : Copies
 
   -- where it is pushed up, the first copy has its place
   pushed : (mount : Mount ℕ) → (push mount ≡ mount)
-      ⊎ ((part : Mount ℕ) × Among part (rest_of parts) × (mount.mount_point ≡ Some (record { mount = part.number; node = place.node })))
+      ⊎ ((part : Mount ℕ) × Among part (rest_of parts) ×
+      (mount.mount_point ≡ Some (record { mount = part.number; node = place.node })))
   pushed mount = by (receiver_below nat_eq tree parts mount) refl
     where
       stands : (part : Mount ℕ) (at : Option (Location ℕ)) → mount.mount_point ≡ at
@@ -254,7 +255,8 @@ module _ (world : World ℕ) (filesystems : List (Filesystem ℕ)) (new : Copies
 
       by : (below : Option (Mount ℕ)) → receiver_below nat_eq tree parts mount ≡ below
           → (push mount ≡ mount)
-          ⊎ ((part : Mount ℕ) × Among part (rest_of parts) × (mount.mount_point ≡ Some (record { mount = part.number; node = place.node })))
+          ⊎ ((part : Mount ℕ) × Among part (rest_of parts) ×
+          (mount.mount_point ≡ Some (record { mount = part.number; node = place.node })))
       by None e = inl (ap (pushed_onto nat_eq base new tree parts mount) e)
       by (Some part) e =
           let found = found_in (λ x. stands_at nat_eq (record { mount = x.number; node = place.node }) mount)

@@ -117,7 +117,8 @@ pub moved_trees_let_go : MovedTreesLetGo
 moved_trees_let_go world new place first rest settles located at_attached of_world =
     losers_go world after.mounts after.master world.namespaces world.tasks []
     (option_to_list first.mount_point) [] settles
-    (attached_loses world world.filesystems new place true first rest settles.in_use settles.mounts located at_attached its)
+    (attached_loses world world.filesystems new place true first rest settles.in_use settles.mounts located at_attached
+    its)
     (λ group among none.
     attached_groups world world.filesystems new place true first rest settles.in_use settles.mounts located
     at_attached its group none)

@@ -42,7 +42,8 @@ module _ (world : World ℕ) (number : ℕ) (alone : has_child nat_eq world numb
       → after_going nat_eq world (number ∷ []) mount ≡ detached_if number mount
   one_by_one mount m = by (nat_eq mount.number number)
     where
-      keeps : (o : Option (Location ℕ)) → mount.mount_point ≡ o → option_map (mount_point_left nat_eq world (number ∷ [])) o ≡ o
+      keeps : (o : Option (Location ℕ)) → mount.mount_point ≡ o
+          → option_map (mount_point_left nat_eq world (number ∷ [])) o ≡ o
       keeps None e = refl
       keeps (Some place) e =
           ap Some (stays_at place

@@ -284,7 +284,8 @@ none_left world task file access one there =
     (λ location m. inl (with_descriptor_keeps task file access location m))
 
 pub opened_new_keeps_all : OpenedNewKeepsAll
-opened_new_keeps_all fresh world task directory name node access settles one one_name there_task there plain after made free =
+opened_new_keeps_all fresh world task directory name node access settles one one_name there_task there plain after made
+    free =
     keeps_all_with world directory (Make directory.node name (evens fresh 0) node) settles one there plain after made
     (ap option_to_list free) (odds fresh)
     (with_descriptor task file access)

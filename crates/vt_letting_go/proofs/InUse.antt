@@ -159,7 +159,8 @@ unused_are_empty world filesystem conditions number unused =
 
 -- a place that is there is in use
 pub used_at : (world : World ℕ) (filesystem : Filesystem ℕ) (location : Location ℕ)
-    → Among location (all_locations world ++ map root_of world.mounts ++ filter_map (λ mount. mount.mount_point) world.mounts)
+    → Among location
+    (all_locations world ++ map root_of world.mounts ++ filter_map (λ mount. mount.mount_point) world.mounts)
     → filesystem.number ≡ (mount_at nat_eq world location).filesystem
     → is_inode_used world filesystem location.node ≡ true
 used_at world filesystem location m e =

@@ -291,7 +291,8 @@ module _ (world : World ℕ) (tasks : List (Task ℕ)) (trees : HasTrees world) 
       (⊎_elim
       (λ other. ⊎_elim
       (λ at. was_at f from.0
-      (among-append_left (all_locations world ++ map root_of first_mounts) (filter_map (λ mount. mount.mount_point) first_mounts) from.0
+      (among-append_left (all_locations world ++ map root_of first_mounts)
+      (filter_map (λ mount. mount.mount_point) first_mounts) from.0
       (among-append_left (all_locations world) (map root_of first_mounts) from.0 (was_located from.0 at)))
       (e ∙ ap (λ x. x.filesystem) (found_alike from.0.mount (λ mount n same.
       or_second (is_some mount.namespace) (is_located nat_eq once mount.number)
@@ -322,7 +323,8 @@ module _ (world : World ℕ) (tasks : List (Task ℕ)) (trees : HasTrees world) 
       (or_first (is_some (mount_at nat_eq world from.0).namespace)
       (is_located nat_eq once (mount_at nat_eq world from.0).number) attached)
       other n (same ∙ sym (number-mount_in world.mounts from.0.mount))))))
-      (among-append (all_locations once ++ map root_of last_mounts) (filter_map (λ mount. mount.mount_point) last_mounts) from.0 here.0))
+      (among-append (all_locations once ++ map root_of last_mounts)
+      (filter_map (λ mount. mount.mount_point) last_mounts) from.0 here.0))
 
   was_layer : (filesystem number : ℕ) → Among number (layers_in nat_eq once_living filesystem)
       → Among number (layers_in nat_eq first_living filesystem)

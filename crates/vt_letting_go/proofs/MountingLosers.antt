@@ -23,7 +23,8 @@ use Rattle.vt_spec.proofs.Worlds.{number-mount_in}
 
 -- the roots, working directories and descriptors, the roots of mounts and the places of a world
 abbrev pub places_of : World ℕ → List (Location ℕ)
-places_of world = all_locations world ++ map root_of world.mounts ++ filter_map (λ mount. mount.mount_point) world.mounts
+places_of world = all_locations world ++ map root_of world.mounts
+    ++ filter_map (λ mount. mount.mount_point) world.mounts
 
 -- where locations stand, each of these is on a mount that is there
 pub places_stand : (world : World ℕ) → MountsStand world → LocationsStand world → (location : Location ℕ)
@@ -41,7 +42,8 @@ places_stand world stand located_well location m =
     let on = place_attached world stand t.0 t.1 location t.2 in
     ap (λ n. is_among nat_eq n numbers) (sym (number-mount_in world.mounts location.mount))
     ∙ numbered (mount_at nat_eq world location) (found_is_there world.mounts location.mount on))
-    (among-append (all_locations world ++ map root_of world.mounts) (filter_map (λ mount. mount.mount_point) world.mounts) location m)
+    (among-append (all_locations world ++ map root_of world.mounts)
+    (filter_map (λ mount. mount.mount_point) world.mounts) location m)
   where
     numbers : List ℕ
     numbers = map (λ (mount : Mount ℕ). mount.number) world.mounts
@@ -222,7 +224,8 @@ module _ (world : World ℕ) (mounts : List (Mount ℕ)) (master : ℕ → Optio
 
     was_a_place : (location : Location ℕ) → Among location (all_locations world) → Among location (places_of world)
     was_a_place location m =
-        among-append_left (all_locations world ++ map root_of world.mounts) (filter_map (λ mount. mount.mount_point) world.mounts) location
+        among-append_left (all_locations world ++ map root_of world.mounts)
+        (filter_map (λ mount. mount.mount_point) world.mounts) location
         (among-append_left (all_locations world) (map root_of world.mounts) location m)
 
     located_still : (location : Location ℕ) → Among location (all_locations world)
@@ -440,5 +443,6 @@ pub losers_go : (world : World ℕ) (mounts : List (Mount ℕ)) (master : ℕ �
 losers_go world mounts master namespaces tasks gone left groups settles loses hears =
     all_goes_one_by_one (changed world mounts master namespaces tasks)
     (used_by_mounts world gone left groups) settles.plain settles.trees
-    (all_but_losers world mounts master world.filesystems namespaces tasks gone left groups settles.in_use settles.mounts loses hears
+    (all_but_losers world mounts master world.filesystems namespaces tasks gone left groups settles.in_use
+    settles.mounts loses hears
     (record { kept = λ f m. m; new = λ f m. inl m }) settles.plain)

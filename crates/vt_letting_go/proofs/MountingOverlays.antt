@@ -44,7 +44,8 @@ module _ (world : World ℕ) (mounts : List (Mount ℕ)) (master : ℕ → Optio
   stays_mounted : (number : ℕ) → is_mounted nat_eq world number ≡ true
       → (is_mounted nat_eq now number ≡ true)
       ⊎ ((one : ℕ) × Among one gone × (number ≡ (mount_numbered nat_eq world one).filesystem))
-  stays_mounted = still_mounted world mounts master filesystems namespaces tasks gone left groups in_use stand loses hears come
+  stays_mounted =
+      still_mounted world mounts master filesystems namespaces tasks gone left groups in_use stand loses hears come
 
   old_filesystem : (f : Filesystem ℕ) → Among f world.filesystems
       → (is_among nat_eq f.number losing || filesystem_lives nat_eq now f) ≡ true
@@ -82,7 +83,8 @@ module _ (world : World ℕ) (mounts : List (Mount ℕ)) (master : ℕ → Optio
       (λ f m. ⊎_elim (old_filesystem f)
       (λ new. or_second (is_among nat_eq f.number losing) (filesystem_lives nat_eq now f)
       (or_first (is_mounted nat_eq now f.number) _
-      (shown_is_mounted world mounts master filesystems namespaces tasks gone left groups in_use stand loses hears come f.number new.0
+      (shown_is_mounted world mounts master filesystems namespaces tasks gone left groups in_use stand loses hears come
+      f.number new.0
       new.1.0 new.1.1.0 new.1.1.1.0)))
       (come.new f m))
 
@@ -108,7 +110,8 @@ module _ (world : World ℕ) (mounts : List (Mount ℕ)) (master : ℕ → Optio
       (names ++ located_in nat_eq now f.number ++ layers_in nat_eq now f.number) objects
       (is_among_left number (names ++ located_in nat_eq now f.number) (layers_in nat_eq now f.number)
       (is_among_left number names (located_in nat_eq now f.number) named))))
-      (λ at. by_located world mounts master filesystems namespaces tasks gone left groups in_use stand loses hears come filesystems f number
+      (λ at. by_located world mounts master filesystems namespaces tasks gone left groups in_use stand loses hears come
+      filesystems f number
       (among_numbers number (located_in nat_eq world f.number) at))
       (or_cases (is_among nat_eq number names) (is_among nat_eq number (located_in nat_eq world f.number))
       (sym (list_any-append (nat_eq number) names (located_in nat_eq world f.number)) ∙ first)))
@@ -149,7 +152,8 @@ module _ (world : World ℕ) (mounts : List (Mount ℕ)) (master : ℕ → Optio
       (passes (is_inode_used world f) f.files.numbers
       (among_from_all (λ x. list_all (is_inode_used world x) x.files.numbers
       ≡ true) world.filesystems in_use.inodes f was) number n))
-      (λ new. by_a_name world mounts master filesystems namespaces tasks gone left groups in_use stand loses hears come filesystems f number
+      (λ new. by_a_name world mounts master filesystems namespaces tasks gone left groups in_use stand loses hears come
+      filesystems f number
       (passes (λ k. nat_eq k f.files.tree.root
       || is_among nat_eq k (named_in f.files)) f.files.numbers new.1.1.1.1 number n))
       (come.new f m)))
@@ -183,7 +187,8 @@ all_losers_go world mounts master namespaces tasks gone left groups settles lose
     with_overlays_all_goes (changed world mounts master namespaces tasks)
     (used_by_mounts_with_layers world gone left groups)
     settles.trees settles.uppers settles.reals
-    (all_but_those world mounts master world.filesystems namespaces tasks gone left groups settles.in_use settles.mounts loses hears
+    (all_but_those world mounts master world.filesystems namespaces tasks gone left groups settles.in_use settles.mounts
+    loses hears
     (record { kept = λ f m. m; new = λ f m. inl m }))
 
 -- where only groups lost members, only they go
@@ -206,7 +211,9 @@ only_groups_go world mounts master filesystems groups in_use stand loses hears c
     after_all = changed_with world mounts master filesystems world.namespaces world.tasks
 
     but : AllInUseBut (record { mounts = []; filesystems = []; inodes = []; groups = groups }) after_all
-    but = all_but_those world mounts master filesystems world.namespaces world.tasks [] [] groups in_use stand loses hears come
+    but =
+        all_but_those world mounts master filesystems world.namespaces world.tasks [] [] groups in_use stand loses hears
+        come
 
     same : without_dead_mounts nat_eq after_all ≡ after_all
     same = mounts_stay after_all but.mounts

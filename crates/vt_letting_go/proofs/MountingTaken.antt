@@ -44,12 +44,14 @@ module _ (world : World ℕ) (gone : List ℕ) (namespaces : List (Namespace ℕ
 
   -- what a mount shows stays
   same_part : {A : Type 0} (part : Mount ℕ → A) (mount : Mount ℕ) → part (detached mount) ≡ part mount
-      → part (record mount { mount_point = option_map (mount_point_left nat_eq world gone) mount.mount_point }) ≡ part mount
+      → part (record mount { mount_point = option_map (mount_point_left nat_eq world gone) mount.mount_point })
+      ≡ part mount
       → part (after_going nat_eq world gone mount) ≡ part mount
   same_part part mount down up = by (is_going nat_eq gone mount.number)
     where
       by : (c : Bool) → part (cond c (detached mount)
-          (record mount { mount_point = option_map (mount_point_left nat_eq world gone) mount.mount_point })) ≡ part mount
+          (record mount { mount_point = option_map (mount_point_left nat_eq world gone) mount.mount_point }))
+          ≡ part mount
       by true = down
       by false = up
 
@@ -131,7 +133,8 @@ module _ (world : World ℕ) (gone : List ℕ) (namespaces : List (Namespace ℕ
       whole : (propagation : Propagation ℕ) → (is_private mount.propagation ≡ true → is_private propagation ≡ true)
           → (n : Bool)
           → is_some mount.namespace ≡ n
-          → (n || (not (is_some (option_map (mount_point_left nat_eq world gone) mount.mount_point)) && is_private propagation)) ≡ true
+          → (n || (not (is_some (option_map (mount_point_left nat_eq world gone) mount.mount_point))
+          && is_private propagation)) ≡ true
       whole propagation same true e = refl
       whole propagation same false e =
           let parts = nowhere_parts mount h e in
@@ -139,7 +142,8 @@ module _ (world : World ℕ) (gone : List ℕ) (namespaces : List (Namespace ℕ
 
       by : (b c : Bool) → is_going nat_eq gone mount.number ≡ c → is_nowhere_or_attached (change b mount) ≡ true
       by true true e = ap (λ d. is_nowhere_or_attached (inheriting nat_eq without
-          (cond d (detached mount) (record mount { mount_point = option_map (mount_point_left nat_eq world gone) mount.mount_point })))) e
+          (cond d (detached mount)
+          (record mount { mount_point = option_map (mount_point_left nat_eq world gone) mount.mount_point })))) e
       by false true e = ap (λ d. is_nowhere_or_attached (cond d (detached mount)
           (record mount { mount_point = option_map (mount_point_left nat_eq world gone) mount.mount_point }))) e
       by true false e =

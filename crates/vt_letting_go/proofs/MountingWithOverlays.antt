@@ -1,5 +1,6 @@
 -- What goes after each change of mounts in worlds with overlays.
-use Rattle.std.proofs.Common.{◌≡◌, refl, sym, ap, subst, ◌∙◌, ℕ, nat_eq, Bool, true, List, [], ◌∷◌, filter, flat_map, length, map, suc, zero, ◌++◌, option_to_list}
+use Rattle.std.proofs.Common.{◌≡◌, sym, ap, subst, ◌∙◌, ℕ, nat_eq, Bool, true, List, [], ◌∷◌, filter, flat_map, length, map, suc, zero, option_to_list}
+use Rattle.std.proofs.lemmas.List.{append-nil}
 use Rattle.std.specs.List.{list_any}
 use Rattle.vt_spec.specs.Machine.Attach.{Copies, attach, copies_from, parts_of}
 use Rattle.vt_spec.specs.Machine.Detach.{going, lazily_unmounted, mounts_on, taken_away}
@@ -13,7 +14,7 @@ use Rattle.vt_letting_go.specs.Unmounting.{detached_between, groups_of_mounts, n
 use Rattle.vt_letting_go.specs.LeavingOverlays.{IsSettled}
 use Rattle.vt_letting_go.specs.Mounting.{ended_mounts, places_lost, places_moved}
 use Rattle.vt_letting_go.specs.MountingOverlays.{EndingWithOverlaysLetsGo, LazyUnmountsWithOverlaysLetGo, MountsOnDirectoriesWithOverlaysLetGo, MovesWithOverlaysLetGo, MovingWithOverlaysLetsGo, PivotsWithOverlaysLetGo, TakingAwayWithOverlaysLetsGo, UnmountsWithOverlaysLetGo, used_by_gone_with_layers, used_by_mounts_with_layers}
-use Rattle.vt_letting_go.specs.OneByOne.{GroupsInUseBut, Inode}
+use Rattle.vt_letting_go.specs.OneByOne.{GroupsInUseBut}
 use Rattle.vt_letting_go.specs.Overlays.{let_go_all, let_go_all_inodes}
 use Rattle.vt_letting_go.proofs.Attached.{attached_groups, attached_loses}
 use Rattle.vt_letting_go.proofs.AttachedSwept.{of_tree}
@@ -104,11 +105,6 @@ lazy_unmounts_with_overlays_let_go fresh world task number settles =
     gone : List ℕ
     gone = detached_between world now
 
--- no more inodes
-no_more : (inodes : List Inode) → inodes ++ [] ≡ inodes
-no_more [] = refl
-no_more (inode ∷ inodes) = ap (λ rest. inode ∷ rest) (no_more inodes)
-
 pub moves_with_overlays_let_go : MovesWithOverlaysLetGo
 moves_with_overlays_let_go fresh world task number place settles located at_attached is = by (length world.mounts)
   where
@@ -119,12 +115,14 @@ moves_with_overlays_let_go fresh world task number place settles located at_atta
         → settled nat_eq (attach nat_eq world fresh place true (mount ∷ rest))
         ≡ let_go_all_inodes (attach nat_eq world fresh place true (mount ∷ rest)) (inodes_of_mount_point world mount)
     moves rest there =
-        all_losers_go world after.mounts after.master world.namespaces world.tasks [] (option_to_list mount.mount_point) [] settles
-        (attached_loses world world.filesystems new place true mount rest settles.in_use settles.mounts located at_attached (λ e. there))
+        all_losers_go world after.mounts after.master world.namespaces world.tasks []
+        (option_to_list mount.mount_point) [] settles
+        (attached_loses world world.filesystems new place true mount rest settles.in_use settles.mounts located
+        at_attached (λ e. there))
         (λ group among none.
         attached_groups world world.filesystems new place true mount rest settles.in_use settles.mounts located
         at_attached (λ e. there) group none)
-        ∙ ap (let_go_all_inodes after) (no_more (inodes_of_mount_point world mount))
+        ∙ ap (let_go_all_inodes after) (append-nil (inodes_of_mount_point world mount))
       where
         new : Copies ℕ
         new = copies_from nat_eq fresh (parts_of nat_eq world place) (mount ∷ rest)
@@ -147,7 +145,7 @@ pivots_with_overlays_let_go fresh world task new put settles old_attached new_at
     (λ group among none.
     Pivoted.groups world task.namespace task.root.mount new put settles.in_use settles.mounts old_attached
     new_attached group none)
-    ∙ ap (let_go_all_inodes after) (no_more (inodes_of_mount_point world (mount_numbered nat_eq world new)))
+    ∙ ap (let_go_all_inodes after) (append-nil (inodes_of_mount_point world (mount_numbered nat_eq world new)))
   where
     after : World ℕ
     after = pivoted nat_eq world task.namespace (mount_at nat_eq world task.root) (mount_numbered nat_eq world new) put

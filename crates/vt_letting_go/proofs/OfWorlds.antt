@@ -28,7 +28,8 @@ worlds_have_trees world is =
 
 module _ (world : World ℕ) (is : IsWorld nat_eq world) where
   -- a mount with a place is in a namespace
-  attached : (mount : Mount ℕ) → Among mount world.mounts → is_some mount.mount_point ≡ true → is_some mount.namespace ≡ true
+  attached : (mount : Mount ℕ) → Among mount world.mounts → is_some mount.mount_point ≡ true
+      → is_some mount.namespace ≡ true
   attached mount m placed = by (is_some mount.namespace) refl
     where
       by : (b : Bool) → is_some mount.namespace ≡ b → is_some mount.namespace ≡ true

@@ -274,7 +274,8 @@ module _ (world : World ℕ) (tasks : List (Task ℕ)) (left : List (Location �
 
     -- what is at a place that is used still
     used_still : (location : Location ℕ)
-        → Among location (all_locations after ++ map root_of mounted.mounts ++ filter_map (λ mount. mount.mount_point) mounted.mounts)
+        → Among location
+        (all_locations after ++ map root_of mounted.mounts ++ filter_map (λ mount. mount.mount_point) mounted.mounts)
         → filesystem.number ≡ (mount_at nat_eq mounted location).filesystem
         → is_inode_used swept filesystem location.node ≡ true
     used_still location m e = used_at swept filesystem location m e
@@ -373,9 +374,11 @@ module _ (world : World ℕ) (tasks : List (Task ℕ)) (left : List (Location �
     by_located number m =
         let from = among-from_map (λ l. l.node)
         (filter (λ l. nat_eq filesystem.number (mount_at nat_eq world l).filesystem)
-        (all_locations world ++ map root_of world.mounts ++ filter_map (λ mount. mount.mount_point) world.mounts)) number m in
+        (all_locations world ++ map root_of world.mounts ++ filter_map (λ mount. mount.mount_point) world.mounts))
+        number m in
         let here = among-from_filter (λ l. nat_eq filesystem.number (mount_at nat_eq world l).filesystem)
-        (all_locations world ++ map root_of world.mounts ++ filter_map (λ mount. mount.mount_point) world.mounts) from.0 from.1 in
+        (all_locations world ++ map root_of world.mounts ++ filter_map (λ mount. mount.mount_point) world.mounts) from.0
+        from.1 in
         let e : filesystem.number ≡ (mount_at nat_eq world from.0).filesystem = eqb-true filesystem.number
         (mount_at nat_eq world from.0).filesystem here.1 in
         ap (is_used_or_among losers.inodes swept filesystem) from.2

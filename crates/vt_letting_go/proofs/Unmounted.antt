@@ -163,7 +163,8 @@ pub record Faded (world now : World ℕ) : Type 0 where
   pub number : (mount : Mount ℕ) → (change mount).number ≡ mount.number
   pub root : (mount : Mount ℕ) → root_of (change mount) ≡ root_of mount
   pub filesystem : (mount : Mount ℕ) → (change mount).filesystem ≡ mount.filesystem
-  pub place : (mount : Mount ℕ) (at : Location ℕ) → mount.mount_point ≡ Some at → is_some (change mount).namespace ≡ true
+  pub place : (mount : Mount ℕ) (at : Location ℕ) → mount.mount_point ≡ Some at
+      → is_some (change mount).namespace ≡ true
       → is_some (change (mount_at nat_eq world at)).namespace ≡ true → (change mount).mount_point ≡ Some at
   pub nowhere : (mount : Mount ℕ) → Among mount world.mounts → is_nowhere_or_attached (change mount) ≡ true
   pub member : (mount : Mount ℕ) → is_some (change mount).namespace ≡ true → (group : ℕ)

@@ -1,5 +1,6 @@
 -- What lower layers show in two overlays over them: where that is the same, and where it is nothing.
 use Rattle.std.proofs.Common.{◌≡◌, refl, sym, ap, subst, ◌∙◌, true≢false, ℕ, suc, ◌+◌, nat_eq, Bool, true, false, cond, List, [], ◌∷◌, ◌++◌, map, Option, Some, None, is_some, option_and_then, slice_get}
+use Rattle.std.proofs.lemmas.List.{append-nil}
 use Rattle.std.specs.List.{list_any}
 use Rattle.vt_spec.specs.Lists.{fronts, holds_of, then_some}
 use Rattle.vt_spec.specs.Machine.CopyUp.{Merge, Stack, hides_directory, is_directory_shown, is_in_upper, upper_of}
@@ -32,11 +33,6 @@ use Rattle.vt_overlay_laws.proofs.WholePlaces.{directory_below_top, shown_longer
 use Rattle.vt_merge_laws.specs.UpperChanges.{LeadsToDirectory, led_above, seen_below}
 use Rattle.vt_merge_laws.proofs.UpperCopying.{led_none}
 use Rattle.vt_merge_laws.proofs.UpperPlaces.{path_there, seen_same}
-
--- Fronts
-no_more : (p : List (List ℕ)) → p ++ [] ≡ p
-no_more [] = refl
-no_more (word ∷ p) = ap (λ q. word ∷ q) (no_more p)
 
 -- a way that is not cut is not cut at its fronts
 pub uncut_front : (test : List (List ℕ) → Bool) (way front rest : List (List ℕ)) → front ++ rest ≡ way
@@ -146,7 +142,7 @@ module _ (stack : Stack ℕ) (m : Merge ℕ) (whole : IsWhole stack m) where
           kind true d = d
           kind false d =
               absurd (true≢false (sym (front_passes (λ front. hides (node_led view front)) (word ∷ way) (word ∷ way) []
-              (no_more (word ∷ way)) (cons_is_not_empty word way)
+              (append-nil (word ∷ way)) (cons_is_not_empty word way)
               (ap (λ o. hides (then_some o m.upper.tree.node)) e ∙ file_hides (m.upper.tree.node u) there d)) ∙ none))
 
       by : (o : Option ℕ) → led m.upper.tree stack.directory way ≡ o
@@ -263,7 +259,7 @@ module _ (stack : Stack ℕ) (m later : Merge ℕ) (whole : IsWhole stack m) (wh
       → seen_below stack later.upper (way ++ name ∷ []) ≡ seen_below stack m.upper (way ++ name ∷ [])
   kept_below way name same hiding =
       same_below way name (λ d is. same_cuts way d is.0 same hiding)
-      (λ d is. same_cuts way d (sym (same way [] (no_more way)) ∙ is.0) same hiding)
+      (λ d is. same_cuts way d (sym (same way [] (append-nil way)) ∙ is.0) same hiding)
 
   -- Under a name where lower layers show a directory, if what the upper layer has there later hides that, and under
   -- one where they show none, nothing is shown below.

@@ -1,7 +1,7 @@
 -- What lower layers show after copies, a new object, a further name, and bytes, owner and mode that are set.
-use Rattle.std.proofs.Common.{◌≡◌, ◌≢◌, refl, sym, ap, subst, ◌∙◌, true≢false, eq-eqb, ne_eqb, ℕ, nat_eq, Bool, true, false, not, cond, ◌||◌, List, [], ◌∷◌, ◌++◌, Option, Some, None, is_some}
+use Rattle.std.proofs.Common.{◌≡◌, ◌≢◌, refl, sym, ap, subst, ◌∙◌, true≢false, eq-eqb, ne_eqb, ℕ, nat_eq, Bool, true, false, cond, List, [], ◌∷◌, ◌++◌, Option, Some, None, is_some}
 use Rattle.vt_spec.specs.FileTree.{FileTree}
-use Rattle.vt_spec.specs.Language.Changes.{changed, content_with_mark, content_with_parent, node_with_mark}
+use Rattle.vt_spec.specs.Language.Changes.{changed, content_with_parent, node_with_mark}
 use Rattle.vt_spec.specs.Language.Changes.Change.{AddName, Make, SetAttr, SetBytes}
 use Rattle.vt_spec.specs.Lists.{Fresh}
 use Rattle.vt_spec.specs.Machine.CopyUp.{Merge, Stack, copied_up, hides_directory, linked, made, marked, upper_of}
@@ -9,9 +9,7 @@ use Rattle.vt_spec.specs.Machine.Invariants.{number_at_path}
 use Rattle.vt_spec.specs.Machine.Views.{cuts, hides}
 use Rattle.vt_spec.specs.Machine.World.{upper_object}
 use Rattle.vt_spec.specs.Machine.World.Real.{Below, Upper}
-use Rattle.vt_spec.specs.Rights.{is_directory}
-use Rattle.vt_spec.specs.Tree.{Content, Node, kind_of}
-use Rattle.vt_spec.specs.Tree.Content.{Directory, Regular, Symlink, Whiteout}
+use Rattle.vt_spec.specs.Tree.{Node}
 use Rattle.vt_spec.specs.TreeLaws.{IsDirectory}
 use Rattle.vt_spec.proofs.Nodes.{node_other, node_set}
 use Rattle.vt_tree_laws.specs.Trees.{MayAddName, MayMake}
@@ -42,6 +40,7 @@ use Rattle.vt_merge_laws.proofs.UpperAsked.{place_of}
 use Rattle.vt_merge_laws.proofs.UpperCopying.{stays}
 use Rattle.vt_merge_laws.proofs.UpperFronts.{cuts_stay}
 use Rattle.vt_merge_laws.proofs.UpperPlaces.{at_place, held_have_their_copies, path_there, seen_same}
+use Rattle.vt_overlay_laws.proofs.WholeMoved.{mark_hides}
 
 -- what is said at each name of each way, and at the root, is said at every path
 pub at_each_path : (P : List (List ℕ) → Type 0) → P [] → ((way : List (List ℕ)) (name : List ℕ) → P (way ++ name ∷ []))
@@ -114,24 +113,12 @@ not_named files d w way (word ∷ front) rest e none =
     (λ t. true≢false (sym (front_passes (names_entry (view_in files files.tree.root) d w) way (word ∷ front) rest e
     (cons_is_not_empty word front) t) ∙ none))
 
--- an inode with a mark hides
-pub marks_hide : (o : Option (Node ℕ)) → is_some o ≡ true → hides (node_with_mark true o) ≡ true
-marks_hide None e = absurd (true≢false (sym e))
-marks_hide (Some node) e = by node.content
-  where
-    by : (x : Content ℕ) → (not (is_directory (kind_of (content_with_mark true x)))
-        || Rattle.vt_spec.specs.FileTree.opaque_of (content_with_mark true x)) ≡ true
-    by (Directory p n m) = refl
-    by (Regular b) = refl
-    by (Symlink b) = refl
-    by Whiteout = refl
-
 pub marked_hides : (files : FileTree ℕ) (c : ℕ) (b : Bool) → b ≡ true → is_some (files.tree.node c) ≡ true
     → hides ((marked nat_eq b files c).tree.node c) ≡ true
 marked_hides files c b e used =
     ap (λ x. hides ((marked nat_eq x files c).tree.node c)) e
     ∙ ap hides (node_set files.tree c (node_with_mark true (files.tree.node c)))
-    ∙ marks_hide (files.tree.node c) used
+    ∙ mark_hides (files.tree.node c) used
 
 -- A new object
 module _ (fresh : Fresh ℕ) (stack : Stack ℕ) (m : Merge ℕ) (whole : IsWhole stack m) (d : ℕ) (w : List ℕ) (number : ℕ)

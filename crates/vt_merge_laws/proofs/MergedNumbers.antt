@@ -28,7 +28,7 @@ use Rattle.vt_layer_laws.proofs.ShownPaths.{not_empty}
 use Rattle.vt_layer_laws.proofs.UpperLine.{is_reached_in, named_so}
 use Rattle.vt_layer_laws.proofs.UpperShown.{front_of_longer, has_a_name, way_to}
 use Rattle.vt_layer_laws.proofs.UpperWorld.{all_found, overlay_found, overlay_layers, overlay_numbers, overlay_tree}
-use Rattle.vt_overlay_laws.proofs.WholeParts.{shown_is_there}
+use Rattle.vt_overlay_laws.proofs.WholeParts.{object_is_not_none, shown_is_there}
 use Rattle.std.proofs.lemmas.Option.{same_Some}
 use Rattle.vt_spec.proofs.Options.{none_is_some}
 use Rattle.vt_spec.proofs.Worlds.{nothing_is_no_object}
@@ -142,10 +142,6 @@ module _ (number_of : Real ℕ → ℕ) (held : ℕ → Option (Real ℕ)) (worl
   abbrev at : List (List ℕ) → Option ℕ
   at path = number_at_path filesystem.files path
 
-  no_node : (node : Option (Node ℕ)) → is_some node ≡ true → SameObject None node → ⊥
-  no_node None t same = true≢false (sym t)
-  no_node (Some node) t same = same
-
   -- a path that is not the root's ends in an entry
   pub lastly : (path : List (List ℕ)) (number : ℕ) → path ≢ [] → at path ≡ Some number
       → HasEntry filesystem.files path number
@@ -189,7 +185,7 @@ module _ (number_of : Real ℕ → ℕ) (held : ℕ → Option (Real ℕ)) (worl
           → None ≡ option_map number_of (real_by (is_some overlay.upper) path o)
       none None e same = refl
       none (Some seen) e same = absurd
-          (no_node (layer_node layers seen) (shown_is_there layers is.layers path seen e) same)
+          (object_is_not_none (layer_node layers seen) (shown_is_there layers is.layers path seen e) same)
 
       by : (o : Option ℕ) → at path ≡ o
           → SameObject (then_some o filesystem.files.tree.node) (node_shown nat_eq world overlay path)

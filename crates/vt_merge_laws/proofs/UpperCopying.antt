@@ -30,10 +30,11 @@ use Rattle.std.proofs.lemmas.Slice.Eq.{bytes_eq-Decides}
 use Rattle.vt_overlay_laws.proofs.WholeTogether.{stands_above}
 use Rattle.vt_spec.specs.Tree.{Content, Node, Tree}
 use Rattle.vt_spec.specs.Tree.Content.{Directory, Regular, Symlink, Whiteout}
-use Rattle.std.proofs.lemmas.List.{length-reverse}
+use Rattle.std.proofs.lemmas.List.{length-reverse, map-append}
 use Rattle.std.proofs.lemmas.Option.{same_Some}
 use Rattle.vt_spec.proofs.Options.{none_is_some}
 use Rattle.vt_layer_laws.proofs.CopyingLast.{copied_one_more}
+use Rattle.vt_spec.proofs.Worlds.{nothing_is_no_object}
 
 module _ (files : FileTree ℕ) (tree : IsTree files.tree) (numbers : ListsNumbers nat_eq files) where
   -- the directories above one are as many as there are steps to it
@@ -202,13 +203,9 @@ module _ (fresh : Fresh ℕ) (stack : Stack ℕ) (merge : Merge ℕ) (whole : Is
   led_none low = by (led_above stack merge.upper path) refl
     where
       no_real : (o : Option (Real ℕ)) → merge.real object ≡ o → o ≡ None → ⊥
-      no_real None e n = no (merge.files.tree.node object) there
+      no_real None e n = nothing_is_no_object (merge.files.tree.node object) there
           (subst (λ o. SameObject (merge.files.tree.node object) (then_some o (inode_behind stack merge))) e
           (whole.shown.real_objects object))
-        where
-          no : (node : Option (Node ℕ)) → is_some node ≡ true → SameObject node None → ⊥
-          no None t same = true≢false (sym t)
-          no (Some node) t same = same
       no_real (Some r) e n = none_is_some r (sym n)
 
       at : (u : ℕ) (white : Bool) → is_kind_in White (merge.upper.tree.node u) ≡ white
@@ -315,11 +312,7 @@ fronts_longer : (path : List (List ℕ)) (name : List ℕ)
 fronts_longer [] name = refl
 fronts_longer (first ∷ path) name =
     ap (λ l. (first ∷ []) ∷ map (λ front. first ∷ front) l) (fronts_longer path name)
-    ∙ ap (λ l. (first ∷ []) ∷ l) (map_append (λ front. first ∷ front) (fronts path) ((path ++ name ∷ []) ∷ []))
-  where
-    map_append : {A B : Type 0} (f : A → B) (a b : List A) → map f (a ++ b) ≡ map f a ++ map f b
-    map_append f [] b = refl
-    map_append f (x ∷ a) b = ap (λ l. f x ∷ l) (map_append f a b)
+    ∙ ap (λ l. (first ∷ []) ∷ l) (map-append (λ front. first ∷ front) (fronts path) ((path ++ name ∷ []) ∷ []))
 
 folded_last : {A B : Type 0} (add : B → A → B) (b : B) (list : List A) (last : A)
     → folded add b (list ++ last ∷ []) ≡ add (folded add b list) last

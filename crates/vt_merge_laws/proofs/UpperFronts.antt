@@ -37,6 +37,7 @@ use Rattle.std.proofs.lemmas.List.{append-nil}
 use Rattle.std.proofs.lemmas.Option.{same_Some}
 use Rattle.vt_spec.proofs.NodeChanges.{directory_no_whiteout, entries_of-copied_content, part-changed_node}
 use Rattle.vt_spec.proofs.Options.{none_from_not_some, none_is_some}
+use Rattle.vt_spec.proofs.Worlds.{nothing_is_no_object}
 
 -- What copies of the fronts of a path leave: numbers that are still new, what other paths lead to, and what the
 -- fronts lead to.
@@ -196,15 +197,11 @@ module _ (fresh : Fresh ℕ) (distinct : (j k : ℕ) → fresh j ≡ fresh k →
   one_more_copies = record {
     vacant = still_new;
     others = λ other out.
-        other_leads other (λ same. out [] (ap (λ p. p ++ []) same ∙ no_more path))
+        other_leads other (λ same. out [] (ap (λ p. p ++ []) same ∙ append-nil path))
         ∙ copies.others other (λ rest e. out (rest ++ name ∷ [])
         (sym (append_assoc other rest (name ∷ [])) ∙ ap (λ p. p ++ name ∷ []) e));
     on = on_front;
   }
-    where
-      no_more : (p : List (List ℕ)) → p ++ [] ≡ p
-      no_more [] = refl
-      no_more (word ∷ p) = ap (λ q. word ∷ q) (no_more p)
 
 -- an object that lies only below has the one path
 module _ (stack : Stack ℕ) (merge : Merge ℕ) (whole : IsWhole stack merge) (object : ℕ)
@@ -215,13 +212,9 @@ module _ (stack : Stack ℕ) (merge : Merge ℕ) (whole : IsWhole stack merge) (
   below_is path there leads = by (shown (layers_under stack merge) path) refl
     where
       no_real : (o : Option (Real ℕ)) → merge.real object ≡ o → o ≡ None → ⊥
-      no_real None e n = no (merge.files.tree.node object) there
+      no_real None e n = nothing_is_no_object (merge.files.tree.node object) there
           (subst (λ o. SameObject (merge.files.tree.node object) (then_some o (inode_behind stack merge))) e
           (whole.shown.real_objects object))
-        where
-          no : (node : Option (Node ℕ)) → is_some node ≡ true → SameObject node None → ⊥
-          no None t same = true≢false (sym t)
-          no (Some node) t same = same
       no_real (Some r) e n = none_is_some r (sym n)
 
       at : (layer found : ℕ) → merge.real object ≡ Some
@@ -377,11 +370,7 @@ module _ (fresh : Fresh ℕ) (distinct : (j k : ℕ) → fresh j ≡ fresh k →
             → (node : Node ℕ) × (copied_at fresh stack m.upper (front ++ name ∷ [])
             ≡ changed nat_eq m.upper (Make (upper_of m parent) name (fresh (length (front ++ name ∷ [])))
             (copy_node (upper_of m parent) node)))
-        by None same e = absurd (no (m.files.tree.node object) there_now same)
-          where
-            no : (node : Option (Node ℕ)) → is_some node ≡ true → SameObject node None → ⊥
-            no None t s = true≢false (sym t)
-            no (Some node) t s = s
+        by None same e = absurd (nothing_is_no_object (m.files.tree.node object) there_now same)
         by (Some node) same e = (
           node,
           ap (λ o. copy_over fresh stack m.upper (front ++ name ∷ []) o

@@ -10,7 +10,7 @@ use Rattle.vt_spec.specs.Machine.World.{World}
 use Rattle.vt_spec.proofs.Lists.{chain_ends, map_same, none_among}
 use Rattle.vt_spec.proofs.Found.{find-chain_start}
 
-no_group_of_heir : (found : Option ℕ) → group_of (slave_of_heir found) ≡ None
+pub no_group_of_heir : (found : Option ℕ) → group_of (slave_of_heir found) ≡ None
 no_group_of_heir None = refl
 no_group_of_heir (Some above) = refl
 

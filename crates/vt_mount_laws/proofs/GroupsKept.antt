@@ -1,5 +1,6 @@
 -- Groups live on through changes of mounts.
 use Rattle.std.proofs.Common.{◌≡◌, refl, sym, ap, subst, ◌∙◌, true, false, Bool, List, None, Option, Some, [], cond, eq-eqb, eqb-true, filter, find, is_some, length, map, not, true≢false, ℕ, ⊎_elim, ◌&&◌, ◌++◌, ◌||◌, ◌∷◌, nat_eq}
+use Rattle.std.proofs.Math.Bool.{and-false}
 use Rattle.std.specs.List.{list_any}
 use Rattle.vt_spec.specs.Machine.Mounts.Propagation.{Private, Shared, Slave, Unbindable}
 use Rattle.vt_mount_laws.proofs.GroupsUp.{EndsUp, LivesIn, Up, groups_live_by, lives_in, way_up}
@@ -286,11 +287,7 @@ settling_keeps_groups world nowhere live = groups_live_by (settled nat_eq world)
       where
         by : (b : Bool) → (b || (not (is_some mount.mount_point) && false)) ≡ true → (b || is_located nat_eq world mount.number) ≡ true
         by true e = refl
-        by false e = absurd (true≢false (sym e ∙ never (not (is_some mount.mount_point))))
-          where
-            never : (a : Bool) → (a && false) ≡ false
-            never true = refl
-            never false = refl
+        by false e = absurd (true≢false (sym e ∙ and-false (not (is_some mount.mount_point))))
 
 -- A mount that takes other flags keeps its type.
 pub flags_keep_groups : FlagsKeepGroups

@@ -1,6 +1,6 @@
 -- Receivers that take part, but for members of the destination's group, have a group above them of which a part is a
 -- member: the destination's, or a nearer one.
-use Rattle.std.proofs.Common.{◌≡◌, refl, sym, ap, ◌∙◌, true, false, nat_eq, eqb-true, eq-eqb, ne_eqb, ℕ, zero, suc, Bool, List, [], ◌∷◌, None, Option, Some, find, inl, option_map, true≢false, unwrap_or, ⊎_elim, ◌||◌, cond}
+use Rattle.std.proofs.Common.{◌≡◌, refl, sym, ap, ◌∙◌, true, false, nat_eq, eq-eqb, ne_eqb, ℕ, zero, suc, Bool, List, [], None, Option, Some, inl, option_map, true≢false, unwrap_or, ⊎_elim, ◌||◌}
 use Rattle.vt_spec.proofs.Lists.{Among, among-from_filter, among_from_contains, any_among, any_from_among, chain_ends, chain_goes_on, contains_from_among}
 use Rattle.vt_spec.specs.Lists.{chain, holds_of, is_among}
 use Rattle.vt_spec.specs.Machine.Attach.{parts_of, receivers_of, takes_part}
@@ -9,19 +9,7 @@ use Rattle.vt_spec.specs.Machine.Receives.{groups_up, has_members, is_member_of,
 use Rattle.vt_mount_laws.specs.Mounts.Propagation.{Attachment, HasGroupAbove, IsPart, LowerGroupsHaveAGroupAbove, SlavesHaveAGroupAbove, destination_of}
 use Rattle.vt_mount_laws.proofs.GroupsKept.{found_passes, member_shared, shared_member}
 use Rattle.vt_mount_laws.proofs.MountsFound.{number_found}
-
--- where one of a list passes, one is found
-finds_one : (p : ℕ → Bool) (xs : List ℕ) (x : ℕ) → is_among nat_eq x xs ≡ true → p x ≡ true
-    → (y : ℕ) × (find p xs ≡ Some y)
-finds_one p [] x h e = absurd (true≢false (sym h))
-finds_one p (y ∷ ys) x h e = by (p y) refl (nat_eq x y) refl (λ later. finds_one p ys x later e)
-  where
-    by : (b : Bool) → p y ≡ b → (c : Bool) → nat_eq x y ≡ c
-        → (is_among nat_eq x ys ≡ true → (z : ℕ) × (find p ys ≡ Some z))
-        → (z : ℕ) × (cond b (Some y) (find p ys) ≡ Some z)
-    by true t c s on = (y, refl)
-    by false t true s on = absurd (true≢false (sym e ∙ ap p (eqb-true x y s) ∙ t))
-    by false t false s on = on (sym (ap (λ b. b || is_among nat_eq x ys) s) ∙ h)
+use Rattle.vt_mount_laws.proofs.PropagationUp.{finds_some}
 
 -- a chain that may be longer has what it had
 longer : (next : ℕ → Option ℕ) (n a d : ℕ) → is_among nat_eq d (chain n next a) ≡ true
@@ -97,7 +85,7 @@ module _ (it : Attachment) where
   nearest_is group master e up =
       let has = any_from_among (is_member_of nat_eq group) parts (destination_of it) (inl refl)
       (ap (holds_of (nat_eq group)) e ∙ eq-eqb group group refl) in
-      let found = finds_one (has_members nat_eq parts) (groups_up it.world master) group up has in
+      let found = finds_some (has_members nat_eq parts) (groups_up it.world master) group up has in
       let member = any_among (is_member_of nat_eq found.0) parts
       (found_passes (has_members nat_eq parts) (groups_up it.world master) found.0 found.1).0 in
       (found.0, member.0, found.1, contains_from_among parts member.0 member.1, member_shared found.0 member.0 member.2)

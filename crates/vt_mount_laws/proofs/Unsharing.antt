@@ -1,5 +1,5 @@
 -- An unshare: the copies of a namespace's mounts stand on copies.
-use Rattle.std.proofs.Common.{◌≡◌, refl, sym, ap, subst, ◌∙◌, false, nat_eq, ℕ, List, None, Option, Some, eq-eqb, is_some, map, not, option_map, true≢false, ⊎_elim, ◌&&◌, ◌||◌, ◌+◌, ◌*◌}
+use Rattle.std.proofs.Common.{◌≡◌, refl, sym, ap, subst, ◌∙◌, false, nat_eq, ℕ, List, None, Option, Some, eq-eqb, is_some, map, not, option_map, true≢false, ⊎_elim, ◌&&◌, ◌||◌, ◌+◌, ◌*◌, true}
 use Rattle.std.proofs.lemmas.Bool.{false_from_ne_true}
 use Rattle.std.proofs.lemmas.Option.{same_Some}
 use Rattle.vt_spec.proofs.Lists.{Among, all_from_among, among-append, among-append_left, among-append_right, among-filter, among-from_filter, among-from_map, among-map, among_from_all, among_from_list_all, pair-filter, pair-map}
@@ -17,6 +17,7 @@ use Rattle.vt_mount_laws.proofs.MountsApart.{unshare_keeps_nowhere}
 use Rattle.vt_mount_laws.proofs.MountsNumbered.{is_one_of, number_is_old, odds_apart, one_index, pair-append, unshare_keeps_numbers}
 use Rattle.vt_mount_laws.proofs.MountsPlaces.{one_place_of_two, place_of_both}
 use Rattle.vt_mount_laws.proofs.MountsReplaced.{found_itself}
+use Rattle.vt_mount_laws.specs.Mounts.Attaching.{is_mount}
 use Rattle.vt_spec.proofs.Worlds.{number-mount_in, found_or_none}
 
 -- A mount that stands on a parent
@@ -65,6 +66,13 @@ module _ (world : World ℕ) (mounts : MountInvariants nat_eq world) where
           })
           (λ none. absurd (placed_inside mount m place e (inside ∙ ap (λ x. x.namespace) none)))
           (found_or_none world.mounts place.mount)
+
+  -- and that is a mount of the world
+  pub stands_on_mount : (mount : Mount ℕ) → Among mount world.mounts → (place : Location ℕ)
+      → mount.mount_point ≡ Some place → is_mount world place.mount ≡ true
+  stands_on_mount mount m place e =
+      let parent = parent_of mount m place e in
+      subst (λ n. is_mount world n ≡ true) parent.number (is_one_of world.mounts parent.parent parent.there)
 
 module _ (world : World ℕ) (fresh : Fresh ℕ) (task : Task ℕ) (serves : Serves nat_eq world fresh)
     (mounts : MountInvariants nat_eq world) where

@@ -15,7 +15,7 @@ use Rattle.vt_one_text.proofs.OneTreeCounts.{IsCounted, counted_changed}
 use Rattle.vt_one_text.proofs.OneTreeEntries.{changed_at, named_by, named_of, one_if}
 use Rattle.vt_one_text.proofs.OneTreeSettled.{IsBefore, fit_after, numbers_after, once_after, raw, settled_is}
 use Rattle.vt_one_text.proofs.OneTreeTrees.{among_times, as_long, has_entry_directory, times_append}
-use Rattle.vt_spec.proofs.Inodes.{directory_inode_is_there}
+use Rattle.vt_spec.proofs.Inodes.{directory_inode_is_there, is_some-node_in, node_in-none}
 
 -- a world that is fit counts its uses
 pub counted_start : (numbers : List ℕ) (world : World ℕ) → IsFit numbers world
@@ -24,15 +24,11 @@ counted_start numbers world fit = record {
   uses_are = fit.uses;
   in_use = fit.in_use;
   kept = λ number e. refl;
-  emptied = λ number e. none (world.inodes.inode number) e;
+  emptied = λ number e. ap targets_in (node_in-none (world.inodes.inode number) e);
   list = numbers;
   listed = fit.each_once;
   as_many = fit.counted;
 }
-  where
-    none : (o : Option (Inode ℕ)) → is_some o ≡ false → targets_in (node_in o) ≡ []
-    none None e = refl
-    none (Some inode) e = cc
 
 -- the tree before anything goes
 abbrev pub bare : ℕ → (ℕ → Option (Node ℕ)) → Tree ℕ
@@ -158,11 +154,7 @@ module _ (numbers : List ℕ) (world : World ℕ) (fit : IsFit numbers world) wh
 
   -- what is there is among the numbers once
   pub there_once : (number : ℕ) → times_in number numbers ≡ cond (is_some (tree.node number)) 1 0
-  there_once number = fit.each_once number ∙ ap (λ b. cond b 1 0) (by (world.inodes.inode number))
-    where
-      by : (o : Option (Inode ℕ)) → is_some o ≡ is_some (node_in o)
-      by None = refl
-      by (Some inode) = refl
+  there_once number = fit.each_once number ∙ ap (λ b. cond b 1 0) (sym (is_some-node_in (world.inodes.inode number)))
 
   pub directory_there : (directory : ℕ) → IsDirectory tree directory → is_some (world.inodes.inode directory) ≡ true
   directory_there directory is = directory_inode_is_there (world.inodes.inode directory) is
@@ -175,7 +167,8 @@ module _ (numbers : List ℕ) (world : World ℕ) (fit : IsFit numbers world) wh
       (times_append number (named_by tree.node numbers) (opened_in world))
 
   -- what has a use is there
-  pub used_is_there : (number : ℕ) → 1 ≤ times_in number (used_in numbers world) → is_some (world.inodes.inode number) ≡ true
+  pub used_is_there : (number : ℕ) → 1 ≤ times_in number (used_in numbers world)
+      → is_some (world.inodes.inode number) ≡ true
   used_is_there number some = by (world.inodes.inode number) (fit.uses number)
     where
       by : (o : Option (Inode ℕ)) → uses_in o ≡ times_in number (used_in numbers world) → is_some o ≡ true
@@ -195,7 +188,8 @@ module _ (numbers : List ℕ) (world : World ℕ) (fit : IsFit numbers world) wh
       let once : times_in (parent_in directory (tree.node directory)) numbers ≡ 1 =
       fit.each_once (parent_in directory (tree.node directory))
       ∙ ap (λ b. cond b 1 0) (directory_there (parent_in directory (tree.node directory)) parent) in
-      let all : times_in directory (targets_in (tree.node (parent_in directory (tree.node directory)))) ≤ times_in directory
+      let all : times_in directory (targets_in (tree.node (parent_in directory (tree.node directory)))) ≤ times_in
+      directory
       (named_by tree.node numbers) =
       named_of directory tree.node (parent_in directory (tree.node directory)) numbers (omega arith) in
       omega arith

@@ -133,7 +133,8 @@ module _ (uses : ℕ → ℕ) (node : ℕ → Option (Node ℕ)) (inodes : Inode
                 at_or (λ number o. is_some o ≡ true → node number ≡ node_in o) inodes.inode place None (λ e. cc)
                 (λ number apart. counted.kept number);
             emptied =
-                at_or (λ number o. is_some o ≡ false → targets_in (node number) ≡ []) inodes.inode place None (λ e. empty)
+                at_or (λ number o. is_some o ≡ false → targets_in (node number) ≡ []) inodes.inode place None
+                (λ e. empty)
                 (λ number apart. counted.emptied number);
             list = removed place counted.list;
             listed = at_or (λ number o. times_in number (removed place counted.list)
@@ -174,7 +175,8 @@ module _ (uses : ℕ → ℕ) (node : ℕ → Option (Node ℕ)) (inodes : Inode
                 (let h = left_here in omega arith) left_there;
             in_use =
                 at_or (λ number o. is_some o ≡ true → 1 ≤ uses_in o) inodes.inode place
-                (Some (record inode { uses = inode.uses - 1 })) (λ e. omega arith) (λ number apart. counted.in_use number);
+                (Some (record inode { uses = inode.uses - 1 })) (λ e. omega arith)
+                (λ number apart. counted.in_use number);
             kept =
                 at_or (λ number o. is_some o ≡ true → node number ≡ node_in o) inodes.inode place
                 (Some (record inode { uses = inode.uses - 1 })) (λ e. here_node) (λ number apart. counted.kept number);

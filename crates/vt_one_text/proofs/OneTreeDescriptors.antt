@@ -409,7 +409,8 @@ whole_uses numbers world fit uses inodes counted root some =
             entry,
             stays (Rattle.vt_spec.specs.Tree.parent_in directory ((tree_of world.inodes).node directory))
                 (has_entry_directory (tree_of world.inodes)
-                (Rattle.vt_spec.specs.Tree.parent_in directory ((tree_of world.inodes).node directory)) directory entry),
+                (Rattle.vt_spec.specs.Tree.parent_in directory ((tree_of world.inodes).node directory)) directory
+                entry),
           );
       under_root = λ directory there is.
           let under = fit.whole.under_root directory is in

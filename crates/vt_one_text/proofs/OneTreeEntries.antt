@@ -1,7 +1,8 @@
 -- How often the entries of directories lead to an inode, after each change of entries.
-use Rattle.std.proofs.Common.{◌≡◌, ◌≢◌, refl, sym, ap, subst, ◌∙◌, ⊎_elim, ℕ, ◌+◌, ◌≤◌, nat_eq, eq-eqb, ne_eqb, Bool, true, false, true≢false, cond, not, ◌&&◌, List, [], ◌∷◌, ◌++◌, map, flat_map, Option, Some, None, T, arith}
+use Rattle.std.proofs.Common.{◌≡◌, ◌≢◌, refl, sym, ap, subst, ◌∙◌, ⊎_elim, ℕ, ◌+◌, ◌≤◌, nat_eq, eq-eqb, ne_eqb, Bool, true, false, true≢false, cond, not, ◌&&◌, List, [], ◌∷◌, ◌++◌, map, flat_map, Option, Some, None, arith}
 use Rattle.std.proofs.lemmas.Bool.Decides.{eqb_tells}
 use Rattle.std.proofs.lemmas.Bool.{and_parts}
+use Rattle.std.proofs.lemmas.Float.{T_from_true}
 use Rattle.std.specs.Cmp.Lexicographic.{nat_list_cmp_total, texts_ties, bytes_decides}
 use Rattle.std.specs.FinMap.Entries.{below_all, by_order, is_sorted, is_sorted-put, is_sorted-where_key}
 use Rattle.std.specs.Ordering.{is_eq, is_lt}
@@ -10,14 +11,25 @@ use Rattle.std.specs.declared.cmp.Ordering.{Ordering}
 use Rattle.std.specs.declared.cmp.Ordering.TheVariants.{Less, Equal, Greater}
 use Rattle.vt_spec.specs.Language.Changes.{without_entry}
 use Rattle.vt_spec.specs.FileTree.{targets_in}
-use Rattle.vt_spec.specs.Tree.{Entries, Node, entry_named, name_cmp, with_entry}
+use Rattle.vt_spec.specs.Tree.{Entries, Node, Tree, entries_in, entry_named, name_cmp, with_entry}
 use Rattle.vt_one_text.specs.OneTree.{times_in}
 use Rattle.vt_one_text.proofs.OneTreeTrees.{times_append}
 use Rattle.vt_spec.proofs.Nodes.{passes}
 use Rattle.vt_spec.proofs.NodeChanges.{entry_named-below}
+use Rattle.vt_spec.specs.Lists.{is_empty_list}
+use Rattle.vt_spec.specs.OneTree.Rules.{is_filled}
 
 abbrev pub targets : Entries ℕ → List ℕ
 targets entries = map (λ entry. entry.1) entries
+
+-- a directory without entries leads nowhere
+pub targets_in-not_filled : (tree : Tree ℕ) (object : ℕ) → is_filled tree object ≡ false
+    → targets_in (tree.node object) ≡ []
+targets_in-not_filled tree object = by (entries_in (tree.node object))
+  where
+    by : (entries : Entries ℕ) → not (is_empty_list entries) ≡ false → targets entries ≡ []
+    by [] e = refl
+    by (first ∷ rest) e = cc
 
 -- one if it is this number
 abbrev pub one_if : ℕ → ℕ → ℕ
@@ -105,19 +117,15 @@ times_without number name (entry ∷ rest) sorted =
         absurd (true≢false (sym ((bytes_decides entry.0 name).1 (sym same)) ∙ e))
     by false e false f later = omega arith
 
-to_T : (b : Bool) → b ≡ true → T b
-to_T true e = tt
-to_T false e = absurd (true≢false (sym e))
-
 pub sorted_put : (name : List ℕ) (object : ℕ) (entries : Entries ℕ) → is_sorted name_cmp entries ≡ true
     → is_sorted name_cmp (with_entry name object entries) ≡ true
 sorted_put name object entries sorted =
-    passes _ (is_sorted-put name_cmp nat_list_cmp_total name object entries (to_T _ sorted))
+    passes _ (is_sorted-put name_cmp nat_list_cmp_total name object entries (T_from_true _ sorted))
 
 pub sorted_without : (name : List ℕ) (entries : Entries ℕ) → is_sorted name_cmp entries ≡ true
     → is_sorted name_cmp (without_entry name entries) ≡ true
 sorted_without name entries sorted =
-    passes _ (is_sorted-where_key name_cmp (λ key. not (bytes_eq key name)) entries (to_T _ sorted))
+    passes _ (is_sorted-where_key name_cmp (λ key. not (bytes_eq key name)) entries (T_from_true _ sorted))
 
 -- an entry that is found is one
 pub found_target : (number : ℕ) (name : List ℕ) (entries : Entries ℕ)

@@ -1,5 +1,5 @@
 -- How a call that is judged alike in one tree and in the whole machine is answered alike.
-use Rattle.std.proofs.Common.{◌≡◌, refl, sym, ap, subst, ◌∙◌, inl, inr, ◌⊎◌, ℕ, nat_eq, Bool, true, false, cond, not, List, [], ◌∷◌, ◌++◌, map, find, Option, Some, None, option_map, ok_or, is_some, is_ok, Result, Ok, Err}
+use Rattle.std.proofs.Common.{◌≡◌, refl, sym, ap, subst, ◌∙◌, inl, inr, ◌⊎◌, ℕ, nat_eq, Bool, true, false, cond, not, List, [], ◌∷◌, ◌++◌, map, find, Option, Some, None, option_map, ok_or, is_ok, Result, Ok, Err}
 use Rattle.vt_spec.specs.declared.errors.Deny.{Deny}
 use Rattle.vt_spec.specs.declared.errors.Rule.{Rule}
 use Rattle.vt_spec.specs.declared.errors.Rule.TheVariants.{S2}
@@ -13,13 +13,14 @@ use Rattle.vt_spec.specs.Machine.Policy as Machine
 use Rattle.vt_spec.specs.Machine.Settled.{settled}
 use Rattle.vt_spec.specs.Machine.Walk.{Stop, walk_end}
 use Rattle.vt_spec.specs.Machine.World as MachineWorld
-use Rattle.vt_spec.specs.Inodes.{Inode, node_in, tree_of}
+use Rattle.vt_spec.specs.Inodes.{tree_of}
 use Rattle.vt_spec.specs.OneTree.Permits.{Permit}
 use Rattle.vt_spec.specs.OneTree.Policy.{judge, policy, spent}
 use Rattle.vt_spec.specs.OneTree.World.{Outcome, Task, World, after, is_called}
 use Rattle.vt_one_text.specs.OneTree.{Beside, EndsAlike, IsFit, IsSameOutcome, embedded, task_there}
 use Rattle.vt_one_text.proofs.OneTreeSettled.{IsBefore, beside_raised, fit_after, numbers_after, raised_is, settled_is}
 use Rattle.vt_one_text.proofs.OneTreeTasks.{find_there, found_is}
+use Rattle.vt_spec.proofs.Inodes.{is_some-node_in, node_in-none}
 
 -- Tables of the whole machine have more rules than those of one tree: those that cannot fail there.
 abbrev pub Row : Type 0
@@ -87,17 +88,9 @@ is_before numbers world fit = record {
   uses = fit.uses;
   in_use = fit.in_use;
   kept = λ number e. refl;
-  once = λ number. fit.each_once number ∙ ap (λ b. cond b 1 0) (there (world.inodes.inode number));
-  emptied = λ number e. none (world.inodes.inode number) e;
+  once = λ number. fit.each_once number ∙ ap (λ b. cond b 1 0) (sym (is_some-node_in (world.inodes.inode number)));
+  emptied = λ number e. ap targets_in (node_in-none (world.inodes.inode number) e);
 }
-  where
-    there : (o : Option (Inode ℕ)) → is_some o ≡ is_some (node_in o)
-    there None = refl
-    there (Some inode) = refl
-
-    none : (o : Option (Inode ℕ)) → is_some o ≡ false → targets_in (node_in o) ≡ []
-    none None e = refl
-    none (Some inode) e = cc
 
 module _ (beside : Beside) (world : World ℕ) (name : TaskName) (task : Task ℕ) (fit : IsFit beside.numbers world) where
   abbrev there : MachineWorld.World ℕ
@@ -133,7 +126,8 @@ module _ (beside : Beside) (world : World ℕ) (name : TaskName) (task : Task �
   still_settled = (
     record beside { numbers = numbers_after beside world (tree_of world.inodes).node beside.numbers is },
     fit_after beside world
-        (tree_of world.inodes).node beside.numbers is fit.whole as_many fit.one_use fit.apart fit.forked fit.descriptors,
+        (tree_of world.inodes).node beside.numbers is fit.whole as_many fit.one_use fit.apart fit.forked
+        fit.descriptors,
     settled_is beside world (tree_of world.inodes).node beside.numbers is,
   )
     where

@@ -206,7 +206,8 @@ fork_answered (word ∷ rest) =
     (Call.Fork (Some (record { uid = uid; gid = gid; groups = groups; capabilities = capabilities }))))
     (λ capabilities rest. no_more_answered
     (Call.Fork (Some (record { uid = uid; gid = gid; groups = groups; capabilities = capabilities })))
-    (forks_agree (Some (record { uid = uid; gid = gid; groups = groups; capabilities = capabilities }))) rest) rest) rest) rest) (word ∷ rest)
+    (forks_agree (Some (record { uid = uid; gid = gid; groups = groups; capabilities = capabilities }))) rest) rest)
+    rest) rest) (word ∷ rest)
 
 abbrev CallAnswered : List (List ℕ) → List ℕ → Type 0
 CallAnswered words name = Answered (Script.call_words Script.Version.One name words)

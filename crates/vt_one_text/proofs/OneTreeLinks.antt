@@ -7,7 +7,7 @@ use Rattle.vt_spec.specs.Language.Calls.Call.{LinkTo, Rmdir, Unlink}
 use Rattle.vt_spec.specs.Language.Changes.Change.{AddName, Remove}
 use Rattle.vt_spec.specs.FileTree.{symlink_text, targets_in}
 use Rattle.vt_spec.specs.Machine.Filesystems.{with_change}
-use Rattle.vt_spec.specs.Lists.{Fresh, is_empty_list}
+use Rattle.vt_spec.specs.Lists.{Fresh}
 use Rattle.vt_spec.specs.Machine.Outcome.Making as Making
 use Rattle.vt_spec.specs.Machine.Outcome.Removing as Removing
 use Rattle.vt_spec.specs.Machine.Outcomes as Outcomes
@@ -25,11 +25,11 @@ use Rattle.vt_spec.specs.OneTree.Walk.{Follow, Here, Place, follow_rules, follow
 use Rattle.vt_spec.specs.OneTree.World.{Task, World}
 use Rattle.vt_spec.specs.PathText.{ends_in_slash, is_absolute, parsed_path, words}
 use Rattle.vt_spec.specs.Rights.{Credentials, execute_right, write_right}
-use Rattle.vt_spec.specs.Tree.{Entries, Tree, entries_in, entry_named, parent_in}
+use Rattle.vt_spec.specs.Tree.{Tree, entries_in, entry_named, parent_in}
 use Rattle.vt_spec.specs.TreeLaws.{IsDirectory, entry_at}
 use Rattle.vt_one_text.specs.OneTree.{Beside, IsFit, LinksAgree, RmdirsAgree, Steps, UnlinksAgree, embedded, here_there, location_there, place_there, task_there, times_in}
 use Rattle.vt_one_text.proofs.OneTreeChanges.{directory_there, no_entries, uses_parts, used_is_there}
-use Rattle.vt_one_text.proofs.OneTreeEntries.{found_target, named_by, named_of, one_if, one_if_some, targets}
+use Rattle.vt_one_text.proofs.OneTreeEntries.{found_target, named_by, named_of, one_if, one_if_some, targets, targets_in-not_filled}
 use Rattle.vt_one_text.proofs.OneTreeJudged.{IsJudged, after_alike, judged_both, judged_finished, judged_when, policy_alike, refused}
 use Rattle.vt_one_text.proofs.OneTreeNames.{linked_alike, removed_alike}
 use Rattle.vt_one_text.proofs.OneTreeTrees.{parent_is}
@@ -297,13 +297,6 @@ module _ (beside : Beside) (world : World ℕ) (name : TaskName) (task : Task �
       ((place.slash && not (is_directory_there tree_here place), W3) ∷ []) place
       (subst (λ r. IfOk r (IsOld tree_here)) e (old_is path)))
 
-  not_filled : (object : ℕ) → is_filled tree_here object ≡ false → targets_in (tree_here.node object) ≡ []
-  not_filled object e = by (entries_in (tree_here.node object)) e
-    where
-      by : (entries : Entries ℕ) → not (is_empty_list entries) ≡ false → targets entries ≡ []
-      by [] e = refl
-      by (first ∷ rest) e = cc
-
   unlinked_at : (parent : ℕ) (last : LastWord) (object : Option ℕ) (slash : Bool) (steps : Steps)
       → IsPlaceOf tree_here parent object last → is_some object ≡ true
       → Judged (unless (unlink_rules tree_here who_here
@@ -374,7 +367,7 @@ module _ (beside : Beside) (world : World ℕ) (name : TaskName) (task : Task �
       (Ok (ToChange (Remove parent word object)))
       (Outcomes.granted Done (with_change nat_eq fresh there (location_there parent) (Remove parent word object)))
       (λ pass. inr (removed_alike beside world name task fit parent word object place.0 (sym place.1)
-      (not_filled object pass.1.0) fresh))
+      (targets_in-not_filled tree_here object pass.1.0) fresh))
 
   rmdir_alike : (path : List ℕ) → Judged (rmdir_permit tree_here task path)
       (Removing.rmdir_outcome nat_eq fresh there there_task path)

@@ -1,5 +1,6 @@
 -- mkdir, symlink, write and open are answered alike.
-use Rattle.std.proofs.Common.{◌≡◌, refl, sym, ap, subst, inl, inr, ℕ, nat_eq, nat_lt, Bool, true, false, true≢false, not, ◌&&◌, ◌||◌, List, [], ◌∷◌, length, map, find, Option, Some, None, option_map, unwrap_or, is_some, IfOk, Result, Ok, Err}
+use Rattle.std.proofs.Common.{◌≡◌, refl, sym, subst, inl, inr, ℕ, nat_eq, nat_lt, Bool, true, false, true≢false, not, ◌&&◌, ◌||◌, List, [], ◌∷◌, length, find, Option, Some, None, option_map, unwrap_or, is_some, IfOk, Result, Ok, Err}
+use Rattle.std.proofs.lemmas.List.{length-map}
 use Rattle.vt_spec.specs.declared.attributes.Kind.TheVariants.{White}
 use Rattle.vt_spec.specs.declared.errors.Deny.{Deny}
 use Rattle.vt_spec.specs.declared.errors.Rule.{Rule}
@@ -302,10 +303,6 @@ module _ (beside : Beside) (world : World ℕ) (name : TaskName) (task : Task �
       (λ place steps e. exclusive_alike place.parent place.last place.object place.slash steps access mode
       (place_new path place e))
 
-  same_length : {A B : Type 0} (f : A → B) (list : List A) → length (map f list) ≡ length list
-  same_length f [] = refl
-  same_length f (a ∷ rest) = ap Rattle.std.specs.Prelude.suc (same_length f rest)
-
   open_alike : (path : List ℕ) (access : Access) (creation : Creation)
       → Judged (open_permit (fresh 0) tree task path access creation)
       (Descriptors.open_outcome nat_eq fresh there there_task path access creation)
@@ -314,7 +311,7 @@ module _ (beside : Beside) (world : World ℕ) (name : TaskName) (task : Task �
       subst (λ n. Judged (open_permit (fresh 0) tree task path access creation)
       (Outcomes.judged there ((Rattle.std.specs.Prelude.nat_le DescriptorsLanguage.most_descriptors n, S3) ∷ [])
       (Descriptors.open_by nat_eq fresh there there_task path access creation)))
-      (sym (same_length Rattle.vt_one_text.specs.OneTree.descriptor_there task.descriptors))
+      (sym (length-map task.descriptors Rattle.vt_one_text.specs.OneTree.descriptor_there))
       (judged_alike there Judged denied
       (inl (Rattle.std.specs.Prelude.nat_le DescriptorsLanguage.most_descriptors (length task.descriptors), S3) ∷ [])
       (open_by (fresh 0) tree task path access creation)

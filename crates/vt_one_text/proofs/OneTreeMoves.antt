@@ -274,7 +274,8 @@ module _ (beside : Beside) (world : World ℕ) (task_name : TaskName) (task : Ta
   -- a replaced object has no entries, and is neither of the directories
   gone_target : (n : ℕ) → one_if_some n replaced ≤ times_in n (targets_in (tree.node to))
   gone_target n =
-      let found : one_if_some n (entry_named new (entries_in (tree.node to))) ≤ times_in n (targets (entries_in (tree.node to))) =
+      let found : one_if_some n (entry_named new (entries_in (tree.node to))) ≤ times_in n
+      (targets (entries_in (tree.node to))) =
       found_target n new (entries_in (tree.node to)) in
       let it : one_if_some n (entry_named new (entries_in (tree.node to))) ≡ one_if_some n replaced =
       ap (one_if_some n) finds in
@@ -384,10 +385,12 @@ module _ (beside : Beside) (world : World ℕ) (task_name : TaskName) (task : Ta
 
   root_unnamed : (d : ℕ) → IsDirectory tree d → times_in world.inodes.root (targets_in (tree.node d)) ≡ 0
   root_unnamed d is =
-      let named : times_in world.inodes.root (named_by tree.node beside.numbers) + one_if world.inodes.root world.inodes.root ≡ 1 =
+      let named : times_in world.inodes.root (named_by tree.node beside.numbers) + one_if world.inodes.root
+      world.inodes.root ≡ 1 =
       (directory_uses beside.numbers world fit world.inodes.root fit.whole.root_directory).1 in
       let self = one_if-itself world.inodes.root in
-      let all : times_in world.inodes.root (targets_in (tree.node d)) ≤ times_in world.inodes.root (named_by tree.node beside.numbers) =
+      let all : times_in world.inodes.root (targets_in (tree.node d)) ≤ times_in world.inodes.root
+      (named_by tree.node beside.numbers) =
       named_of world.inodes.root tree.node d beside.numbers (let o = once d is in omega arith) in
       omega arith
 

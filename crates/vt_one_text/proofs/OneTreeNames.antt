@@ -155,7 +155,8 @@ module _ (beside : Beside) (world : World ℕ) (task_name : TaskName) (task : Ta
   counted_linked : IsCounted uses_linked node_linked inodes_linked
   counted_linked =
       let used : 1 ≤ uses_before object =
-      (let some : 1 ≤ uses_in (world.inodes.inode object) = fit.in_use object there_is in let e = fit.uses object in omega arith) in
+      (let some : 1 ≤ uses_in (world.inodes.inode object) = fit.in_use object there_is in let e = fit.uses object in
+      omega arith) in
       let inode =
       some_inode ((with_changed nat_eq world.inodes directory (node_with_entry name object)).inode object)
       (counted_some uses_before node_linked
@@ -258,7 +259,9 @@ module _ (beside : Beside) (world : World ℕ) (task_name : TaskName) (task : Ta
       (Outcomes.granted Done (with_change nat_eq fresh (embedded beside world) (location_there directory)
       (AddName directory name object)))
   linked_alike fresh =
-      let settles = rearranged beside world task_name task fit beside.filesystem_change uses_linked node_linked inodes_linked linked_is in
+      let settles =
+      rearranged beside world task_name task fit beside.filesystem_change uses_linked node_linked inodes_linked
+      linked_is in
       (refl, refl, settles.0, settles.1, settles.2)
 
 -- Remove
@@ -388,7 +391,8 @@ module _ (beside : Beside) (world : World ℕ) (task_name : TaskName) (task : Ta
   stays_apart : (d : ℕ) → is_some (inodes_removed.inode d) ≡ true → IsDirectory tree_r d → d ≢ object
   stays_apart d there is_d same =
       let used : 1 ≤ uses_removed d =
-      (let some : 1 ≤ uses_in (inodes_removed.inode d) = counted_removed.in_use d there in let e = counted_removed.uses_are d in
+      (let some : 1 ≤ uses_in (inodes_removed.inode d) = counted_removed.in_use d there in
+      let e = counted_removed.uses_are d in
       omega arith) in
       let one : uses_in (world.inodes.inode d) ≡ 1 = fit.one_use d is_d in
       let e = fit.uses d in let l = one_less d in
@@ -429,13 +433,17 @@ module _ (beside : Beside) (world : World ℕ) (task_name : TaskName) (task : Ta
 
   root_apart : world.inodes.root ≢ object
   root_apart same =
-      let named : times_in world.inodes.root (named_by tree_r.node beside.numbers) + one_if world.inodes.root world.inodes.root ≡ 1 =
+      let named : times_in world.inodes.root (named_by tree_r.node beside.numbers) + one_if world.inodes.root
+      world.inodes.root ≡ 1 =
       (directory_uses beside.numbers world fit world.inodes.root fit.whole.root_directory).1 in
       let own : one_if world.inodes.root world.inodes.root ≡ 1 =
       ap (λ b. cond b 1 0) (eq-eqb world.inodes.root world.inodes.root refl) in
       let target : 1 ≤ times_in world.inodes.root (targets_in (tree_r.node directory)) =
       subst (λ n. 1 ≤ times_in n (targets_in (tree_r.node directory))) (sym same) is_target in
-      let all : times_in world.inodes.root (targets_in (tree_r.node directory)) ≤ times_in world.inodes.root (named_by tree_r.node beside.numbers) = Rattle.vt_one_text.proofs.OneTreeEntries.named_of world.inodes.root tree_r.node directory beside.numbers (let o = once_directory in omega arith) in
+      let all : times_in world.inodes.root (targets_in (tree_r.node directory)) ≤ times_in world.inodes.root
+      (named_by tree_r.node beside.numbers) =
+      Rattle.vt_one_text.proofs.OneTreeEntries.named_of world.inodes.root tree_r.node directory beside.numbers
+      (let o = once_directory in omega arith) in
       omega arith
 
   kept_up : (steps d : ℕ) → IsDirectory tree_r d → d ≢ object
@@ -498,5 +506,6 @@ module _ (beside : Beside) (world : World ℕ) (task_name : TaskName) (task : Ta
       (Remove directory name object)))
   removed_alike fresh =
       let settles =
-      rearranged beside world task_name task fit beside.filesystem_change uses_removed node_removed inodes_removed removed_is in
+      rearranged beside world task_name task fit beside.filesystem_change uses_removed node_removed inodes_removed
+      removed_is in
       (refl, refl, settles.0, settles.1, settles.2)

@@ -102,7 +102,13 @@ module _ (beside : Beside) (world : World ℕ) (name : TaskName) (task : Task �
     task_now =
         (λ i. record there_task {
           descriptors = Descriptors.inserted
-              (record { number = free_there 0 task.descriptors i; location = location_there file; reads = access.reads; writes = access.writes }) (map descriptor_there task.descriptors);
+              (record {
+                number = free_there 0 task.descriptors i;
+                location = location_there
+                    file;
+                reads = access.reads;
+                writes = access.writes;
+              }) (map descriptor_there task.descriptors);
         })
         ∙ (λ i. record there_task { descriptors = inserted_there (descriptor_on task file access) task.descriptors i })
 
@@ -407,7 +413,8 @@ module _ (beside : Beside) (world : World ℕ) (name : TaskName) (task : Task �
           (raw (sym (root_without world.inodes task.descriptors) i) tree.node beside.numbers beside.filesystem_change
           (map (task_there beside (sym (root_without world.inodes task.descriptors) i)) stay) beside.change)))
           ∙ ap (Machine.numbers_raised nat_eq there name changed) gone_settled.2
-          ∙ raised_is name changed gone_settled.0 world_gone world.inodes.root tree.node beside.numbers beside.filesystem_change
+          ∙ raised_is name changed gone_settled.0 world_gone world.inodes.root tree.node beside.numbers
+          beside.filesystem_change
           (map (task_there beside world.inodes.root) world.tasks) beside.change,
     ),
   )

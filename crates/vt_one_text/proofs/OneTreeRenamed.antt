@@ -56,7 +56,13 @@ module _ (first second : Renaming ℕ ℕ) where
       let later = tasks_alike rest (λ number is. agree number (let sum = all number in omega arith)) in
       λ i. (
         entry.0,
-        record { credentials = entry.1.credentials; umask = entry.1.umask; descriptors = here i; forks = entry.1.forks },
+        record {
+          credentials = entry.1.credentials;
+          umask = entry.1.umask;
+          descriptors = here
+              i;
+          forks = entry.1.forks;
+        },
       ) ∷ later i
 
 -- What the numbers in a fit world lead to is there.

@@ -9,7 +9,7 @@ use Rattle.vt_spec.specs.Language.Changes.Change.{Move}
 use Rattle.vt_spec.specs.FileTree as FileTree
 use Rattle.vt_spec.specs.FileTree.{has_entry_to, named_parent, targets_in}
 use Rattle.vt_spec.specs.Machine.Filesystems.{with_change}
-use Rattle.vt_spec.specs.Lists.{Fresh, chain, holds_of, is_among, is_empty_list, when}
+use Rattle.vt_spec.specs.Lists.{Fresh, chain, holds_of, is_among, when}
 use Rattle.vt_spec.specs.Machine.Outcome.Removing as Removing
 use Rattle.vt_spec.specs.Machine.Outcomes as Outcomes
 use Rattle.vt_spec.specs.Language.Answers.Answer.{Done}
@@ -26,11 +26,11 @@ use Rattle.vt_spec.specs.OneTree.Rules.{is_filled, is_kept, is_one_object, may_n
 use Rattle.vt_spec.specs.OneTree.Walk.{Place, is_directory_at, new_walk, old_leaf_walk, rename_new_walk}
 use Rattle.vt_spec.specs.OneTree.World.{Task, World, with_inodes}
 use Rattle.vt_spec.specs.Rights.{Credentials, write_right}
-use Rattle.vt_spec.specs.Tree.{Entries, Tree, entries_in, entry_named, parent_in}
+use Rattle.vt_spec.specs.Tree.{Tree, entries_in, entry_named, parent_in}
 use Rattle.vt_spec.specs.TreeLaws.{IsDirectory}
 use Rattle.vt_one_text.specs.OneTree.{Beside, IsFit, RenamesAgree, Steps, embedded, location_there, place_there, task_there, times_in}
 use Rattle.vt_one_text.proofs.OneTreeChanges.{no_entries}
-use Rattle.vt_one_text.proofs.OneTreeEntries.{one_if, one_if_some, targets}
+use Rattle.vt_one_text.proofs.OneTreeEntries.{one_if, one_if_some, targets_in-not_filled}
 use Rattle.vt_one_text.proofs.OneTreeJudged.{IsJudged, after_alike, judged_finished, judged_when, policy_alike, refused}
 use Rattle.vt_one_text.proofs.OneTreeLinks.{IsOld, old_leaf_is}
 use Rattle.vt_one_text.proofs.OneTreeMoves.{moved_settled, node_there}
@@ -113,7 +113,8 @@ module _ (numbers : List ℕ) (world : World ℕ) (fit : IsFit numbers world) wh
       → IsAway tree steps d → times_in top (way_up tree steps d) ≡ 0
   way_free top d is none steps far =
       not_on_way world.inodes.count steps top d far
-      (let h : suc steps ≤ length numbers = near numbers world fit steps d is far in let c = fit.counted in omega arith) none
+      (let h : suc steps ≤ length numbers = near numbers world fit steps d is far in let c = fit.counted in omega arith)
+      none
 
 -- tests
 
@@ -193,7 +194,8 @@ module _ (beside : Beside) (world : World ℕ) (name : TaskName) (task : Task �
         tree = record {
           root = world.inodes.root;
           node =
-              node_there beside world name task fit from old to new object replaced from_is leads to_is finds other empty
+              node_there beside world name task fit from old to new object replaced from_is leads to_is finds other
+              empty
               (λ is steps far. way_free beside.numbers world fit object to to_is (outside is) steps far) o;
         };
         numbers = beside.numbers;
@@ -205,13 +207,6 @@ module _ (beside : Beside) (world : World ℕ) (name : TaskName) (task : Task �
           by : (o : Option ℕ) → machine o ≡ moved_files o
           by None = refl
           by (Some gone) = refl
-
-  not_filled : (n : ℕ) → is_filled tree_here n ≡ false → targets_in (tree_here.node n) ≡ []
-  not_filled n e = by (entries_in (tree_here.node n)) e
-    where
-      by : (entries : Entries ℕ) → not (is_empty_list entries) ≡ false → targets entries ≡ []
-      by [] e = refl
-      by (first ∷ rest) e = cc
 
   second : (a b : Bool) → (a && b) ≡ false → a ≡ true → b ≡ false
   second true b e f = e
@@ -307,7 +302,7 @@ module _ (beside : Beside) (world : World ℕ) (name : TaskName) (task : Task �
       empty : (a b : Bool) → is_directory_at tree_here gone ≡ b → (not a && b) ≡ false
           → (a && is_filled tree_here gone) ≡ false
           → targets_in (tree_here.node gone) ≡ []
-      empty true true is e f = not_filled gone f
+      empty true true is e f = targets_in-not_filled tree_here gone f
       empty false true is e f = cc
       empty true false is e f = no_entries beside.numbers world fit gone is
       empty false false is e f = no_entries beside.numbers world fit gone is

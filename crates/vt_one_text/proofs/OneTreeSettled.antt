@@ -1,5 +1,6 @@
 -- What the whole machine keeps after a call on one tree is what has a use there.
 use Rattle.std.proofs.Common.{◌≡◌, refl, sym, ap, subst, ◌∙◌, ⊎_elim, ℕ, ◌+◌, ◌≤◌, nat_eq, Bool, true, false, cond, ◌&&◌, ◌||◌, List, [], ◌∷◌, ◌++◌, length, map, filter, flat_map, Option, Some, None, is_some, arith}
+use Rattle.std.proofs.Math.Bool.{or_assoc}
 use Rattle.std.specs.List.{list_all, list_any}
 use Rattle.std.proofs.lemmas.Bool.Decides.{eqb_tells}
 use Rattle.std.proofs.lemmas.List.Folds.{list_any-append}
@@ -17,6 +18,7 @@ use Rattle.vt_spec.specs.OneTree.World.{Descriptor, Task, World, task_called}
 use Rattle.vt_one_text.specs.OneTree.{AreApart, AreInOrder, Beside, IsFit, IsWhole, descriptor_there, embedded, files_of, filesystem_there, location_there, mount_there, opened_in, task_there, times_in}
 use Rattle.vt_one_text.proofs.OneTreeTrees.{among_times, times_among}
 use Rattle.std.proofs.lemmas.Bool.{and_parts}
+use Rattle.std.proofs.lemmas.List.{append_assoc}
 use Rattle.vt_spec.proofs.Inodes.{node_in-none, node_in_is_there}
 use Rattle.vt_spec.proofs.Options.{none_from_not_some}
 
@@ -25,7 +27,8 @@ abbrev pub raw : ℕ → (ℕ → Option (Node ℕ)) → List ℕ → ℕ → Li
 raw root node numbers filesystem_change tasks change = record {
   mounts = mount_there root ∷ [];
   master = λ group. None;
-  filesystems = record { number = 2; files = record { tree = record { root = root; node = node }; numbers = numbers }; overlay = None; change = filesystem_change } ∷ [];
+  filesystems =
+      record { number = 2; files = record { tree = record { root = root; node = node }; numbers = numbers }; overlay = None; change = filesystem_change } ∷ [];
   namespaces = record { number = 1; change = 0 } ∷ [];
   tasks = tasks;
   change = change;
@@ -129,22 +132,14 @@ module _ (beside : Beside) (world : World ℕ) (node : ℕ → Option (Node ℕ)
   by_descriptors [] rest = refl
   by_descriptors (descriptor ∷ descriptors) rest =
       ap (λ b. nat_eq number descriptor.file || b) (by_descriptors descriptors rest)
-      ∙ or_again (nat_eq number descriptor.file)
+      ∙ sym (or_assoc (nat_eq number descriptor.file)
       (is_among nat_eq number (map (λ descriptor. descriptor.file) descriptors))
-      (is_among nat_eq number (nodes_of rest))
-    where
-      or_again : (a b c : Bool) → (a || (b || c)) ≡ ((a || b) || c)
-      or_again true b c = refl
-      or_again false b c = refl
+      (is_among nat_eq number (nodes_of rest)))
 
   abbrev located : List (TaskName × Task ℕ) → List (Location ℕ)
   located entries =
       flat_map MachineWorld.locations_of (map (task_there beside world.inodes.root) entries) ++
       (location_there world.inodes.root ∷ []) ++ []
-
-  append_again : (a b c : List (Location ℕ)) → (a ++ b) ++ c ≡ a ++ (b ++ c)
-  append_again [] b c = refl
-  append_again (x ∷ a) b c = ap (λ l. x ∷ l) (append_again a b c)
 
   by_tasks : (entries : List (TaskName × Task ℕ))
       → is_among nat_eq number (nodes_of (located entries))
@@ -157,10 +152,10 @@ module _ (beside : Beside) (world : World ℕ) (node : ℕ → Option (Node ℕ)
   by_tasks (entry ∷ entries) =
       ap (λ l. is_root || (is_root || is_among nat_eq number (nodes_of l)))
       (ap (λ l. l ++ [])
-      (append_again (map (λ descriptor. descriptor.location) (map descriptor_there entry.1.descriptors))
+      (append_assoc (map (λ descriptor. descriptor.location) (map descriptor_there entry.1.descriptors))
       (flat_map MachineWorld.locations_of (map (task_there beside world.inodes.root) entries))
       (location_there world.inodes.root ∷ []))
-      ∙ append_again (map (λ descriptor. descriptor.location) (map descriptor_there entry.1.descriptors))
+      ∙ append_assoc (map (λ descriptor. descriptor.location) (map descriptor_there entry.1.descriptors))
       (flat_map MachineWorld.locations_of (map (task_there beside world.inodes.root) entries) ++
       (location_there world.inodes.root ∷ [])) [])
       ∙ ap (λ b. is_root || (is_root || b)) (by_descriptors entry.1.descriptors (located entries))
@@ -366,7 +361,10 @@ raised_is name changed beside world root node numbers some_change tasks change =
     }
   where
     tree : (b : Bool) → cond b (record
-        (filesystem_there beside world.inodes) { change = Rattle.vt_spec.specs.Machine.Filesystems.raised beside.filesystem_change }) (filesystem_there beside world.inodes)
+        (filesystem_there beside world.inodes) {
+          change = Rattle.vt_spec.specs.Machine.Filesystems.raised
+              beside.filesystem_change;
+        }) (filesystem_there beside world.inodes)
         ≡ record (filesystem_there beside world.inodes) {
           change = cond b
               (Rattle.vt_spec.specs.Machine.Filesystems.raised beside.filesystem_change) beside.filesystem_change;

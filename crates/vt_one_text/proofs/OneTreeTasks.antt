@@ -195,7 +195,8 @@ module _ (name : TaskName) (task : Task ℕ) where
           ap (λ x. times_in number (files_of x ++ flat_map files_of rest)) same
           ∙ times_append number (files_of (name, was)) (flat_map files_of rest) in
           (λ i. left i + times_in number (files_of (name, was)))
-          ∙ (let aside : (times_in number (files_of (name, task)) + times_in number (flat_map files_of rest)) + times_in number
+          ∙ (let aside : (times_in number (files_of (name, task)) + times_in number (flat_map files_of rest)) + times_in
+          number
           (files_of (name, was)) ≡
           (times_in number (files_of (name, was)) + times_in number (flat_map files_of rest)) + times_in number
           (files_of (name, task)) = omega arith in aside)

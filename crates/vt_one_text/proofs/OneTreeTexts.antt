@@ -1,5 +1,6 @@
 -- The answers to a script in one tree are one text, whatever unused numbers are handed in.
 use Rattle.std.proofs.Common.{◌≡◌, refl, sym, ap, subst, ◌∙◌, ⊎_elim, ℕ, ◌+◌, ◌<◌, ◌≤◌, nat_eq, nat_lt, lt-ltb, ltb-true, eqb-true, Bool, true, false, true≢false, cond, List, [], ◌∷◌, ◌++◌, length, Option, Some, None, option_map, is_some, arith}
+use Rattle.std.proofs.lemmas.Iterator.Adapters.{option_map_id}
 use Rattle.vt_spec.specs.Language.Calls.{Call, TaskName}
 use Rattle.vt_spec.specs.Language.Script as Script
 use Rattle.vt_spec.specs.Language.Limits as ScriptLanguage
@@ -31,10 +32,6 @@ step_itself : {N : Type 0} (step : Step N) → renamed_step (λ n. n) (λ n. n) 
 step_itself Silent = refl
 step_itself (Answered outcome) = ap Answered (outcome_itself outcome)
 
-handed_itself : {N : Type 0} (handed : Option N) → option_map (λ n. n) handed ≡ handed
-handed_itself None = refl
-handed_itself (Some number) = refl
-
 -- the number that a line is handed, and a world
 abbrev HandedLine : Type 0 → Type 0
 HandedLine A = Option A × World A
@@ -42,7 +39,7 @@ HandedLine A = Option A × World A
 abbrev named_line : Named HandedLine
 named_line = record {
   rename = λ A B there back line. (option_map there line.0, renamed_world there back line.1);
-  itself = λ A line i. (handed_itself line.0 i, world_itself line.1 i);
+  itself = λ A line i. (option_map_id line.0 i, world_itself line.1 i);
 }
 
 abbrev named_step : Named Step

@@ -422,12 +422,28 @@ module _ (beside : Beside) (world : World ℕ) (entry : TaskName × Task ℕ) (f
       → (is ≡ true → big ≡ Ok (option_map location_there place.object))
       → EndsAlike place_there (unless ((not is, W3) ∷ (not searched, W4) ∷ []) (Ok place))
       (Machine.stopped_by steps (and_then (unless ((not is, W3) ∷ (not searched, W4) ∷ (false, W5) ∷ []) big)
-      (λ object. Ok (record { parent = location_there place.parent; last = place.last; object = object; slash = place.slash; steps = steps }))))
+      (λ object. Ok
+      (record {
+        parent = location_there
+            place.parent;
+        last = place.last;
+        object = object;
+        slash = place.slash;
+        steps = steps;
+      }))))
   searched_place false searched place big steps same = refl
   searched_place true false place big steps same = refl
   searched_place true true place big steps same =
       subst (λ b. EndsAlike place_there (Ok place) (Machine.stopped_by steps (and_then b
-      (λ object. Ok (record { parent = location_there place.parent; last = place.last; object = object; slash = place.slash; steps = steps })))))
+      (λ object. Ok
+      (record {
+        parent = location_there
+            place.parent;
+        last = place.last;
+        object = object;
+        slash = place.slash;
+        steps = steps;
+      })))))
       (sym (same refl)) (steps, refl)
 
   -- a last word names the same

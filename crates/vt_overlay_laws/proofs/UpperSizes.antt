@@ -5,7 +5,7 @@ use Rattle.std.specs.Ordering.{eq_by_cmp}
 use Rattle.vt_spec.specs.declared.attributes.Attr.{Attr}
 use Rattle.vt_spec.specs.FileTree.{FileTree}
 use Rattle.vt_spec.specs.Language.Changes.{changed_node, content_with_parent, node_with_parent, node_without_entries, node_without_entry, with_inode, with_moved, with_name, without_name}
-use Rattle.vt_spec.specs.Language.Changes.Change.{AddName, Move, Remove, SetMark}
+use Rattle.vt_spec.specs.Language.Changes.Change.{AddName, Move, SetMark}
 use Rattle.vt_spec.specs.Lists.{Fresh}
 use Rattle.vt_spec.specs.Machine.CopyUp.{Stack, copied_content, emptied, marked, name_left_by, whiteout_of}
 use Rattle.vt_spec.specs.Machine.Invariants.{ListsNumbers, has_fit_names, has_fit_text, is_no_larger}
@@ -15,7 +15,7 @@ use Rattle.vt_spec.specs.TreeLaws.{entry_at}
 use Rattle.vt_spec.proofs.Lists.{among_from_list_all, among_numbers}
 use Rattle.vt_spec.proofs.Nodes.{directory_used, same_name}
 use Rattle.vt_tree_laws.specs.Trees.Sizes.{is_fit_name, is_fit_node, is_fit_tree}
-use Rattle.vt_tree_laws.proofs.ChangesOfSizes.{changed_fits_there, changes_keep_sizes, fits, inode_fits}
+use Rattle.vt_tree_laws.proofs.ChangesOfSizes.{changed_fits_there, changes_keep_sizes, fits, inode_fits, no_entry_fits, parent_fits}
 use Rattle.vt_layer_laws.proofs.UpperLine.{has_entries}
 use Rattle.vt_spec.proofs.Options.{none_is_some}
 use Rattle.vt_spec.proofs.Truths.{and_true_left, and_true_right}
@@ -69,27 +69,9 @@ pub moved_sized : (files : FileTree ℕ) (from : ℕ) (old : List ℕ) (to : ℕ
     → is_fit_tree (with_moved nat_eq files from old to new object) ≡ true
 moved_sized files from old to new object fit h = changes_keep_sizes files (Move from old to new object) h fit
 
--- an entry less: what a removal does to a tree of one inode
-without_fits : (w : List ℕ) (o : Option (Node ℕ)) → fits o ≡ true → fits (node_without_entry w o) ≡ true
-without_fits w o k =
-    and_true_left (fits (node_without_entry w o)) true
-    (changes_keep_sizes (record { tree = record { root = 0; node = λ n. o }; numbers = 0 ∷ [] }) (Remove 0 w 1)
-    (ap (λ b. b && true) k) tt)
-
 pub without_sized : (files : FileTree ℕ) (d : ℕ) (w : List ℕ) → is_fit_tree files ≡ true
     → is_fit_tree (without_name nat_eq files d w) ≡ true
-without_sized files d w h = changed_fits_there files d (node_without_entry w) (without_fits w (files.tree.node d)) h
-
-parent_fits : (p : ℕ) (o : Option (Node ℕ)) → fits o ≡ true → fits (node_with_parent p o) ≡ true
-parent_fits p None k = k
-parent_fits p (Some node) k = by node.attr node.content k
-  where
-    by : (attr : Attr) (content : Content ℕ) → fits (Some (record { attr = attr; content = content })) ≡ true
-        → fits (node_with_parent p (Some (record { attr = attr; content = content }))) ≡ true
-    by attr (Directory q n o) g = g
-    by attr (Regular b) g = g
-    by attr (Symlink b) g = g
-    by attr Whiteout g = g
+without_sized files d w h = changed_fits_there files d (node_without_entry w) (no_entry_fits w (files.tree.node d)) h
 
 bare_fits : (o : Option (Node ℕ)) → fits o ≡ true → fits (node_without_entries o) ≡ true
 bare_fits None k = k

@@ -9,7 +9,6 @@ use Rattle.vt_spec.specs.Machine.Merging.{layer_node, real_object}
 use Rattle.vt_spec.specs.Machine.World.{Real, upper_object}
 use Rattle.vt_spec.specs.Machine.World.Real.{Below, Upper}
 use Rattle.vt_spec.specs.Machine.Invariants.{SameObject, number_at_path}
-use Rattle.vt_spec.specs.Tree.{Node}
 use Rattle.vt_spec.proofs.Nodes.{directory_used}
 use Rattle.vt_tree_laws.specs.Trees.{MayAddName, MayMake, MayRemove}
 use Rattle.vt_layer_laws.specs.Layers.ChangesUpper.{StandsInUpper}
@@ -26,7 +25,7 @@ use Rattle.vt_overlay_laws.specs.WholeChanges.{HiddenStaysHidden, IsAskedWell}
 use Rattle.vt_overlay_laws.proofs.WholeLines.{below_before, object_copied}
 use Rattle.vt_overlay_laws.proofs.WholeMade.{new_bare}
 use Rattle.vt_overlay_laws.proofs.WholeMoved.{below_stays}
-use Rattle.vt_overlay_laws.proofs.WholeParts.{real_by}
+use Rattle.vt_overlay_laws.proofs.WholeParts.{object_is_not_none, real_by}
 use Rattle.vt_overlay_laws.proofs.WholeTogether.{both_copied, twice, changes_keep_shown, copied, is_copied, odd_distinct, stands_now, still_unused}
 use Rattle.std.proofs.lemmas.Option.{same_Some}
 use Rattle.vt_spec.proofs.Options.{none_is_some}
@@ -103,12 +102,8 @@ shown_before stack merge later whole after uncovers path layer object e =
         → SameObject (then_some o later.files.tree.node)
         (layer_node (layers_under stack later) (record { layer = suc layer; object = object }))
         → shown (layers_under stack merge) path ≡ Some (record { layer = suc layer; object = object })
-    by None f same = absurd (no (layer_node (layers_under stack later)
+    by None f same = absurd (object_is_not_none (layer_node (layers_under stack later)
         (record { layer = suc layer; object = object })) there same)
-      where
-        no : (node : Option (Node ℕ)) → is_some node ≡ true → SameObject None node → ⊥
-        no None t s = true≢false (sym t)
-        no (Some node) t s = s
     by (Some n) f same = at n f
 
 -- what stands in the upper layer does not lie below

@@ -1,5 +1,7 @@
 -- A mark is set in the upper layer where lower layers have no directory: the tree is still what the layers show.
 use Rattle.std.proofs.Common.{◌≡◌, refl, sym, ap, subst, ◌∙◌, true≢false, eqb-true, eq-eqb, ℕ, suc, nat_eq, Bool, true, false, cond, List, [], ◌∷◌, ◌++◌, map, Option, Some, None, is_some}
+use Rattle.std.proofs.lemmas.List.{append-nil}
+use Rattle.vt_layer_laws.proofs.CopyingNames.{directory_marked}
 use Rattle.vt_spec.specs.declared.attributes.Kind.TheVariants.{White}
 use Rattle.vt_spec.specs.FileTree.{is_kind_in, is_opaque_in}
 use Rattle.vt_spec.specs.Language.Changes.{node_with_mark}
@@ -25,6 +27,7 @@ use Rattle.vt_layer_laws.proofs.ViewsStay.{mark_changes_one_inode}
 use Rattle.vt_overlay_laws.specs.WhatIsShown.{IsWhole, MarkKeepsWhole, MarkOfTheTreeIsNotShown, inode_behind, marked_above}
 use Rattle.vt_overlay_laws.proofs.WholeAttributes.{top_open, upper_real}
 use Rattle.vt_overlay_laws.proofs.WholeLeft.{lowers_have}
+use Rattle.vt_overlay_laws.proofs.WholeLinked.{no_white_object}
 use Rattle.vt_overlay_laws.proofs.WholeNames.{above_named, is_fine, object_above, same_is, whole_again}
 use Rattle.vt_overlay_laws.proofs.WholeParts.{IsFine, real_by}
 use Rattle.vt_overlay_laws.proofs.WholePlaces.{shown_longer}
@@ -88,24 +91,6 @@ mark_same opaque (Some merged) (Some real) same = by merged.content real.content
     by Whiteout (Symlink b) same = same
     by Whiteout Whiteout same = same
 
--- a real object is no whiteout
-no_white : (merged real : Option (Node ℕ)) → SameObject merged real → is_kind_in White real ≡ false
-no_white merged None same = refl
-no_white None (Some real) same = absurd same
-no_white (Some merged) (Some real) same = by merged.content real.content same
-  where
-    by : (c d : Content ℕ)
-        → SameObject (Some (record { attr = merged.attr; content = c }))
-        (Some (record { attr = real.attr; content = d }))
-        → is_kind_in White (Some (record { attr = real.attr; content = d })) ≡ false
-    by c (Directory q f r) same = refl
-    by c (Regular b) same = refl
-    by c (Symlink b) same = refl
-    by (Directory p e o) Whiteout same = absurd (true≢false (sym same.1))
-    by (Regular a) Whiteout same = absurd (true≢false (sym same.1))
-    by (Symlink a) Whiteout same = absurd (true≢false (sym same.1))
-    by Whiteout Whiteout same = absurd (true≢false (sym same.1))
-
 module _ (stack : Stack ℕ) (merge : Merge ℕ) (whole : IsWhole stack merge) (directory : ℕ)
     (stands : StandsInUpper merge directory) (opaque : Bool)
     (bare : (way : List (List ℕ)) → number_at_path merge.files way ≡ Some directory
@@ -162,7 +147,7 @@ module _ (stack : Stack ℕ) (merge : Merge ℕ) (whole : IsWhole stack merge) (
       let have = lowers_have stack.lowers 1 longer.place longer.object longer.layer front longer.there longer.is
       longer.at longer.directory in
       let named = above_named stack merge whole front above e
-      (no_white (merge.files.tree.node directory) (merge.upper.tree.node above)
+      (no_white_object (merge.files.tree.node directory) (merge.upper.tree.node above)
       (object_above stack merge whole directory above real)) in
       absurd (true≢false (sym have
       ∙ bare front (named.1 ∙ ap Some (fine.one named.0 directory (ap is_some named.2) (named.2 ∙ sym real)))))
@@ -172,11 +157,7 @@ module _ (stack : Stack ℕ) (merge : Merge ℕ) (whole : IsWhole stack merge) (
       → shown_from 0 (after ∷ lowers) path ≡ shown_from 0 (before ∷ lowers) path
   through front rest path split e (Some object) at = on_top_same path object at
   through front [] path split e None at =
-      none_is_some above (sym at ∙ ap before.leads (sym split ∙ append_nil front) ∙ e)
-    where
-      append_nil : (list : List (List ℕ)) → list ++ [] ≡ list
-      append_nil [] = refl
-      append_nil (name ∷ list) = ap (λ l. name ∷ l) (append_nil list)
+      none_is_some above (sym at ∙ ap before.leads (sym split ∙ append-nil front) ∙ e)
   through front (word ∷ rest) path split e None at =
       let none = ap (shown_from 1 lowers) (sym split)
       ∙ none_below front rest word e (shown_from 1 lowers (front ++ word ∷ rest)) refl in
@@ -243,21 +224,9 @@ pub mark_keeps_whole : MarkKeepsWhole
 mark_keeps_whole stack merge directory opaque whole stands bare =
     whole_later stack merge whole directory stands opaque bare
 
--- a directory with a mark has it
-marked_directory : (o : Option (Node ℕ)) → is_directory_node o ≡ true → is_opaque_in (node_with_mark true o) ≡ true
-marked_directory None d = absurd (true≢false (sym d))
-marked_directory (Some node) d = by node.content d
-  where
-    by : (c : Content ℕ) → is_directory_node (Some (record { attr = node.attr; content = c })) ≡ true
-        → is_opaque_in (node_with_mark true (Some (record { attr = node.attr; content = c }))) ≡ true
-    by (Directory parent entries old) d = refl
-    by (Regular bytes) d = absurd (true≢false (sym d))
-    by (Symlink text) d = absurd (true≢false (sym d))
-    by Whiteout d = absurd (true≢false (sym d))
-
 pub mark_of_the_tree_is_not_shown : MarkOfTheTreeIsNotShown
 mark_of_the_tree_is_not_shown stack merge directory d is =
     true≢false (sym (ap (λ b. is_opaque_in (cond b (node_with_mark true (merge.files.tree.node directory))
     (merge.files.tree.node directory))) (eq-eqb directory directory refl)
-    ∙ marked_directory (merge.files.tree.node directory) d)
+    ∙ directory_marked (merge.files.tree.node directory) d)
     ∙ is.no_mark directory)

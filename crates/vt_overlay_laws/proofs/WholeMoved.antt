@@ -73,7 +73,7 @@ more_both one middle other a b = record {
   object = λ x same. b.object x (a.object x same);
 }
 
-mark_hides : (o : Option (Node ℕ)) → is_some o ≡ true → hides (node_with_mark true o) ≡ true
+pub mark_hides : (o : Option (Node ℕ)) → is_some o ≡ true → hides (node_with_mark true o) ≡ true
 mark_hides None e = absurd (true≢false (sym e))
 mark_hides (Some node) e = by node.content
   where

@@ -26,6 +26,11 @@ pub real_by_none : (path : List (List ℕ)) (o : Option (Shown ℕ)) → real_by
 real_by_none path None e = refl
 real_by_none path (Some seen) e = none_is_some _ (sym e)
 
+-- nothing is not the same object as what is there
+pub object_is_not_none : (node : Option (Node ℕ)) → is_some node ≡ true → SameObject None node → ⊥
+object_is_not_none None t same = true≢false (sym t)
+object_is_not_none (Some node) t same = same
+
 -- what is shown is there
 pub shown_is_there : (layers : List (OpenLayer ℕ)) → AreOpen layers → (path : List (List ℕ)) (seen : Shown ℕ)
     → shown layers path ≡ Some seen
@@ -67,11 +72,7 @@ module _ (stack : Stack ℕ) (merge : Merge ℕ) where
           → SameObject None (then_some o (layer_node layers)) → None ≡ real_by path o
       none_there path None e same = refl
       none_there path (Some seen) e same =
-          absurd (no (layer_node layers seen) (shown_is_there layers are_open path seen e) same)
-        where
-          no : (node : Option (Node ℕ)) → is_some node ≡ true → SameObject None node → ⊥
-          no None t same = true≢false (sym t)
-          no (Some node) t same = same
+          absurd (object_is_not_none (layer_node layers seen) (shown_is_there layers are_open path seen e) same)
 
       by : (path : List (List ℕ)) (o : Option ℕ) → number_at_path merge.files path ≡ o
           → SameObject (then_some o merge.files.tree.node) (then_some (shown layers path) (layer_node layers))

@@ -77,6 +77,7 @@ module _ (world : World ℕ) (location : Location ℕ) (overlay : Overlay ℕ) (
   asked_well (CopyUp object) asked = asked
 
 pub permits_ask_overlays_well : PermitsAskOverlaysWell
-permits_ask_overlays_well world fresh task call permit location change overlay upper whole serves called judged asks is has =
+permits_ask_overlays_well world fresh task call permit location change overlay upper whole serves called judged asks is
+    has =
     asked_well world location overlay upper is has change
     (subst (AsksWellIf world) asks (permits_ask_well world fresh task call permit whole serves called judged)).0

@@ -25,10 +25,12 @@ use Rattle.vt_overlay_permit_laws.proofs.AskedOverlays.{permits_ask_overlays_wel
 
 may_change : (stack : Stack ℕ) (merge : Merge ℕ) (change : Change ℕ) → IsAskedWell stack merge change
     → MayChange merge.files change
-may_change stack merge (Make d w number node) asked = record { in_directory = asked.0.name_is_free.in_directory; is_new = asked.0.number_is_new }
+may_change stack merge (Make d w number node) asked =
+    record { in_directory = asked.0.name_is_free.in_directory; is_new = asked.0.number_is_new }
 may_change stack merge (AddName d w object) asked = tt
 may_change stack merge (Remove d w object) asked = tt
-may_change stack merge (Move old_d old to new object) asked = record { named = asked.0.named; in_directory = asked.0.in_directory }
+may_change stack merge (Move old_d old to new object) asked =
+    record { named = asked.0.named; in_directory = asked.0.in_directory }
 may_change stack merge (SetBytes file bytes) asked = tt
 may_change stack merge (SetAttr object attr) asked = tt
 may_change stack merge (SetMark d opaque) asked = tt
@@ -132,8 +134,10 @@ module _ (world : World ℕ) (fresh : Fresh ℕ) (conditions : IsWorld nat_eq wo
   are_left ToListMounts = all
 
 pub permits_can_change : PermitsCanChange
-permits_can_change world fresh task call permit location change overlay upper conditions serves called judged asks is has =
+permits_can_change world fresh task call permit location change overlay upper conditions serves called judged asks is
+    has =
     let left = are_left world fresh conditions serves permit in
     asked_changes_can_be_made (numbers_left fresh permit) world location change overlay upper conditions is has left.0
     (left.1 upper.filesystem)
-    (permits_ask_overlays_well world fresh task call permit location change overlay upper conditions serves called judged asks is has)
+    (permits_ask_overlays_well world fresh task call permit location change overlay upper conditions serves called
+    judged asks is has)

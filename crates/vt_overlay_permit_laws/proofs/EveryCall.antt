@@ -196,7 +196,9 @@ module _ (world : World ℕ) (fresh : Fresh ℕ) (task : Task ℕ) (call : Call)
           (filesystem_at nat_eq world location) overlay o change).filesystems) u)
           (is.files, is.overlays)
       over overlay p (Some upper) u =
-          let kept = permits_keep_overlay_invariants world fresh task call permit location change overlay upper is serves found granted e p u in
+          let kept =
+          permits_keep_overlay_invariants world fresh task call permit location change overlay upper is serves found
+          granted e p u in
           (kept.1, kept.0)
 
       by : (o : Option (Overlay ℕ)) → (filesystem_at nat_eq world location).overlay ≡ o → Files after_permit

@@ -166,14 +166,20 @@ trees_in a b same is =
     })
 
 pub permits_keep_overlay_invariants : PermitsKeepOverlayInvariants
-permits_keep_overlay_invariants world fresh task call permit location change overlay upper conditions serves called judged asks is has =
+permits_keep_overlay_invariants world fresh task call permit location change overlay upper conditions serves called
+    judged asks is has =
     let left = are_left world fresh conditions serves permit in
-    let asked = permits_ask_overlays_well world fresh task call permit location change overlay upper conditions serves called judged asks is has in
-    let fit = (permits_ask_properly world fresh task call permit location change conditions serves called judged asks).1 in
+    let asked =
+    permits_ask_overlays_well world fresh task call permit location change overlay upper conditions serves called
+    judged asks is has in
+    let fit =
+    (permits_ask_properly world fresh task call permit location change conditions serves called judged asks).1 in
     let same = permits_make_their_change world fresh task permit location change asks in
     let then = with_change nat_eq (numbers_left fresh permit) world location change in (
       overlays_in (apply nat_eq fresh world task permit).world then same
-          (overlay_invariants_stay (numbers_left fresh permit) world location change overlay upper conditions is has left.0 left.1 asked),
+          (overlay_invariants_stay (numbers_left fresh permit) world location change overlay upper conditions is has
+          left.0 left.1 asked),
       trees_in (apply nat_eq fresh world task permit).world then same
-          (tree_invariants_stay (numbers_left fresh permit) world location change overlay upper conditions is has left.0 left.1 asked fit),
+          (tree_invariants_stay (numbers_left fresh permit) world location change overlay upper conditions is has left.0
+          left.1 asked fit),
     )

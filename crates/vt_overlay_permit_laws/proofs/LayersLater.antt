@@ -106,7 +106,8 @@ module _ (world : World ℕ) (is : IsWorld nat_eq world) (number : ℕ) (overlay
       (and_true_right (not (is_overlay (filesystem_numbered nat_eq world layer.filesystem))) _
       (layer_plain world is number overlay was layer m))))
 
-  pub left_leads : ((location : Location ℕ) (change : Change ℕ) → change_asked fresh world permit ≡ Some (location, change)
+  pub left_leads :
+      ((location : Location ℕ) (change : Change ℕ) → change_asked fresh world permit ≡ Some (location, change)
       → number ≢ (mount_at nat_eq world location).filesystem)
       → LeadsAsBefore world left layer
   left_leads elsewhere = by (change_asked fresh world permit) refl
@@ -123,7 +124,8 @@ module _ (world : World ℕ) (is : IsWorld nat_eq world) (number : ℕ) (overlay
       by : (o : Option (Location ℕ × Change ℕ)) → change_asked fresh world permit ≡ o → LeadsAsBefore world left layer
       by None e = as_left (unchanged world fresh task permit e)
       by (Some made) e =
-          (calls_leave_other_layers world fresh task call permit made.0 made.1 number overlay layer is serves called granted e
+          (calls_leave_other_layers world fresh task call permit made.0 made.1 number overlay layer is serves called
+          granted e
           (elsewhere made.0 made.1 e) was contains).paths
 
   pub swept_granted : names_few_groups call ≡ true → (mounts : Bool) → mounts_overlay call ≡ mounts → (now : Overlay ℕ)
@@ -131,7 +133,8 @@ module _ (world : World ℕ) (is : IsWorld nat_eq world) (number : ℕ) (overlay
       → LeadsAsBefore left (settled nat_eq left) layer
   swept_granted few false other now e =
       swept_leads left (under world fresh task call permit is serves called other few granted)
-      (overlays_kept world fresh task call permit is serves called other few granted) number now e stays.after stays.is layer
+      (overlays_kept world fresh task call permit is serves called other few granted) number now e stays.after stays.is
+      layer
       (subst (Among layer) (λ i. option_to_list (sym stays.upper i) ++ option_to_list (sym stays.work i)
       ++ sym stays.lowers i)
       m)

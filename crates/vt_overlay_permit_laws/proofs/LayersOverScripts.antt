@@ -97,6 +97,7 @@ lines_leave grammar number world (line ∷ lines) (false ∷ refused) left overl
     (is_silent line) grammar world line leads.0 is leads.1) first.is leads.4)
 
 pub layers_stay_over_scripts : LayersStayOverScripts
-layers_stay_over_scripts grammar first next refused refused_next fresh mounted left number overlay apart leads was alone =
+layers_stay_over_scripts grammar first next refused refused_next fresh mounted left number overlay apart leads was
+    alone =
     lines_leave grammar number mounted next refused_next left overlay
     (lines_keep grammar (opening nat_eq fresh) first refused mounted (opening_is_a_world fresh apart).0 leads) was alone

@@ -30,7 +30,8 @@ module _ (world : World ℕ) (is : IsWorld nat_eq world) (number : ℕ) (overlay
   }
 
 pub calls_leave_other_layers : CallsLeaveOtherLayers
-calls_leave_other_layers world fresh task call permit location change number overlay layer is serves called granted asks differ was contains =
+calls_leave_other_layers world fresh task call permit location change number overlay layer is serves called granted asks
+    differ was contains =
     let m : Among layer (layers_of overlay) = among_from_contains (layers_of overlay) layer contains in
     layer_stays world is number overlay was layer m (call_outcome nat_eq fresh world task call).world
     (λ inode lies there.
@@ -49,7 +50,9 @@ calls_leave_other_layers world fresh task call permit location change number ove
     (among-append (upper_and_work overlay) overlay.lowers layer m))
 
 pub plain_calls_leave_layers : PlainCallsLeaveLayers
-plain_calls_leave_layers world fresh task call permit location change number overlay layer is serves called granted asks plain was =
-    calls_leave_other_layers world fresh task call permit location change number overlay layer is serves called granted asks
+plain_calls_leave_layers world fresh task call permit location change number overlay layer is serves called granted asks
+    plain was =
+    calls_leave_other_layers world fresh task call permit location change number overlay layer is serves called granted
+    asks
     (λ same.
     true≢false (sym (ap is_some was) ∙ ap (λ n. is_some (filesystem_numbered nat_eq world n).overlay) same ∙ plain)) was

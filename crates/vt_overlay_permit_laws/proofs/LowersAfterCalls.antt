@@ -301,5 +301,6 @@ every_call_leaves_lowers world fresh name call number overlay is serves few was 
     (every_call_keeps_worlds world fresh name call is serves few)
     (policy_leads (λ w. is_live w number ≡ true → OverlayStays world w number overlay) world fresh name call
     (λ there. stays_itself world number overlay was)
-    (λ task permit changed called granted. finished_stays world is number overlay was fresh serves task call permit called granted few name changed)
+    (λ task permit changed called granted. finished_stays world is number overlay was fresh serves task call permit
+    called granted few name changed)
     live)

@@ -57,7 +57,8 @@ module _ (world : World ℕ) (is : IsWorld nat_eq world) (number : ℕ) (overlay
       subst (λ w. LowersStay world w number overlay) (sym (directive_changes_nothing world directive))
       (stay_there world is number overlay was)
 
-  pub line_stays : (long silent : Bool) (grammar : Grammar) (line : List ℕ) (fresh : Fresh ℕ) → Serves nat_eq world fresh
+  pub line_stays : (long silent : Bool) (grammar : Grammar) (line : List ℕ) (fresh : Fresh ℕ)
+      → Serves nat_eq world fresh
       → is_live (step_world world (line_step_by nat_eq long silent grammar world line (Some fresh))) number ≡ true
       → LowersStay world (step_world world
       (line_step_by nat_eq long silent grammar world line (Some fresh))) number overlay
@@ -88,6 +89,7 @@ lines_stay grammar number world (line ∷ lines) (false ∷ refused) left overla
     (is_silent line) grammar world line leads.0 is leads.1) first.is leads.3)
 
 pub lowers_stay_over_scripts : LowersStayOverScripts
-lowers_stay_over_scripts grammar first next refused refused_next fresh mounted left number overlay apart leads was live =
+lowers_stay_over_scripts grammar first next refused refused_next fresh mounted left number overlay apart leads was
+    live =
     lines_stay grammar number mounted next refused_next left overlay
     (lines_keep grammar (opening nat_eq fresh) first refused mounted (opening_is_a_world fresh apart).0 leads) was live

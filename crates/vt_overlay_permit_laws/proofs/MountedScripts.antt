@@ -8,7 +8,8 @@ use Rattle.vt_overlay_permit_laws.specs.MountedOverScripts.{IsLedTo, LinksOverSc
 use Rattle.vt_overlay_permit_laws.proofs.EveryScript.{every_script_leads_to_worlds}
 
 led_to_a_world : (world : World ℕ) → IsLedTo world → IsWorld nat_eq world
-led_to_a_world world led = every_script_leads_to_worlds led.grammar led.lines led.refused led.fresh world led.apart led.leads
+led_to_a_world world led =
+    every_script_leads_to_worlds led.grammar led.lines led.refused led.fresh world led.apart led.leads
 
 pub mounted_anew_over_scripts : MountedAnewOverScripts
 mounted_anew_over_scripts fresh before later number left task path words flags places led is later_led =

@@ -58,13 +58,19 @@ module _ (world : World ℕ) (fresh : Fresh ℕ) (conditions : IsWorld nat_eq wo
   new_plain_trees =
       let is = new_tree_is (evens fresh 1) in
       record {
-        trees = All-push (λ (f : Filesystem ℕ). IsTree f.files.tree) world.filesystems new conditions.files.trees is.tree;
-        own_parents = All-push (λ (f : Filesystem ℕ). HasOwnParents f.files.tree) world.filesystems new conditions.files.own_parents is.own_parents;
-        numbers = All-push (λ (f : Filesystem ℕ). ListsNumbers nat_eq f.files) world.filesystems new conditions.files.numbers is.numbers;
+        trees =
+            All-push (λ (f : Filesystem ℕ). IsTree f.files.tree) world.filesystems new conditions.files.trees is.tree;
+        own_parents =
+            All-push (λ (f : Filesystem ℕ). HasOwnParents f.files.tree) world.filesystems new
+            conditions.files.own_parents is.own_parents;
+        numbers =
+            All-push (λ (f : Filesystem ℕ). ListsNumbers nat_eq f.files) world.filesystems new conditions.files.numbers
+            is.numbers;
         one_filesystem = appended_apart world.filesystems new conditions.files.one_filesystem
             (λ old m. nat_eq_false_turned (evens fresh 0) old.number
             (unused_by_filesystem world fresh serves 0 old m old.number (inl refl)));
-        fit_filesystems = all_appended is_fit_filesystem world.filesystems new conditions.files.fit_filesystems new_fits;
+        fit_filesystems =
+            all_appended is_fit_filesystem world.filesystems new conditions.files.fit_filesystems new_fits;
       }
 
   -- what was there is found as it was

@@ -434,7 +434,15 @@ module _ (world later : World ℕ) (files : AreTrees world) (are : OverlayInvari
 
   still_fit : (number : ℕ) (after : Overlay ℕ) → GoesOn world later number after → has_fit_layers after ≡ true
   still_fit number after on =
-      (λ i. has_fit_layers (record { upper = on.upper i; work = on.work i; lowers = on.lowers i; mounter = after.mounter; real = after.real }))
+      (λ i. has_fit_layers
+      (record {
+        upper = on.upper i;
+        work = on.work i;
+        lowers = on.lowers
+            i;
+        mounter = after.mounter;
+        real = after.real;
+      }))
       ∙ fit_overlay world files are number on.before on.is
 
   pub overlays_go_on : OverlayInvariants nat_eq later

@@ -99,7 +99,9 @@ module _ (fresh : Fresh ℕ) (world : World ℕ) (location : Location ℕ) (chan
   all_fit = all_from_among Fits world.filesystems (λ f m. (
     record {
       tree = among_from_all (λ (g : Filesystem ℕ). IsTree g.files.tree) world.filesystems conditions.files.trees f m;
-      numbers = among_from_all (λ (g : Filesystem ℕ). ListsNumbers nat_eq g.files) world.filesystems conditions.files.numbers f m;
+      numbers =
+          among_from_all (λ (g : Filesystem ℕ). ListsNumbers nat_eq g.files) world.filesystems conditions.files.numbers
+          f m;
       own_parents = among_from_all (λ
           (g : Filesystem ℕ). HasOwnParents g.files.tree) world.filesystems conditions.files.own_parents f m;
     },

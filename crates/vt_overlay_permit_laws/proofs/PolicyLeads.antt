@@ -2,7 +2,7 @@
 -- holds of what
 -- the policy leaves.
 use Rattle.std.proofs.Common.{◌≡◌, refl, sym, ap, subst, ◌∙◌, ℕ, nat_eq, Bool, true, false, List, ◌||◌, not, Option, Some, None, Result, Ok, Err, is_ok, ok_or, true≢false}
-use Rattle.std.proofs.lemmas.Bool.{or_parts}
+use Rattle.std.proofs.lemmas.Bool.{not-true, or_parts}
 use Rattle.vt_spec.specs.declared.errors.Deny.{Deny}
 use Rattle.vt_spec.specs.declared.errors.Rule.TheVariants.{S2}
 use Rattle.vt_spec.specs.Errors.{denial}
@@ -58,14 +58,10 @@ module _ (Holds : World ℕ → Type 0) (world : World ℕ) (fresh : Fresh ℕ) 
           same : policy nat_eq fresh world name call ≡ outcome
           same = it_is ∙ ap (λ b. finished_by nat_eq b world name changed outcome) e
 
-          not_ok : (b : Bool) → not b ≡ true → b ≡ false
-          not_ok true f = absurd (true≢false (sym f))
-          not_ok false f = refl
-
           looking : (b : Bool) → only_looks call ≡ b → (b || not (is_ok outcome.answer)) ≡ true → Left
           looking true looks f = stays (look_changes_nothing fresh world name call looks)
           looking false looks f =
-              refused outcome.answer (ap (λ (o : Outcome ℕ). o.answer) same) (not_ok (is_ok outcome.answer) f)
+              refused outcome.answer (ap (λ (o : Outcome ℕ). o.answer) same) (not-true (is_ok outcome.answer) f)
       by false e = judged (judge_in nat_eq fresh world task call) refl
         where
           same : policy nat_eq fresh world name call ≡ finished_by nat_eq false world name changed outcome

@@ -478,8 +478,11 @@ module _ (world : World ℕ) (files : HasFileTrees world)
           (only_used_by nat_eq b used g).files.tree.node
           ≡ then_some (led g.files.tree layer.directory path) g.files.tree.node)
       leads_by true path = (refl, refl)
-      leads_by false path =
-          (led_same used g.files holds found.file_tree path layer.directory, node_led_same used g.files holds found.file_tree path layer.directory directory_is_used)
+      leads_by false path = (
+        led_same used g.files holds found.file_tree path layer.directory,
+        node_led_same used g.files holds
+            found.file_tree path layer.directory directory_is_used,
+      )
 
       layer_leads : LeadsAsBefore world second_later layer
       layer_leads path =

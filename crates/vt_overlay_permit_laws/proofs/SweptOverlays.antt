@@ -188,7 +188,8 @@ module _ (world : World ℕ) (files : AreTrees world) (are : OverlayInvariants n
             let found = any_among (λ (f : Filesystem ℕ). has_layer_on nat_eq
             (filesystem_numbered nat_eq living number).number f
             && is_mounted nat_eq world f.number) world.filesystems h in
-            absurd (in_overlay found.0 (found_filesystem world.filesystems files.one_filesystem found.0 found.1) found.0.overlay refl
+            absurd (in_overlay found.0 (found_filesystem world.filesystems files.one_filesystem found.0 found.1)
+            found.0.overlay refl
             (and_true_left (has_layer_on nat_eq (filesystem_numbered nat_eq living number).number found.0) _ found.2))
 
     -- so the filesystems of its layers live

@@ -59,7 +59,11 @@ module _ (world : World ℕ) (whole : IsWorld nat_eq world) (task : Task ℕ)
   made_spared : (place : Place ℕ) (node : Node ℕ) → Spared (made_permit nat_eq looks task place node)
   made_spared place node =
       gives_unless Spares (new_word_rules place ++ make_rules looks task place (unnumbered place node)) _
-      (λ passed. record { spares = λ inode locked. differs place.parent passed.1.1.1.1.0 _ refl inode locked; layer = passed.1.1.1.0 })
+      (λ passed. record {
+        spares = λ inode locked. differs place.parent passed.1.1.1.1.0 _ refl inode
+            locked;
+        layer = passed.1.1.1.0;
+      })
 
   pub mkdir_spared : (path : List ℕ) (mode : Option ℕ) → Spared (mkdir_permit nat_eq looks task path mode)
   unfolding mkdir_permit
@@ -82,7 +86,11 @@ module _ (world : World ℕ) (whole : IsWorld nat_eq world) (task : Task ℕ)
       gives_walk Spares (λ place. ⊤) (new_leaf_walk nat_eq looks task path) _
       (ends_anyhow (new_leaf_walk nat_eq looks task path)) (λ place any.
       gives_unless Spares (whiteout_rules looks task place) _
-      (λ passed. record { spares = λ inode locked. differs place.parent passed.1.1.1.1.0 _ refl inode locked; layer = passed.1.1.1.0 }))
+      (λ passed. record {
+        spares = λ inode locked. differs place.parent passed.1.1.1.1.0 _ refl inode
+            locked;
+        layer = passed.1.1.1.0;
+      }))
 
   pub link_spared : (old new : List ℕ) → Spared (hard_link_permit nat_eq looks task old new)
   unfolding hard_link_permit
@@ -109,7 +117,11 @@ module _ (world : World ℕ) (whole : IsWorld nat_eq world) (task : Task ℕ)
   written_spared place bytes None =
       gives_unless Spares ((nat_lt largest_file (length bytes), E6) ∷ []) _ (λ small.
       gives_unless Spares (make_rules looks task place (unnumbered place (new_file task file_mode bytes))) _
-      (λ passed. record { spares = λ inode locked. differs place.parent passed.1.1.0 _ refl inode locked; layer = passed.1.0 }))
+      (λ passed. record {
+        spares = λ inode locked. differs place.parent passed.1.1.0 _ refl inode
+            locked;
+        layer = passed.1.0;
+      }))
 
   pub write_spared : (path bytes : List ℕ) → Spared (write_permit nat_eq looks task path bytes)
   unfolding write_permit
@@ -132,7 +144,11 @@ module _ (world : World ℕ) (whole : IsWorld nat_eq world) (task : Task ℕ)
       → Spared (create_file_permit nat_eq looks task place access mode)
   created_spared place access mode =
       gives_unless Spares (make_rules looks task place (unnumbered place (new_file task mode []))) _
-      (λ passed. record { spares = λ inode locked. differs place.parent passed.1.1.0 _ refl inode locked; layer = passed.1.0 })
+      (λ passed. record {
+        spares = λ inode locked. differs place.parent passed.1.1.0 _ refl inode
+            locked;
+        layer = passed.1.0;
+      })
 
   opened_or_created_spared : (place : Place ℕ) (access : Access) (mode : ℕ) (object : Option (Location ℕ))
       → Spared (opened_or_created_permit nat_eq looks task place access mode object)

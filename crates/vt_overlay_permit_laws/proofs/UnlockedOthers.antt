@@ -100,7 +100,11 @@ module _ (world : World ℕ) (whole : IsWorld nat_eq world) (task : Task ℕ)
       → Spared (attr_permit nat_eq looks object allowed attr)
   attr_spared object allowed attr =
       gives_unless Spares (attr_rules looks object allowed attr) _
-      (λ passed. record { spares = λ inode locked. differs world whole task called fresh serves object passed.1.1.0 _ refl inode locked; layer = tt })
+      (λ passed. record {
+        spares = λ inode locked. differs world whole task called fresh serves object passed.1.1.0 _
+            refl inode locked;
+        layer = tt;
+      })
 
   chmod_spared : (path : List ℕ) (mode : ℕ) → Spared (chmod_permit nat_eq looks task path mode)
   unfolding chmod_permit
@@ -126,7 +130,11 @@ module _ (world : World ℕ) (whole : IsWorld nat_eq world) (task : Task ℕ)
       gives_walk Spares DirectoryHere (directory_walk nat_eq looks task path) _
       (directory_walk_end world whole task called path) (λ here is.
       gives_unless Spares (opaque_rules looks here.location) _ (λ passed.
-      record { spares = λ inode locked. differs world whole task called fresh serves here.location passed.1.1.0 _ refl inode locked; layer = tt })))
+      record {
+        spares = λ inode locked. differs world whole task called fresh serves here.location passed.1.1.0 _ refl
+            inode locked;
+        layer = tt;
+      })))
 
   -- Calls on open files
   pread_spared : (number offset size : ℕ) → Spared (pread_permit task number offset size)
@@ -138,7 +146,11 @@ module _ (world : World ℕ) (whole : IsWorld nat_eq world) (task : Task ℕ)
       → SparesLockedIf world (written_if_some world file offset bytes)
   written_spared file offset [] unlocked = tt
   written_spared file offset (byte ∷ bytes) unlocked =
-      record { spares = λ inode locked. differs world whole task called fresh serves file unlocked _ refl inode locked; layer = tt }
+      record {
+        spares = λ inode locked. differs world whole task called fresh serves file unlocked _ refl inode
+            locked;
+        layer = tt;
+      }
 
   pwrite_spared : (number offset : ℕ) (bytes : List ℕ) → Spared (pwrite_permit looks task number offset bytes)
   unfolding pwrite_permit

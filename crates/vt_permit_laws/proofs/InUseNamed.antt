@@ -118,7 +118,8 @@ module _ (world : World ℕ) (whole : IsWorld nat_eq world) (plain : IsPlain wor
   listed_used filesystem there number is =
       used_filesystem filesystem number there
       (inr (among_numbers number filesystem.files.numbers
-      (among_from_all (λ (f : Filesystem ℕ). ListsNumbers nat_eq f.files) world.filesystems whole.files.numbers filesystem
+      (among_from_all (λ (f : Filesystem ℕ). ListsNumbers nat_eq f.files) world.filesystems whole.files.numbers
+      filesystem
       there number ∙ is)))
 
   abbrev ThereIsUsed : Filesystem ℕ → Type 0
@@ -192,7 +193,8 @@ module _ (world : World ℕ) (whole : IsWorld nat_eq world) (plain : IsPlain wor
           let found = member_of number f in
           members_used above
           (master_has_members (has_members nat_eq world.mounts) world.master number above
-          (among_from_all (HasLivingGroups nat_eq world) world.mounts whole.mounts.groups found.0 found.1 number found.2)
+          (among_from_all (HasLivingGroups nat_eq world) world.mounts whole.mounts.groups found.0 found.1 number
+          found.2)
           e)
 
   propagation_of : (mount : Mount ℕ) → Among mount world.mounts → (kind : Propagation ℕ) → mount.propagation ≡ kind
@@ -300,7 +302,8 @@ module _ (world : World ℕ) (whole : IsWorld nat_eq world) (plain : IsPlain wor
       (both _ (location_named (is_in_use world) task.directory)
       (both (is_in_use world task.namespace) (location_named (is_in_use world) task.root)
       (used_namespace task.namespace
-      (passes (λ (t : Task ℕ). is_listed nat_eq world t.namespace) world.tasks whole.namespaces.tasks_listed task there))
+      (passes (λ (t : Task ℕ). is_listed nat_eq world t.namespace) world.tasks whole.namespaces.tasks_listed task
+      there))
       (of_location task.root (inl refl)))
       (of_location task.directory (inr (inl refl))))
       (all_pass (descriptor_named (is_in_use world)) task.descriptors (λ descriptor among.

@@ -15,7 +15,7 @@ worlds_keep_to_numbers_in_use named world whole plain among renaming leaves =
     (λ number used. leaves number (among number used))
 
 -- numbers that are never given are not among those before a count
-leaves_two : (next : ℕ) → LeavesOutTwo (is_counted_before next)
+pub leaves_two : (next : ℕ) → LeavesOutTwo (is_counted_before next)
 leaves_two next = (3, 7, apart, refl, refl)
   where
     apart : ◌≢◌ {A = ℕ} 3 7

@@ -73,15 +73,16 @@ change_same world plain fresh again location change =
 taken_plain : (world after : World ℕ) → after.filesystems ≡ world.filesystems → IsPlain world → IsPlain after
 taken_plain world after same plain = subst (All (λ (f : Filesystem ℕ). is_overlay f ≡ false)) (sym same) plain
 
-nonempty : (list : List (Mount ℕ)) → (length (filter (is_root_mount nat_eq) list) == 1) ≡ true → 0 < length list
+pub nonempty : (list : List (Mount ℕ)) → (length (filter (is_root_mount nat_eq) list) == 1) ≡ true → 0 < length list
 nonempty [] e = absurd (true≢false (sym e))
 nonempty (mount ∷ rest) e = omega arith
 
-tree_some : (depth : ℕ) (mounts : List (Mount ℕ)) (mount : Mount ℕ) → 0 < length (tree_from nat_eq depth mounts mount)
+pub tree_some : (depth : ℕ) (mounts : List (Mount ℕ)) (mount : Mount ℕ)
+    → 0 < length (tree_from nat_eq depth mounts mount)
 tree_some zero mounts mount = omega arith
 tree_some (suc depth) mounts mount = omega arith
 
-numbers_same : (mounts : List (Mount ℕ)) → 0 < length mounts → (one other : Fresh ℕ)
+pub numbers_same : (mounts : List (Mount ℕ)) → 0 < length mounts → (one other : Fresh ℕ)
     → ((k : ℕ) → k < length mounts → one k ≡ other k) → numbers_by nat_eq one mounts ≡ numbers_by nat_eq other mounts
 numbers_same mounts some one other same =
     λ i number. same (index_of nat_eq mounts number) (index_bound mounts number some) i

@@ -1,5 +1,6 @@
 -- A program's supply: counts with the number of an inode at its place.
 use Rattle.std.proofs.Common.{eq-eqb, lt-ltb, ◌≡◌, refl, sym, ◌∙◌, true≢false, ℕ, zero, suc, ◌+◌, ◌*◌, ◌%◌, ◌/◌, ◌==◌, ◌<◌, nat_lt, Bool, true, false, cond, ◌&&◌, ◌||◌, arith}
+use Rattle.std.proofs.lemmas.Bool.{or_right}
 use Rattle.vt_permit_laws.proofs.TakenNumbers.{counts_go_on}
 use Rattle.vt_permit_laws.specs.Taken.{HandedCountsGoOn, counts_taken, handed_to, numbers_taken}
 use Rattle.vt_run_laws.specs.Handed.{counts_from, is_counted_before}
@@ -9,18 +10,14 @@ use Rattle.vt_spec.specs.Machine.Permits.Permit.{Allowed, ToBind, ToChange, ToCl
 use Rattle.vt_spec.specs.Machine.World.{Task, World}
 
 -- a count that is taken is before those that are left over
-counted_here : (next taken k : ℕ) → k < taken → is_counted_before (next + taken) (counts_from next k) ≡ true
+pub counted_here : (next taken k : ℕ) → k < taken → is_counted_before (next + taken) (counts_from next k) ≡ true
 counted_here next taken k low =
     let odd : (4 * (next + k) + 1) % 2 ≡ 1 = omega arith in
     let rest : (4 * (next + k) + 1) % 4 ≡ 1 = omega arith in
     let quarter : (4 * (next + k) + 1) / 4 ≡ next + k = omega arith in
-    either ((4 * (next + k) + 1) % 2 == 0)
+    or_right ((4 * (next + k) + 1) % 2 == 0) _
     (λ i. eq-eqb ((4 * (next + k) + 1) % 4) 1 rest i
     && lt-ltb ((4 * (next + k) + 1) / 4) (next + taken) (omega arith) i)
-  where
-    either : (a : Bool) {b : Bool} → b ≡ true → (a || b) ≡ true
-    either true e = refl
-    either false e = e
 
 even_counted : (next inode : ℕ) → inode % 2 ≡ 0 → is_counted_before next inode ≡ true
 even_counted next inode even =

@@ -1,13 +1,14 @@
 -- Worlds of plain filesystems that are the same but for change numbers and the order of numbers beside trees.
-use Rattle.std.proofs.Common.{◌≡◌, refl, sym, ap, subst, ◌∙◌, ℕ, true≢false, false, List, [], ◌∷◌, Option, Some, None, is_some, arith}
+use Rattle.std.proofs.Common.{◌≡◌, refl, sym, ap, subst, ◌∙◌, ℕ, false, List, [], ◌∷◌, None, is_some, arith}
 use Rattle.std.specs.Prelude.{All}
 use Rattle.std.proofs.lemmas.List.Elements.{All-cons, All-head, All-tail}
 use Rattle.std.proofs.lemmas.List.Sorted.{IsPermutation-refl, IsPermutation-sym, IsPermutation-trans}
 use Rattle.vt_run_laws.proofs.Each.{Each, each_back, each_onward, each_to_one, each_told}
 use Rattle.vt_run_laws.specs.Answered.{IsPlain, SameWorldsArePlainAlike, SamenessIsAnEquivalence}
+use Rattle.vt_spec.proofs.Options.{none_from_not_some}
 use Rattle.vt_spec.specs.FileTree.{FileTree}
 use Rattle.vt_spec.specs.Machine.SameWorlds.{SameFiles, SameFilesystem, SameFilesystems, SameWorlds}
-use Rattle.vt_spec.specs.Machine.World.{Filesystem, Namespace, Overlay, Task, World, is_overlay}
+use Rattle.vt_spec.specs.Machine.World.{Filesystem, Namespace, Task, World, is_overlay}
 
 abbrev pub bare_task : Task ℕ → Task ℕ
 bare_task task = record task { change = 0 }
@@ -119,11 +120,6 @@ sameness_is_an_equivalence = record {
   };
 }
 
--- no overlay
-none_there : (overlay : Option (Overlay ℕ)) → is_some overlay ≡ false → overlay ≡ None
-none_there None plain = refl
-none_there (Some overlay) plain = absurd (true≢false plain)
-
 abbrev Plain : Filesystem ℕ → Type 0
 Plain filesystem = is_overlay filesystem ≡ false
 
@@ -133,7 +129,7 @@ plain_alike [] [] same plain = tt
 plain_alike [] (other ∷ others) same plain = absurd same
 plain_alike (one ∷ ones) [] same plain = absurd same
 plain_alike (one ∷ ones) (other ∷ others) same plain =
-    let none : one.overlay ≡ None = none_there one.overlay (All-head Plain one ones plain) in (
+    let none : one.overlay ≡ None = none_from_not_some one.overlay (All-head Plain one ones plain) in (
       record {
         number = same.0.number;
         files = same.0.files;

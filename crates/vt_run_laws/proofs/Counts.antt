@@ -1,12 +1,16 @@
 -- Counts are a supply with room.
 use Rattle.std.proofs.Common.{◌≡◌, refl, sym, ap, ◌∙◌, true≢false, ℕ, nat_le, nat_lt, ◌==◌, ◌+◌, ◌-◌, ◌*◌, ◌/◌, ◌%◌, ◌<◌, ◌≤◌, Bool, true, false, cond, not, ◌&&◌, ◌||◌, arith, ◌⊎◌, inl, inr, ⊎_elim, eq-eqb, ne_eqb, eqb-true, ltb-true}
-use Rattle.std.proofs.lemmas.Bool.{and_parts, le-leb, leb-true}
+use Rattle.std.proofs.lemmas.Bool.{and_parts, le-leb, leb-true, not-false}
 use Rattle.vt_laws.proofs.NamedWorlds.{named_is_kept}
 use Rattle.vt_laws.specs.Numbers.{Allotment, Lot, is_in_hand, is_in_hand_lot, is_kept, is_kept_lot}
 use Rattle.vt_laws.specs.Numbers.Lot.{Kept, LeftOver, New}
 use Rattle.vt_run_laws.proofs.RunsTold.{runs_have_one_text}
 use Rattle.vt_run_laws.specs.Handed.{CountsAreAllotted, CountsServe, CountsServeNamed, ProgramsHaveOneText, counts_from, is_counted_before, is_counted_from, lot_of_counts, may_be_given, never_given}
 use Rattle.vt_run_laws.specs.Runs.{LeavesEndless}
+
+-- a new number has one place
+pub same_new : (a b : ℕ) → New a ≡ New b → a ≡ b
+same_new a b e = cc
 
 module _ (next : ℕ) where
   -- what becomes of a number, by what is tested of it
@@ -31,9 +35,6 @@ module _ (next : ℕ) where
       let rest : (4 * k + 3) % 4 ≡ 3 = omega arith in
       let quarter : (4 * k + 3) / 4 ≡ k = omega arith in
       lot_at (4 * k + 3) true _ (eq-eqb ((4 * k + 3) % 4) 3 rest) refl ∙ ap LeftOver quarter
-
-  same_new : (a b : ℕ) → New a ≡ New b → a ≡ b
-  same_new a b e = cc
 
   same_left : (a b : ℕ) → LeftOver a ≡ LeftOver b → a ≡ b
   same_left a b e = cc
@@ -151,12 +152,8 @@ endless = record {
   out = λ k. let rest : (4 * k + 3) % 4 ≡ 3 = omega arith in ap not (eq-eqb ((4 * k + 3) % 4) 3 rest);
   place_left = λ k. omega arith;
   left_place = λ number out.
-      let rest : number % 4 ≡ 3 = eqb-true (number % 4) 3 (left (number % 4 == 3) out) in omega arith;
+      let rest : number % 4 ≡ 3 = eqb-true (number % 4) 3 (not-false (number % 4 == 3) out) in omega arith;
 }
-  where
-    left : (b : Bool) → not b ≡ false → b ≡ true
-    left true e = refl
-    left false e = absurd (true≢false e)
 
 pub programs_have_one_text : ProgramsHaveOneText
 programs_have_one_text grammar refused script text fresh opens plain tells =

@@ -2,8 +2,9 @@
 use Rattle.std.proofs.Common.{◌≡◌, refl, ℕ, Bool, true, false, cond, List, [], ◌∷◌, Option, Some, None, option_map, arith}
 use Rattle.std.proofs.lemmas.List.Elements.{All-cons}
 use Rattle.vt_run_laws.specs.Runs.{GrammarsKeepOverlaysOut, HasNoOverlays, asks_for_overlay}
+use Rattle.vt_spec.specs.Language.Calls.Call.{MountOverlay}
 use Rattle.vt_spec.specs.Language.Calls.{Call, Directive, TaskName}
-use Rattle.vt_spec.specs.Language.Script.{Grammar, Who, asked_by, call_asked, call_words, directive_asked, directive_words, each_of, raw_tokens, request_of, request_of_texts, token_text, who_of}
+use Rattle.vt_spec.specs.Language.Script.{Grammar, Who, asked_by, call_asked, call_words, directive_asked, directive_words, each_of, propagation, raw_tokens, request_of, request_of_texts, token_text, who_of}
 use Rattle.vt_spec.specs.Language.Script.Request.{Asking, Calling}
 use Rattle.vt_spec.specs.Language.Script.Who.{Nobody, Someone}
 use Rattle.vt_spec.specs.Lists.{then_some, when}
@@ -62,3 +63,8 @@ module _ (grammar : Grammar) (out : (call : Call) → grammar.has call ≡ true 
 
 pub grammars_keep_overlays_out : GrammarsKeepOverlaysOut
 grammars_keep_overlays_out grammar out lines = lines_plain grammar out lines
+
+-- the grammar of the program has no mount of an overlay
+pub propagation_mounts_no_overlay : (call : Call) → propagation.has call ≡ true → mounts_overlay call ≡ false
+propagation_mounts_no_overlay (MountOverlay path options flags) has = absurd cc
+propagation_mounts_no_overlay call has = refl

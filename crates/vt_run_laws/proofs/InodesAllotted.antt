@@ -4,7 +4,7 @@ use Rattle.std.proofs.lemmas.Bool.{eqb-false}
 use Rattle.vt_laws.proofs.NamedWorlds.{named_is_kept}
 use Rattle.vt_laws.specs.Numbers.{Allotment, KeepsTo, Lot, is_in_hand, is_in_hand_lot, is_kept, is_kept_lot}
 use Rattle.vt_laws.specs.Numbers.Lot.{Kept, LeftOver, New}
-use Rattle.vt_run_laws.proofs.Counts.{counts, counts_from_hand, counts_keep, counts_stay}
+use Rattle.vt_run_laws.proofs.Counts.{counts, counts_from_hand, counts_keep, counts_stay, same_new}
 use Rattle.vt_run_laws.specs.Handed.{AllottedNumbersOpen, AllottedNumbersServe, AllottedNumbersServeNamed, NumbersAreAllotted, counts_from, handed_from, is_counted_before, is_named_before, lot_from, lot_of_counts, may_be_given}
 use Rattle.vt_run_laws.specs.Runs.{ServesInHand}
 use Rattle.vt_spec.specs.Machine.World.{World}
@@ -25,9 +25,6 @@ module _ (allotment : Allotment) (place number : ℕ) (kept : allotment.lot numb
       → (first ≡ second → ⊥) → (a == b) ≡ false
   apart_lots a b first second one other apart =
       ne_eqb a b (λ e. apart (sym one ∙ ap allotment.lot e ∙ other))
-
-  same_new : (a b : ℕ) → New a ≡ New b → a ≡ b
-  same_new a b e = cc
 
   new_is_kept : (k : ℕ) → New k ≡ Kept → ⊥
   new_is_kept k e = cc
@@ -160,7 +157,7 @@ module _ (next place inode : ℕ) (even : inode % 2 ≡ 0) where
 
   apart : (j k : ℕ) → handed_from next place inode j ≡ handed_from next place inode k → j ≡ k
   apart j k e =
-      same_new (counts next) place inode inode_kept j k
+      same_new j k
       (sym (new_lot_with (counts next) place inode inode_kept j)
       ∙ ap (lot_from next place inode) e
       ∙ new_lot_with (counts next) place inode inode_kept k)

@@ -1,5 +1,5 @@
 -- A run that goes on from worlds that are the same writes a text that may be written, and so the one text.
-use Rattle.std.proofs.Common.{◌≡◌, refl, sym, ap, ◌∙◌, subst, true≢false, ℕ, suc, nat_eq, ◌+◌, ◌≤◌, Bool, true, false, cond, List, [], ◌∷◌, ◌++◌, Some, None, arith}
+use Rattle.std.proofs.Common.{◌≡◌, refl, sym, ap, ◌∙◌, subst, true≢false, ℕ, suc, nat_eq, ◌+◌, ◌≤◌, Bool, true, false, List, [], ◌∷◌, ◌++◌, Some, None, arith}
 use Rattle.std.specs.Prelude.{All}
 use Rattle.std.proofs.lemmas.List.Elements.{All-cons, All-head, All-tail}
 use Rattle.vt_laws.proofs.Allotments.{agree, allotted_kept, allotted_new, joined, kept_lot}
@@ -161,9 +161,6 @@ module _ (grammar : Grammar) (in_hand : ℕ → Bool) where
 
 named_supply : Named Fresh
 named_supply = record { rename = λ A B there back fresh k. there (fresh k); itself = λ A fresh. refl }
-
-four : ℕ → ℕ → ℕ → ℕ → Fresh ℕ
-four a b c d k = cond (nat_eq k 0) a (cond (nat_eq k 1) b (cond (nat_eq k 2) c d))
 
 opening_renamed : (renaming : Renaming ℕ ℕ) (fresh : Fresh ℕ)
     → opening nat_eq (λ k. renaming.there (fresh k)) ≡ renamed renaming.there renaming.back (opening nat_eq fresh)

@@ -190,7 +190,8 @@ opening_has_trees fresh = (
     HasRoot mount = is_directory_at nat_eq (opening nat_eq fresh) (root_of mount) ≡ true
 
     HasPlace : Mount ℕ → Type 0
-    HasPlace mount = (place : Location ℕ) → mount.mount_point ≡ Some place → is_directory_at nat_eq (opening nat_eq fresh) place ≡ true
+    HasPlace mount = (place : Location ℕ) → mount.mount_point ≡ Some place
+        → is_directory_at nat_eq (opening nat_eq fresh) place ≡ true
 
     the_mount : mount_in nat_eq (first_mount nat_eq fresh ∷ []) (fresh 0) ≡ first_mount nat_eq fresh
     the_mount = ap (λ b. unwrap_or (cond b (Some (first_mount nat_eq fresh)) None) (no_mount (fresh 0)))

@@ -56,14 +56,17 @@ module _ (files : FileTree ℕ) (directory : ℕ) (name : List ℕ) (number : �
 module _ (files : FileTree ℕ) (directory : ℕ) (name : List ℕ) (number : ℕ) (node : Node ℕ)
     (conditions : IsTree files.tree) (may : MayMake files.tree directory name number node) where
   directory_differs : directory ≢ number
-  directory_differs = used_differs files.tree directory name number node conditions may.name_is_free.in_directory may.name_is_free.reached
+  directory_differs =
+      used_differs files.tree directory name number node conditions may.name_is_free.in_directory
+      may.name_is_free.reached
       may.name_is_free.free may.number_is_new may.fits directory
       (directory_used files.tree directory may.name_is_free.in_directory)
 
   pub made_is_tree : IsTree (changed nat_eq files (Make directory name number node)).tree
   made_is_tree =
       subst IsTree (made_alike files directory name number node directory_differs)
-      (is_tree-with_object files.tree directory name number node conditions may.name_is_free.in_directory may.name_is_free.reached
+      (is_tree-with_object files.tree directory name number node conditions may.name_is_free.in_directory
+      may.name_is_free.reached
       may.name_is_free.free may.number_is_new may.fits)
 
   grown_own_parents : HasOwnParents files.tree
@@ -73,21 +76,25 @@ module _ (files : FileTree ℕ) (directory : ℕ) (name : List ℕ) (number : �
       (λ t. absurd (unnamed (
         directory,
         name,
-        entry_new files.tree directory name number node conditions may.name_is_free.in_directory may.name_is_free.reached
+        entry_new files.tree directory name number node conditions may.name_is_free.in_directory
+            may.name_is_free.reached
             may.name_is_free.free may.number_is_new may.fits
             ∙ ap Some (sym t.1),
       )))
       (λ t.
-      parent_beside files.tree directory name number node conditions may.name_is_free.in_directory may.name_is_free.reached
+      parent_beside files.tree directory name number node conditions may.name_is_free.in_directory
+      may.name_is_free.reached
       may.name_is_free.free may.number_is_new may.fits k k t.1
       ∙ own k
-      (sym (kept_beside files.tree directory name number node conditions may.name_is_free.in_directory may.name_is_free.reached
+      (sym (kept_beside files.tree directory name number node conditions may.name_is_free.in_directory
+      may.name_is_free.reached
       may.name_is_free.free may.number_is_new may.fits is_directory_node
       (is_directory-node_with_entry name number) k t.1) ∙ is)
       (λ named. unnamed (
         named.0,
         named.1,
-        entry_kept files.tree directory name number node conditions may.name_is_free.in_directory may.name_is_free.reached
+        entry_kept files.tree directory name number node conditions may.name_is_free.in_directory
+            may.name_is_free.reached
             may.name_is_free.free may.number_is_new may.fits named.0 named.1 k named.2,
       )))
       (eqb_tells k number)

@@ -85,7 +85,7 @@ entry_fits name number h (Some node) k = by node.attr node.content k
     by attr (Symlink text) g = g
     by attr Whiteout g = g
 
-no_entry_fits : (name : List ℕ) (o : Option (Node ℕ)) → fits o ≡ true → fits (node_without_entry name o) ≡ true
+pub no_entry_fits : (name : List ℕ) (o : Option (Node ℕ)) → fits o ≡ true → fits (node_without_entry name o) ≡ true
 no_entry_fits name None k = k
 no_entry_fits name (Some node) k = by node.attr node.content k
   where
@@ -99,7 +99,7 @@ no_entry_fits name (Some node) k = by node.attr node.content k
     by attr (Symlink text) g = g
     by attr Whiteout g = g
 
-parent_fits : (parent : ℕ) (o : Option (Node ℕ)) → fits o ≡ true → fits (node_with_parent parent o) ≡ true
+pub parent_fits : (parent : ℕ) (o : Option (Node ℕ)) → fits o ≡ true → fits (node_with_parent parent o) ≡ true
 parent_fits parent None k = k
 parent_fits parent (Some node) k = by node.attr node.content k
   where

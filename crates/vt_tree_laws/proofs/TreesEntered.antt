@@ -204,7 +204,8 @@ module _ (world : World ℕ) (conditions : IsWorldOfTrees world) (standing : IsS
     word_there here word =
         ends_step (λ next. is_some (node_at nat_eq world next.location) ≡ true) (steps_with nat_eq world task here word)
         (search_rules nat_eq world task here.location) (stepped nat_eq world task here.location word)
-        (λ reached. Ok (record { location = reached; left = here.left; steps = steps_with nat_eq world task here word }))
+        (λ reached. Ok
+        (record { location = reached; left = here.left; steps = steps_with nat_eq world task here word }))
         (λ passed reached e. step_there here.location word reached
         (not_true (is_directory_at nat_eq world here.location) passed.0) e)
 

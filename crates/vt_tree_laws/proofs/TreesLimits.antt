@@ -559,7 +559,11 @@ module _ (fresh : Fresh ℕ) (world : World ℕ) (task : Task ℕ) (small : HasS
         where
           by : (b : Bool)
               → is_within_limits (cond b
-              (record other { root = pivoted_location nat_eq root new other.root; directory = pivoted_location nat_eq root new other.directory }) other) ≡ true
+              (record other {
+                root = pivoted_location nat_eq root new other.root;
+                directory = pivoted_location nat_eq
+                    root new other.directory;
+              }) other) ≡ true
           by true = h
           by false = h
 

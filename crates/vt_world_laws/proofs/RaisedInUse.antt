@@ -3,6 +3,7 @@ use Rattle.std.proofs.Common.{◌≡◌, refl, sym, ap, subst, ◌∙◌, ℕ, n
 use Rattle.std.specs.Prelude.{filter, filter_map}
 use Rattle.std.specs.List.{list_all, list_any}
 use Rattle.std.proofs.lemmas.List.Elements.{All-map, All-weaker}
+use Rattle.std.proofs.lemmas.List.{map-id}
 use Rattle.vt_spec.specs.Machine.Filesystems.{filesystems_raised, raised, raised_if_changed}
 use Rattle.vt_spec.specs.Machine.Locked.{of_overlay}
 use Rattle.vt_spec.specs.Machine.Mounts.{Location, Mount, root_of}
@@ -106,11 +107,6 @@ module _ (of_filesystem : Filesystem ℕ → ℕ) (of_namespace : Namespace ℕ 
       unsettled_counted of_filesystem of_namespace of_task change world (unsettled_of world is plain) in
       (world_of later rest (nothing_goes later (in_use_later (all_in_use world is))), rest.plain)
 
--- Raised numbers are other numbers
-unchanged : {A : Type 0} (list : List A) → list ≡ map (λ a. a) list
-unchanged [] = refl
-unchanged (a ∷ list) = ap (λ rest. a ∷ rest) (unchanged list)
-
 module _ (changed : List ℕ) (world : World ℕ) where
   abbrev pub number_if : Filesystem ℕ → ℕ
   number_if filesystem = cond (list_any (λ number. nat_eq number filesystem.number) changed)
@@ -129,8 +125,8 @@ module _ (changed : List ℕ) (world : World ℕ) where
       ≡ counted number_if (λ namespace. namespace.change) (λ task. task.change) world.change world
   filesystems_raised_are = λ i. record world {
     filesystems = map (λ filesystem. raised_filesystem_is filesystem i) world.filesystems;
-    namespaces = unchanged world.namespaces i;
-    tasks = unchanged world.tasks i;
+    namespaces = sym (map-id world.namespaces) i;
+    tasks = sym (map-id world.tasks) i;
   }
 
   pub raising_filesystems_keeps : IsWorldButForUse world → IsWorldButForUse (filesystems_raised nat_eq changed world)

@@ -388,9 +388,11 @@ module _ (old new : List ℕ) (world : World ℕ) (fresh : Fresh ℕ) (name : Ta
     old_missing world fresh name old new from to is plain serves did parts to_walked permit_is is_dir outside name
         (raised_task name did.task) caller_here (raised_stands name did.task) (inl (raised_credentials name did.task)),
     λ reader reading looks. (
-      new_told world fresh name old new from to is plain serves did parts to_walked permit_is is_dir outside reader reading looks.called
+      new_told world fresh name old new from to is plain serves did parts to_walked permit_is is_dir outside reader
+          reading looks.called
           (same_stand reader reading looks) (inr looks.all),
-      old_missing world fresh name old new from to is plain serves did parts to_walked permit_is is_dir outside reader reading looks.called
+      old_missing world fresh name old new from to is plain serves did parts to_walked permit_is is_dir outside reader
+          reading looks.called
           (same_stand reader reading looks) (inr looks.all),
     ),
   )
@@ -402,14 +404,18 @@ module _ (old new : List ℕ) (world : World ℕ) (fresh : Fresh ℕ) (name : Ta
     new_listed world fresh name old new from to is plain serves did parts to_walked permit_is is_dir outside name
         (raised_task name did.task) caller_here (raised_stands name did.task) (inl (raised_credentials name did.task)),
     λ reader reading looks.
-        all_listed world fresh name old new from to is plain serves did parts to_walked permit_is is_dir outside reader reading looks.called
+        all_listed world fresh name old new from to is plain serves did parts to_walked permit_is is_dir outside reader
+        reading looks.called
         (same_stand reader reading looks) (inr looks.all) looks.all,
   )
 
 pub rename_directory_then_lstat : RenameDirectoryThenLstat
-rename_directory_then_lstat old new world fresh name task from to is plain serves called from_is to_is directory free stands granted =
+rename_directory_then_lstat old new world fresh name task from to is plain serves called from_is to_is directory free
+    stands granted =
     moved_told old new world fresh name task from to is plain serves called from_is to_is directory free stands granted
 
 pub rename_directory_then_list : RenameDirectoryThenList
-rename_directory_then_list old new world fresh name task from to is plain serves called from_is to_is directory free stands granted =
-    moved_listed old new world fresh name task from to is plain serves called from_is to_is directory free stands granted
+rename_directory_then_list old new world fresh name task from to is plain serves called from_is to_is directory free
+    stands granted =
+    moved_listed old new world fresh name task from to is plain serves called from_is to_is directory free stands
+    granted

@@ -384,7 +384,8 @@ rename_then_found old new world fresh name task from to is plain serves called f
       stat_line (before world fresh name old new from to is plain serves did parts),
       old_told world fresh name old new from to is plain serves did parts,
       λ reader reading path called_too. (
-        λ lead slashed. new_told world fresh name old new from to is plain serves did parts reader reading path called_too lead slashed,
+        λ lead slashed. new_told world fresh name old new from to is plain serves did parts reader reading path
+            called_too lead slashed,
         λ lead. old_gone world fresh name old new from to is plain serves did parts reader reading path called_too lead,
       ),
     )
@@ -396,5 +397,6 @@ rename_then_listed old new world fresh name task from to is plain serves called 
       names_in (before world fresh name old new from to is plain serves did parts),
       old_listed world fresh name old new from to is plain serves did parts directory,
       λ reader reading path called_too lead.
-          new_listed world fresh name old new from to is plain serves did parts reader reading path called_too lead directory,
+          new_listed world fresh name old new from to is plain serves did parts reader reading path called_too lead
+          directory,
     )

@@ -152,14 +152,16 @@ module _ (world : World ℕ) (fresh : Fresh ℕ) (name : TaskName) (old new : Li
       let walk = surely _ _ _ (symlink_named_too (looks_of nat_eq world)
       (looks_of nat_eq later) did.task reading Never _
       (leads world fresh name
-      (LinkTo old new) Done is plain serves refl refl did place.parent change fresh asks does something tt tree Never stay
+      (LinkTo old new) Done is plain serves refl refl did place.parent change fresh asks does something tt tree Never
+      stay
       reading own stands rights looks) new place parts.named at_name
       (record { mount = place.parent.mount; node = object.node })
       (λ known.
       stepped_by later reading place.parent place.last parts.named (Some object.node)
       (ap (λ o. entry_named (name_of place.last) (entries_in o))
       (seen_there world fresh name
-      (LinkTo old new) Done is plain serves refl refl did place.parent change fresh asks does something tt tree Never stay
+      (LinkTo old new) Done is plain serves refl refl did place.parent change fresh asks does something tt tree Never
+      stay
       reading own stands known)
       ∙ name_leads (files_at nat_eq world place.parent) Never place.parent.node
       (name_of place.last) object.node in_directory seen_to.1.name_is_free.free)
@@ -172,7 +174,8 @@ module _ (world : World ℕ) (fresh : Fresh ℕ) (name : TaskName) (old new : Li
       lstat_of later later_fresh reader reading called new _ walk.1
       ∙ ap (λ o. Ok (Told (stat_line o)))
       (seen_at world fresh name
-      (LinkTo old new) Done is plain serves refl refl did place.parent change fresh asks does something tt tree Never stay
+      (LinkTo old new) Done is plain serves refl refl did place.parent change fresh asks does something tt tree Never
+      stay
       reading own stands object.node
       ∙ all_stays world fresh name
       (LinkTo old new) Done is plain serves refl refl did place.parent change fresh asks does something tt tree
@@ -185,7 +188,8 @@ module _ (world : World ℕ) (fresh : Fresh ℕ) (name : TaskName) (old new : Li
   caller_there : task_called later name ≡ Some (raised_task name did.task)
   caller_there =
       caller world fresh name
-      (LinkTo old new) Done is plain serves refl refl did place.parent change fresh asks does something tt tree Never stay
+      (LinkTo old new) Done is plain serves refl refl did place.parent change fresh asks does something tt tree Never
+      stay
 
 pub link_then_lstat : LinkThenLstat
 link_then_lstat old new world fresh name task is plain serves called granted = (

@@ -255,37 +255,43 @@ module _ (world : World ℕ) (fresh : Fresh ℕ) (name : TaskName) (old new : Li
 
     leads_so : LeadsToo (looks_of nat_eq world) (looks_of nat_eq later) did.task reading Missing
         (KnownToo world fresh name
-        (Rename old new) Done is plain serves refl refl did from.parent change fresh asks does something allowed tree Missing stay
+        (Rename old new) Done is plain serves refl refl did from.parent change fresh asks does something allowed tree
+        Missing stay
         reading own_reader stands)
     leads_so =
         leads world fresh name
-        (Rename old new) Done is plain serves refl refl did from.parent change fresh asks does something allowed tree Missing stay
+        (Rename old new) Done is plain serves refl refl did from.parent change fresh asks does something allowed tree
+        Missing stay
         reading own_reader stands rights looks
 
     -- the new name
     to_seen : KnownToo world fresh name
-        (Rename old new) Done is plain serves refl refl did from.parent change fresh asks does something allowed tree Missing stay
+        (Rename old new) Done is plain serves refl refl did from.parent change fresh asks does something allowed tree
+        Missing stay
         reading own_reader stands to.parent
         → entry_named (name_of to.last) (entries_in (node_at nat_eq later to.parent)) ≡ Some object
     to_seen known =
         ap (λ l. entry_named (name_of to.last) (entries_in (node_at nat_eq later l))) to_place
         ∙ ap (λ o. entry_named (name_of to.last) (entries_in o))
         (seen_at world fresh name
-        (Rename old new) Done is plain serves refl refl did from.parent change fresh asks does something allowed tree Missing stay
+        (Rename old new) Done is plain serves refl refl did from.parent change fresh asks does something allowed tree
+        Missing stay
         reading own_reader stands to.parent.node
         ∙ node_changed world fresh name
         (Rename old new) Done is plain serves refl refl did from.parent change fresh asks does something allowed tree
         to.parent.node (ap (λ l. is_some (node_in later (mount_at nat_eq world l).filesystem to.parent.node))
         (sym to_place)
         ∙ known_there world fresh name
-        (Rename old new) Done is plain serves refl refl did from.parent change fresh asks does something allowed tree Missing stay
+        (Rename old new) Done is plain serves refl refl did from.parent change fresh asks does something allowed tree
+        Missing stay
         reading own_reader stands to.parent known))
         ∙ moved_entry (files_at nat_eq world from.parent) Missing from.parent.node (name_of from.last) to.parent.node
         (name_of to.last) object
         may.moves.named no_directory in_directory free
 
     new_stepped : KnownToo world fresh name
-        (Rename old new) Done is plain serves refl refl did from.parent change fresh asks does something allowed tree Missing stay
+        (Rename old new) Done is plain serves refl refl did from.parent change fresh asks does something allowed tree
+        Missing stay
         reading own_reader stands to.parent
         → stepped nat_eq (looks_of nat_eq later) reading to.parent to.last
         ≡ Ok (record { mount = from.parent.mount; node = object })
@@ -301,7 +307,8 @@ module _ (world : World ℕ) (fresh : Fresh ℕ) (name : TaskName) (old new : Li
         ≡ node_at nat_eq world (record { mount = from.parent.mount; node = object })
     object_seen =
         seen_at world fresh name
-        (Rename old new) Done is plain serves refl refl did from.parent change fresh asks does something allowed tree Missing stay
+        (Rename old new) Done is plain serves refl refl did from.parent change fresh asks does something allowed tree
+        Missing stay
         reading own_reader stands object
         ∙ all_stays world fresh name
         (Rename old new) Done is plain serves refl refl did from.parent change fresh asks does something allowed tree
@@ -335,7 +342,8 @@ module _ (world : World ℕ) (fresh : Fresh ℕ) (name : TaskName) (old new : Li
         stepped_by later reading from.parent from.last parts.from_named None
         (ap (λ o. entry_named (name_of from.last) (entries_in o))
         (seen_there world fresh name
-        (Rename old new) Done is plain serves refl refl did from.parent change fresh asks does something allowed tree Missing stay
+        (Rename old new) Done is plain serves refl refl did from.parent change fresh asks does something allowed tree
+        Missing stay
         reading own_reader stands known)
         ∙ moved_missing (files_at nat_eq world from.parent) Missing from.parent.node (name_of from.last) to.parent.node
         (name_of to.last) object
@@ -345,7 +353,8 @@ module _ (world : World ℕ) (fresh : Fresh ℕ) (name : TaskName) (old new : Li
   caller_there : task_called later name ≡ Some (raised_task name did.task)
   caller_there =
       caller world fresh name
-      (Rename old new) Done is plain serves refl refl did from.parent change fresh asks does something allowed tree Missing stay
+      (Rename old new) Done is plain serves refl refl did from.parent change fresh asks does something allowed tree
+      Missing stay
 
 pub rename_then_lstat : RenameThenLstat
 rename_then_lstat old new world fresh name task from to is plain serves called from_is to_is file free granted = (

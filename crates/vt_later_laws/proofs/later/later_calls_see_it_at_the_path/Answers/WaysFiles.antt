@@ -159,7 +159,8 @@ module _ (looks later : Looks ℕ) (task reader : Task ℕ) (Refused : Deny → 
   named_from depth start here word front next few few_too walked searched found no_link known steps =
       through looks later task reader Refused Known leads (λ r. EndsThere Refused r next here.left)
       (words_walked nat_eq later reader (followed_to depth later reader) (at start steps) front) _ here
-      ((words_lead looks later task reader Refused Known leads 41 depth start front here few few_too walked).1 known steps)
+      ((words_lead looks later task reader Refused Known leads 41 depth start front here few few_too walked).1 known
+      steps)
       (λ steps_there known_there.
       by steps_there (last_too looks later task reader Refused Known leads here
       (last_word word) next steps_there known_there searched
@@ -207,8 +208,8 @@ module _ (looks later : Looks ℕ) (task reader : Task ℕ) (Refused : Deny → 
       → EndsThere Refused (words_walked nat_eq later reader (followed_to (suc depth) later reader) (at start steps)
       (word
       ∷ front)) next left
-  linked_from depth start here word front link inner next left few few_too walked searched stepping same text follows no_slash ends
-      known steps =
+  linked_from depth start here word front link inner next left few few_too walked searched stepping same text follows
+      no_slash ends known steps =
       through looks later task reader Refused Known leads (λ r. EndsThere Refused r next left)
       (words_walked nat_eq later reader (followed_to (suc depth) later reader) (at start steps) front) _ here
       ((words_lead looks later task reader Refused Known leads 41

@@ -271,7 +271,8 @@ module _ (world : World ℕ) (fresh : Fresh ℕ) (name : TaskName) (path bytes :
         (Write path bytes) Done is plain serves refl refl did file change fresh asks does something tt tree Never stay
         reading self stands file.node
         ∙ all_stays world fresh name
-        (Write path bytes) Done is plain serves refl refl did file change fresh asks does something tt tree refl file.node
+        (Write path bytes) Done is plain serves refl refl did file change fresh asks does something tt tree refl
+        file.node
         ∙ there (files_at nat_eq world file) file.node (node_with_bytes bytes) ∙ ap (node_with_bytes bytes) old.2 in
         let before : stepped nat_eq (looks_of nat_eq world) did.task place.parent place.last ≡ Ok file =
         ap (stepped nat_eq (looks_of nat_eq world) did.task place.parent) (named_last place.last named)
@@ -337,9 +338,11 @@ write_then_read path bytes world fresh name task is plain serves called granted 
         (SetBytes file.node bytes))) did.permit
         (sym (ap (written_permit nat_eq (looks_of nat_eq world) did.task parts.0 bytes) object) ∙ e) in
         let permit_is = sym (same_ok _ did.permit rules.1) in
-        seen _ (old_read world fresh name path bytes is plain serves did parts.0 parts.1 words_pass.0 words_pass.1 file object rules.0.0
+        seen _ (old_read world fresh name path bytes is plain serves did parts.0 parts.1 words_pass.0 words_pass.1 file
+        object rules.0.0
         rules.0.1.1.0 permit_is)
-        (rewriter world fresh name path bytes is plain serves did parts.0 parts.1 words_pass.0 words_pass.1 file object rules.0.0
+        (rewriter world fresh name path bytes is plain serves did parts.0 parts.1 words_pass.0 words_pass.1 file object
+        rules.0.0
         rules.0.1.1.0 permit_is)
     by None object e =
         let small = passing ((nat_lt largest_file (length bytes), E6) ∷ []) _ did.permit

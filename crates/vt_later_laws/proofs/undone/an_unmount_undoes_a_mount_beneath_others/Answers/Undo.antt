@@ -1,31 +1,22 @@
 -- An unmount undoes a new mount and a bind of one mount, where mounts stood at receivers.
-use Rattle.std.proofs.Common.{◌≡◌, ◌⊎◌, false, inl, option_map, refl, subst, sym, true, nat_eq, unwrap_or, ℕ, Some, []}
+use Rattle.std.proofs.Common.{◌≡◌, ◌⊎◌, false, inl, option_map, refl, subst, sym, true, nat_eq, unwrap_or, ℕ, []}
 use Rattle.vt_spec.proofs.Lists.{Among, among-filter, among_from_contains, contains_from_among}
 use Rattle.vt_spec.specs.Lists.{Fresh}
 use Rattle.vt_spec.specs.Machine.Attach.{bound, receivers_of, takes_part}
 use Rattle.vt_spec.specs.Machine.Detach.{may_go}
-use Rattle.vt_spec.specs.Machine.Invariants.{MountInvariants}
 use Rattle.vt_spec.specs.Machine.Mounts.{Location, Mount, group_of, stands_at}
 use Rattle.vt_spec.specs.Machine.Mounts.Propagation.{Shared}
 use Rattle.vt_spec.specs.Machine.Outcome.Mounting.{new_mount, with_new_filesystem}
 use Rattle.vt_spec.specs.Machine.Receives.{receivers, receives}
 use Rattle.vt_spec.specs.Machine.World.{Filesystem, World, mount_at, mount_numbered}
 use Rattle.vt_spec.specs.Language.Calls.{MountFlags}
-use Rattle.vt_mount_laws.specs.Mounts.Attaching.{is_mount}
 use Rattle.vt_mount_laws.specs.Mounts.Propagation.{world_after}
 use Rattle.vt_mount_laws.proofs.BindsStand.{binds_keep_numbers, binds_keep_places, binds_keep_standing, new_mounts_keep_numbers, new_mounts_keep_places, new_mounts_keep_standing}
-use Rattle.vt_mount_laws.proofs.MountsNumbered.{is_one_of}
 use Rattle.vt_mount_laws.proofs.PropagationPremises.{binds_can, new_mounts_can}
 use Rattle.vt_mount_laws.proofs.Standing.{standing_is_computed}
-use Rattle.vt_mount_laws.proofs.Unsharing.{parent_of}
+use Rattle.vt_mount_laws.proofs.Unsharing.{stands_on_mount}
 use Rattle.vt_later_laws.specs.Undone.{CoveredTakePart, NoneGoesWithTheCopies, UnmountTakesWhatStoodBeside, UnmountTakesWhatStoodThere, UnmountUndoesBindBeneath, UnmountUndoesNewMountBeneath}
 use Rattle.vt_later_laws.proofs.UndoneBeneath.{copy_is_gone, has_its_record_back, masters_back, one_of, taken_along, taken_beside}
-
-on_mounts : (world : World ℕ) → MountInvariants nat_eq world → (mount : Mount ℕ) → Among mount world.mounts
-    → (at : Location ℕ) → mount.mount_point ≡ Some at → is_mount world at.mount ≡ true
-on_mounts world mounts mount m at e =
-    let parent = parent_of world mounts mount m at e in
-    subst (λ n. is_mount world n ≡ true) parent.number (is_one_of world.mounts parent.parent parent.there)
 
 they_take_part : (world : World ℕ) (place : Location ℕ) → CoveredTakePart world place
     → (group : ℕ) (receiver mount : Mount ℕ) → (mount_at nat_eq world place).propagation ≡ Shared group
@@ -63,7 +54,7 @@ unmount_undoes_new_mount_beneath world fresh place filesystem flags serves mount
     let larger = with_new_filesystem world filesystem in
     let mount = new_mount filesystem.number filesystem.files.tree.root flags in
     let can = new_mounts_can world fresh place filesystem flags serves mounts in
-    let on_old = on_mounts world mounts in
+    let on_old = stands_on_mount world mounts in
     let takes = they_take_part larger place covered in
     let after = world_after (one_of larger fresh place mount) in
     let ends = (standing_is_computed after
@@ -85,7 +76,7 @@ pub unmount_undoes_bind_beneath : UnmountUndoesBindBeneath
 unmount_undoes_bind_beneath world fresh source place serves mounts there free covered apart =
     let mount = bound nat_eq world source in
     let can = binds_can world fresh source place false serves mounts in
-    let on_old = on_mounts world mounts in
+    let on_old = stands_on_mount world mounts in
     let takes = they_take_part world place covered in
     let after = world_after (one_of world fresh place mount) in
     let ends = (standing_is_computed after
@@ -115,7 +106,7 @@ unmount_takes_what_stood_there world fresh source place group receiver mount ser
     there) in
     let places = binds_keep_places world fresh source place false serves mounts.one_number mounts.nowhere
     mounts.standing there free mounts.one_child in
-    taken_along world fresh place first can there (on_mounts world mounts) ends places group receiver mount shared
+    taken_along world fresh place first can there (stands_on_mount world mounts) ends places group receiver mount shared
     (among-filter (takes_part nat_eq world place) (receivers_of nat_eq world (mount_at nat_eq world place)) receiver
     (subst (λ k. Among receiver (unwrap_or (option_map (receivers nat_eq world) (group_of k)) [])) (sym shared)
     (among-filter (receives nat_eq world group) world.mounts receiver (among_from_contains world.mounts receiver r)
@@ -136,7 +127,8 @@ unmount_takes_what_stood_beside = (
       mounts.standing there) in
       let places = new_mounts_keep_places world fresh place filesystem flags serves mounts.one_number mounts.nowhere
       mounts.standing there free mounts.one_child in
-      taken_beside larger fresh place first can there (on_mounts world mounts) ends places free group receiver mount
+      taken_beside larger fresh place first can there (stands_on_mount world mounts) ends places free group receiver
+      mount
       shared (among_from_contains world.mounts receiver r) hears (among_from_contains world.mounts mount n) stood
       apart may,
   λ world fresh source place serves mounts there free group receiver mount shared r hears n stood apart may.
@@ -149,7 +141,8 @@ unmount_takes_what_stood_beside = (
       there) in
       let places = binds_keep_places world fresh source place false serves mounts.one_number mounts.nowhere
       mounts.standing there free mounts.one_child in
-      taken_beside world fresh place first can there (on_mounts world mounts) ends places free group receiver mount
+      taken_beside world fresh place first can there (stands_on_mount world mounts) ends places free group receiver
+      mount
       shared (among_from_contains world.mounts receiver r) hears (among_from_contains world.mounts mount n) stood
       apart may,
 )

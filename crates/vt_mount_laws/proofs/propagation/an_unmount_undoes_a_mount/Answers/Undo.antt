@@ -1,24 +1,15 @@
 -- An unmount undoes a new mount and a bind of one mount.
-use Rattle.std.proofs.Common.{◌≡◌, subst, true, nat_eq, ℕ, Some, false}
-use Rattle.vt_spec.proofs.Lists.{Among, contains_from_among}
+use Rattle.std.proofs.Common.{nat_eq, ℕ, false}
+use Rattle.vt_spec.proofs.Lists.{contains_from_among}
 use Rattle.vt_spec.specs.Machine.Attach.{bound}
-use Rattle.vt_spec.specs.Machine.Mounts.{Location, Mount}
+use Rattle.vt_spec.specs.Machine.Mounts.{Location}
 use Rattle.vt_spec.specs.Machine.Outcome.Mounting.{new_mount, with_new_filesystem}
 use Rattle.vt_spec.specs.Machine.World.{World}
-use Rattle.vt_spec.specs.Machine.Invariants.{MountInvariants}
-use Rattle.vt_mount_laws.specs.Mounts.Attaching.{is_mount}
 use Rattle.vt_mount_laws.specs.Mounts.Propagation.{NothingAtReceivers, UnmountUndoesBind, UnmountUndoesNewMount}
 use Rattle.vt_mount_laws.proofs.BindsStand.{binds_keep_places, new_mounts_keep_places}
-use Rattle.vt_mount_laws.proofs.MountsNumbered.{is_one_of}
 use Rattle.vt_mount_laws.proofs.PropagationPremises.{binds_can, new_mounts_can}
 use Rattle.vt_mount_laws.proofs.propagation.an_unmount_undoes_a_mount.Answers.Undone.{NoneAtReceivers, copy_is_gone, has_its_record_back, masters_back}
-use Rattle.vt_mount_laws.proofs.Unsharing.{parent_of}
-
-on_mounts : (world : World ℕ) → MountInvariants nat_eq world → (mount : Mount ℕ) → Among mount world.mounts
-    → (at : Location ℕ) → mount.mount_point ≡ Some at → is_mount world at.mount ≡ true
-on_mounts world mounts mount m at e =
-    let parent = parent_of world mounts mount m at e in
-    subst (λ n. is_mount world n ≡ true) parent.number (is_one_of world.mounts parent.parent parent.there)
+use Rattle.vt_mount_laws.proofs.Unsharing.{stands_on_mount}
 
 none_at_receivers : (world : World ℕ) (place : Location ℕ) → NothingAtReceivers world place
     → NoneAtReceivers world place
@@ -31,7 +22,7 @@ unmount_undoes_new_mount world fresh place filesystem flags serves mounts there 
     let larger = with_new_filesystem world filesystem in
     let mount = new_mount filesystem.number filesystem.files.tree.root flags in
     let can = new_mounts_can world fresh place filesystem flags serves mounts in
-    let on_old = on_mounts world mounts in
+    let on_old = stands_on_mount world mounts in
     let free = none_at_receivers world place nothing in
     record {
       back = has_its_record_back larger fresh place mount can there on_old free;
@@ -45,7 +36,7 @@ pub unmount_undoes_bind : UnmountUndoesBind
 unmount_undoes_bind world fresh source place serves mounts there free_place nothing =
     let mount = bound nat_eq world source in
     let can = binds_can world fresh source place false serves mounts in
-    let on_old = on_mounts world mounts in
+    let on_old = stands_on_mount world mounts in
     let free = none_at_receivers world place nothing in
     record {
       back = has_its_record_back world fresh place mount can there on_old free;

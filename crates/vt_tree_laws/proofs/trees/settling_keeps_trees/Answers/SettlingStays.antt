@@ -314,7 +314,9 @@ module _ (world : World ℕ) (location : Location ℕ)
       (mounted_world world).mounts) location
       (list_any-append (same_location nat_eq location) (all_locations world ++ map root_of (mounted_world world).mounts)
       (filter_map (λ mount. mount.mount_point) (mounted_world world).mounts)
-      ∙ ap (λ b. b || list_any (same_location nat_eq location) (filter_map (λ mount. mount.mount_point) (mounted_world world).mounts))
+      ∙ ap (λ b. b
+      || list_any (same_location nat_eq location)
+      (filter_map (λ mount. mount.mount_point) (mounted_world world).mounts))
       (list_any-append (same_location nat_eq location) (all_locations world) (map root_of (mounted_world world).mounts)
       ∙ ap (λ b. b || list_any (same_location nat_eq location) (map root_of (mounted_world world).mounts)) located))
       (eq-eqb shown_filesystem shown_filesystem refl))
