@@ -61,11 +61,6 @@ impl Families {
         self.names.get(&group).copied()
     }
 
-    /// Whether a group has a family.
-    pub(crate) fn is_named(&self, group: GroupId) -> bool {
-        self.names.contains_key(&group)
-    }
-
     // The family of a group. If it has none, it comes into this one. If it fails, the families are of no use.
     fn name(&mut self, group: GroupId, default: GroupId) -> Result<GroupId, AllocError>
         ensures named { IfOk result (λ name. family self.new group ≡ Some name) }
