@@ -69,7 +69,7 @@ module _ {V W : Type 0} (see : V → W) (change : ℕ → W → Option W) (old n
 
 -- the heir is of the same family
 
-joined_parts : (families : Families) (lower upper : GroupId) → are_joined families lower upper ≡ true
+pub joined_parts : (families : Families) (lower upper : GroupId) → are_joined families lower upper ≡ true
     → (name : GroupId) × (family families lower ≡ Some name) × (family families upper ≡ Some name)
     × (has same_group name lower families.groups ≡ true) × (has same_group name upper families.groups ≡ true)
 joined_parts families lower upper joined = by (family families lower) refl joined

@@ -17,6 +17,7 @@ pub mod Undoing
 pub mod Mastering
 pub mod EndedTypes
 pub mod Ending
+pub mod Merging
 pub mod Coming
 pub mod GrownMaps
 pub mod Forgetting

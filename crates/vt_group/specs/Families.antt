@@ -1,5 +1,6 @@
 -- Families: groups that are joined by masters.
-use Rattle.std.specs.Prelude.{Bool, None, Option, Some, false, is_some, true, ◌&&◌, ◌≡◌}
+use Rattle.std.specs.Prelude.{Bool, List, None, Option, Some, false, is_some, true, ◌&&◌, ◌⊎◌, ◌≡◌}
+use Rattle.std.specs.List.{list_any}
 use Rattle.std.specs.Map.{lookup}
 use Rattle.vt_spec.specs.Lists.{holds_of}
 use Rattle.vt_location.specs.declared.mounts.Propagation.{Propagation}
@@ -66,3 +67,29 @@ pub record Grows (old new : Families) : Type 0 where
 pub record Keeps (old new : Families) : Type 0 where
   pub lists : (mount : MountId) (kind : Propagation) → lists old mount kind ≡ true → lists new mount kind ≡ true
   pub joined : (lower upper : GroupId) → are_joined old lower upper ≡ true → are_joined new lower upper ≡ true
+
+-- A group is of a family, and listed in it.
+abbrev pub IsOf : Families → GroupId → GroupId → Type 0
+IsOf families group name = (family families group ≡ Some name) × (has same_group name group families.groups ≡ true)
+
+-- those of these groups that are of one family move into another
+pub record MovesGroups (from into : GroupId) (list : List GroupId) (old new : Families) : Type 0 where
+  pub either : (group : GroupId) → (family new group ≡ family old group) ⊎ IsOf new group into
+  pub stay : (group name : GroupId) → same_group from name ≡ false → family old group ≡ Some name
+      → family new group ≡ Some name
+  pub moved : (group : GroupId) → list_any (same_group group) list ≡ true → family old group ≡ Some from
+      → IsOf new group into
+  pub groups : (name group : GroupId) → has same_group name group old.groups ≡ true
+      → has same_group name group new.groups ≡ true
+  pub mounts : new.mounts ≡ old.mounts
+  pub members : new.members ≡ old.members
+
+-- and so do its mounts
+pub record Merges (from into : GroupId) (old new : Families) : Type 0 where
+  pub stay : (group name : GroupId) → same_group from name ≡ false → IsOf old group name → IsOf new group name
+  pub moved : (group : GroupId) → IsOf old group from → IsOf new group into
+  pub mounts_stay : (name : GroupId) (mount : MountId) → same_group from name ≡ false
+      → has same_id name mount old.mounts ≡ true → has same_id name mount new.mounts ≡ true
+  pub mounts_moved : (mount : MountId) → has same_id from mount old.mounts ≡ true
+      → has same_id into mount new.mounts ≡ true
+  pub members : new.members ≡ old.members

@@ -1,5 +1,5 @@
 //! Families: groups that are joined by masters.
-ghost use Rattle.std.specs.Prelude.{◌≡◌, IsSome, ◌≢◌, None, Some, IfOk, IfSome, OnOk, false, true, option_map};
+ghost use Rattle.std.specs.Prelude.{◌≡◌, ◌∷◌, [], IsSome, ◌≢◌, None, Some, IfOk, IfSome, OnOk, false, true, option_map};
 ghost use Rattle.vt_location.specs.declared.mounts.Propagation.{Propagation as TypeKept};
 ghost use Rattle.vt_location.specs.declared.numbers.GroupId.{GroupId as GroupNumber};
 ghost use Rattle.vt_location.specs.declared.numbers.MountId.{MountId as MountNumber};
@@ -8,7 +8,7 @@ ghost use Rattle.std.specs.List.{list_any};
 ghost use Rattle.std.specs.Ordering.{nat_cmp};
 ghost use Rattle.vt_spec.specs.Lists.{then_some};
 ghost use Rattle.vt_group.specs.Families.{family_of_kind, group_of_kind, has_source};
-ghost use Rattle.vt_group.specs.Families.{Grows, Keeps, are_joined, family, is_kin, lists};
+ghost use Rattle.vt_group.specs.Families.{Grows, Keeps, Merges, MovesGroups, are_joined, family, is_kin, lists};
 ghost use Rattle.vt_group.specs.Sets.{has, kept_in, same_group, same_id};
 
 use crate::propagation::{own_group, source};
@@ -61,18 +61,13 @@ impl Families {
         self.names.get(&group).copied()
     }
 
-    /// Whether a group has a family.
-    pub(crate) fn is_named(&self, group: GroupId) -> bool {
-        self.names.contains_key(&group)
-    }
-
-    // The family of a group, which is made if it has none. If it fails, the families are of no use.
-    fn name(&mut self, group: GroupId) -> Result<GroupId, AllocError>
+    // The family of a group. If it has none, it comes into this one. If it fails, the families are of no use.
+    fn name(&mut self, group: GroupId, default: GroupId) -> Result<GroupId, AllocError>
         ensures named { IfOk result (λ name. family self.new group ≡ Some name) }
         ensures listed { IfOk result (λ name. has same_group name group self.new.groups ≡ true) }
         ensures grows { OnOk result (Grows self.old self.new) }
     {
-        let name = self.family_of(group).unwrap_or(group);
+        let name = self.family_of(group).unwrap_or(default);
         self.groups.insert(name, group)?;
         self.names.insert(group, name)?;
         Ok(name)
@@ -98,7 +93,7 @@ impl Families {
         ensures listed { OnOk result (is_kin self.new mount group ≡ true) }
         ensures grows { OnOk result (Grows self.old self.new) }
     {
-        let name = self.name(group)?;
+        let name = self.name(group, group)?;
         self.mounts.insert(name, mount)
     }
 
@@ -107,12 +102,74 @@ impl Families {
         ensures joined { OnOk result (are_joined self.new lower upper ≡ true) }
         ensures keeps { OnOk result (Keeps self.old self.new) }
     {
-        let name = self.name(upper)?;
-        if self.family_of(lower).unwrap_or(name) != name {
-            return Err(AllocError);
+        let up = self.name(upper, upper)?;
+        let low = self.name(lower, up)?;
+        if low == up {
+            return Ok(());
         }
-        self.groups.insert(name, lower)?;
-        self.names.insert(lower, name)?;
+        // The smaller one moves, so that a group or mount moves few times.
+        if self.size_of(low) < self.size_of(up) {
+            self.merge(low, up)
+        } else {
+            self.merge(up, low)
+        }
+    }
+
+    // How many groups and mounts a family has.
+    fn size_of(&self, name: GroupId) -> usize {
+        self.groups.get(name).len() + self.mounts.get(name).len()
+    }
+
+    // Moves a family into another. If it fails, the families are of no use.
+    fn merge(&mut self, from: GroupId, into: GroupId) -> Result<(), AllocError>
+        ensures { OnOk result (Merges from into self.old self.new) }
+    {
+        let groups = self.groups.take(from);
+        self.move_groups(groups.as_slice(), from, into)?;
+        let mounts = self.mounts.take(from);
+        self.move_mounts(mounts.as_slice(), into)
+    }
+
+    // Moves those of these groups that are of one family into another.
+    fn move_groups(
+        &mut self,
+        groups: &[GroupId],
+        from: GroupId,
+        into: GroupId,
+    ) -> Result<(), AllocError>
+        ensures { OnOk result (MovesGroups from into groups.now self.old self.new) }
+    {
+        for group in groups {
+            self.move_group(*group, from, into)?;
+        }
+        Ok(())
+    }
+
+    fn move_group(&mut self, group: GroupId, from: GroupId, into: GroupId) -> Result<(), AllocError>
+        ensures { OnOk result (MovesGroups from into (group ∷ []) self.old self.new) }
+    {
+        let Some(name) = self.family_of(group) else {
+            return Ok(());
+        };
+        if name != from {
+            return Ok(());
+        }
+        self.groups.insert(into, group)?;
+        self.names.insert(group, into)?;
+        Ok(())
+    }
+
+    // Adds mounts to a family.
+    fn move_mounts(&mut self, mounts: &[MountId], into: GroupId) -> Result<(), AllocError>
+        ensures same { OnOk result (self.new ≡ record self.old { mounts = self.new.mounts }) }
+        ensures moved { OnOk result ((mount : MountNumber) → list_any (same_id mount) mounts.now ≡ true
+            → has same_id into mount self.new.mounts ≡ true) }
+        ensures kept { OnOk result ((name : GroupNumber) (mount : MountNumber)
+            → has same_id name mount self.old.mounts ≡ true → has same_id name mount self.new.mounts ≡ true) }
+    {
+        for mount in mounts {
+            self.mounts.insert(into, *mount)?;
+        }
         Ok(())
     }
 

@@ -124,51 +124,10 @@ impl Index {
             → is_listed self.new mount kind ≡ true }
         ensures lower { (low up : GroupNumber) → is_lower self.old low up ≡ true → is_lower self.new low up ≡ true }
     {
-        // Families are not made one later: groups come after their masters, in whatever order they are given.
-        for _ in new {
-            if !self.join_known(new)? {
-                break;
-            }
-        }
         for group in new {
             self.join_new(*group)?;
         }
         Ok(())
-    }
-
-    // Lists the groups whose masters have families. Tells whether one got a family by it.
-    fn join_known(&mut self, new: &[NewGroup]) -> Result<bool, AllocError>
-        ensures kept { (mount : MountNumber) (kind : TypeKept) → is_listed self.old mount kind ≡ true
-            → is_listed self.new mount kind ≡ true }
-        ensures lower { (low up : GroupNumber) → is_lower self.old low up ≡ true → is_lower self.new low up ≡ true }
-    {
-        let mut joined = false;
-        for group in new {
-            joined |= self.join_if_known(*group)?;
-        }
-        Ok(joined)
-    }
-
-    fn join_if_known(&mut self, new: NewGroup) -> Result<bool, AllocError>
-        ensures kept { (mount : MountNumber) (kind : TypeKept) → is_listed self.old mount kind ≡ true
-            → is_listed self.new mount kind ≡ true }
-        ensures lower { (low up : GroupNumber) → is_lower self.old low up ≡ true → is_lower self.new low up ≡ true }
-    {
-        let Some(master) = new.master else {
-            return Ok(false);
-        };
-        if !self.is_named(master) || self.is_named(new.group) {
-            return Ok(false);
-        }
-        self.join(new.group, master)?;
-        Ok(true)
-    }
-
-    fn is_named(&self, group: GroupId) -> bool {
-        match &self.families {
-            Some(families) => families.is_named(group),
-            None => false,
-        }
     }
 
     fn join_new(&mut self, new: NewGroup) -> Result<(), AllocError>

@@ -52,6 +52,18 @@ impl<T: Eq + Hash + Copy + Clone + Drop> Sets<T> {
         Ok(())
     }
 
+    /// Takes out all that is under a group. It does not allocate.
+    pub(crate) fn take(&mut self, group: GroupId) -> IndexSet<T>
+        ensures taken { result.keys ≡ kept_in group self.old }
+        ensures rest { (at : GroupNumber) → same_group group at ≡ false → kept_in at self.new ≡ kept_in at self.old }
+    {
+        let alloc = *self.sets.allocator();
+        match self.sets.swap_remove(&group) {
+            Some(set) => set,
+            None => IndexSet::new(alloc),
+        }
+    }
+
     /// Takes out one from under a group. It does not allocate.
     pub(crate) fn remove(&mut self, group: GroupId, one: T)
         ensures { (at : GroupNumber) (other : T) → (same_group group at && T.eq one other) ≡ false

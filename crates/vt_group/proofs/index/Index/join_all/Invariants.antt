@@ -12,9 +12,3 @@ invariant-loop-group l =
     × ((mount : MountId) (kind : Propagation) → is_listed l.fn.self mount kind ≡ true
     → is_listed l.self mount kind ≡ true)
     × ((lower upper : GroupId) → is_lower l.fn.self lower upper ≡ true → is_lower l.self lower upper ≡ true)
-
-abbrev pub invariant-loop : goal.invariant-loop
-invariant-loop l =
-    ((mount : MountId) (kind : Propagation) → is_listed l.fn.self mount kind ≡ true
-    → is_listed l.self mount kind ≡ true)
-    × ((lower upper : GroupId) → is_lower l.fn.self lower upper ≡ true → is_lower l.self lower upper ≡ true)
