@@ -1,6 +1,5 @@
 -- The lists stay right where a mount moves.
-use Rattle.std.proofs.Common.{◌≡◌, ℕ, Bool, true, false, cond, ◌&&◌, T, List, [], ◌∷◌, map, not, nat_lt, ◌%◌, ◌==◌, eq-eqb, Option, None, Some, option_map, refl, sym, ap, subst, ◌∙◌, arith, le-ltb}
-use Rattle.std.specs.Prelude.{unwrap_or}
+use Rattle.std.proofs.Common.{◌≡◌, ℕ, Bool, true, false, cond, ◌&&◌, T, List, [], ◌∷◌, map, not, nat_lt, ◌%◌, ◌==◌, eq-eqb, Option, None, Some, refl, sym, ap, subst, ◌∙◌, arith, le-ltb}
 use Rattle.std.specs.Cmp.{nat_cmp_is}
 use Rattle.std.specs.Ordering.{eq_by_cmp, is_lt, nat_cmp}
 use Rattle.std.specs.declared.cmp.Ordering.TheVariants.{Equal, Greater}
@@ -17,6 +16,7 @@ use Rattle.vt_mount.specs.declared.mounted.Mounted.{Mounted}
 use Rattle.vt_mount.specs.Indexed.{IsIndexed, is_in_slot, numbers_where}
 use Rattle.vt_mount.specs.Indexes.{is_at, is_in, is_on, is_over, listed_at, listed_in, listed_on, listed_over, relisted, same_namespace, stood_at, stood_on, stood_over, was_in}
 use Rattle.vt_mount.specs.Listed.{inserted, same_id}
+use Rattle.vt_mount.specs.Moving.{has_small_slot}
 use Rattle.vt_mount.specs.MountsValue.{are_ascending, entries_of, id_cmp, in_order, mount_kept, mounts_in}
 use Rattle.vt_location.specs.Numbers.{counted}
 use Rattle.vt_mount.proofs.EntryLemmas.{entries, less_count}
@@ -32,10 +32,6 @@ placed_kept point one = record one { mount_point = point }
 -- what is kept of a mount that was moved
 abbrev pub moved_kept : Location → Mounted → Mounted
 moved_kept place one = placed_kept (Some place) one
-
--- the slot of a mount point is below 2^64
-abbrev pub has_small_slot : Option Location → Bool
-has_small_slot point = unwrap_or (option_map (λ place. nat_lt place.node.slot 18446744073709551616) point) true
 
 less-than : (a b : ℕ) → T (is_lt (nat_cmp a b)) → nat_lt a b ≡ true
 less-than a b less = by (nat_lt a b) (nat_lt b a) refl refl

@@ -1,10 +1,10 @@
 -- Mounts that get other mount points together.
-use Rattle.std.specs.Prelude.{List, Option, Some, [], option_map, option_to_list, ℕ, ◌++◌, ◌∷◌}
+use Rattle.std.specs.Prelude.{Bool, List, Option, Some, [], nat_lt, option_map, option_to_list, true, unwrap_or, ℕ, ◌&&◌, ◌++◌, ◌∷◌}
 use Rattle.vt_location.specs.declared.locations.Location.{Location}
 use Rattle.vt_location.specs.Locations.{location_of}
 use Rattle.vt_location.specs.Numbers.{counted}
 use Rattle.vt_mount.specs.declared.moving.NewPoint.{NewPoint}
-use Rattle.vt_mount.specs.declared.moving.OldPoint.{OldPoint}
+use Rattle.vt_mount.specs.declared.moving.Moved.{Moved}
 use Rattle.vt_mount.specs.MountsValue.{MountEntry, changed, entry_numbered}
 use Rattle.vt_spec.specs.Machine.Mounts.{Location as Place}
 
@@ -19,17 +19,25 @@ abbrev pub with_points : List NewPoint → List MountEntry → List MountEntry
 with_points [] entries = entries
 with_points (point ∷ rest) entries = moved_to point (with_points rest entries)
 
--- a mount that moved, and where it stood
-abbrev pub left_of : OldPoint → ℕ × Option (Place ℕ)
-left_of old = (counted old.mount.count, option_map location_of old.point)
+-- a mount that moved, where it stood and where it stands
+abbrev pub move_of : Moved → ℕ × Option (Place ℕ) × Location
+move_of moved = (counted moved.mount.count, option_map location_of moved.from, moved.to)
 
--- what a mount leaves, if it is there
-abbrev pub left_by : NewPoint → List MountEntry → List (ℕ × Option (Place ℕ))
-left_by point entries =
-    option_to_list (option_map (λ entry. (entry.mount.number, entry.mount.mount_point))
+-- the move of a mount, if it is there
+abbrev pub moves_by : NewPoint → List MountEntry → List (ℕ × Option (Place ℕ) × Location)
+moves_by point entries =
+    option_to_list (option_map (λ entry. (entry.mount.number, entry.mount.mount_point, point.place))
     (entry_numbered entries (counted point.mount.count)))
 
--- in the order of the moves
-abbrev pub all_left : List NewPoint → List MountEntry → List (ℕ × Option (Place ℕ))
-all_left [] entries = []
-all_left (point ∷ rest) entries = all_left rest entries ++ left_by point (with_points rest entries)
+-- in their order
+abbrev pub all_moves : List NewPoint → List MountEntry → List (ℕ × Option (Place ℕ) × Location)
+all_moves [] entries = []
+all_moves (point ∷ rest) entries = all_moves rest entries ++ moves_by point (with_points rest entries)
+
+-- the slot of a mount point's inode is below 2^64
+abbrev pub has_small_slot : Option Location → Bool
+has_small_slot point = unwrap_or (option_map (λ place. nat_lt place.node.slot 18446744073709551616) point) true
+
+-- those of both mount points are
+abbrev pub is_small : Moved → Bool
+is_small moved = has_small_slot moved.from && has_small_slot (Some moved.to)

@@ -11,4 +11,4 @@ mod places;
 mod trees;
 
 pub use mounts::Mounts;
-pub use moving::{NewPoint, OldPoint};
+pub use moving::{Moved, NewPoint};

@@ -4,5 +4,5 @@ use Rattle.vt_mount.specs.declared.mounted.Mounted.{Mounted}
 use Rattle.vt_mount.specs.Indexed.{IsIndexed}
 use Rattle.vt_mount.proofs.moving.drop_left.Given as goal
 
-abbrev pub invariant-loop-old : goal.invariant-loop-old
-invariant-loop-old l = (kept : List (MountId × Mounted)) → IsIndexed l.fn.indexes kept → IsIndexed l.indexes kept
+abbrev pub invariant-loop-one : goal.invariant-loop-one
+invariant-loop-one l = (kept : List (MountId × Mounted)) → IsIndexed l.fn.indexes kept → IsIndexed l.indexes kept

@@ -4,7 +4,7 @@ use Rattle.vt_mount.specs.Capacity.{KeepRoom}
 use Rattle.vt_mount.specs.Indexed.{IsIndexed}
 use Rattle.vt_mount.specs.Moving.{placed_entry}
 use Rattle.vt_mount.specs.MountsValue.{in_order}
-use Rattle.vt_mount.proofs.GoingBackLemmas.{goes_back-last, goes_back-same, left-absent, left-noted, one_back-written}
+use Rattle.vt_mount.proofs.GoingBackLemmas.{goes_back-last, goes_back-same, moves-absent, moves-noted, one_back-written, small-noted}
 use Rattle.vt_mount.proofs.MoveLemmas.{indexed-placed, indexed-same, moved_kept}
 use Rattle.vt_mount.proofs.OrderLemmas.{found-in_order, in_order-changed, rises-in_order}
 use Rattle.vt_mount.proofs.WriteLemmas.{entries-written, is-written, not-written, order-unwritten}
@@ -31,7 +31,7 @@ pub returns-in_err-push-clause-back : goal.returns-in_err-push-clause-back
 returns-in_err-push-clause-back c first goes =
     let map = c.args.by_number.now in
     let there = sym c.get_mut.ensures.value ∙ ap option_copied_mut c.in-Some.is in
-    goes_back-same c.args.indexes.now c.args.left.now.items _ (in_order map.entries) _ first c.in_err-push.ensures.items
+    goes_back-same c.args.indexes.now c.args.moved.now.items _ (in_order map.entries) _ first c.in_err-push.ensures.items
     (order-unwritten c.args.point.mount map.entries _
     (is-written c.args.point.mount (λ one. one) map _ c.in-Some.kept.now _ there refl (c.get_mut.follows.holds _)))
     goes
@@ -54,9 +54,9 @@ returns-in_err-shift-clause-back c first goes =
       place = c.in_err-shift.ensures.place_capacity;
       inode = c.in_err-shift.ensures.inode_capacity;
     } in
-    goes_back-last c.args.indexes.now c.shift.new.self c.args.left.now.items _ _ (in_order map.entries) _ first
+    goes_back-last c.args.indexes.now c.shift.new.self c.args.moved.now.items _ _ (in_order map.entries) _ first
     c.in_ok-push.ensures.items keeps c.requires
-    (one_back-written c.args.point.mount (λ one. one) c.in-Some.kept.now map.entries _ refl there
+    (one_back-written c.args.point.mount c.args.point.place (λ one. one) c.in-Some.kept.now map.entries _ refl there
     (is-written c.args.point.mount (λ one. one) map _ c.in-Some.kept.now _ there refl (c.get_mut.follows.holds _)))
     goes
 
@@ -93,20 +93,24 @@ returns-clause-back c first goes =
       place = c.in_ok-shift.ensures.place_capacity;
       inode = c.in_ok-shift.ensures.inode_capacity;
     } in
-    goes_back-last c.args.indexes.now c.shift.new.self c.args.left.now.items _ _ (in_order map.entries) _ first
+    goes_back-last c.args.indexes.now c.shift.new.self c.args.moved.now.items _ _ (in_order map.entries) _ first
     c.in_ok-push.ensures.items keeps c.requires
-    (one_back-written c.args.point.mount change c.in-Some.kept.now map.entries _ refl there
+    (one_back-written c.args.point.mount c.args.point.place change c.in-Some.kept.now map.entries _ refl there
     (is-written c.args.point.mount change map _ c.in-Some.kept.now _ there refl (c.get_mut.follows.holds _)))
     goes
 
-pub returns-in_default-clause-left : goal.returns-in_default-clause-left
-returns-in_default-clause-left c =
-    let map = c.args.by_number.now in
-    left-absent c.args.left.now.items c.args.point map.entries
+pub returns-in_default-clause-moves : goal.returns-in_default-clause-moves
+returns-in_default-clause-moves c =
+    moves-absent c.args.moved.now.items c.args.point c.args.by_number.now.entries
     (sym c.get_mut.ensures.value ∙ ap option_copied_mut c.in_default.is)
 
-pub returns-clause-left : goal.returns-clause-left
-returns-clause-left c =
-    let map = c.args.by_number.now in
-    left-noted c.args.left.now.items _ c.args.point c.in-Some.kept.now map.entries c.in_ok-push.ensures.items
-    (sym c.get_mut.ensures.value ∙ ap option_copied_mut c.in-Some.is)
+pub returns-clause-moves : goal.returns-clause-moves
+returns-clause-moves c =
+    moves-noted c.args.moved.now.items _ c.args.point c.in-Some.kept.now c.args.by_number.now.entries
+    c.in_ok-push.ensures.items (sym c.get_mut.ensures.value ∙ ap option_copied_mut c.in-Some.is)
+
+pub returns-clause-small : goal.returns-clause-small
+returns-clause-small c =
+    small-noted c.args.moved.now.items _ c.args.point c.in-Some.kept.now c.args.by_number.now.entries
+    c.in_ok-push.ensures.items (sym c.get_mut.ensures.value ∙ ap option_copied_mut c.in-Some.is) c.requires.slots
+    c.in_ok-shift.ensures.slot
