@@ -36,7 +36,16 @@ named_sum n node (first ∷ rest) =
     omega arith
 
 pub same_itself : (f : Filesystem ℕ) → SameFilesystem f f
-same_itself f = record { number = refl; files = record { tree = refl; numbers = IsPermutation-refl f.files.numbers }; overlay = refl }
+same_itself f =
+    record {
+      number = refl;
+      files = record {
+        tree = refl;
+        numbers = IsPermutation-refl
+            f.files.numbers;
+      };
+      overlay = refl;
+    }
 
 found_same : (ones others : List (Filesystem ℕ)) → SameFilesystems ones others → (k : ℕ)
     → SameFilesystem (unwrap_or (find (λ f. nat_eq k f.number) ones) (no_filesystem k))

@@ -119,7 +119,8 @@ locations_are_uses world after gained lost front back mounts filesystems locatio
       (λ i. count_in world.mounts k n (locations i ++ roots ++ points)) in
       let is : times_in n (located_in nat_eq after k)
       ≡ count_in world.mounts k n ((front ++ (gained ++ back)) ++ roots ++ points)
-      = (λ i. count_in (mounts i) k n (now i ++ map root_of (mounts i) ++ filter_map (λ mount. mount.mount_point) (mounts i))) in
+      = (λ i. count_in (mounts i) k n
+      (now i ++ map root_of (mounts i) ++ filter_map (λ mount. mount.mount_point) (mounts i))) in
       let first = split n lost in
       let second = split n gained in
       let gains = count_places world.mounts k n gained in
@@ -152,12 +153,14 @@ roots_append [] other = refl
 roots_append (first ∷ rest) other = ap (λ l. root_of first ∷ l) (roots_append rest other)
 
 points_append : (one other : List (Mount ℕ)) → filter_map (λ (mount : Mount ℕ). mount.mount_point) (one ++ other)
-    ≡ filter_map (λ (mount : Mount ℕ). mount.mount_point) one ++ filter_map (λ (mount : Mount ℕ). mount.mount_point) other
+    ≡ filter_map (λ (mount : Mount ℕ). mount.mount_point) one
+    ++ filter_map (λ (mount : Mount ℕ). mount.mount_point) other
 points_append [] other = refl
 points_append (first ∷ rest) other = by first.mount_point (points_append rest other)
   where
     by : (o : Option (Location ℕ)) → filter_map (λ (mount : Mount ℕ). mount.mount_point) (rest ++ other)
-        ≡ filter_map (λ (mount : Mount ℕ). mount.mount_point) rest ++ filter_map (λ (mount : Mount ℕ). mount.mount_point) other
+        ≡ filter_map (λ (mount : Mount ℕ). mount.mount_point) rest
+        ++ filter_map (λ (mount : Mount ℕ). mount.mount_point) other
         → cons_option o (filter_map (λ (mount : Mount ℕ). mount.mount_point) (rest ++ other))
         ≡ cons_option o (filter_map (λ (mount : Mount ℕ). mount.mount_point) rest)
         ++ filter_map (λ (mount : Mount ℕ). mount.mount_point) other
@@ -339,7 +342,8 @@ mount_is_placed world after front back old new filesystems locations were are nu
         ∙ count_places olds k n some
 
     parts : (n : ℕ) (mount : Mount ℕ) → count_in olds k n (points (front ++ (mount ∷ back)))
-        ≡ (count_in olds k n (points front) + count_in olds k n (option_to_list mount.mount_point)) + count_in olds k n (points back)
+        ≡ (count_in olds k n (points front) + count_in olds k n (option_to_list mount.mount_point)) + count_in olds k n
+        (points back)
     parts n mount =
         ap (count_in olds k n) (points_append front (mount ∷ back))
         ∙ by mount.mount_point
@@ -418,7 +422,11 @@ new_tree_is_counted world number root plain one own outside = record {
 }
   where
     nodes : (n : ℕ) (b : Bool) → node_in (cond b
-        (Some (record { node = record { attr = root_attr; content = new_directory root }; uses = 1 + mounts_showing world number })) None)
+        (Some (record {
+          node = record { attr = root_attr; content = new_directory root };
+          uses = 1 + mounts_showing
+              world number;
+        })) None)
         ≡ cond b (Some (record { attr = root_attr; content = new_directory root })) None
     nodes n true = refl
     nodes n false = refl

@@ -35,7 +35,8 @@ counted_changes_are_swept fresh world location inodes change is files tree once 
       mounts = refl;
       master = refl;
       filesystems = same_filesystems (with_files old files) (with_files old left) refl
-          (record { number = refl; files = record { tree = same_tree; numbers = same_numbers }; overlay = refl }) world.filesystems;
+          (record { number = refl; files = record { tree = same_tree; numbers = same_numbers }; overlay = refl })
+          world.filesystems;
       namespaces = refl;
       tasks = refl;
     })

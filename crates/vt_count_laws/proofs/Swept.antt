@@ -249,7 +249,8 @@ pub counted_start : (world : World ℕ) (filesystem : Filesystem ℕ) (inodes : 
 counted_start world filesystem inodes plain tree used counted = record {
   tallied = record {
     counted = other_uses (inode_uses world filesystem)
-        (uses_of (base_of world filesystem) filesystem.files.tree.node filesystem.files.numbers) filesystem.files.tree.node inodes
+        (uses_of (base_of world filesystem) filesystem.files.tree.node filesystem.files.numbers)
+        filesystem.files.tree.node inodes
         (plain_uses_are world plain filesystem) (start_counts world filesystem inodes tree used counted);
     once = λ n. once_or_none n filesystem.files.numbers counted.once ∙ ap (λ b. cond b 1 0) (tree.numbers n);
   };

@@ -71,7 +71,8 @@ pub commutes_nat : (S T : Type 0 → Type 0) (given : Named S) (made : Named T)
     ≡ made.rename ℕ ℕ renaming.there renaming.back (make ℕ nat_eq s)
 commutes_nat S T given made make renaming s =
     commutes S T given made make
-    (iso_to_equiv (record { fun = renaming.there; inv = renaming.back; rinv = renaming.there_back; linv = renaming.back_there }))
+    (iso_to_equiv
+    (record { fun = renaming.there; inv = renaming.back; rinv = renaming.there_back; linv = renaming.back_there }))
     nat_eq renaming.back renaming.there_back s
     ∙ ap (λ (eq : ℕ → ℕ → Bool). made.rename ℕ ℕ renaming.there renaming.back (make ℕ eq s))
     (λ i a b. same_test renaming a b i)

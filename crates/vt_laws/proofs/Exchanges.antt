@@ -33,7 +33,8 @@ swapped_twice a b k =
     (eqb_tells k a)
 
 abbrev pub exchange : ℕ → ℕ → Renaming ℕ ℕ
-exchange a b = record { there = swapped a b; back = swapped a b; there_back = swapped_twice a b; back_there = swapped_twice a b }
+exchange a b =
+    record { there = swapped a b; back = swapped a b; there_back = swapped_twice a b; back_there = swapped_twice a b }
 
 -- an exchange of two numbers that are left out leaves the others where they are
 pub exchange_leaves : (named : ℕ → Bool) (a b : ℕ) → named a ≡ false → named b ≡ false → Leaves (exchange a b) named

@@ -85,7 +85,8 @@ module _ (named : ℕ → Bool) (renaming : Renaming ℕ ℕ) (leaves : Leaves r
       λ i. record {
         number = leaves mount.number first.0 i;
         namespace = option_left there named leaves mount.namespace first.1 i;
-        mount_point = option_left (renamed_location there back) (location_named named) location_left mount.mount_point place.1 i;
+        mount_point =
+            option_left (renamed_location there back) (location_named named) location_left mount.mount_point place.1 i;
         filesystem = leaves mount.filesystem filesystem.1 i;
         root = leaves mount.root root.1 i;
         flags = mount.flags;
@@ -154,7 +155,12 @@ module _ (named : ℕ → Bool) (renaming : Renaming ℕ ℕ) (leaves : Leaves r
   descriptor_left : (descriptor : Descriptor ℕ) → descriptor_named named descriptor ≡ true
       → renamed_descriptor there back descriptor ≡ descriptor
   descriptor_left descriptor e =
-      λ i. record { number = descriptor.number; location = location_left descriptor.location e i; reads = descriptor.reads; writes = descriptor.writes }
+      λ i. record {
+        number = descriptor.number;
+        location = location_left descriptor.location e i;
+        reads = descriptor.reads;
+        writes = descriptor.writes;
+      }
 
   task_left : (task : Task ℕ) → task_named named task ≡ true → renamed_task there back task ≡ task
   task_left task e =

@@ -190,11 +190,12 @@ module _ {N : Type 0} (eq : N → N → Bool) where
   -- the outcome of each call
   call_own : (fresh : Fresh N) (world : World N) (task : Task N) (call : Call)
       → DeniesOwn (rules_of call) world (call_outcome eq fresh world task call)
-  unfolding list_outcome stat_outcome lstat_outcome readlink_outcome read_outcome exec_outcome mkdir_outcome symlink_outcome
-      whiteout_outcome hard_link_outcome write_outcome unlink_outcome rmdir_outcome rename_outcome chmod_outcome chown_outcome
-      opaque_outcome pread_outcome pwrite_outcome close_outcome fork_outcome umask_outcome drop_outcome chdir_outcome
-      chroot_outcome exit_outcome unshare_outcome setns_outcome mount_plain_outcome mount_overlay_outcome bind_outcome
-      move_outcome umount_outcome lazy_outcome remount_outcome type_outcome pivot_outcome mounts_outcome
+  unfolding list_outcome stat_outcome lstat_outcome readlink_outcome read_outcome exec_outcome mkdir_outcome
+      symlink_outcome whiteout_outcome hard_link_outcome write_outcome unlink_outcome rmdir_outcome rename_outcome
+      chmod_outcome chown_outcome opaque_outcome pread_outcome pwrite_outcome close_outcome fork_outcome umask_outcome
+      drop_outcome chdir_outcome chroot_outcome exit_outcome unshare_outcome setns_outcome mount_plain_outcome
+      mount_overlay_outcome bind_outcome move_outcome umount_outcome lazy_outcome remount_outcome type_outcome
+      pivot_outcome mounts_outcome
   call_own fresh world task (Ls path) =
       let own = rules_of (Ls path) in
       walk_own own world (walks_of (Ls path) refl) (directory_walk eq world task path) _

@@ -31,7 +31,8 @@ directive_changes_nothing world (AskSealed names) = judged_keeps world (_ ∷ []
 -- the outcome of a call that only looks
 looks_keep : (fresh : Fresh ℕ) (world : World ℕ) (task : Task ℕ) (call : Call) → only_looks call ≡ true
     → (call_outcome nat_eq fresh world task call).world ≡ world
-unfolding list_outcome stat_outcome lstat_outcome readlink_outcome read_outcome exec_outcome pread_outcome mounts_outcome
+unfolding list_outcome stat_outcome lstat_outcome readlink_outcome read_outcome exec_outcome pread_outcome
+    mounts_outcome
 looks_keep fresh world task (Ls path) e =
     after_keeps world (walk_end (directory_walk nat_eq world task path)) _
     (λ here. judged_keeps world (list_rules nat_eq world task here.location) _ refl)

@@ -51,7 +51,8 @@ module _ (stack : Stack ℕ) (merge : Merge ℕ) (whole : IsWhole stack merge) w
       by name (Some d) e = true≢false (sym (has_a_name merge.files whole.numbers d name object e) ∙ ap is_some none)
 
   -- so each object that is there is at a place
-  pub place_of : (object : ℕ) → is_some (merge.files.tree.node object) ≡ true → (place : Place) × IsAt merge object place
+  pub place_of : (object : ℕ) → is_some (merge.files.tree.node object) ≡ true
+      → (place : Place) × IsAt merge object place
   place_of object there = by (nat_eq object merge.files.tree.root) refl (a_name nat_eq merge.files object) refl
     where
       by : (b : Bool) → nat_eq object merge.files.tree.root ≡ b → (o : Option (ℕ × List ℕ))

@@ -223,7 +223,8 @@ points_keep_roots world location each =
     (points_of nat_eq world location)) world.mounts mount m in
     let some =
     any_among (λ point. is_point nat_eq world point.0 point.1 mount) (points_of nat_eq world location) from.1 in
-    ap (λ x. is_some x.mount_point) (found_itself world.mounts each mount from.0) ∙ placed mount.mount_point some.0 some.2))
+    ap (λ x. is_some x.mount_point) (found_itself world.mounts each mount from.0)
+    ∙ placed mount.mount_point some.0 some.2))
   where
     placed : (place : Option (Location ℕ)) (point : ℕ × ℕ)
         → holds_of (λ p. nat_eq p.node point.1 && nat_eq (mount_at nat_eq world p).filesystem point.0) place ≡ true

@@ -28,7 +28,8 @@ no_place_outside : (world : World ℕ) → NowhereOrAttached world → (number :
     → (mount_numbered nat_eq world number).mount_point ≡ None
 no_place_outside world nowhere number e =
     ⊎_elim
-    (λ there. by mount.mount_point (sym (ap (λ b. b || (not (is_some mount.mount_point) && is_private mount.propagation)) e)
+    (λ there. by mount.mount_point
+    (sym (ap (λ b. b || (not (is_some mount.mount_point) && is_private mount.propagation)) e)
     ∙ among_from_list_all is_nowhere_or_attached world.mounts nowhere mount there))
     (λ none. ap (λ m. m.mount_point) none)
     (found_or_none world.mounts number)

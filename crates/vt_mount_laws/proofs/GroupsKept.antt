@@ -285,7 +285,8 @@ settling_keeps_groups world nowhere live = groups_live_by (settled nat_eq world)
         by (is_some mount.namespace)
         (sym (ap (λ k. is_some mount.namespace || (not (is_some mount.mount_point) && is_private k)) shared) ∙ fit)
       where
-        by : (b : Bool) → (b || (not (is_some mount.mount_point) && false)) ≡ true → (b || is_located nat_eq world mount.number) ≡ true
+        by : (b : Bool) → (b || (not (is_some mount.mount_point) && false)) ≡ true
+            → (b || is_located nat_eq world mount.number) ≡ true
         by true e = refl
         by false e = absurd (true≢false (sym e ∙ and-false (not (is_some mount.mount_point))))
 

@@ -88,7 +88,8 @@ module _ (world after : World ℕ)
 pub type_keeps_places_ending : TypeKeepsPlacesEnding
 type_keeps_places_ending world fresh number word recursive one ends =
     places_end_alike world (with_type nat_eq fresh world number word recursive)
-    (λ other. let r = type_is_all_that_changes world fresh number word recursive other in record { mount_point = r.mount_point; namespace = r.namespace })
+    (λ other. let r = type_is_all_that_changes world fresh number word recursive other in
+    record { mount_point = r.mount_point; namespace = r.namespace })
     one (numbers_with_type world fresh number word recursive) ends
 
 pub flags_keep_places_ending : FlagsKeepPlacesEnding

@@ -74,18 +74,23 @@ nowhere_inherits world mount e = by mount.propagation refl e
 
     by : (kind : Propagation ℕ) → mount.propagation ≡ kind
         → (is_some mount.namespace || (not (is_some mount.mount_point) && is_private mount.propagation)) ≡ true
-        → (is_some mount.namespace || (not (is_some mount.mount_point) && is_private (inherited nat_eq world mount.propagation))) ≡ true
+        → (is_some mount.namespace
+        || (not (is_some mount.mount_point) && is_private (inherited nat_eq world mount.propagation))) ≡ true
     by (Shared group) f h =
-        ap (λ k. is_some mount.namespace || (not (is_some mount.mount_point) && is_private (inherited nat_eq world k))) f
+        ap (λ k. is_some mount.namespace || (not (is_some mount.mount_point) && is_private (inherited nat_eq world k)))
+        f
         ∙ sym (ap (λ k. is_some mount.namespace || (not (is_some mount.mount_point) && is_private k)) f) ∙ h
     by (Slave above) f h =
-        either_way (is_some mount.namespace) (not (is_some mount.mount_point)) (is_private (inherited nat_eq world mount.propagation))
+        either_way (is_some mount.namespace) (not (is_some mount.mount_point))
+        (is_private (inherited nat_eq world mount.propagation))
         (sym (ap (λ k. is_some mount.namespace || (not (is_some mount.mount_point) && is_private k)) f) ∙ h)
     by Private f h =
-        ap (λ k. is_some mount.namespace || (not (is_some mount.mount_point) && is_private (inherited nat_eq world k))) f
+        ap (λ k. is_some mount.namespace || (not (is_some mount.mount_point) && is_private (inherited nat_eq world k)))
+        f
         ∙ sym (ap (λ k. is_some mount.namespace || (not (is_some mount.mount_point) && is_private k)) f) ∙ h
     by Unbindable f h =
-        ap (λ k. is_some mount.namespace || (not (is_some mount.mount_point) && is_private (inherited nat_eq world k))) f
+        ap (λ k. is_some mount.namespace || (not (is_some mount.mount_point) && is_private (inherited nat_eq world k)))
+        f
         ∙ sym (ap (λ k. is_some mount.namespace || (not (is_some mount.mount_point) && is_private k)) f) ∙ h
 
 nowhere_after : (world : World ℕ) (gone : List ℕ) (mount : Mount ℕ) → is_nowhere_or_attached mount ≡ true

@@ -129,7 +129,10 @@ module _ (world : World ℕ) where
   -- each such call
   call_leaves : (fresh : Fresh ℕ) (task : Task ℕ) (call : Call) → is_of_no_mount call ≡ true
       → Leaves (call_outcome nat_eq fresh world task call)
-  unfolding list_outcome stat_outcome lstat_outcome readlink_outcome read_outcome exec_outcome mkdir_outcome symlink_outcome whiteout_outcome hard_link_outcome write_outcome unlink_outcome chmod_outcome chown_outcome opaque_outcome open_outcome pread_outcome pwrite_outcome close_outcome chdir_outcome chroot_outcome umask_outcome drop_outcome fork_outcome mounts_outcome
+  unfolding list_outcome stat_outcome lstat_outcome readlink_outcome read_outcome exec_outcome mkdir_outcome
+      symlink_outcome whiteout_outcome hard_link_outcome write_outcome unlink_outcome chmod_outcome chown_outcome
+      opaque_outcome open_outcome pread_outcome pwrite_outcome close_outcome chdir_outcome chroot_outcome umask_outcome
+      drop_outcome fork_outcome mounts_outcome
   call_leaves fresh task (Ls path) e =
       after_leaves (walk_end (directory_walk nat_eq world task path)) _
       (λ here. judged_leaves (list_rules nat_eq world task here.location) _ refl)

@@ -16,7 +16,8 @@ same_location_itself place =
     (eq-eqb place.node place.node refl)
 
 -- a mount that stands at a place has it
-pub stands_there : (place : Location ℕ) (mount : Mount ℕ) → stands_at nat_eq place mount ≡ true → mount.mount_point ≡ Some place
+pub stands_there : (place : Location ℕ) (mount : Mount ℕ) → stands_at nat_eq place mount ≡ true
+    → mount.mount_point ≡ Some place
 stands_there place mount h = by mount.mount_point refl
   where
     by : (other : Option (Location ℕ)) → mount.mount_point ≡ other → mount.mount_point ≡ Some place
@@ -24,7 +25,8 @@ stands_there place mount h = by mount.mount_point refl
     by (Some other) e = e ∙ ap Some
         (sym (same_location_is place other (sym (ap (holds_of (same_location nat_eq place)) e) ∙ h)))
 
-pub stands_at_its_place : (place : Location ℕ) (mount : Mount ℕ) → mount.mount_point ≡ Some place → stands_at nat_eq place mount ≡ true
+pub stands_at_its_place : (place : Location ℕ) (mount : Mount ℕ) → mount.mount_point ≡ Some place
+    → stands_at nat_eq place mount ≡ true
 stands_at_its_place place mount e = ap (holds_of (same_location nat_eq place)) e ∙ same_location_itself place
 
 pub one_place_of_two : (place : Location ℕ) (a b : Mount ℕ) → a.mount_point ≡ Some place → b.mount_point ≡ Some place
@@ -59,7 +61,8 @@ found_at_its_place (first ∷ rest) one mount m place e =
 
 pub stands_alone : StandsAloneAtItsPlace
 stands_alone mounts one =
-    all_from_among (λ mount. (place : Location ℕ) → mount.mount_point ≡ Some place → child_at nat_eq mounts place ≡ Some mount) mounts
+    all_from_among
+    (λ mount. (place : Location ℕ) → mount.mount_point ≡ Some place → child_at nat_eq mounts place ≡ Some mount) mounts
     (λ mount m place e. found_at_its_place mounts one mount m place e)
 
 -- two that stand at one place have it

@@ -60,7 +60,8 @@ module _ (world : World ℕ) (group : ℕ → ℕ) (word : TypeWord) (named : Li
   retype_keeps mount = by (is_named mount)
     where
       by : (b : Bool) → KeepsAllButType mount (retyped_if mount b)
-      by true = record { number = refl; namespace = refl; mount_point = refl; filesystem = refl; root = refl; flags = refl }
+      by true =
+          record { number = refl; namespace = refl; mount_point = refl; filesystem = refl; root = refl; flags = refl }
       by false = all_but_type_itself mount
 
   pub numbers-retyped : numbers_of next_world.mounts ≡ numbers_of world.mounts

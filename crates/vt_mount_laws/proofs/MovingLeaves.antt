@@ -351,7 +351,8 @@ module _ (world : World ℕ) (new : Copies ℕ) (place : Location ℕ) (mounts :
   -- Places: the top is at the place, another one where a mount of its number stood
   data LeftPlace (mount : Mount ℕ) : Type 0 where
     at_destination : nat_eq mount.number may.top.number ≡ true → mount.mount_point ≡ Some place → LeftPlace mount
-    as_it_was : (old : Mount ℕ) → Among old world.mounts → old.number ≡ mount.number → mount.mount_point ≡ old.mount_point
+    as_it_was : (old : Mount ℕ) → Among old world.mounts → old.number ≡ mount.number
+        → mount.mount_point ≡ old.mount_point
         → LeftPlace mount
 
   left_place : (mount : Mount ℕ) → LeftCase mount → LeftPlace mount

@@ -213,7 +213,8 @@ module _ (world : World ℕ) (namespace : ℕ) (root new : Mount ℕ) (put : Loc
       ∙ ap (λ x. x.mount_point) (found_itself world.mounts mounts.one_number mount m)
 
   no_place : (number : ℕ) (mount : Mount ℕ) → Among mount world.mounts → mount.number ≡ number
-      → (mount_numbered nat_eq world number).mount_point ≡ None → (place : Location ℕ) → mount.mount_point ≡ Some place → ⊥
+      → (mount_numbered nat_eq world number).mount_point ≡ None → (place : Location ℕ) → mount.mount_point ≡ Some place
+      → ⊥
   no_place number mount m same e place f =
       true≢false (sym (ap is_some f) ∙ ap is_some (sym (found_place number mount m same)) ∙ ap is_some e)
 

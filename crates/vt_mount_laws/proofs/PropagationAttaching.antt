@@ -57,7 +57,8 @@ module _ (it : Attachment) (can : CanAttach it) where
   pub is_copy : (part origin : Mount ℕ) → IsPart it part → IsOfTree it origin
       → copy_of it part origin ≡ arrived_at part origin
   is_copy part origin c d =
-      found_copy it.world supply it.mount_point it.moves it.mounts serve_copies can.each_once can.one_number moving_there part
+      found_copy it.world supply it.mount_point it.moves it.mounts serve_copies can.each_once can.one_number
+      moving_there part
       origin (part_among part c) (tree_among origin d)
 
   pub copy_keeps : (part origin : Mount ℕ) → IsPart it part → IsOfTree it origin
@@ -137,7 +138,9 @@ module _ (it : Attachment) (can : CanAttach it) where
       takers = rest_of (parts_of nat_eq it.world it.mount_point)
 
       place : (made_at part origin).mount_point ≡ Some (record { mount = number_at it part below; node = at.node })
-      place = other_place it.world supply it.mount_point it.moves it.mounts part first origin below rest at e differ stood on
+      place =
+          other_place it.world supply it.mount_point it.moves it.mounts part first origin below rest at e differ stood
+          on
 
       by : (b : Bool) → moves_to it part ≡ b
           → (b && list_any (is_pushed_by it.world supply (tree it.world supply it.mount_point it.moves it.mounts)

@@ -72,7 +72,8 @@ module _ (world : World ℕ) (live : GroupsLive world) (mount : Mount ℕ) where
       listed : (numbers : List ℕ) → going nat_eq world mount ≡ numbers → Among number numbers
       listed numbers e = among_numbers numbers number (sym (ap (λ ns. is_going nat_eq ns number) e) ∙ h)
 
-      shared : (place : Location ℕ) (group : ℕ) → mount.mount_point ≡ Some place → (mount_at nat_eq world place).propagation ≡ Shared group
+      shared : (place : Location ℕ) (group : ℕ) → mount.mount_point ≡ Some place
+          → (mount_at nat_eq world place).propagation ≡ Shared group
           → Among number (map (λ gone. gone.number)
           (filter_map (goes_at nat_eq world place.node) (receivers nat_eq world group)))
           → Goes world mount number

@@ -69,7 +69,8 @@ module _ (world : World ℕ) where
   -- one mount stands so many places above another
   data Reaches : ℕ → Mount ℕ → Mount ℕ → Type 0 where
     arrived : (mount : Mount ℕ) → Reaches zero mount mount
-    down : (n : ℕ) (mount end : Mount ℕ) (place : Location ℕ) → mount.mount_point ≡ Some place → Reaches n (mount_at nat_eq world place) end
+    down : (n : ℕ) (mount end : Mount ℕ) (place : Location ℕ) → mount.mount_point ≡ Some place
+        → Reaches n (mount_at nat_eq world place) end
         → Reaches (suc n) mount end
 
   one_more : (n : ℕ) (mount end : Mount ℕ) (place : Location ℕ) → Reaches n mount end → end.mount_point ≡ Some place

@@ -36,7 +36,8 @@ module _ (world : World ℕ) (mounts : MountInvariants nat_eq world) where
       among_from_all (λ (other : Mount ℕ). Stands nat_eq world other.number) world.mounts mounts.standing mount m
 
   -- a mount outside every namespace has no place
-  pub placed_inside : (mount : Mount ℕ) → Among mount world.mounts → (place : Location ℕ) → mount.mount_point ≡ Some place
+  pub placed_inside : (mount : Mount ℕ) → Among mount world.mounts → (place : Location ℕ)
+      → mount.mount_point ≡ Some place
       → mount.namespace ≡ None → ⊥
   placed_inside mount m place e none =
       true≢false

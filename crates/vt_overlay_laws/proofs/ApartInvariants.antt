@@ -71,7 +71,8 @@ module _ (fresh : Fresh ℕ) (world : World ℕ) (location : Location ℕ) (chan
   changed = ApartLater.changed fresh world location change overlay upper conditions is has distinct none asked
 
   abbrev changed_upper : Filesystem ℕ
-  changed_upper = ApartLater.changed_upper fresh world location change overlay upper conditions is has distinct none asked
+  changed_upper =
+      ApartLater.changed_upper fresh world location change overlay upper conditions is has distinct none asked
 
   later_is : later ≡ WholeLater.later fresh world location change overlay upper conditions is has distinct none asked
   later_is = ApartLater.later_is fresh world location change overlay upper conditions is has distinct none asked
@@ -121,7 +122,8 @@ module _ (fresh : Fresh ℕ) (world : World ℕ) (location : Location ℕ) (chan
       here : (nat_eq n number ≡ true) × (n ≡ number) → IsMerged nat_eq later (filesystem_numbered nat_eq later n) other
       here t =
           subst (λ k. IsMerged nat_eq later (filesystem_numbered nat_eq later k) other) (sym t.1)
-          (changed_overlay_is_merged fresh world location change overlay other upper conditions is has distinct none asked
+          (changed_overlay_is_merged fresh world location change overlay other upper conditions is has distinct none
+          asked
           (ap (λ k. (filesystem_numbered nat_eq later k).overlay) (sym t.1) ∙ e))
 
       at_upper : n ≢ number → (nat_eq n upper.filesystem ≡ true) × (n ≡ upper.filesystem)
@@ -133,7 +135,9 @@ module _ (fresh : Fresh ℕ) (world : World ℕ) (location : Location ℕ) (chan
       elsewhere : n ≢ number → (nat_eq n upper.filesystem ≡ false) × (n ≢ upper.filesystem)
           → IsMerged nat_eq later (filesystem_numbered nat_eq later n) other
       elsewhere differ t =
-          let same = ApartLater.stays fresh world location change overlay upper conditions is has distinct none asked n differ t.1 in
+          let same =
+          ApartLater.stays fresh world location change overlay upper conditions is has distinct none asked n differ
+          t.1 in
           subst (λ f. IsMerged nat_eq later f other) (sym same)
           (other_overlays_stay_merged fresh world location change overlay other upper n conditions is has none
           (WholeLater.spoken (stack_of nat_eq world overlay upper)
@@ -143,7 +147,8 @@ module _ (fresh : Fresh ℕ) (world : World ℕ) (location : Location ℕ) (chan
 
   -- layers are directories of plain trees
   still_plain : (layer : Layer ℕ)
-      → (layer ≡ upper) ⊎ ApartLater.IsOther fresh world location change overlay upper conditions is has distinct none asked layer
+      → (layer ≡ upper) ⊎ ApartLater.IsOther fresh world location change overlay upper conditions is has distinct none
+      asked layer
       → is_plain_layer nat_eq later layer ≡ true
   still_plain layer live =
       and_from (not (is_overlay (filesystem_numbered nat_eq later layer.filesystem))) _
@@ -153,7 +158,8 @@ module _ (fresh : Fresh ℕ) (world : World ℕ) (location : Location ℕ) (chan
       was_plain =
           ⊎_elim (λ same. ap (is_plain_layer nat_eq world) same
           ∙ ApartLater.upper_plain fresh world location change overlay upper conditions is has distinct none asked)
-          (λ other. ApartLater.other_plain fresh world location change overlay upper conditions is has distinct none asked layer other) live
+          (λ other. ApartLater.other_plain fresh world location change overlay upper conditions is has distinct none
+          asked layer other) live
 
       no_overlay : ((nat_eq layer.filesystem upper.filesystem ≡ true) × (layer.filesystem ≡ upper.filesystem))
           ⊎ ((nat_eq layer.filesystem upper.filesystem ≡ false) × (layer.filesystem ≢ upper.filesystem))
@@ -163,8 +169,10 @@ module _ (fresh : Fresh ℕ) (world : World ℕ) (location : Location ℕ) (chan
           ∙ ap (λ f. not (is_overlay f)) upper_later ∙ ap (λ o. not (is_some o)) upper_none
       no_overlay (inr t) =
           ap (λ f. not (is_overlay f))
-          (ApartLater.stays fresh world location change overlay upper conditions is has distinct none asked layer.filesystem
-          (ApartLater.plain_elsewhere fresh world location change overlay upper conditions is has distinct none asked layer was_plain) t.1)
+          (ApartLater.stays fresh world location change overlay upper conditions is has distinct none asked
+          layer.filesystem
+          (ApartLater.plain_elsewhere fresh world location change overlay upper conditions is has distinct none asked
+          layer was_plain) t.1)
           ∙ and_true_left (not (is_overlay (filesystem_numbered nat_eq world layer.filesystem))) _ was_plain
 
       directory : (layer ≡ upper)
@@ -174,19 +182,24 @@ module _ (fresh : Fresh ℕ) (world : World ℕ) (location : Location ℕ) (chan
       directory (inl same) =
           ap (λ l. is_directory_node ((filesystem_numbered nat_eq later l.filesystem).files.tree.node l.directory)) same
           ∙ ap (λ f. is_directory_node (f.files.tree.node upper.directory)) upper_later
-          ∙ (ApartLater.goes fresh world location change overlay upper conditions is has distinct none asked).good.directory
+          ∙ (ApartLater.goes fresh world location change overlay upper conditions is has distinct none
+          asked).good.directory
       directory (inr other) =
           directory_alike _ _
-          (alike_kept _ _ (ApartLater.other_leads fresh world location change overlay upper conditions is has distinct none asked layer other []).1)
+          (alike_kept _ _
+          (ApartLater.other_leads fresh world location change overlay upper conditions is has distinct none asked layer
+          other []).1)
           ∙ and_true_right (not (is_overlay (filesystem_numbered nat_eq world layer.filesystem))) _ was_plain
 
   live : (n : ℕ) (v : Overlay ℕ) → (filesystem_numbered nat_eq world n).overlay ≡ Some v → (layer : Layer ℕ)
       → Among layer (layers_of v)
-      → (layer ≡ upper) ⊎ ApartLater.IsOther fresh world location change overlay upper conditions is has distinct none asked layer
+      → (layer ≡ upper) ⊎ ApartLater.IsOther fresh world location change overlay upper conditions is has distinct none
+      asked layer
   live n v e layer m =
       ⊎_elim
       (λ up. ⊎_elim inl (λ differ. inr (inl (layer_among world conditions upper_and_work n v e layer up, differ)))
-      (ApartLater.same_layer fresh world location change overlay upper conditions is has distinct none asked layer upper))
+      (ApartLater.same_layer fresh world location change overlay upper conditions is has distinct none asked layer
+      upper))
       (λ low. inr (inr (layer_among world conditions (λ o. o.lowers) n v e layer low)))
       (among-append (upper_and_work v) v.lowers layer m)
 
@@ -214,9 +227,12 @@ module _ (fresh : Fresh ℕ) (world : World ℕ) (location : Location ℕ) (chan
           → IsReached (filesystem_numbered nat_eq later layer.filesystem).files.tree layer.directory
       elsewhere t =
           subst (λ (f : Filesystem ℕ). IsReached f.files.tree layer.directory)
-          (sym (ApartLater.stays fresh world location change overlay upper conditions is has distinct none asked layer.filesystem
-          (ApartLater.plain_elsewhere fresh world location change overlay upper conditions is has distinct none asked layer
-          (ApartLater.other_plain fresh world location change overlay upper conditions is has distinct none asked layer other)) t.1)) was
+          (sym (ApartLater.stays fresh world location change overlay upper conditions is has distinct none asked
+          layer.filesystem
+          (ApartLater.plain_elsewhere fresh world location change overlay upper conditions is has distinct none asked
+          layer
+          (ApartLater.other_plain fresh world location change overlay upper conditions is has distinct none asked layer
+          other)) t.1)) was
 
   uppers_later : (n : ℕ) (v : Overlay ℕ) (u : Layer ℕ) → (filesystem_numbered nat_eq later n).overlay ≡ Some v
       → v.upper ≡ Some u
@@ -248,7 +264,8 @@ module _ (fresh : Fresh ℕ) (world : World ℕ) (location : Location ℕ) (chan
           → IsReached (filesystem_numbered nat_eq later u.filesystem).files.tree u.directory
       elsewhere differ t =
           let was = sym (ap (λ (x : Filesystem ℕ). x.overlay)
-          (ApartLater.stays fresh world location change overlay upper conditions is has distinct none asked n differ t.1)) ∙ e in
+          (ApartLater.stays fresh world location change overlay upper conditions is has distinct none asked n differ
+          t.1)) ∙ e in
           ⊎_elim as_upper (λ other. other_reached u other (conditions.overlays.uppers_reached n v u was f))
           (live n v was u (upper_in_layers world conditions n v was u f))
 
@@ -265,7 +282,8 @@ module _ (fresh : Fresh ℕ) (world : World ℕ) (location : Location ℕ) (chan
       old f m None e = refl
       old f m (Some v) e =
           holds f.number v (ap (λ x. x.overlay)
-          (ApartLater.own_number fresh world location change overlay upper conditions is has distinct none asked f m) ∙ e)
+          (ApartLater.own_number fresh world location change overlay upper conditions is has distinct none asked f m)
+          ∙ e)
 
       by : (f : Filesystem ℕ) → (f ≡ changed) ⊎ ((f ≡ changed_upper) ⊎ Among f world.filesystems)
           → of_overlay true test f ≡ true
@@ -275,7 +293,8 @@ module _ (fresh : Fresh ℕ) (world : World ℕ) (location : Location ℕ) (chan
 
   pub overlay_invariants : OverlayInvariants nat_eq later
   overlay_invariants =
-      let stand = ApartLater.stand_apart fresh world location change overlay upper conditions is has distinct none asked in
+      let stand =
+      ApartLater.stand_apart fresh world location change overlay upper conditions is has distinct none asked in
       record {
         overlays_merge = merges;
         fit_layers = each_overlay has_fit_layers (λ v real. refl) (λ n v e. fit n v e);
@@ -301,7 +320,8 @@ module _ (fresh : Fresh ℕ) (world : World ℕ) (location : Location ℕ) (chan
   was_tree f m = record {
     tree = among_from_all (λ (g : Filesystem ℕ). IsTree g.files.tree) world.filesystems conditions.files.trees f m;
     numbers = among_from_all
-        (λ (g : Filesystem ℕ). Rattle.vt_spec.specs.Machine.Invariants.ListsNumbers nat_eq g.files) world.filesystems conditions.files.numbers f m;
+        (λ (g : Filesystem ℕ). Rattle.vt_spec.specs.Machine.Invariants.ListsNumbers nat_eq g.files) world.filesystems
+        conditions.files.numbers f m;
     own_parents = among_from_all
         (λ (g : Filesystem ℕ). HasOwnParents g.files.tree) world.filesystems conditions.files.own_parents f m;
   }
@@ -379,7 +399,8 @@ tree_invariants_stay fresh world location change overlay upper conditions is has
 
     sizes : (is_fit_tree
         (ApartLater.merge fresh world location change overlay upper conditions is has distinct none asked).files ≡ true)
-        × (is_fit_tree (ApartLater.merge fresh world location change overlay upper conditions is has distinct none asked).upper ≡ true)
+        × (is_fit_tree
+        (ApartLater.merge fresh world location change overlay upper conditions is has distinct none asked).upper ≡ true)
     sizes =
         sizes_stay fresh (stack_of nat_eq world overlay upper)
         (merge_of nat_eq world (filesystem_at nat_eq world location) overlay upper) change
@@ -389,7 +410,8 @@ tree_invariants_stay fresh world location change overlay upper conditions is has
 
     by : (f : Filesystem ℕ)
         → (f ≡ ApartLater.changed fresh world location change overlay upper conditions is has distinct none asked)
-        ⊎ ((f ≡ ApartLater.changed_upper fresh world location change overlay upper conditions is has distinct none asked) ⊎ Among f world.filesystems)
+        ⊎ ((f ≡ ApartLater.changed_upper fresh world location change overlay upper conditions is has distinct none
+        asked) ⊎ Among f world.filesystems)
         → is_fit_filesystem f ≡ true
     by f (inl same) = ap is_fit_filesystem same ∙ sizes.0
     by f (inr (inl same)) = ap is_fit_filesystem same ∙ sizes.1

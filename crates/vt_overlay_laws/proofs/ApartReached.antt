@@ -70,7 +70,8 @@ module _ (fresh : Fresh ℕ) (world : World ℕ) (location : Location ℕ) (chan
     (distinct : (j k : ℕ) → fresh j ≡ fresh k → j ≡ k) (none : (filesystem : ℕ) → AreNoInodes fresh world filesystem)
     (asked : IsAskedWell (stack_of nat_eq world overlay upper)
     (merge_of nat_eq world (filesystem_at nat_eq world location) overlay upper) change)
-    (layer : Layer ℕ) (other : ApartLater.IsOther fresh world location change overlay upper conditions is has distinct none asked layer)
+    (layer : Layer ℕ)
+    (other : ApartLater.IsOther fresh world location change overlay upper conditions is has distinct none asked layer)
     (same : layer.filesystem ≡ upper.filesystem)
     (layer_reached : IsReached (filesystem_numbered nat_eq world upper.filesystem).files.tree layer.directory) where
   abbrev number : ℕ
@@ -89,7 +90,8 @@ module _ (fresh : Fresh ℕ) (world : World ℕ) (location : Location ℕ) (chan
   upper_plain = ApartLater.upper_plain fresh world location change overlay upper conditions is has distinct none asked
 
   plain : is_plain_layer nat_eq world layer ≡ true
-  plain = ApartLater.other_plain fresh world location change overlay upper conditions is has distinct none asked layer other
+  plain =
+      ApartLater.other_plain fresh world location change overlay upper conditions is has distinct none asked layer other
 
   directory : IsDirectory before.upper.tree layer.directory
   directory =
@@ -103,28 +105,40 @@ module _ (fresh : Fresh ℕ) (world : World ℕ) (location : Location ℕ) (chan
   was_tree = layer_tree world conditions upper upper_plain
 
   -- it lies under itself, and so not under the upper layer
-  lies_itself : ApartLater.Lies fresh world location change overlay upper conditions is has distinct none asked layer upper.filesystem layer.directory
+  lies_itself : ApartLater.Lies fresh world location change overlay upper conditions is has distinct none asked layer
+      upper.filesystem layer.directory
   lies_itself =
-      ApartLater.lies_first fresh world location change overlay upper conditions is has distinct none asked layer upper.filesystem layer.directory
-      (ApartLater.led_lies fresh world location change overlay upper conditions is has distinct none asked layer plain upper.filesystem layer.directory (sym same)
+      ApartLater.lies_first fresh world location change overlay upper conditions is has distinct none asked layer
+      upper.filesystem layer.directory
+      (ApartLater.led_lies fresh world location change overlay upper conditions is has distinct none asked layer plain
+      upper.filesystem layer.directory (sym same)
       ([], refl))
 
-  not_led : ¬ (ApartLater.LedIn fresh world location change overlay upper conditions is has distinct none asked world upper layer.directory)
+  not_led : ¬ (ApartLater.LedIn fresh world location change overlay upper conditions is has distinct none asked world
+      upper layer.directory)
   not_led way =
-      ApartLater.clash fresh world location change overlay upper conditions is has distinct none asked layer other upper.filesystem layer.directory there
-      (ApartLater.lies_first fresh world location change overlay upper conditions is has distinct none asked upper upper.filesystem layer.directory
-      (ApartLater.led_lies fresh world location change overlay upper conditions is has distinct none asked upper upper_plain upper.filesystem layer.directory refl way))
+      ApartLater.clash fresh world location change overlay upper conditions is has distinct none asked layer other
+      upper.filesystem layer.directory there
+      (ApartLater.lies_first fresh world location change overlay upper conditions is has distinct none asked upper
+      upper.filesystem layer.directory
+      (ApartLater.led_lies fresh world location change overlay upper conditions is has distinct none asked upper
+      upper_plain upper.filesystem layer.directory refl way))
       lies_itself
 
   -- the upper layer's directory does not lie under it, so it is not the root
   no_root : before.upper.tree.root ≢ layer.directory
   no_root root =
-      ApartLater.clash fresh world location change overlay upper conditions is has distinct none asked layer other upper.filesystem upper.directory
-      (ApartLater.directory_there fresh world location change overlay upper conditions is has distinct none asked upper upper_plain)
-      (ApartLater.lies_first fresh world location change overlay upper conditions is has distinct none asked upper upper.filesystem upper.directory
+      ApartLater.clash fresh world location change overlay upper conditions is has distinct none asked layer other
+      upper.filesystem upper.directory
+      (ApartLater.directory_there fresh world location change overlay upper conditions is has distinct none asked upper
+      upper_plain)
+      (ApartLater.lies_first fresh world location change overlay upper conditions is has distinct none asked upper
+      upper.filesystem upper.directory
       (ApartLater.upper_itself fresh world location change overlay upper conditions is has distinct none asked))
-      (ApartLater.lies_first fresh world location change overlay upper conditions is has distinct none asked layer upper.filesystem upper.directory
-      (ApartLater.led_lies fresh world location change overlay upper conditions is has distinct none asked layer plain upper.filesystem upper.directory (sym same) (
+      (ApartLater.lies_first fresh world location change overlay upper conditions is has distinct none asked layer
+      upper.filesystem upper.directory
+      (ApartLater.led_lies fresh world location change overlay upper conditions is has distinct none asked layer plain
+      upper.filesystem upper.directory (sym same) (
         upper_reached.0,
         subst (λ n. led (filesystem_numbered nat_eq world n).files.tree layer.directory upper_reached.0
             ≡ Some upper.directory) (sym same)
@@ -141,7 +155,8 @@ module _ (fresh : Fresh ℕ) (world : World ℕ) (location : Location ℕ) (chan
       by : (o : Option (Real ℕ)) → overlay.real n ≡ o → upper_object o ≡ Some layer.directory → ⊥
       by None r f = none_is_some layer.directory f
       by (Some (Upper object)) r f =
-          ApartLater.clash fresh world location change overlay upper conditions is has distinct none asked layer other upper.filesystem layer.directory there
+          ApartLater.clash fresh world location change overlay upper conditions is has distinct none asked layer other
+          upper.filesystem layer.directory there
           (object_counts world conditions number overlay is upper has layer.directory
           (n, r ∙ ap (λ o. Some (Upper o)) (same_Some object layer.directory f)))
           lies_itself
@@ -241,4 +256,5 @@ module _ (fresh : Fresh ℕ) (world : World ℕ) (location : Location ℕ) (chan
           ⊎_elim (λ parents. parents)
           (λ missing. absurd (true≢false
           (sym there ∙ ap (λ (x : Filesystem ℕ). is_some (x.files.tree.node layer.directory)) missing.0)))
-          (numbered_all (λ (x : Filesystem ℕ). HasOwnParents x.files.tree) upper.filesystem world.filesystems conditions.files.own_parents)
+          (numbered_all (λ (x : Filesystem ℕ). HasOwnParents x.files.tree) upper.filesystem world.filesystems
+          conditions.files.own_parents)

@@ -81,7 +81,12 @@ made_reached files d w c node conditions may number is reached =
       stays_reached files.tree (with_it) number
           (subst IsTree (sym (made_alike files d w c node differ))
           (changes_keep_trees files (Make d w c node) conditions may)) refl still reached
-          (λ e n f. (e, n, entry_kept files.tree d w c node conditions may.name_is_free.in_directory may.name_is_free.reached may.name_is_free.free may.number_is_new may.fits e n number f)),
+          (λ e n f. (
+            e,
+            n,
+            entry_kept files.tree d w c node conditions may.name_is_free.in_directory
+                may.name_is_free.reached may.name_is_free.free may.number_is_new may.fits e n number f,
+          )),
     )
   where
     with_it : Tree ℕ
@@ -92,7 +97,9 @@ made_reached files d w c node conditions may number is reached =
         may.name_is_free.free may.number_is_new may.fits d (directory_used files.tree d may.name_is_free.in_directory)
 
     still : IsDirectory with_it number
-    still = directory_kept files.tree d w c node conditions may.name_is_free.in_directory may.name_is_free.reached may.name_is_free.free may.number_is_new may.fits number is
+    still =
+        directory_kept files.tree d w c node conditions may.name_is_free.in_directory may.name_is_free.reached
+        may.name_is_free.free may.number_is_new may.fits number is
 
 still_reached : (files : FileTree ℕ) (object : ℕ) (change : Option (Node ℕ) → Option (Node ℕ)) → KeepsPlace change
     → IsTree files.tree

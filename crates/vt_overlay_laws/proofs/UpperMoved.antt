@@ -174,7 +174,9 @@ module _ (fresh : Fresh ℕ) (stack : Stack ℕ) (merge : Merge ℕ) (whole : Is
         by : (b : Bool) → is_entry ut new uf old ≡ b
             → cond b (Some uo) (cond (is_entry uf old uf old) None (entry_at base.tree uf old))
             ≡ cond (is_entry uf old uf old) None (entry_at base.tree uf old)
-        by true e = absurd (WholeMovedTree.two_names fresh stack merge whole f old t new o stands_f stands_t stands_o may vacant uf old e itself)
+        by true e =
+            absurd (WholeMovedTree.two_names fresh stack merge whole f old t new o stands_f stands_t stands_o may vacant
+            uf old e itself)
         by false e = refl
 
     plain : (r : ℕ) → entry_at moved_up.tree uf old ≡ Some r → is_directory_node (moved_up.tree.node r) ≡ false

@@ -112,7 +112,12 @@ module _ (top : ℕ) (files : FileTree ℕ) (good : IsGood top files) (d : ℕ) 
   first = bare_goes files r good.tree leaves top good
 
   may : MayRemove emptied_first.tree d w r
-  may = record { named = bare_kept files r good.tree leaves d w r apart named; empty = bare_there files r good.tree leaves }
+  may =
+      record {
+        named = bare_kept files r good.tree leaves d w r apart named;
+        empty = bare_there files r good.tree
+            leaves;
+      }
 
   abbrev gone : FileTree ℕ
   gone = changed nat_eq emptied_first (Remove d w r)

@@ -255,7 +255,8 @@ module _ (stack : Stack ℕ) (merge : Merge ℕ) (whole : IsWhole stack merge) (
         (over_same (view_in merge.upper stack.directory) (view_in apart stack.directory)
         (map view_of stack.lowers) path (apart_led stack.directory path)
         (λ k e. ap (is_kind_in White) (apart_there k
-        (led_is_there (record { tree = merge.upper.tree; directory = stack.directory }) top_tree top_directory path k e)))
+        (led_is_there (record { tree = merge.upper.tree; directory = stack.directory }) top_tree top_directory path k
+        e)))
         (fronts_agree (λ front. hides (node_led (view_in merge.upper stack.directory) front))
         (λ front. hides (node_led (view_in apart stack.directory) front)) path
         (λ front f. ap hides (node_same front))))
@@ -489,7 +490,8 @@ module _ (stack : Stack ℕ) (merge : Merge ℕ) (whole : IsWhole stack merge) (
         reached = (
           whole.reached.0
               ++ way.0,
-          led_parts merge.upper.tree whole.reached.0 way.0 merge.upper.tree.root stack.directory whole.reached.1 ∙ up_way,
+          led_parts merge.upper.tree whole.reached.0 way.0 merge.upper.tree.root stack.directory whole.reached.1
+              ∙ up_way,
         );
         free = free;
       };

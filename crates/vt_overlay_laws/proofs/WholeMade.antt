@@ -186,7 +186,9 @@ module _ (stack : Stack ℕ) (merge : Merge ℕ) (whole : IsWhole stack merge) (
   none_after path through other = by (hides (Some new)) refl (cuts after path) refl
     where
       leads : led upper.tree stack.directory path ≡ None
-      leads = WholeNew.leads_same merge.upper stack.directory top_tree top_directory ud c w new takes vacant bare path other ∙ leads_none path through other
+      leads =
+          WholeNew.leads_same merge.upper stack.directory top_tree top_directory ud c w new takes vacant bare path other
+          ∙ leads_none path through other
 
       -- what is seen below a directory that is no longer hidden
       seen : (seen : Shown ℕ) (to rest : List (List ℕ)) → to ++ w ∷ rest ≡ path
@@ -220,7 +222,8 @@ module _ (stack : Stack ℕ) (merge : Merge ℕ) (whole : IsWhole stack merge) (
                       true≢false (sym (front_passes (λ front. hides (node_led after front)) path f.0
                       (f.1.0 ++ w ∷ next ∷ rest)
                       (sym (append_assoc f.0 f.1.0 (w ∷ next ∷ rest)) ∙ ap (λ p. p ++ w ∷ next ∷ rest) f.1.1 ∙ is) f.1.2
-                      (WholeNew.hides_at merge.upper stack.directory top_tree top_directory ud c w new takes vacant bare f.0 false n ∙ f.2)) ∙ uncut)
+                      (WholeNew.hides_at merge.upper stack.directory top_tree top_directory ud c w new takes vacant bare
+                      f.0 false n ∙ f.2)) ∙ uncut)
 
       lower_none : hides (Some new) ≡ false → cuts after path ≡ false → (o : Option (Shown ℕ))
           → shown_from 1 lowers path ≡ o → o ≡ None
@@ -234,7 +237,8 @@ module _ (stack : Stack ℕ) (merge : Merge ℕ) (whole : IsWhole stack merge) (
       by b h true cut = cut_shows_none after lowers path leads cut
       by true h false cut =
           absurd (true≢false (sym
-          (WholeNew.cuts_through merge.upper stack.directory top_tree top_directory ud c w new takes vacant bare h path through) ∙ cut))
+          (WholeNew.cuts_through merge.upper stack.directory top_tree top_directory ud c w new takes vacant bare h path
+          through) ∙ cut))
       by false h false cut =
           ap (λ o. shown_over after 0 o (cuts after path) (shown_from 1 lowers path)) leads
           ∙ ap (λ b. shown_over after 0 None b (shown_from 1 lowers path)) cut
@@ -263,7 +267,8 @@ module _ (stack : Stack ℕ) (merge : Merge ℕ) (whole : IsWhole stack merge) (
           ap (λ b. cond b (Some (Upper c)) (merge.real n))
           (ne_eqb n number (λ is.
           true≢false (sym (led_is_there
-          (record { tree = merge.files.tree; directory = merge.files.tree.root }) whole.tree whole.tree.root_directory path n l)
+          (record { tree = merge.files.tree; directory = merge.files.tree.root }) whole.tree whole.tree.root_directory
+          path n l)
           ∙ ap (λ k. is_some (merge.files.tree.node k)) is ∙ ap is_some may.number_is_new)))
 
       goes : (b : Bool) → names_entry before ud w path ≡ b
@@ -287,12 +292,15 @@ module _ (stack : Stack ℕ) (merge : Merge ℕ) (whole : IsWhole stack merge) (
           ∙ sym (ap (real_by path) (shown_same path e))
 
   number_there : files.tree.node number ≡ Some node
-  number_there = (make_adds_inode merge.files merge.files.tree.root d number w node may.name_is_free.in_directory may.number_is_new).0
+  number_there =
+      (make_adds_inode merge.files merge.files.tree.root d number w node may.name_is_free.in_directory
+      may.number_is_new).0
 
   pub later_is_fine : IsFine stack later
   later_is_fine =
       grown_is_fine stack merge fine_before files upper number c vacant
-      (make_adds_inode merge.files merge.files.tree.root d number w node may.name_is_free.in_directory may.number_is_new).1
+      (make_adds_inode merge.files merge.files.tree.root d number w node may.name_is_free.in_directory
+      may.number_is_new).1
       (WholeNew.others_alike merge.upper stack.directory top_tree top_directory ud c w new takes vacant bare)
       (subst (λ o. SameObject o (upper.tree.node c)) (sym number_there)
       (subst (SameObject (Some node))

@@ -213,7 +213,8 @@ module _ (stack : Stack ℕ) (merge : Merge ℕ) (whole : IsWhole stack merge) (
       let top = top_open stack merge whole in
       whole_again stack merge later whole whole.tree whole.numbers
       (changes_keep_trees merge.upper (SetMark above opaque) top.0 tt)
-      (part-changed_node is_directory_node merge.upper above (node_with_mark opaque) (mark_directory opaque) stack.directory
+      (part-changed_node is_directory_node merge.upper above (node_with_mark opaque) (mark_directory opaque)
+      stack.directory
       ∙ top.1) (
         whole.reached.0,
         (mark_changes_one_inode merge.upper merge.upper.tree.root above opaque).0 whole.reached.0 ∙ whole.reached.1,

@@ -141,7 +141,8 @@ module _ (fresh : Fresh ℕ) (stack : Stack ℕ) (merge : Merge ℕ) (whole : Is
   lowers = map view_of stack.lowers
 
   abbrev upper : FileTree ℕ
-  upper = WholeMovedTree.whole_moved fresh stack merge whole f old t new o stands_f stands_t stands_o may vacant left marks
+  upper =
+      WholeMovedTree.whole_moved fresh stack merge whole f old t new o stands_f stands_t stands_o may vacant left marks
 
   abbrev after : View ℕ
   after = view_in upper stack.directory
@@ -194,14 +195,17 @@ module _ (fresh : Fresh ℕ) (stack : Stack ℕ) (merge : Merge ℕ) (whole : Is
   led_new to rest e =
       WholeMovedTree.led_emptied fresh stack merge whole f old t new o stands_f stands_t stands_o may vacant left marks
       (to ++ new ∷ rest)
-      ∙ WholeMovedTree.moved_through fresh stack merge whole f old t new o stands_f stands_t stands_o may vacant left marks to rest e
+      ∙ WholeMovedTree.moved_through fresh stack merge whole f old t new o stands_f stands_t stands_o may vacant left
+      marks to rest e
 
   led_else : (path : List (List ℕ)) → goes_through before ut new path ≡ false → led upper.tree stack.directory path
       ≡ cond (names_entry before uf old path) (value left)
       (cond (goes_through before uf old path) None (led merge.upper.tree stack.directory path))
   led_else path none =
-      WholeMovedTree.led_emptied fresh stack merge whole f old t new o stands_f stands_t stands_o may vacant left marks path
-      ∙ WholeMovedTree.moved_elsewhere fresh stack merge whole f old t new o stands_f stands_t stands_o may vacant left marks path stack.directory none
+      WholeMovedTree.led_emptied fresh stack merge whole f old t new o stands_f stands_t stands_o may vacant left marks
+      path
+      ∙ WholeMovedTree.moved_elsewhere fresh stack merge whole f old t new o stands_f stands_t stands_o may vacant left
+      marks path stack.directory none
 
   named_not : (d : ℕ) (name : List ℕ) (path : List (List ℕ)) → goes_through before d name path ≡ false
       → names_entry before d name path ≡ false
@@ -550,8 +554,10 @@ module _ (fresh : Fresh ℕ) (stack : Stack ℕ) (merge : Merge ℕ) (whole : Is
           (λ k layer g. whole.layers (Rattle.std.proofs.Common.suc k) layer g) 1 rest (to ++ new ∷ []) word s
           (ap (shown_from 1 lowers) (append_assoc to (new ∷ []) (word ∷ rest)) ∙ e) in
           let uncut_to = uncut_way to (new ∷ word ∷ rest) (to ++ new ∷ word ∷ rest) refl
-          (WholeMovedTree.way_not_new fresh stack merge whole f old t new o stands_f stands_t stands_o may vacant left marks to l)
-          (WholeMovedTree.way_not_old fresh stack merge whole f old t new o stands_f stands_t stands_o may vacant left marks to l) uncut in
+          (WholeMovedTree.way_not_new fresh stack merge whole f old t new o stands_f stands_t stands_o may vacant left
+          marks to l)
+          (WholeMovedTree.way_not_old fresh stack merge whole f old t new o stands_f stands_t stands_o may vacant left
+          marks to l) uncut in
           true≢false (sym (mark_cuts (sym is_marks
           ∙ ap (is_directory_shown (layers_under stack merge))
           (below_name stack merge whole t new to there t_directory uncut_to)
@@ -581,7 +587,9 @@ module _ (fresh : Fresh ℕ) (stack : Stack ℕ) (merge : Merge ℕ) (whole : Is
           → is_kind_in White (merge.upper.tree.node u) ≡ w
           → real_seen stack merge (from_way ++ old ∷ rest) ≡ real_seen stack later (to ++ new ∷ rest)
       some u e w k =
-          let behind = WholeMovedTree.led_behind fresh stack merge whole f old t new o stands_f stands_t stands_o may vacant rest ∙ e in
+          let behind =
+          WholeMovedTree.led_behind fresh stack merge whole f old t new o stands_f stands_t stands_o may vacant rest
+          ∙ e in
           ap (real_by (from_way ++ old ∷ rest)) (on_top before lowers (from_way ++ old ∷ rest) u w behind k)
           ∙ one w
           ∙ sym (ap (real_by (to ++ new ∷ rest))
@@ -618,7 +626,8 @@ module _ (fresh : Fresh ℕ) (stack : Stack ℕ) (merge : Merge ℕ) (whole : Is
 
   -- All paths
   can : CanMove merge.files.tree f old t new o
-  can = record { named = may.named; in_directory = may.in_directory; not_under = may.not_under; replaced_empty = may.replaced_empty }
+  can =
+      record { named = may.named; in_directory = may.in_directory; not_under = may.not_under; replaced_empty = may.replaced_empty }
 
   number_is : (path : List (List ℕ)) → number_at_path files path ≡ led files.tree merge.files.tree.root path
   number_is path = ap (λ r. led files.tree r path)
@@ -640,7 +649,8 @@ module _ (fresh : Fresh ℕ) (stack : Stack ℕ) (merge : Merge ℕ) (whole : Is
           (ap (λ x. then_some x merge.real)
           (number_is (to ++ new ∷ rest)
           ∙ moved_leads_on merge.files merge.files.tree.root f t o old new whole.tree can to rest there
-          ∙ sym (WholeMovedTree.number_behind fresh stack merge whole f old t new o stands_f stands_t stands_o may vacant rest))
+          ∙ sym (WholeMovedTree.number_behind fresh stack merge whole f old t new o stands_f stands_t stands_o may
+          vacant rest))
           ∙ fine_before.paths (from_way ++ old ∷ rest) ∙ seen_along to rest l)
 
       number : goes_through before ut new path ≡ false → (b : Bool) → goes_through before uf old path ≡ b

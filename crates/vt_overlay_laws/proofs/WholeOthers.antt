@@ -195,7 +195,8 @@ module _ (fresh : Fresh ℕ) (world : World ℕ) (location : Location ℕ) (chan
         → upper.filesystem ≡ layer.filesystem → ¬ (IsUpperObject overlay inode)
     apart_upper layer m inode lies same object =
         no_other world conditions
-        (mount_at nat_eq world location).filesystem overlay is upper has inode object number differ other is_other layer m
+        (mount_at nat_eq world location).filesystem overlay is upper has inode object number differ other is_other layer
+        m
         (subst (λ n. lies_or_counts_under nat_eq world n inode layer ≡ true) (sym same) lies)
 
     apart_lower : (layer : Layer ℕ) → Lists.Among layer other.lowers → (inode : ℕ)
@@ -259,7 +260,8 @@ module _ (fresh : Fresh ℕ) (world : World ℕ) (location : Location ℕ) (chan
     )
 
 pub other_overlays_stay_merged : OtherOverlaysStayMerged
-other_overlays_stay_merged fresh world location change overlay other upper number conditions is has none speaks differ is_other =
+other_overlays_stay_merged fresh world location change overlay other upper number conditions is has none speaks differ
+    is_other =
     other_merged fresh world location change overlay upper conditions is has none speaks number other differ is_other
 
 -- A call that goes through another filesystem

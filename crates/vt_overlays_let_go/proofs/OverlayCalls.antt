@@ -225,7 +225,8 @@ removed_from_overlays_let_go fresh world task call parent name directory overlay
     (removing_keeps_the_mount fresh world task call parent name directory conditions called judged))
 
 pub replaced_in_overlays_let_go : ReplacedInOverlaysLetGo
-replaced_in_overlays_let_go fresh world task call from old to new object replaced overlay upper conditions called judged can =
+replaced_in_overlays_let_go fresh world task call from old to new object replaced overlay upper conditions called judged
+    can =
     goes_with_mounts fresh world from (Move from.node old to.node new object.node) overlay upper conditions can
     (numbers_of_trees world (mounts_on nat_eq world replaced))
     (keeps_its_mount world conditions (numbers_of_trees world (mounts_on nat_eq world replaced)) from

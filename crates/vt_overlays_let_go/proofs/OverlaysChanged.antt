@@ -91,7 +91,9 @@ module _ (fresh : Fresh ℕ) (world : World ℕ) (location : Location ℕ) (chan
   settles = worlds_are_settled world conditions
 
   pub fit : IsFitToChange fresh before
-  fit = overlays_are_fit fresh world number overlay upper conditions can.overlay_there can.upper_there can.distinct can.unused
+  fit =
+      overlays_are_fit fresh world number overlay upper conditions can.overlay_there can.upper_there can.distinct
+      can.unused
 
   reals_there : (inode : ℕ) → is_some (overlay.real inode) ≡ true → is_some (merged.files.tree.node inode) ≡ true
   reals_there inode h = by (merged.files.tree.node inode) refl
@@ -247,7 +249,8 @@ module _ (fresh : Fresh ℕ) (world : World ℕ) (location : Location ℕ) (chan
   names_tree =
       subst (λ t. ChangesTree merged.files t lost_names) (sym added.files)
       (changes_keep_names merged.files change
-      (among_from_all (λ (x : Filesystem ℕ). IsListedTree x.files) world.filesystems settles.trees merged merged_there) can.tree can.may)
+      (among_from_all (λ (x : Filesystem ℕ). IsListedTree x.files) world.filesystems settles.trees merged merged_there)
+      can.tree can.may)
 
   lost_here : (inode : ℕ) → Among inode lost_names → is_inode_among merged.number inode lost ≡ true
   lost_here inode m =

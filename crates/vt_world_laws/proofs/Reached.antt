@@ -162,7 +162,8 @@ module _ (world : World ℕ) (whole : IsWorld nat_eq world) (task : Task ℕ) wh
       (λ a b found e. child_found a b found.0 e) (length world.mounts) location location is
 
   -- mounts outside every namespace stand nowhere
-  nowhere_unplaced : (mount : Mount ℕ) → Among mount world.mounts → (place : Location ℕ) → mount.mount_point ≡ Some place
+  nowhere_unplaced : (mount : Mount ℕ) → Among mount world.mounts → (place : Location ℕ)
+      → mount.mount_point ≡ Some place
       → mount.namespace ≡ None → ⊥
   nowhere_unplaced mount m place e none =
       true≢false

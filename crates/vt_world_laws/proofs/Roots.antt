@@ -182,7 +182,11 @@ module _ (world : World ℕ) (after : World ℕ) (seen : KeepsWhatIsSeen world a
     where
       by : (b : Bool) → nat_eq namespace task.namespace ≡ b
           → IsPlaced after (if b then
-          (record task { root = pivoted_location nat_eq root new task.root; directory = pivoted_location nat_eq root new task.directory }) else task)
+          (record task {
+            root = pivoted_location nat_eq root new task.root;
+            directory = pivoted_location nat_eq root new
+                task.directory;
+          }) else task)
       by true e =
           let own : namespace ≡ task.namespace = eqb-true namespace task.namespace e in
           record {

@@ -108,7 +108,8 @@ module _ (world : World ℕ) (unsettled : IsUnderWay world) where
 
   -- Locations
   abbrev pub used_locations : List (Location ℕ)
-  used_locations = all_locations world ++ map root_of mounted.mounts ++ filter_map (λ mount. mount.mount_point) mounted.mounts
+  used_locations = all_locations world ++ map root_of mounted.mounts
+      ++ filter_map (λ mount. mount.mount_point) mounted.mounts
 
   -- an inode stays where something is at it
   node_stays : (number object : ℕ) → is_mounted nat_eq mounted number ≡ true

@@ -89,7 +89,8 @@ mounts_show world shows =
 
 module _ (world : World ℕ) (is : IsWorld nat_eq world) where
   -- where a mount stands is on a mount of its namespace
-  pub parent_namespace : (mount : Mount ℕ) → Among mount world.mounts → (place : Location ℕ) → mount.mount_point ≡ Some place
+  pub parent_namespace : (mount : Mount ℕ) → Among mount world.mounts → (place : Location ℕ)
+      → mount.mount_point ≡ Some place
       → mount.namespace ≡ (mount_at nat_eq world place).namespace
   parent_namespace mount m place at =
       by (among_from_all (λ (x : Mount ℕ). Stands nat_eq world x.number) world.mounts is.mounts.standing mount m)
@@ -105,7 +106,8 @@ module _ (world : World ℕ) (is : IsWorld nat_eq world) where
           ap (λ (x : Mount ℕ). x.namespace) (sym same) ∙ namespace
           ∙ ap (λ o. (mount_at nat_eq world (unwrap_or o place)).namespace) it
 
-  placed_is_attached : (mount : Mount ℕ) → Among mount world.mounts → (place : Location ℕ) → mount.mount_point ≡ Some place
+  placed_is_attached : (mount : Mount ℕ) → Among mount world.mounts → (place : Location ℕ)
+      → mount.mount_point ≡ Some place
       → is_some mount.namespace ≡ true
   placed_is_attached mount m place at = by (is_some mount.namespace) refl
     where
@@ -117,7 +119,8 @@ module _ (world : World ℕ) (is : IsWorld nat_eq world) where
           ∙ ap (λ b. b || (not (is_some mount.mount_point) && is_private mount.propagation)) e
           ∙ ap (λ o. not (is_some o) && is_private mount.propagation) at))
 
-  pub place_listed : (mount : Mount ℕ) → Among mount world.mounts → (place : Location ℕ) → mount.mount_point ≡ Some place
+  pub place_listed : (mount : Mount ℕ) → Among mount world.mounts → (place : Location ℕ)
+      → mount.mount_point ≡ Some place
       → is_mount world place.mount ≡ true
   place_listed mount m place at = by (mount_at nat_eq world place).namespace refl
     where

@@ -143,7 +143,11 @@ pivoted_keeps : (namespace : ℕ) (root new : Mount ℕ) (task : Task ℕ)
     → ((pivoted_task nat_eq namespace root new task).name ≡ task.name)
     × (task.forks ≤ (pivoted_task nat_eq namespace root new task).forks)
 pivoted_keeps namespace root new task =
-    by (record task { root = pivoted_location nat_eq root new task.root; directory = pivoted_location nat_eq root new task.directory })
+    by (record task {
+      root = pivoted_location nat_eq root new task.root;
+      directory = pivoted_location nat_eq root new
+          task.directory;
+    })
     refl (omega arith) (nat_eq namespace task.namespace)
   where
     by : (moved : Task ℕ) → moved.name ≡ task.name → task.forks ≤ moved.forks → (b : Bool)

@@ -151,11 +151,12 @@ overlay_asked fresh world task place flags (Some words) =
 -- each call is answered by what it asks
 call_asked : (fresh : Fresh ℕ) (world : World ℕ) (task : Task ℕ) (call : Call)
     → IsAnsweredAs (call_outcome nat_eq fresh world task call) (asked fresh world task call)
-unfolding list_outcome stat_outcome lstat_outcome readlink_outcome read_outcome exec_outcome mkdir_outcome symlink_outcome
-    whiteout_outcome hard_link_outcome write_outcome unlink_outcome rmdir_outcome rename_outcome chmod_outcome chown_outcome
-    opaque_outcome open_outcome pread_outcome pwrite_outcome close_outcome fork_outcome umask_outcome drop_outcome
-    chdir_outcome chroot_outcome exit_outcome unshare_outcome setns_outcome mount_plain_outcome mount_overlay_outcome
-    bind_outcome move_outcome umount_outcome lazy_outcome remount_outcome type_outcome pivot_outcome mounts_outcome
+unfolding list_outcome stat_outcome lstat_outcome readlink_outcome read_outcome exec_outcome mkdir_outcome
+    symlink_outcome whiteout_outcome hard_link_outcome write_outcome unlink_outcome rmdir_outcome rename_outcome
+    chmod_outcome chown_outcome opaque_outcome open_outcome pread_outcome pwrite_outcome close_outcome fork_outcome
+    umask_outcome drop_outcome chdir_outcome chroot_outcome exit_outcome unshare_outcome setns_outcome
+    mount_plain_outcome mount_overlay_outcome bind_outcome move_outcome umount_outcome lazy_outcome remount_outcome
+    type_outcome pivot_outcome mounts_outcome
 call_asked fresh world task (Ls path) =
     walk_asked world (walk_end (directory_walk nat_eq world task path)) _ _ (λ here.
     table_asked world (list_rules nat_eq world task here.location) _ (Ok true) refl)

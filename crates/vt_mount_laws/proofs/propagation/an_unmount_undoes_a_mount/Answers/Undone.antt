@@ -396,7 +396,8 @@ module _ (world : World ℕ) (fresh : Fresh ℕ) (place : Location ℕ) (first :
   may_leave part c =
       ap (only_cover nat_eq (copy part))
       (filter_none (stands_on nat_eq (copy part).number) after.mounts
-      (none_from_among (stands_on nat_eq (copy part).number) after.mounts (λ mount m. by mount m mount.mount_point refl)))
+      (none_from_among (stands_on nat_eq (copy part).number) after.mounts
+      (λ mount m. by mount m mount.mount_point refl)))
     where
       by : (mount : Mount ℕ) → Among mount after.mounts → (found : Option (Location ℕ)) → mount.mount_point ≡ found
           → stands_on nat_eq (copy part).number mount ≡ false
