@@ -33,7 +33,7 @@ module _ (world : World ℕ) where
   abbrev is_less_deep : Mount ℕ → Mount ℕ → Bool
   is_less_deep mount other = nat_lt (depth_of nat_eq world mount) (depth_of nat_eq world other)
 
-  among_inserted : (mount : Mount ℕ) (sorted : List (Mount ℕ)) (x : Mount ℕ) → Among x (insert mount sorted)
+  pub among_inserted : (mount : Mount ℕ) (sorted : List (Mount ℕ)) (x : Mount ℕ) → Among x (insert mount sorted)
       → Among x (mount ∷ sorted)
   among_inserted mount [] x m = m
   among_inserted mount (other ∷ rest) x m = by (is_less_deep mount other) m (among_inserted mount rest x)

@@ -14,5 +14,6 @@ pub mod Moved
 pub mod Places
 pub mod TakenTwice
 pub mod LazyUnmounts
+pub mod LazyAlone
 pub mod LazyOrder
 pub mod LazyTrying

@@ -1,12 +1,15 @@
 //! Which mounts a lazy unmount detaches: umount(2) with `MNT_DETACH`, and the kernel's document sharedsubtree, "Unmount
 //! semantics".
 //!
-//! A lazy unmount is an unmount event for each mount of a tree, the deepest first. What an event detaches depends on
-//! those before it, so that the events are tried on copies of the mounts and the groups.
-ghost use Rattle.std.specs.Prelude.{◌≡◌, ◌+◌, [], All, IfErr, IfOk, OnOk, is_some, map, nat_eq, option_map, ℕ};
+//! A lazy unmount is an unmount event for each mount of a tree, the deepest first. Where no mount of the tree stands on a
+//! shared one, each event detaches its mount alone. Else what an event detaches depends on those before it, so that the
+//! events are tried on copies of the mounts and the groups.
+ghost use Rattle.std.specs.List.{list_all};
+ghost use Rattle.std.specs.Prelude.{List, ◌≡◌, ◌+◌, [], All, IfErr, IfOk, OnOk, is_some, map, nat_eq, not, option_map, ℕ};
 ghost use Rattle.vt_spec.specs.declared.errors.Rule.TheVariants.{S5};
 ghost use Rattle.vt_spec.specs.Errors.{denial};
 ghost use Rattle.vt_spec.specs.Machine.Detach.{unmounted_if_there};
+ghost use Rattle.vt_spec.specs.Machine.Invariants.{MountInvariants};
 ghost use Rattle.vt_spec.specs.Machine.Mounts as meant;
 ghost use Rattle.vt_spec.specs.Machine.Mounts.{mount_in};
 ghost use Rattle.vt_spec.specs.Machine.World.{World};
@@ -14,12 +17,13 @@ ghost use Rattle.vt_location.specs.Numbers.{counted};
 ghost use Rattle.vt_mount.specs.MountsValue.{mounts_in};
 ghost use Rattle.vt_propagate.specs.Falling.{FallsTo, LeavesBy, point_of};
 ghost use Rattle.vt_propagate.specs.LazyEvents.{all_placed, deepest_numbers, depth_in, detached_by, event_of, with_event};
-ghost use Rattle.vt_propagate.specs.LazyUnmounts.{going_if_there, gone_lazily};
+ghost use Rattle.vt_propagate.specs.Going.{shared_point as shared_point_of};
+ghost use Rattle.vt_propagate.specs.LazyUnmounts.{going_if_there, gone_by, gone_lazily};
 ghost use Rattle.vt_propagate.specs.Seen.{IsSeen};
 
 use crate::detaching::Detachment;
 use crate::falling::{NewPoint, points_left};
-use crate::unmounting::going;
+use crate::unmounting::{going, shared_point};
 use std::alloc::{AllocError, Global};
 use vt_group::Groups;
 use vt_location::MountId;
@@ -45,6 +49,7 @@ pub fn unmount_lazily(
     id: MountId,
 ) -> Result<Detachment, Deny>
     ensures gone { IfOk result (λ plan. (world : World ℕ) → IsSeen world mounts.now groups.now
+        → MountInvariants nat_eq world
         → map (λ id. counted id.count) plan.gone.items ≡ gone_lazily world (counted id.count)) }
     ensures left { IfOk result (λ plan. (world : World ℕ) → mounts_in mounts.now ≡ world.mounts
         → LeavesBy world (map (λ id. counted id.count) plan.gone.items) (map point_of plan.points.items)) }
@@ -65,17 +70,112 @@ fn going_lazily(
     id: MountId,
 ) -> Result<Vec<MountId>, Deny>
     ensures ok { IfOk result (λ gone. (world : World ℕ) → IsSeen world mounts.now groups.now
+        → MountInvariants nat_eq world
         → map (λ id. counted id.count) gone.items ≡ gone_lazily world (counted id.count)) }
     ensures memory { IfErr result (λ deny. deny ≡ denial S5) }
 {
     let events = deepest_first(alloc, mounts, id)?;
+    if is_attached(mounts, id) && go_alone(mounts, &events) {
+        return mounts_of(alloc, &events);
+    }
+    try_each(alloc, mounts, groups, &events)
+}
+
+// Whether none of these mounts stands on a shared one.
+fn go_alone(mounts: &Mounts, events: &[Event]) -> bool
+    ensures { result ≡ list_all (λ number. not (is_some (shared_point_of (mounts_in mounts.now) number)))
+        (map (λ event. counted event.mount.count) events.now) }
+{
+    for event in events {
+        if !stands_apart(mounts, event.mount) {
+            return false;
+        }
+    }
+    true
+}
+
+// Whether a mount stands on none that is shared.
+fn stands_apart(mounts: &Mounts, id: MountId) -> bool
+    ensures { result ≡ not (is_some (shared_point_of (mounts_in mounts.now) (counted id.count))) }
+{
+    match shared_point(mounts, id) {
+        Some(_) => false,
+        None => true,
+    }
+}
+
+// The mounts of these events.
+fn mounts_of(alloc: Global, events: &[Event]) -> Result<Vec<MountId>, Deny>
+    ensures ok { IfOk result (λ ids. map (λ id. counted id.count) ids.items
+        ≡ map (λ event. counted event.mount.count) events.now) }
+    ensures memory { IfErr result (λ deny. deny ≡ denial S5) }
+{
+    let mut ids = Vec::new(alloc);
+    for event in events {
+        let Ok(()) = ids.push(event.mount) else {
+            return Err(Rule::S5.denial());
+        };
+    }
+    Ok(ids)
+}
+
+// The mounts that these events detach, tried one after the other on copies.
+fn try_each(
+    alloc: Global,
+    mounts: &Mounts,
+    groups: &Groups,
+    events: &[Event],
+) -> Result<Vec<MountId>, Deny>
+    ensures ok { IfOk result (λ gone. (world : World ℕ) (all : List (meant.Mount ℕ))
+        → IsSeen world mounts.now groups.now
+        → map (λ mount. mount.number) all ≡ map (λ event. counted event.mount.count) events.now
+        → map (λ id. counted id.count) gone.items ≡ gone_by world all) }
+    ensures memory { IfErr result (λ deny. deny ≡ denial S5) }
+{
     let mut tried = mounts.copied()?;
-    let Ok(mut tried_groups) = groups.copied() else {
+    let gone = try_with(alloc, &mut tried, groups, events);
+    // By a call: the proof of a function that drops mounts or groups itself takes minutes.
+    drop(tried);
+    gone
+}
+
+// The mounts that these events detach, tried on these mounts. They are of no use then.
+fn try_with(
+    alloc: Global,
+    mounts: &mut Mounts,
+    groups: &Groups,
+    events: &[Event],
+) -> Result<Vec<MountId>, Deny>
+    ensures ok { IfOk result (λ gone. (world : World ℕ) (all : List (meant.Mount ℕ))
+        → IsSeen world mounts.old groups.now
+        → map (λ mount. mount.number) all ≡ map (λ event. counted event.mount.count) events.now
+        → map (λ id. counted id.count) gone.items ≡ gone_by world all) }
+    ensures memory { IfErr result (λ deny. deny ≡ denial S5) }
+{
+    let Ok(mut tried) = groups.copied() else {
         return Err(Rule::S5.denial());
     };
+    let gone = try_all(alloc, mounts, &mut tried, events);
+    drop(tried);
+    gone
+}
+
+// The mounts that these events detach, tried on these mounts and groups. They are of no use then.
+fn try_all(
+    alloc: Global,
+    mounts: &mut Mounts,
+    groups: &mut Groups,
+    events: &[Event],
+) -> Result<Vec<MountId>, Deny>
+    ensures ok { IfOk result (λ gone. (world : World ℕ) (all : List (meant.Mount ℕ))
+        → IsSeen world mounts.old groups.old
+        → map (λ mount. mount.number) all ≡ map (λ event. counted event.mount.count) events.now
+        → map (λ id. counted id.count) gone.items ≡ gone_by world all) }
+    ensures memory { IfErr result (λ deny. deny ≡ denial S5) }
+{
     let mut gone = Vec::new(alloc);
-    for event in &events {
-        let going = unmount_if_there(alloc, &mut tried, &mut tried_groups, event.mount)?;
+    for event in events {
+        let going = unmount_if_there(alloc, mounts, groups, event.mount)?;
         let Ok(()) = gone.extend_from_slice(&going) else {
             return Err(Rule::S5.denial());
         };

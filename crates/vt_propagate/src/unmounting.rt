@@ -82,8 +82,8 @@ fn alone(alloc: Global, id: MountId) -> Result<Vec<MountId>, Deny>
     Ok(list)
 }
 
-// The mount point of a mount whose parent is shared, and the parent's group.
-fn shared_point(mounts: &Mounts, id: MountId) -> Option<(Location, GroupId)>
+/// The mount point of a mount whose parent is shared, and the parent's group.
+pub(crate) fn shared_point(mounts: &Mounts, id: MountId) -> Option<(Location, GroupId)>
     ensures { option_map (λ found. (location_of found.0, counted found.1.count)) result
         ≡ shared_point (mounts_in mounts.now) (counted id.count) }
 {

@@ -31,7 +31,7 @@ done c =
     unmounted_lazily value c.self.invariant c.args.name.now (counted c.args.mount.count)
     (subst (λ one. Permits one c.args.name.now (ToUnmountLazily (counted c.args.mount.count)))
     (sym c.self.view_is) c.requires)
-    gone c.in_ok-plan.plan.points.items (c.in_ok-plan.ensures.gone world seen) (c.in_ok-plan.ensures.left world refl)
+    gone c.in_ok-plan.plan.points.items (c.in_ok-plan.ensures.gone world seen c.self.invariant.in_world.mounts) (c.in_ok-plan.ensures.left world refl)
     (c.in_ok-plan.ensures.each world refl)
     c.take_away.new.mounts c.take_away.new.groups c.take_away.new.filesystems c.in_ok-take_away.ensures.ok
 
