@@ -29,7 +29,7 @@ use Rattle.vt_mount.proofs.RoomLemmas.{listed-within}
 use Rattle.vt_mount.proofs.WriteLemmas.{IsWritten}
 use Rattle.vt_spec.proofs.Truths.{and_true_left, and_true_right}
 
-abbrev entry_move : NewPoint → MountEntry → ℕ × Option (Place ℕ) × Location
+abbrev pub entry_move : NewPoint → MountEntry → ℕ × Option (Place ℕ) × Location
 entry_move point entry = (entry.mount.number, entry.mount.mount_point, point.place)
 
 slot-found : (id : MountId) (x : Mounted) (kept : List (MountId × Mounted)) → found id kept ≡ Some x

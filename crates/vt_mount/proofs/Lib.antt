@@ -13,3 +13,4 @@ mod RetypeLemmas
 pub mod SourceLemmas
 mod RoomLemmas
 mod GoingBackLemmas
+pub mod ComingLemmas
