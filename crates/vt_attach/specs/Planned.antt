@@ -7,7 +7,8 @@ use Rattle.vt_location.specs.Locations.{location_of}
 use Rattle.vt_location.specs.Numbers.{counted}
 use Rattle.vt_fs.specs.FilesystemsValue.{Shown}
 use Rattle.vt_mount.specs.MountsValue.{MountEntry, changed, entry_numbered}
-use Rattle.vt_propagate.specs.declared.falling.NewPoint.{NewPoint}
+use Rattle.vt_mount.specs.declared.moving.NewPoint.{NewPoint}
+pub use Rattle.vt_mount.specs.Moving.{moved_to, placed_entry, with_points}
 use Rattle.vt_spec.specs.Lists.{folded}
 use Rattle.vt_spec.specs.Machine.Mounts.{Location as Place}
 use Rattle.vt_detach.specs.Uses.{Kept, inode_of, pinned_in, point_of, shown_by, unpinned_in, unused_entry}
@@ -15,17 +16,6 @@ use Rattle.vt_detach.specs.Uses.{Kept, inode_of, pinned_in, point_of, shown_by, 
 -- a mount and its new mount point
 abbrev pub Point : Type 0
 Point = NewPoint
-
-abbrev pub placed_entry : Location → MountEntry → MountEntry
-placed_entry place entry = record entry { mount = record entry.mount { mount_point = Some (location_of place) } }
-
-abbrev pub moved_to : Point → List MountEntry → List MountEntry
-moved_to point entries = changed (counted point.mount.count) (placed_entry point.place) entries
-
--- the last of them first: of two for one mount the first one stays
-abbrev pub with_points : List Point → List MountEntry → List MountEntry
-with_points [] entries = entries
-with_points (point ∷ rest) entries = moved_to point (with_points rest entries)
 
 -- the mount points that a mount gets and leaves so, if it is there
 abbrev pub taken_at : Point → List MountEntry → List Location

@@ -21,8 +21,8 @@ use std::alloc::Global;
 use vt_fs::Filesystems;
 use vt_group::Groups;
 use vt_location::Mount;
-use vt_mount::Mounts;
-use vt_propagate::{Counts, Graft, NewPoint, attachment};
+use vt_mount::{Mounts, NewPoint};
+use vt_propagate::{Counts, Graft, attachment};
 use vt_retype::add;
 use vt_spec::errors::{Deny, Rule};
 

@@ -20,8 +20,7 @@ use std::alloc::{AllocError, Global};
 use vt_fs::Filesystems;
 use vt_group::{Groups, NewGroup};
 use vt_location::{Location, Mount};
-use vt_mount::Mounts;
-use vt_propagate::NewPoint;
+use vt_mount::{Mounts, NewPoint};
 use vt_spec::errors::{Deny, Rule};
 
 /// What is attached, and what moves for it.

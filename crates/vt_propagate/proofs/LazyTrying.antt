@@ -16,11 +16,12 @@ use Rattle.vt_group.proofs.Together.{map-twice, map_alike}
 use Rattle.vt_location.specs.declared.numbers.MountId.{MountId}
 use Rattle.vt_location.specs.Locations.{location_of}
 use Rattle.vt_location.specs.Numbers.{counted}
+use Rattle.vt_mount.specs.Moving.{moved_to, with_points}
 use Rattle.vt_mount.specs.MountsValue.{MountEntry, changed, mounts_in}
-use Rattle.vt_propagate.specs.declared.falling.NewPoint.{NewPoint}
+use Rattle.vt_mount.specs.declared.moving.NewPoint.{NewPoint}
 use Rattle.vt_propagate.specs.declared.lazily.Event.{Event}
 use Rattle.vt_propagate.specs.Falling.{LeavesBy, left_by, moved_by, point_of}
-use Rattle.vt_propagate.specs.LazyEvents.{all_placed, detached_by, placed}
+use Rattle.vt_propagate.specs.LazyEvents.{detached_by}
 use Rattle.vt_propagate.specs.LazyUnmounts.{going_if_there, gone_by}
 use Rattle.vt_retype.specs.Retyping.{FollowsTypesLeft, HaveNoSource}
 use Rattle.vt_propagate.specs.Seen.{IsSeen}
@@ -36,7 +37,7 @@ placed_if point mount =
     mount
 
 one_placed : (point : NewPoint) (entries : List MountEntry)
-    → mounts_in (placed point entries) ≡ map (placed_if point) (mounts_in entries)
+    → mounts_in (moved_to point entries) ≡ map (placed_if point) (mounts_in entries)
 one_placed point [] = refl
 one_placed point (entry ∷ rest) =
     λ i. by (nat_eq (counted point.mount.count) entry.mount.number) i ∷ one_placed point rest i
@@ -59,14 +60,14 @@ turned a b = by (nat_eq a b) refl (nat_eq b a) refl
 
 -- of two for one mount the first one counts
 pub all_fall : (entries : List MountEntry) (points : List NewPoint)
-    → mounts_in (all_placed points entries) ≡ map (moved_by (map point_of points)) (mounts_in entries)
+    → mounts_in (with_points points entries) ≡ map (moved_by (map point_of points)) (mounts_in entries)
 all_fall entries [] = none_moved (mounts_in entries)
   where
     none_moved : (mounts : List (Mount ℕ)) → mounts ≡ map (moved_by []) mounts
     none_moved [] = refl
     none_moved (mount ∷ rest) = ap (λ list. mount ∷ list) (none_moved rest)
 all_fall entries (point ∷ rest) =
-    one_placed point (all_placed rest entries)
+    one_placed point (with_points rest entries)
     ∙ ap (map (placed_if point)) (all_fall entries rest)
     ∙ map-twice (placed_if point) (moved_by (map point_of rest)) (mounts_in entries)
     ∙ map_alike (λ mount. placed_if point (moved_by (map point_of rest) mount))

@@ -11,7 +11,7 @@ use Rattle.vt_location.specs.Locations.{location_of}
 use Rattle.vt_location.specs.declared.numbers.MountId.{MountId}
 use Rattle.vt_location.specs.Numbers.{counted}
 use Rattle.vt_mount.specs.Listed.{same_id}
-use Rattle.vt_propagate.specs.declared.falling.NewPoint.{NewPoint}
+use Rattle.vt_mount.specs.declared.moving.NewPoint.{NewPoint}
 
 abbrev pub point_of : NewPoint → ℕ × Location ℕ
 point_of point = (counted point.mount.count, location_of point.place)

@@ -1,11 +1,8 @@
 -- The events of a lazy unmount in order, by the list of mounts alone.
-use Rattle.std.specs.Prelude.{List, Some, [], if◌then◌else◌, map, nat_eq, nat_lt, ℕ, ◌+◌, ◌∷◌}
+use Rattle.std.specs.Prelude.{List, [], if◌then◌else◌, map, nat_eq, nat_lt, ℕ, ◌+◌, ◌∷◌}
 use Rattle.vt_spec.specs.Machine.Detach.{deepest_first, depth_of, is_going}
 use Rattle.vt_spec.specs.Machine.Mounts.{Mount, detached, mount_in, mount_tree}
-use Rattle.vt_location.specs.Locations.{location_of}
 use Rattle.vt_location.specs.Numbers.{counted}
-use Rattle.vt_mount.specs.MountsValue.{MountEntry, changed}
-use Rattle.vt_propagate.specs.declared.falling.NewPoint.{NewPoint}
 use Rattle.vt_propagate.specs.declared.lazily.Event.{Event}
 use Rattle.vt_propagate.specs.Falling.{of_mounts}
 
@@ -32,12 +29,3 @@ deepest_numbers mounts number =
 -- a mount that is detached, if it is one of these
 abbrev pub detached_by : List ℕ → Mount ℕ → Mount ℕ
 detached_by gone mount = if is_going nat_eq gone mount.number then detached mount else mount
-
--- mounts with these mount points, the last of them first: of two for one mount the first one stays
-abbrev pub placed : NewPoint → List MountEntry → List MountEntry
-placed point entries = changed (counted point.mount.count)
-    (λ entry. record entry { mount = record entry.mount { mount_point = Some (location_of point.place) } }) entries
-
-abbrev pub all_placed : List NewPoint → List MountEntry → List MountEntry
-all_placed [] entries = entries
-all_placed (point ∷ rest) entries = placed point (all_placed rest entries)

@@ -14,12 +14,11 @@ ghost use Rattle.vt_propagate.specs.Pushing.{EachOnce, KeepsLeaver, MovesOnce, O
 ghost use Rattle.vt_propagate.specs.Seen.{IsSeen};
 
 use crate::copying::{Counts, Graft, copies, new_groups};
-use crate::falling::NewPoint;
 use crate::pushing::pushes;
 use std::alloc::Global;
 use vt_group::{Groups, NewGroup};
 use vt_location::Mount;
-use vt_mount::Mounts;
+use vt_mount::{Mounts, NewPoint};
 use vt_spec::errors::Deny;
 
 /// The plan of an attachment.

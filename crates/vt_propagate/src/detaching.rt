@@ -10,12 +10,12 @@ ghost use Rattle.vt_mount.specs.MountsValue.{mounts_in};
 ghost use Rattle.vt_propagate.specs.Falling.{FallsTo, LeavesBy, left_by, point_of};
 ghost use Rattle.vt_propagate.specs.Seen.{IsSeen};
 
-use crate::falling::{NewPoint, points_left};
+use crate::falling::points_left;
 use crate::unmounting::going;
 use std::alloc::Global;
 use vt_group::Groups;
 use vt_location::MountId;
-use vt_mount::Mounts;
+use vt_mount::{Mounts, NewPoint};
 use vt_spec::errors::Deny;
 
 /// The plan of an unmount.

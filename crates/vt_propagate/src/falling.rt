@@ -14,15 +14,8 @@ ghost use Rattle.vt_propagate.specs.Falling.{point_of};
 use indexmap::IndexSet;
 use std::alloc::{AllocError, Global};
 use vt_location::{Location, MountId};
-use vt_mount::Mounts;
+use vt_mount::{Mounts, NewPoint};
 use vt_spec::errors::{Deny, Rule};
-
-/// A mount, and the mount point that it gets.
-#[derive(Clone, Copy, Debug, PartialEq, Eq)]
-pub struct NewPoint {
-    pub mount: MountId,
-    pub place: Location,
-}
 
 // The mounts that go, and the same as a set.
 #[derive(Clone, Copy, Debug)]

@@ -16,13 +16,13 @@ ghost use Rattle.vt_spec.specs.Machine.World.{World};
 ghost use Rattle.vt_location.specs.Numbers.{counted};
 ghost use Rattle.vt_mount.specs.MountsValue.{mounts_in};
 ghost use Rattle.vt_propagate.specs.Falling.{FallsTo, LeavesBy, point_of};
-ghost use Rattle.vt_propagate.specs.LazyEvents.{all_placed, deepest_numbers, depth_in, detached_by, event_of, with_event};
+ghost use Rattle.vt_propagate.specs.LazyEvents.{deepest_numbers, depth_in, detached_by, event_of, with_event};
 ghost use Rattle.vt_propagate.specs.Going.{shared_point as shared_point_of};
 ghost use Rattle.vt_propagate.specs.LazyUnmounts.{going_if_there, gone_by, gone_lazily};
 ghost use Rattle.vt_propagate.specs.Seen.{IsSeen};
 
 use crate::detaching::Detachment;
-use crate::falling::{NewPoint, points_left};
+use crate::falling::points_left;
 use crate::unmounting::{going, shared_point};
 use std::alloc::{AllocError, Global};
 use vt_group::Groups;
@@ -204,7 +204,7 @@ fn unmount_if_there(
     }
     let gone = going(alloc, mounts, groups, id)?;
     let points = points_left(alloc, mounts, &gone)?;
-    fall(mounts, &points)?;
+    mounts.move_all(&points)?;
     detach_all(mounts, &gone);
     leave_all(mounts, groups, &gone);
     Ok(gone)
@@ -218,17 +218,6 @@ fn is_attached(mounts: &Mounts, id: MountId) -> bool
         Some(mount) => mount.namespace.is_some(),
         None => false,
     }
-}
-
-// The mounts that stay get their new mount points, the last one of the list first.
-fn fall(mounts: &mut Mounts, points: &[NewPoint]) -> Result<(), Deny>
-    ensures ok { OnOk result (mounts.new ≡ all_placed points.now mounts.old) }
-    ensures memory { IfErr result (λ deny. deny ≡ denial S5) }
-{
-    for point in points.iter().rev() {
-        mounts.move_to(point.mount, point.place)?;
-    }
-    Ok(())
 }
 
 // These mounts leave their namespaces and mount points.

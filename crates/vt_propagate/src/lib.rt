@@ -19,7 +19,7 @@ mod unmounting;
 pub use attaching::{Plan, attachment};
 pub use copying::{Counts, Graft, copies, new_groups};
 pub use detaching::{Detachment, unmount};
-pub use falling::{NewPoint, points_left};
+pub use falling::points_left;
 pub use filling::{Load, overfills};
 pub use lazily::unmount_lazily;
 pub use pushing::pushes;

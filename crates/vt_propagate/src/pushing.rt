@@ -18,10 +18,9 @@ ghost use Rattle.vt_propagate.specs.Planned.{planned_copies};
 ghost use Rattle.vt_propagate.specs.Pushing.{EachOnce, KeepsLeaver, MovesOnce, OneChild, PushesBy, leaver, pushed_at, pushes_from};
 
 use crate::copying::Graft;
-use crate::falling::NewPoint;
 use std::alloc::{AllocError, Global};
 use vt_location::{Location, Mount, MountId};
-use vt_mount::Mounts;
+use vt_mount::{Mounts, NewPoint};
 use vt_spec::errors::{Deny, Rule};
 
 /// The new mount points of the mounts that stand at the places of receivers: each goes onto the topmost mount of the

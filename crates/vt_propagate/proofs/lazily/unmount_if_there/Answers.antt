@@ -24,14 +24,14 @@ returns-clause-seen c world mount seen its =
     subst (λ w. IsSeen w c.leave_all.new.mounts c.leave_all.new.groups)
     (sym (tried_world world mount number its there ∙ ap (taken_away nat_eq world)
     (sym (c.in_ok-gone.ensures.ok world seen))))
-    (tried_is_seen world kept c.fall.new.mounts c.detach_all.new.mounts c.leave_all.new.mounts
+    (tried_is_seen world kept c.move_all.new.self c.detach_all.new.mounts c.leave_all.new.mounts
     c.args.groups.now c.leave_all.new.groups gone (map point_of c.in_ok-points.points.items) seen
     (subst (λ ids. LeavesBy world (counts ids) (map point_of c.in_ok-points.points.items)) c.deref.ensures.value
     (c.in_ok-points.ensures.ok world seen.mounts))
-    (ap mounts_in c.in_ok-fall.ensures.ok ∙ all_fall kept c.deref-2.result.now
+    (ap mounts_in c.in_ok-move_all.ensures.ok ∙ all_fall kept c.deref-2.result.now
     ∙ ap (λ list. map (moved_by (map point_of list)) (mounts_in kept)) c.deref-2.ensures.value)
     (c.detach_all.ensures
-    ∙ ap (λ ids. map (detached_by (counts ids)) (mounts_in c.fall.new.mounts)) c.deref-3.ensures.value)
+    ∙ ap (λ ids. map (detached_by (counts ids)) (mounts_in c.move_all.new.self)) c.deref-3.ensures.value)
     (subst (λ ids. TakesAway c.args.groups.now c.leave_all.new.groups (counts ids)) c.deref-4.ensures.value
     c.leave_all.ensures.detached)
     (subst (λ ids. FollowsTypesLeft c.args.groups.now c.leave_all.new.groups (counts ids) c.detach_all.new.mounts
