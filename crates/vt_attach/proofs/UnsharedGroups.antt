@@ -17,7 +17,7 @@ use Rattle.vt_mount.specs.MountsValue.{MountEntry, mounts_in}
 use Rattle.vt_run_laws.specs.Handed.{counts_from}
 use Rattle.vt_attach.specs.AttachedGroups.{type_of}
 use Rattle.vt_detach.specs.Held.{IsHeld}
-use Rattle.vt_detach.specs.Typed.{AreTyped}
+use Rattle.vt_retype.specs.Retyping.{AreTyped}
 use Rattle.vt_detach.specs.WorldValue.{WorldValue, world_of}
 use Rattle.vt_detach.proofs.FollowedTypes.{world_typed}
 use Rattle.vt_attach.proofs.GrownGroups.{attached_worlds_grow}

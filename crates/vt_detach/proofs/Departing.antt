@@ -19,7 +19,7 @@ use Rattle.vt_mount.specs.MountsValue.{MountEntry}
 use Rattle.vt_tasks.specs.TasksValue.{Tasks}
 use Rattle.vt_detach.specs.Held.{CountsWhatIsInIt, IsHeld}
 use Rattle.vt_detach.specs.NamespacesLeft.{MountsAreLeft, namespace_entry, numbers_inside, with_one_task_less}
-use Rattle.vt_detach.specs.Typed.{AreTyped}
+use Rattle.vt_retype.specs.Retyping.{AreTyped}
 use Rattle.vt_detach.specs.Uses.{Kept, kept}
 use Rattle.vt_detach.specs.WorldValue.{NamespaceEntry, WorldValue, namespace_of, world_of}
 use Rattle.vt_detach.proofs.Bridging.{IsSwept}

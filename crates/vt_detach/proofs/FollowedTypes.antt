@@ -1,26 +1,22 @@
--- Where no group ends, mounts that are detached leave each mount with the type that the groups tell.
+-- The types that the groups tell, where mounts are detached or uses change.
 use Rattle.std.proofs.Common.{◌≡◌, refl, sym, ap, subst, ◌∙◌, ℕ, nat_eq, Bool, true, false, true≢false, cond, ◌||◌, ◌⊎◌, ⊎_elim, inl, inr, List, [], ◌∷◌, map, filter, Option, None, Some, eq-eqb, eqb-true}
 use Rattle.std.proofs.lemmas.Bool.{eqb-false}
-use Rattle.std.proofs.lemmas.Option.{same_Some}
 use Rattle.std.specs.Prelude.{if◌then◌else◌}
-use Rattle.vt_spec.specs.Lists.{folded, holds_of, is_among}
-use Rattle.vt_spec.specs.Machine.Mounts.{Mount, Propagation, detached, is_unbindable}
+use Rattle.vt_spec.specs.Lists.{folded, is_among}
+use Rattle.vt_spec.specs.Machine.Mounts.{Mount, Propagation, is_unbindable, source_of}
 use Rattle.vt_spec.specs.Machine.Mounts.Propagation.{Private, Shared, Slave, Unbindable}
 use Rattle.vt_spec.specs.Machine.World.{World}
 use Rattle.vt_group.specs.Grouping.{Grouping, Has, propagation_in}
 use Rattle.vt_group.specs.Laws.{shown, typed_by}
-use Rattle.vt_group.specs.Together.{LeaveAlone}
 use Rattle.vt_group.proofs.Showing.{shows_types}
 use Rattle.vt_letting_go.specs.Mounting.{inode_at}
-use Rattle.vt_letting_go.proofs.Lists.{Among, all_from_among, among-filter, among-from_filter, among-from_map, among-map, among_from_all, among_numbers, fails, is_among_numbers, map_same, or_second}
-use Rattle.vt_mount.specs.MountsValue.{MountEntry, are_ascending, changed, entry_numbered, held, mounts_in, released}
+use Rattle.vt_letting_go.proofs.Lists.{Among, all_from_among, among-from_filter, among-from_map, among-map, among_from_all, or_second}
+use Rattle.vt_mount.specs.MountsValue.{MountEntry, changed, entry_numbered, held, released}
 use Rattle.vt_detach.specs.Detached.{LeaveInTurn}
-use Rattle.vt_detach.specs.NamespacesLeft.{AreDetached, Detached, NamespaceEnds, is_attached_in, numbers_inside}
-use Rattle.vt_detach.specs.Typed.{AreTyped, typed_entry}
+use Rattle.vt_retype.specs.Retyping.{AreTyped, AreTypedBut, HaveNoSource, typed_entry}
 use Rattle.vt_detach.specs.Uses.{Kept, detached_entry, detached_use, is_unused, let_go_entry, let_go_mount, released_use, without_attachment, without_mount}
 use Rattle.vt_detach.specs.Held.{IsHeld}
 use Rattle.vt_detach.specs.WorldValue.{WorldValue, world_of}
-use Rattle.vt_detach.proofs.EndingLemmas.{entry_ascending}
 use Rattle.vt_detach.proofs.MidwayDone.{leave_use}
 use Rattle.vt_detach.proofs.Moving.{Use, gain}
 
@@ -38,7 +34,7 @@ left_was number k entry = by (entry_numbered k.mounts number)
         chosen false n = n
 
 -- each mount that is left is the one that is detached, or stays as it is
-one_left : (P : MountEntry → Type 0) (number : ℕ)
+pub one_left : (P : MountEntry → Type 0) (number : ℕ)
     (point : Option Rattle.vt_location.specs.declared.locations.Location.Location) (k : Kept)
     → ((was : MountEntry) → Among was k.mounts → nat_eq number was.mount.number ≡ true → P (detached_entry was))
     → ((was : MountEntry) → Among was k.mounts → nat_eq number was.mount.number ≡ false → P was)
@@ -54,153 +50,72 @@ one_left P number point k goes stays entry m =
     by was n true e = subst (λ c. P (cond c (detached_entry was) was)) (sym e) (goes was n e)
     by was n false e = subst (λ c. P (cond c (detached_entry was) was)) (sym e) (stays was n e)
 
-module _ (before now : Grouping) (numbers : List ℕ) (alone : LeaveAlone before now numbers) where
-  detached_typed : (mount : Mount ℕ) → is_among nat_eq mount.number numbers ≡ true
-      → typed_by now (detached mount) ≡ detached mount
-  detached_typed mount there = λ i. record (detached mount) {
-    propagation = (alone.types mount.number
-        ∙ ap (λ b. if b then Private else propagation_in before mount.number) there) i;
-  }
+-- Mounts that are detached one after the other, of those with these numbers: each that is one of them is private then,
+-- and each other has the type that the groups tell.
 
-  other_typed : (mount : Mount ℕ) → is_among nat_eq mount.number numbers ≡ false → typed_by before mount ≡ mount
-      → typed_by now mount ≡ mount
-  other_typed mount apart typed =
-      (λ i. record mount {
-        propagation = if is_unbindable mount.propagation then Unbindable else (alone.types mount.number
-            ∙ ap (λ b. if b then Private else propagation_in before mount.number) apart) i;
-      })
-      ∙ typed
+module _ (groups : Grouping) (numbers : List ℕ) where
+  abbrev IsDone : MountEntry → Type 0
+  IsDone entry =
+      (is_among nat_eq entry.mount.number numbers ≡ false → typed_entry groups entry ≡ entry)
+      × (is_among nat_eq entry.mount.number numbers ≡ true → source_of entry.mount.propagation ≡ None)
 
-  -- One after the other
+  abbrev IsDoneBut : List ℕ → MountEntry → Type 0
+  IsDoneBut rest entry = IsDone entry ⊎ (is_among nat_eq entry.mount.number rest ≡ true)
 
-  abbrev TypedBut : List ℕ → MountEntry → Type 0
-  TypedBut rest entry = (typed_by now entry.mount ≡ entry.mount) ⊎ (is_among nat_eq entry.mount.number rest ≡ true)
-
-  turn_typed : (rest : List ℕ) (k last : Kept)
+  turn_done : (rest : List ℕ) (k last : Kept)
       → ((number : ℕ) → is_among nat_eq number rest ≡ true → is_among nat_eq number numbers ≡ true)
-      → LeaveInTurn rest k last → ((entry : MountEntry) → Among entry k.mounts → TypedBut rest entry)
-      → (entry : MountEntry) → Among entry last.mounts → typed_by now entry.mount ≡ entry.mount
-  turn_typed [] k last within same typed = λ entry m.
+      → LeaveInTurn rest k last → ((entry : MountEntry) → Among entry k.mounts → IsDoneBut rest entry)
+      → (entry : MountEntry) → Among entry last.mounts → IsDone entry
+  turn_done [] k last within same done = λ entry m.
       ⊎_elim (λ is. is) (λ none. absurd (true≢false (sym none)))
-      (typed entry (subst (λ (one : Kept). Among entry one.mounts) same m))
-  turn_typed (number ∷ rest) k last within turn typed =
-      turn_typed rest (without_attachment number turn.0 k) last
+      (done entry (subst (λ (one : Kept). Among entry one.mounts) same m))
+  turn_done (number ∷ rest) k last within turn done =
+      turn_done rest (without_attachment number turn.0 k) last
       (λ other t. within other (or_second (nat_eq other number) (is_among nat_eq other rest) t)) turn.3
-      (one_left (TypedBut rest) number turn.0 k
-      (λ was m same. inl (detached_typed was.mount
-      (within was.mount.number (ap (λ b. b || is_among nat_eq was.mount.number rest)
-      (eq-eqb was.mount.number number (sym (eqb-true number was.mount.number same)))))))
+      (one_left (IsDoneBut rest) number turn.0 k
+      (λ was m same. inl (
+        λ apart. absurd (true≢false (sym (within was.mount.number
+            (ap (λ b. b || is_among nat_eq was.mount.number rest)
+            (eq-eqb was.mount.number number (sym (eqb-true number was.mount.number same))))) ∙ apart)),
+        λ is. refl,
+      ))
       (λ was m apart. ⊎_elim (λ is. inl is)
       (λ later. inr (ap (λ b. b || is_among nat_eq was.mount.number rest) (sym (turned was.mount.number apart))
       ∙ later))
-      (typed was m)))
+      (done was m)))
     where
       turned : (other : ℕ) → nat_eq number other ≡ false → nat_eq other number ≡ false
       turned other apart = Rattle.std.proofs.Common.ne_eqb other number
           (λ same. eqb-false number other apart (sym same))
 
-  pub turn_follows : (k last : Kept) → LeaveInTurn numbers k last → AreTyped before k.mounts
-      → last.mounts ≡ map (typed_entry now) last.mounts
-  turn_follows k last turn typed =
-      sym (map_same (typed_entry now) last.mounts (λ entry m.
-      λ i. record entry {
-        mount = turn_typed numbers k last (λ number t. t) turn
-            (λ was n. at_first was n (is_among nat_eq was.mount.number numbers) refl) entry m i;
-      }))
+  all_done : (k last : Kept) → LeaveInTurn numbers k last → AreTyped groups k.mounts
+      → (entry : MountEntry) → Among entry last.mounts → IsDone entry
+  all_done k last turn typed =
+      turn_done numbers k last (λ number t. t) turn
+      (λ was n. at_first was n (is_among nat_eq was.mount.number numbers) refl)
     where
       at_first : (was : MountEntry) → Among was k.mounts → (b : Bool) → is_among nat_eq was.mount.number numbers ≡ b
-          → TypedBut numbers was
+          → IsDoneBut numbers was
       at_first was n true e = inr e
-      at_first was n false e =
-          inl (other_typed was.mount e (among_from_all
-          (λ (entry : MountEntry). typed_by before entry.mount ≡ entry.mount) k.mounts typed was n))
+      at_first was n false e = inl (
+        λ apart i. record was {
+          mount = among_from_all (λ (entry : MountEntry). typed_by groups entry.mount ≡ entry.mount) k.mounts typed
+              was n i;
+        },
+        λ is. absurd (true≢false (sym is ∙ e)),
+      )
 
--- A namespace that ends
+  pub turn_typed : (k last : Kept) → LeaveInTurn numbers k last → AreTyped groups k.mounts
+      → AreTypedBut groups numbers last.mounts
+  turn_typed k last turn typed =
+      all_from_among (λ (entry : MountEntry). is_among nat_eq entry.mount.number numbers ≡ false
+      → typed_entry groups entry ≡ entry) last.mounts (λ entry m. (all_done k last turn typed entry m).0)
 
-module _ (namespace : ℕ) (before now : Grouping) (old : Kept)
-    (alone : LeaveAlone before now (numbers_inside namespace old.mounts)) where
-  -- a mount stays as it is, or is detached
-  abbrev StaysOrGoes : MountEntry → Type 0
-  StaysOrGoes entry = Among entry old.mounts
-      ⊎ ((entry.mount.namespace ≡ None) × (typed_by now entry.mount ≡ entry.mount))
-
-  -- a mount in the namespace is one of those that go
-  inside_goes : (entry : MountEntry) → Among entry old.mounts → entry.mount.namespace ≡ Some namespace
-      → is_among nat_eq entry.mount.number (numbers_inside namespace old.mounts) ≡ true
-  inside_goes entry m inside =
-      is_among_numbers entry.mount.number (numbers_inside namespace old.mounts)
-      (among-map (λ (mount : Mount ℕ). mount.number)
-      (filter (λ (mount : Mount ℕ). holds_of (nat_eq namespace) mount.namespace) (mounts_in old.mounts)) entry.mount
-      (among-filter (λ (mount : Mount ℕ). holds_of (nat_eq namespace) mount.namespace)
-      (mounts_in old.mounts) entry.mount
-      (among-map (λ (one : MountEntry). one.mount) old.mounts entry m)
-      (ap (holds_of (nat_eq namespace)) inside ∙ eq-eqb namespace namespace refl)))
-
-  gone_typed : (gone : List Detached) (k last : Kept) → AreDetached namespace gone k last
-      → ((entry : MountEntry) → Among entry k.mounts → StaysOrGoes entry)
-      → (entry : MountEntry) → Among entry last.mounts → StaysOrGoes entry
-  gone_typed [] k last same typed = λ entry m. typed entry (subst (λ (one : Kept). Among entry one.mounts) same m)
-  gone_typed (one ∷ gone) k last turn typed =
-      gone_typed gone (without_attachment one.number one.point k) last turn.1
-      (one_left StaysOrGoes one.number one.point k
-      (λ was m same. inr (
-        refl,
-        detached_typed before now (numbers_inside namespace old.mounts) alone was.mount
-            (subst (λ number. is_among nat_eq number (numbers_inside namespace old.mounts) ≡ true)
-            (eqb-true one.number was.mount.number same) listed),
-      ))
-      (λ was m apart. typed was m))
-    where
-      found : Among turn.0.entry k.mounts × (nat_eq one.number turn.0.entry.mount.number ≡ true)
-      found = Rattle.vt_letting_go.proofs.Lists.found_in
-          (λ (entry : MountEntry). nat_eq one.number entry.mount.number) k.mounts turn.0.entry turn.0.found
-
-      listed : is_among nat_eq one.number (numbers_inside namespace old.mounts) ≡ true
-      listed =
-          subst (λ number. is_among nat_eq number (numbers_inside namespace old.mounts) ≡ true)
-          (sym (eqb-true one.number turn.0.entry.mount.number found.1))
-          (inside_goes turn.0.entry
-          (⊎_elim (λ there. there)
-          (λ away. absurd (true≢false (sym (ap Rattle.std.proofs.Common.is_some (sym away.0 ∙ turn.0.inside)))))
-          (typed turn.0.entry found.0))
-          turn.0.inside)
-
-  pub end_follows : (last : Kept) → NamespaceEnds namespace old last → are_ascending (mounts_in old.mounts) ≡ true
-      → AreTyped before old.mounts
-      → last.mounts ≡ map (typed_entry now) last.mounts
-  end_follows last ends ascending typed =
-      sym (map_same (typed_entry now) last.mounts (λ entry m.
-      λ i. record entry {
-        mount = ⊎_elim (stayed entry m) (λ away. away.1)
-            (gone_typed ends.gone old last ends.detached (λ was n. inl n) entry m) i;
-      }))
-    where
-      stayed : (entry : MountEntry) → Among entry last.mounts → Among entry old.mounts
-          → typed_by now entry.mount ≡ entry.mount
-      stayed entry m there = by (is_among nat_eq entry.mount.number (numbers_inside namespace old.mounts)) refl
-        where
-          by : (b : Bool) → is_among nat_eq entry.mount.number (numbers_inside namespace old.mounts) ≡ b
-              → typed_by now entry.mount ≡ entry.mount
-          by false e =
-              other_typed before now (numbers_inside namespace old.mounts) alone entry.mount e
-              (among_from_all (λ (one : MountEntry). typed_by before one.mount
-              ≡ one.mount) old.mounts typed entry there)
-          by true e =
-              let number = among-from_map (λ (mount : Mount ℕ). mount.number)
-              (filter (λ (mount : Mount ℕ). holds_of (nat_eq namespace) mount.namespace)
-              (mounts_in old.mounts)) entry.mount.number
-              (among_numbers entry.mount.number (numbers_inside namespace old.mounts) e) in
-              let inside = among-from_filter (λ (mount : Mount ℕ). holds_of (nat_eq namespace) mount.namespace)
-              (mounts_in old.mounts) number.0 number.1 in
-              let from = among-from_map (λ (one : MountEntry). one.mount) old.mounts number.0 inside.0 in
-              let same : from.0 ≡ entry =
-              same_Some from.0 entry (sym (entry_ascending old.mounts ascending from.0 from.1)
-              ∙ ap (entry_numbered old.mounts) (ap (λ (mount : Mount ℕ). mount.number) (sym from.2) ∙ sym number.2)
-              ∙ entry_ascending old.mounts ascending entry there) in
-              absurd (true≢false
-              (sym inside.1 ∙ ap (λ (mount : Mount ℕ). holds_of (nat_eq namespace) mount.namespace)
-              (from.2 ∙ ap (λ (one : MountEntry). one.mount) same)
-              ∙ fails (is_attached_in namespace) last.mounts ends.none_left entry m))
+  pub turn_sourceless : (k last : Kept) → LeaveInTurn numbers k last → AreTyped groups k.mounts
+      → HaveNoSource numbers last.mounts
+  turn_sourceless k last turn typed =
+      all_from_among (λ (entry : MountEntry). is_among nat_eq entry.mount.number numbers ≡ true
+      → source_of entry.mount.propagation ≡ None) last.mounts (λ entry m. (all_done k last turn typed entry m).1)
 
 -- What keeps the types
 

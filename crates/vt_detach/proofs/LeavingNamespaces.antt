@@ -16,7 +16,7 @@ use Rattle.vt_mount.specs.MountsValue.{MountEntry}
 use Rattle.vt_tasks.specs.TasksValue.{Tasks}
 use Rattle.vt_detach.specs.Held.{IsHeld}
 use Rattle.vt_detach.specs.NamespacesLeft.{EndsIf, MountsAreLeft, NamespaceIsLeft, has_one_task, is_attached_in, namespace_entry, numbers_inside}
-use Rattle.vt_detach.specs.Typed.{AreTyped, typed_entry}
+use Rattle.vt_retype.specs.Retyping.{AreTyped, typed_entry}
 use Rattle.vt_detach.specs.Uses.{Kept}
 use Rattle.vt_detach.specs.WorldValue.{NamespaceEntry, WorldValue}
 use Rattle.vt_detach.proofs.Midway.{Reached}

@@ -46,6 +46,7 @@ pub mod MidwayBegins
 pub mod NamespaceMounts
 pub mod EndingLemmas
 pub mod FollowedTypes
+pub mod TypesAside
 pub mod NamespacesEnded
 pub mod TypedEvents
 pub mod NamespacesTyped

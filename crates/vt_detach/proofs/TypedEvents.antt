@@ -16,7 +16,7 @@ use Rattle.vt_letting_go.proofs.Lists.{Among, all_from_among, among-from_map, am
 use Rattle.vt_location.specs.Numbers.{counted}
 use Rattle.vt_mount.specs.MountsValue.{MountEntry, mounts_in}
 use Rattle.vt_detach.specs.Held.{CountsItsUses, CountsWhatIsInIt, IsHeld}
-use Rattle.vt_detach.specs.Typed.{typed_entry}
+use Rattle.vt_retype.specs.Retyping.{typed_entry}
 use Rattle.vt_detach.specs.WorldValue.{WorldValue, world_of}
 use Rattle.vt_detach.proofs.Bridging.{IsSwept}
 use Rattle.vt_detach.proofs.Finishing.{CountsBeside, IsApplied, finished_as}

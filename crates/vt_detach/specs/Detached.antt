@@ -6,7 +6,7 @@ use Rattle.vt_group.specs.Together.{TakesAway}
 use Rattle.vt_location.specs.declared.locations.Location.{Location}
 use Rattle.vt_location.specs.Locations.{location_of, number_of}
 use Rattle.vt_mount.specs.MountsValue.{MountEntry, stands_over}
-use Rattle.vt_detach.specs.Typed.{FollowTypes}
+use Rattle.vt_retype.specs.Retyping.{FollowTypes}
 use Rattle.vt_detach.specs.Uses.{Kept, point_of, without_attachment}
 
 -- Each in its turn is detached from its mount point, and goes if nothing is on it.

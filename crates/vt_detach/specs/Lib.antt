@@ -3,7 +3,6 @@ pub mod Held
 pub mod Events
 pub mod Looking
 pub mod Uses
-pub mod Typed
 pub mod Detached
 pub mod Forking
 pub mod NamespacesLeft

@@ -10,7 +10,7 @@ use Rattle.vt_mount.specs.MountsValue.{MountEntry, entry_numbered, mounts_in}
 use Rattle.vt_spec.specs.Lists.{holds_of}
 use Rattle.vt_request.specs.Requests.{access_of}
 use Rattle.vt_tasks.specs.declared.descriptors.OpenFile.{OpenFile}
-use Rattle.vt_detach.specs.Typed.{FollowTypes}
+use Rattle.vt_retype.specs.Retyping.{FollowTypes}
 use Rattle.vt_detach.specs.Uses.{Kept, without_attachment, without_location}
 use Rattle.vt_detach.specs.WorldValue.{NamespaceEntry}
 

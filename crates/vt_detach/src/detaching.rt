@@ -5,12 +5,12 @@ ghost use Rattle.vt_location.specs.Numbers.{counted};
 ghost use Rattle.vt_detach.specs.Detached.{LeaveInTurn, LeaveTogether};
 ghost use Rattle.vt_detach.specs.Uses.{kept, point_of, without_attachment};
 
-use crate::typing::follow;
 use crate::uses::let_go_mount;
 use vt_fs::Filesystems;
 use vt_group::Groups;
 use vt_location::{Location, MountId};
 use vt_mount::Mounts;
+use vt_retype::leave_all;
 
 /// A mount leaves its namespace and its mount point, which is returned, and goes if nothing is on it. It takes no
 /// memory.
@@ -50,9 +50,6 @@ pub fn detach_together(
     ensures { LeaveTogether (map (λ id. counted id.count) ids.now) (kept mounts.old filesystems.old) groups.old
         (kept mounts.new filesystems.new) groups.new }
 {
-    let ended = groups.leave_all(ids);
     detach_each(mounts, filesystems, ids);
-    if ended {
-        follow(mounts, groups);
-    }
+    leave_all(mounts, groups, ids);
 }

@@ -1,18 +1,18 @@
 //! Namespaces that tasks leave, and that end with their last: mount_namespaces(7).
 ghost use Rattle.std.specs.Prelude.{◌≡◌};
 ghost use Rattle.vt_location.specs.Numbers.{counted};
-ghost use Rattle.vt_detach.specs.NamespacesLeft.{MountsAreLeft, NamespaceEnds, NamespaceIsLeft, namespace_entry, with_one_task_less};
+ghost use Rattle.vt_detach.specs.NamespacesLeft.{MountsAreLeft, NamespaceIsLeft, namespace_entry, with_one_task_less};
 ghost use Rattle.vt_detach.specs.Uses.{kept};
 ghost use Rattle.vt_detach.specs.WorldValue.{entries_of};
 
 use crate::detaching::detach;
 use crate::namespaces::Namespace;
-use crate::typing::follow;
 use indexmap::IndexMap;
 use vt_fs::Filesystems;
 use vt_group::Groups;
 use vt_location::NamespaceId;
 use vt_mount::Mounts;
+use vt_retype::leave;
 
 /// One task less of a namespace. With its last it goes, and its mounts are detached: they leave their groups at once,
 /// and the slaves of a group that ends get its master. It does not allocate.
@@ -39,7 +39,7 @@ pub fn leave_namespace(
     end_namespace(mounts, groups, filesystems, id);
 }
 
-// The mounts of a namespace leave their groups at once, and are detached.
+// The mounts of a namespace are detached and leave their groups, the last one first.
 fn end_namespace(
     mounts: &mut Mounts,
     groups: &mut Groups,
@@ -49,21 +49,10 @@ fn end_namespace(
     ensures { NamespaceIsLeft (counted id.count) (kept mounts.old filesystems.old) groups.old
         (kept mounts.new filesystems.new) groups.new }
 {
-    mounts.are_ascending();
-    let ended = groups.leave_all(mounts.attached_in(id));
-    detach_all(mounts, filesystems, id);
-    if ended {
-        follow(mounts, groups);
-    }
-}
-
-// Detaches the mounts of a namespace, the last one first.
-fn detach_all(mounts: &mut Mounts, filesystems: &mut Filesystems, id: NamespaceId)
-    ensures { NamespaceEnds (counted id.count) (kept mounts.old filesystems.old) (kept mounts.new filesystems.new) }
-{
     while let Some(last) = mounts.attached_in(id).last() {
         let mount = *last;
         mounts.are_ascending();
         detach(mounts, filesystems, mount);
+        leave(mounts, groups, mount);
     }
 }

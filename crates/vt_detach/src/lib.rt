@@ -4,5 +4,4 @@
 pub mod detaching;
 pub mod ending;
 pub mod namespaces;
-pub mod typing;
 pub mod uses;

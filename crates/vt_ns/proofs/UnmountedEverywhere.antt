@@ -28,7 +28,7 @@ use Rattle.vt_attach.specs.PlannedUses.{point_seen}
 use Rattle.vt_detach.specs.Detached.{LeaveTogether}
 use Rattle.vt_detach.specs.Events.{Permits}
 use Rattle.vt_detach.specs.Held.{IsHeld}
-use Rattle.vt_detach.specs.Typed.{AreTyped}
+use Rattle.vt_retype.specs.Retyping.{AreTyped}
 use Rattle.vt_detach.specs.Uses.{Kept, kept}
 use Rattle.vt_detach.proofs.FollowedTypes.{changed_typed, own_types}
 use Rattle.vt_group.proofs.Others.{has_ordered}

@@ -204,7 +204,8 @@ module _ (before now : Grouping) (number : ℕ) (old : List MountEntry) (typed :
       (among_from_all (λ (one : MountEntry). is_among nat_eq one.mount.number [] ≡ false
       → typed_entry before one ≡ one) old typed was m refl)
 
-  pub slave_typed : (between new : List MountEntry) → (HaveSources before old → between ≡ map (once_left before number) old)
+  pub slave_typed : (between new : List MountEntry)
+      → (HaveSources before old → between ≡ map (once_left before number) old)
       → new ≡ changed number (typed_entry now) between → new ≡ map (typed_entry now) old
   slave_typed between new slaves is =
       is

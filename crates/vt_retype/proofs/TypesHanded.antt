@@ -55,7 +55,8 @@ module _ (lost : ℕ) (heir : Option ℕ) where
   bindable_after_end Unbindable = refl
 
   -- one that is no slave of the group keeps its type
-  pub others_after_end : (kind : Propagation ℕ) → (source_of kind ≡ Some lost → ⊥) → type_after_end lost heir kind ≡ kind
+  pub others_after_end : (kind : Propagation ℕ) → (source_of kind ≡ Some lost → ⊥)
+      → type_after_end lost heir kind ≡ kind
   others_after_end (Shared group) apart = refl
   others_after_end (Slave master) apart = by (nat_eq master lost) refl
     where
@@ -101,7 +102,8 @@ module _ (number : ℕ) where
   pub absent_unchanged : (change : MountEntry → MountEntry) (entries : List MountEntry)
       → find (λ mount. nat_eq number mount.number) (mounts_in entries) ≡ None → entries ≡ changed number change entries
   absent_unchanged change [] none = refl
-  absent_unchanged change (entry ∷ rest) none = by (nat_eq number entry.mount.number) none (absent_unchanged change rest)
+  absent_unchanged change (entry ∷ rest) none =
+      by (nat_eq number entry.mount.number) none (absent_unchanged change rest)
     where
       by : (b : Bool)
           → cond b (Some entry.mount) (find (λ mount. nat_eq number mount.number) (mounts_in rest)) ≡ None
@@ -167,10 +169,12 @@ module _ (numbers : List ℕ) (lost : ℕ) (heir : Option ℕ) (number : ℕ) wh
           ap (λ b. if b then after_end lost heir (after_end lost heir entry) else after_end lost heir entry) is
       by false true is =
           ap (λ b. if b then after_end lost heir entry else entry) is
-          ∙ sym (ap (λ b. if b then after_end lost heir entry else entry) (eqb-swapped number entry.mount.number true is))
+          ∙ sym (ap (λ b. if b then after_end lost heir entry else entry)
+          (eqb-swapped number entry.mount.number true is))
       by false false is =
           ap (λ b. if b then after_end lost heir entry else entry) is
-          ∙ sym (ap (λ b. if b then after_end lost heir entry else entry) (eqb-swapped number entry.mount.number false is))
+          ∙ sym (ap (λ b. if b then after_end lost heir entry else entry)
+          (eqb-swapped number entry.mount.number false is))
 
   pub changed-handed : (entries : List MountEntry)
       → changed number (after_end lost heir) (map (after_end_of numbers lost heir) entries)

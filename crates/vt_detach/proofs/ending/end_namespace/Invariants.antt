@@ -1,0 +1,34 @@
+use Rattle.std.proofs.Common.{List, filter, length, nat_eq, ℕ}
+use Rattle.vt_fs.specs.FilesystemsValue.{shown}
+use Rattle.vt_spec.specs.Machine.Receives.{regrouped}
+use Rattle.vt_spec.specs.Machine.World.{World}
+use Rattle.vt_location.specs.Numbers.{counted}
+use Rattle.vt_group.specs.Grouping.{GroupsLive, Has}
+use Rattle.vt_group.specs.Together.{as_private, with_changed}
+use Rattle.vt_mount.specs.MountsValue.{MountEntry}
+use Rattle.vt_retype.specs.Leaving.{OnlyTypesChange}
+use Rattle.vt_retype.specs.Retyping.{AreTyped}
+use Rattle.vt_retype.proofs.Left.{StillTyped}
+use Rattle.vt_detach.specs.NamespacesLeft.{AreDetached, Detached, is_attached_in}
+use Rattle.vt_detach.specs.Uses.{kept}
+use Rattle.vt_detach.proofs.TypesAside.{gone_numbers}
+use Rattle.vt_detach.proofs.ending.end_namespace.Given as goal
+
+-- those that are gone were detached one after the other, and have left their groups; the mounts that their detaching
+-- alone leaves differ in types only
+abbrev pub invariant-loop-last : goal.invariant-loop-last
+invariant-loop-last l = record {
+  gone : List Detached;
+  entries : List MountEntry;
+  detached : AreDetached (counted l.fn.id.count) gone (kept l.initial.mounts l.initial.filesystems)
+      (record { mounts = entries; filesystems = shown l.filesystems });
+  only_types : OnlyTypesChange entries l.mounts;
+  groups : (world : World ℕ) → Has world l.initial.groups → GroupsLive world
+      → Has (regrouped nat_eq (with_changed as_private world (gone_numbers gone))) l.groups;
+  types : AreTyped l.initial.groups l.initial.mounts
+      → StillTyped l.groups (gone_numbers gone) (gone_numbers gone) l.mounts;
+}
+
+-- how many are still to go
+abbrev pub decreases-loop-last : goal.decreases-loop-last
+decreases-loop-last l = length (filter (is_attached_in (counted l.fn.id.count)) l.mounts)
