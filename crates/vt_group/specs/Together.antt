@@ -33,12 +33,6 @@ Retypes old new word numbers =
 abbrev pub is_ordered : Grouping → Bool
 is_ordered groups = are_rising (map (λ peer. peer.0) groups.peers)
 
--- These mounts are private, and each other has the type that it had: no group ended.
-pub record LeaveAlone (old new : Grouping) (numbers : List ℕ) : Type 0 where
-  pub order : is_ordered new ≡ true
-  pub types : (mount : ℕ) → propagation_in new mount
-      ≡ (if is_among nat_eq mount numbers then Private else propagation_in old mount)
-
 -- and where all these mounts are detached
 abbrev pub TakesAway : Grouping → Grouping → List ℕ → Type 0
 TakesAway old new numbers =

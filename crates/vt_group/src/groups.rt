@@ -10,9 +10,8 @@ ghost use Rattle.vt_spec.specs.declared.errors.Rule.TheVariants.{S5};
 ghost use Rattle.vt_location.specs.MountValue.{propagation_of};
 ghost use Rattle.vt_location.specs.Numbers.{counted};
 ghost use Rattle.vt_group.specs.Grouping.{Follows, GroupsLive, Has, HasGroup, HasMount, LacksGroup, below, master_in, no_groups, numbers_of, propagation_in, with_propagation};
-ghost use Rattle.vt_spec.specs.Language.Calls.TypeWord.{ToPrivate, ToSlave, ToUnbindable};
 ghost use Rattle.vt_group.specs.Additions.{typed_pair};
-ghost use Rattle.vt_group.specs.Together.{GrowsTo, LeaveAlone, Retypes, Shares, TakesAway, is_ordered, new_group, pair_of};
+ghost use Rattle.vt_group.specs.Together.{GrowsTo, Shares, is_ordered, new_group, pair_of};
 ghost use Rattle.vt_group.specs.Together.{shared_group, shared_type, typed};
 ghost use Rattle.vt_group.specs.Leaving.{is_member_of, lone_group, lost_group, master_after_end, type_after_end, type_once_ended, type_once_left, type_once_retyped, type_once_slave};
 ghost use Rattle.std.specs.BTreeMap.{IsOrdered, get};
@@ -268,70 +267,37 @@ impl Groups {
         self.set(mount, Propagation::Slave(master))
     }
 
-    /// A mount becomes private: it is in no group, and no group's slave. Tells whether it was the last of its group,
-    /// which then has ended. It does not allocate.
-    pub fn leave(&mut self, mount: MountId) -> bool
+    /// A mount becomes private: it is in no group, and no group's slave. If it was the last of its group, the group ends.
+    /// It does not allocate.
+    pub fn leave(&mut self, mount: MountId)
         ensures left { Follows self.old self.new (λ world. ⊤)
             (λ world. with_propagation world (counted mount.count) Private) }
         ensures types { (other : ℕ) → propagation_in self.new other
             ≡ type_once_left self.old (counted mount.count) other }
-        ensures alone { result ≡ false → is_ordered self.old ≡ true
-            → LeaveAlone self.old self.new (counted mount.count ∷ []) }
     {
         let old = self.mounts.remove(&mount.count);
         self.index.leave(mount, old);
-        self.end_if_lost(old)
+        self.end_if_lost(old);
     }
 
-    /// All these mounts become private at once, or unbindable, or are detached; then the groups without members end.
-    /// Tells whether there were any. It does not allocate.
-    pub fn leave_all(&mut self, mounts: &[MountId]) -> bool
-        ensures private { Retypes self.old self.new ToPrivate (map (λ mount. counted mount.count) mounts.now) }
-        ensures unbindable { Retypes self.old self.new ToUnbindable (map (λ mount. counted mount.count) mounts.now) }
-        ensures detached { TakesAway self.old self.new (map (λ mount. counted mount.count) mounts.now) }
-        ensures alone { result ≡ false → is_ordered self.old ≡ true
-            → LeaveAlone self.old self.new (map (λ mount. counted mount.count) mounts.now) }
-    {
-        let mut ended = false;
-        for mount in mounts {
-            ended |= self.leave(*mount);
-        }
-        ended
-    }
-
-    /// Those of these mounts that are members of a group become slaves of it at once; then the groups without members end.
-    /// Tells whether any is a member. It does not allocate.
-    pub fn make_slaves(&mut self, mounts: &[MountId]) -> bool
-        ensures slaves { Retypes self.old self.new ToSlave (map (λ mount. counted mount.count) mounts.now) }
-        ensures same { result ≡ false → self.new ≡ self.old }
-    {
-        let mut changed = false;
-        for mount in mounts {
-            changed |= self.make_slave_of_own(*mount);
-        }
-        changed
-    }
-
-    /// A mount that is a member of a group becomes a slave of it. If it was the last member, the group ends. Tells
-    /// whether it was in one. It does not allocate.
-    pub fn make_slave_of_own(&mut self, mount: MountId) -> bool
+    /// A mount that is a member of a group becomes a slave of it. If it was the last member, the group ends. It does not
+    /// allocate.
+    pub fn make_slave_of_own(&mut self, mount: MountId)
         ensures member { (group : ℕ) → propagation_in self.old (counted mount.count) ≡ SharedIn group
             → self.new ≡ retyped (counted mount.count) (SlaveOf group) self.old }
         ensures other { group_of (propagation_in self.old (counted mount.count)) ≡ None → self.new ≡ self.old }
         ensures types { (other : ℕ) → propagation_in self.new other
             ≡ type_once_slave self.old (counted mount.count) other }
-        ensures same { result ≡ false → self.new ≡ self.old }
     {
         self.are_ordered();
         let Some(kind) = self.propagation_of(mount) else {
-            return false;
+            return;
         };
         let Some(group) = own_group(kind) else {
-            return false;
+            return;
         };
         // It cannot fail: the mount has a type.
         let _ = self.set(mount, Propagation::Slave(group));
-        true
     }
 
     /// Mounts get the types that they have here, and new groups their masters, in whatever order they come: an
@@ -528,28 +494,26 @@ impl Groups {
         Ok(())
     }
 
-    // A mount had this type: its group ends if that was the last member. Tells whether it does.
-    fn end_if_lost(&mut self, old: Option<Propagation>) -> bool
+    // A mount had this type: its group ends if that was the last member.
+    fn end_if_lost(&mut self, old: Option<Propagation>)
         ensures ended { self.new ≡ ended_if_lost (group_of (type_or_private old)) self.old }
         ensures types { (mount : ℕ) → propagation_in self.new mount ≡ type_once_ended self.old
             (lost_group self.old (group_of (type_or_private old))) (propagation_in self.old mount) }
-        ensures kept { result ≡ false → self.new ≡ self.old }
     {
         let Some(kind) = old else {
-            return false;
+            return;
         };
         let Some(group) = own_group(kind) else {
-            return false;
+            return;
         };
         if self.has_members(group) {
-            return false;
+            return;
         }
         let heir = self.master_of(group);
         self.end(group);
         if heir != Some(group) {
             self.index.forget(group);
         }
-        true
     }
 
     fn has_members(&self, group: GroupId) -> bool

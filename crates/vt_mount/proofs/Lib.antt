@@ -9,7 +9,6 @@ pub mod PointLemmas
 pub mod TreeLemmas
 pub mod MoveLemmas
 mod CopiedLemmas
-mod RetypeLemmas
 pub mod SourceLemmas
 mod RoomLemmas
 mod GoingBackLemmas

@@ -50,11 +50,6 @@ held writes entry = record entry { uses = entry.uses + 1; writers = entry.writer
 abbrev pub released : Bool → MountEntry → MountEntry
 released writes entry = record entry { uses = entry.uses - 1; writers = entry.writers - (if writes then 1 else 0) }
 
--- a mount with the propagation type that a function gives for its number and its type
-abbrev pub retyped : (ℕ → meant.Propagation ℕ → meant.Propagation ℕ) → MountEntry → MountEntry
-retyped seen entry =
-    record entry { mount = record entry.mount { propagation = seen entry.mount.number entry.mount.propagation } }
-
 -- the mount's mount point is on the inode with this number, through whatever mount
 abbrev pub stands_over : ℕ → meant.Mount ℕ → Bool
 stands_over inode mount = holds_of (λ place. nat_eq place.node inode) mount.mount_point

@@ -5,7 +5,7 @@ ghost use Rattle.std.specs.List.{list_all};
 ghost use Rattle.std.specs.Map.{lookup};
 ghost use Rattle.vt_spec.specs.declared.errors.Rule.TheVariants.{S5};
 ghost use Rattle.vt_spec.specs.Errors.{denial};
-ghost use Rattle.vt_spec.specs.Machine.Mounts.{Propagation as Type_of_mount, detached};
+ghost use Rattle.vt_spec.specs.Machine.Mounts.{detached};
 ghost use Rattle.vt_location.specs.declared.mounts.Propagation.{Propagation};
 ghost use Rattle.vt_location.specs.declared.numbers.MountId.{MountId};
 ghost use Rattle.vt_cred.specs.MountFlags.{flags_of};
@@ -13,7 +13,7 @@ ghost use Rattle.vt_location.specs.Locations.{location_of};
 ghost use Rattle.vt_location.specs.MountValue.{mount_of, propagation_of};
 ghost use Rattle.vt_location.specs.Numbers.{counted};
 ghost use Rattle.vt_mount.specs.Listed.{same_id};
-ghost use Rattle.vt_mount.specs.MountsValue.{are_ascending, changed, held, mounts_in, released, retyped, uses_of, writers_of};
+ghost use Rattle.vt_mount.specs.MountsValue.{are_ascending, changed, held, mounts_in, released, uses_of, writers_of};
 ghost use Rattle.vt_mount.specs.Sources.{has_counted_source};
 
 use crate::indexes::Indexes;
@@ -161,21 +161,6 @@ impl Mounts {
         if let Some(kept) = self.by_number.get_mut(&id) {
             kept.propagation = propagation;
         }
-    }
-
-    /// Sets the propagation type of each mount to what a function returns for its number and its type. It does not
-    /// allocate.
-    pub fn retype<F: Fn(MountId, Propagation) -> Propagation>(&mut self, kind: F)
-        requires { F.IsAlwaysCallable kind }
-        ensures { (seen : ℕ → Type_of_mount ℕ → Type_of_mount ℕ)
-            → ((id : MountId) (old new : Propagation) → F.post kind id old new
-            → propagation_of new ≡ seen (counted id.count) (propagation_of old))
-            → self.new ≡ map (retyped seen) self.old }
-    {
-        self.by_number.retain(|id, kept| {
-            kept.propagation = kind(*id, kept.propagation);
-            true
-        });
     }
 
     /// Counts a root, a working directory or a descriptor on a mount; a descriptor may be open for writing.

@@ -78,7 +78,9 @@ fn mounts_become_shared_and_slaves_at_once(rt: HostRuntime) -> Result<(), Fail> 
         groups.propagation_of(mount(6)),
         Some(Propagation::Shared(group(13)))
     );
-    groups.make_slaves([mount(1), mount(2), mount(6)].as_slice());
+    groups.make_slave_of_own(mount(1));
+    groups.make_slave_of_own(mount(2));
+    groups.make_slave_of_own(mount(6));
     assert_eq!(rt; groups.propagation_of(mount(1)), None);
     assert_eq!(rt; groups.propagation_of(mount(6)), None);
     assert_eq!(rt; groups.master_of(group(12)), None);
@@ -120,7 +122,7 @@ fn a_group_is_added_before_its_master(rt: HostRuntime) -> Result<(), Fail> {
     groups.add(mounts.as_slice(), new.as_slice())?;
     let below = groups.receivers(rt.alloc(), group(13))?;
     assert_eq!(rt; below.as_slice(), [mount(6), mount(7)].as_slice());
-    groups.leave_all([mount(7)].as_slice());
+    groups.leave(mount(7));
     assert_eq!(rt; groups.master_of(group(12)), Some(group(10)));
     Ok(())
 }
