@@ -19,8 +19,8 @@ use Rattle.vt_group.proofs.Others.{has_ordered}
 use Rattle.vt_letting_go.proofs.Lists.{all_from_among, among-from_map, map_alike, map_twice}
 use Rattle.vt_location.specs.declared.numbers.MountId.{MountId}
 use Rattle.vt_location.specs.Numbers.{counted}
-use Rattle.vt_mount.specs.MountsValue.{MountEntry, changed, mounts_in, retyped}
-use Rattle.vt_retype.specs.Retyping.{FollowsTypes, FollowsTypesLeft, HaveNoSource, shared_by, typed_entry, with_kind}
+use Rattle.vt_mount.specs.MountsValue.{MountEntry, changed, mounts_in}
+use Rattle.vt_retype.specs.Retyping.{FollowsTypes, FollowsTypesLeft, HaveNoSource, retyped, shared_by, typed_entry, with_kind}
 use Rattle.vt_propagate.specs.Pushing.{EachOnce}
 use Rattle.vt_propagate.specs.Seen.{IsSeen}
 use Rattle.vt_propagate.proofs.Seeing.{are_typed, retyping_is_seen, sharing_is_seen, slaves_are_seen}

@@ -14,9 +14,9 @@ use Rattle.vt_group.specs.Leaving.{lone_group, slave_or_private, type_after_end,
 use Rattle.vt_group.proofs.Together.{eqb-swapped, is_among-snoc, map-twice, map_alike}
 use Rattle.vt_location.specs.Numbers.{counted}
 use Rattle.vt_location.specs.declared.numbers.MountId.{MountId}
-use Rattle.vt_mount.specs.MountsValue.{MountEntry, are_ascending, changed, mounts_in, retyped}
+use Rattle.vt_mount.specs.MountsValue.{MountEntry, are_ascending, changed, mounts_in}
 use Rattle.vt_retype.specs.Leaving.{HaveSources, OnlyTypesChange, after_end, after_end_of, once_left}
-use Rattle.vt_retype.specs.Retyping.{typed_entry, with_kind}
+use Rattle.vt_retype.specs.Retyping.{retyped, typed_entry, with_kind}
 
 -- One type
 

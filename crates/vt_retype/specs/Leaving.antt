@@ -4,8 +4,8 @@ use Rattle.vt_spec.specs.Lists.{is_among}
 use Rattle.vt_spec.specs.Machine.Mounts.{source_of}
 use Rattle.vt_group.specs.Grouping.{Grouping, propagation_in}
 use Rattle.vt_group.specs.Leaving.{lone_group, type_after_end, type_once_ended}
-use Rattle.vt_mount.specs.MountsValue.{MountEntry, retyped}
-use Rattle.vt_retype.specs.Retyping.{typed_entry}
+use Rattle.vt_mount.specs.MountsValue.{MountEntry}
+use Rattle.vt_retype.specs.Retyping.{retyped, typed_entry}
 
 -- each mount that is a member or a slave is so in the groups
 abbrev pub HaveSources : Grouping → List MountEntry → Type 0

@@ -7,6 +7,11 @@ use Rattle.vt_group.specs.Laws.{typed_by}
 use Rattle.vt_group.specs.Together.{is_ordered}
 use Rattle.vt_mount.specs.MountsValue.{MountEntry, changed}
 
+-- a mount with the type that a function gives for its number and its type
+abbrev pub retyped : (ℕ → Propagation ℕ → Propagation ℕ) → MountEntry → MountEntry
+retyped seen entry =
+    record entry { mount = record entry.mount { propagation = seen entry.mount.number entry.mount.propagation } }
+
 -- a mount that is kept, with the type that the groups tell; an unbindable one stays so
 abbrev pub typed_entry : Grouping → MountEntry → MountEntry
 typed_entry groups entry = record entry { mount = typed_by groups entry.mount }
