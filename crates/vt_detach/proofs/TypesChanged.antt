@@ -23,7 +23,8 @@ use Rattle.vt_letting_go.specs.Keeping.{KeepsUses}
 use Rattle.vt_letting_go.proofs.Lists.{all_from_among, among-from_map, among_from_all, map_twice}
 use Rattle.vt_letting_go.proofs.UsesKept.{types_keep_all}
 use Rattle.vt_location.specs.Numbers.{counted}
-use Rattle.vt_mount.specs.MountsValue.{MountEntry, mounts_in, retyped as retyped_entry}
+use Rattle.vt_mount.specs.MountsValue.{MountEntry, mounts_in}
+use Rattle.vt_retype.specs.Retyping.{retyped as retyped_entry}
 use Rattle.vt_permit_laws.proofs.PermitsLeave.{given_permits_leave_worlds}
 use Rattle.vt_run_laws.specs.Handed.{counts_from, is_counted_before}
 use Rattle.vt_world_laws.proofs.RaisedInUse.{worlds_are_in_use}

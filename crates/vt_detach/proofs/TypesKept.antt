@@ -15,7 +15,8 @@ use Rattle.vt_spec.specs.Machine.Types.{named_mounts, retyped}
 use Rattle.vt_spec.specs.Machine.World.{Namespace}
 use Rattle.vt_group.specs.Grouping.{Grouping, Has, LacksGroup}
 use Rattle.vt_laws.specs.Numbers.{KeepsTo}
-use Rattle.vt_mount.specs.MountsValue.{mounts_in, retyped as retyped_entry}
+use Rattle.vt_mount.specs.MountsValue.{mounts_in}
+use Rattle.vt_retype.specs.Retyping.{retyped as retyped_entry}
 use Rattle.vt_permit_laws.proofs.PermitsKeepTo.{permits_keep_to_numbers}
 use Rattle.vt_permit_laws.proofs.TakenAttached.{index_bound}
 use Rattle.vt_permit_laws.proofs.TakenNumbers.{counted_later}

@@ -8,7 +8,8 @@ use Rattle.vt_spec.specs.Machine.Types.{retyped}
 use Rattle.vt_spec.specs.Machine.World.{World}
 use Rattle.vt_group.specs.Grouping.{Grouping, LacksGroup, numbers_of}
 use Rattle.vt_location.specs.Numbers.{counted}
-use Rattle.vt_mount.specs.MountsValue.{MountEntry, retyped as retyped_entry}
+use Rattle.vt_mount.specs.MountsValue.{MountEntry}
+use Rattle.vt_retype.specs.Retyping.{retyped as retyped_entry}
 use Rattle.vt_propagate.specs.Seen.{IsSeen}
 
 -- these mounts get a type
