@@ -21,6 +21,7 @@ pub mod UnsharedInodes
 pub mod TasksUnshared
 pub mod UnsharingLemmas
 pub mod PlannedMoves
+pub mod MovesMade
 pub mod NumbersByParts
 pub mod GrownGroups
 pub mod FormedGroups

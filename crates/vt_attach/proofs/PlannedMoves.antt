@@ -1,31 +1,32 @@
--- Mounts that get other mount points, one after the other: their numbers and their room.
+-- Mounts that get other mount points, one after the other: their room, and the uses of their mount points.
 use Rattle.std.proofs.Common.{◌≡◌, refl, ap, subst, sym, ◌∙◌, ℕ, ◌+◌, ◌-◌, ◌<◌, ◌≤◌, nat_eq, Bool, true, false, cond, ◌&&◌, List, [], ◌∷◌, ◌++◌, length, Some, None, Option, option_map, take, drop, get_or, is_some, map, find, inl, arith}
-use Rattle.std.specs.Prelude.{Err, IfErr, IsErrOf, Ok, OnOk, Result, nat_le, nat_lt, option_to_list, ⊤}
-use Rattle.std.specs.Option.{option_and_then}
+use Rattle.std.specs.Prelude.{IfErr, IsErrOf, OnOk, Result, nat_le, option_to_list, ⊤}
 use Rattle.std.specs.List.{list_all}
 use Rattle.std.proofs.lemmas.Bool.{and_parts, le-leb, leb-true}
-use Rattle.std.proofs.lemmas.List.{append-nil, length-append, length-take-le, take-append-drop, take_more}
+use Rattle.std.proofs.lemmas.List.{append-nil, flat_map_more, length-append, length-map, length-take-le, map_more, take-append-drop, take_more}
 use Rattle.std.proofs.lemmas.List.Folds.{list_all-append, list_all_more}
 use Rattle.vt_fs.specs.FilesystemsValue.{ChangesInodes, Filesystems, Shown, inodes_at, shown}
 use Rattle.vt_spec.specs.declared.errors.Deny.{Deny}
 use Rattle.vt_spec.specs.declared.errors.Rule.TheVariants.{S5}
 use Rattle.vt_spec.specs.Errors.{denial}
-use Rattle.vt_spec.specs.Inodes.{pinned, unpinned, uses_in}
-use Rattle.vt_letting_go.proofs.Lists.{Among, among-append_left, among-append_right, passes}
+use Rattle.vt_spec.specs.Inodes.{pinned, uses_in}
+use Rattle.vt_letting_go.proofs.Lists.{Among, among-append_left, among-append_right, among-map, passes}
 use Rattle.vt_letting_go.specs.OneByOne.{Inode}
 use Rattle.vt_location.specs.declared.locations.Location.{Location}
 use Rattle.vt_location.specs.declared.mounts.Mount.{Mount}
 use Rattle.vt_location.specs.Locations.{location_of, number_of}
 use Rattle.vt_location.specs.MountValue.{mount_of}
 use Rattle.vt_location.specs.Numbers.{counted}
-use Rattle.vt_mount.specs.MountsValue.{MountEntry, are_ascending, changed, entry_numbered, mounts_in}
+use Rattle.vt_mount.specs.declared.moving.Moved.{Moved}
+use Rattle.vt_mount.specs.MountsValue.{MountEntry, are_ascending, entry_numbered, mounts_in}
 use Rattle.vt_spec.specs.Lists.{folded}
 use Rattle.vt_spec.specs.Machine.Mounts as meant
-use Rattle.vt_attach.specs.Planned.{Point, pinned_by, placed_entry, points_taken, taken_at, unpinned_by, with_points}
+use Rattle.vt_attach.specs.Planned.{Point, left_of, pinned_by, placed_entry, points_taken, taken_at, taken_of, unpinned_by, with_points}
 use Rattle.vt_attach.specs.Room.{has_room, most_counted, point_has_room, uses_shown, without_one}
-use Rattle.vt_detach.specs.Uses.{inode_of, mounts_shown, point_of, unused_entry}
+use Rattle.vt_detach.specs.Uses.{inode_of, mounts_shown, unused_entry}
 use Rattle.vt_attach.proofs.EnteringLemmas.{all_taken}
-use Rattle.vt_detach.proofs.Shown.{found_entry, is_some_mapped, pins, unpins}
+use Rattle.vt_detach.proofs.Keeping.{folded_append}
+use Rattle.vt_detach.proofs.Shown.{found_entry, is_some_mapped, pins}
 use Rattle.vt_attach.proofs.RoomLemmas.{folded_more, not_refused, pinned_mounts, pinned_uses, uses_are_shown}
 
 -- Their numbers stay
@@ -34,31 +35,6 @@ pub number_stays : (place : Location) (entry : MountEntry) (b : Bool)
     → (cond b (placed_entry place entry) entry).mount.number ≡ entry.mount.number
 number_stays place entry true = refl
 number_stays place entry false = refl
-
-module _ (number : ℕ) (place : Location) (back : List (meant.Mount ℕ)) where
-  later_stay : (n : ℕ) (entries : List MountEntry)
-      → list_all (λ later. nat_lt n later.number) (mounts_in (changed number (placed_entry place) entries) ++ back)
-      ≡ list_all (λ later. nat_lt n later.number) (mounts_in entries ++ back)
-  later_stay n [] = refl
-  later_stay n (entry ∷ entries) = λ i. nat_lt n (number_stays place entry (nat_eq number entry.mount.number) i)
-      && later_stay n entries i
-
-  one_ascends : (entries : List MountEntry)
-      → are_ascending (mounts_in (changed number (placed_entry place) entries) ++ back)
-      ≡ are_ascending (mounts_in entries ++ back)
-  one_ascends [] = refl
-  one_ascends (entry ∷ entries) =
-      (λ i. list_all (λ later. nat_lt (number_stays place entry (nat_eq number entry.mount.number) i) later.number)
-      (mounts_in (changed number (placed_entry place) entries) ++ back)
-      && are_ascending (mounts_in (changed number (placed_entry place) entries) ++ back))
-      ∙ (λ i. later_stay entry.mount.number entries i && one_ascends entries i)
-
-pub points_ascend : (points : List Point) (entries : List MountEntry) (back : List (meant.Mount ℕ))
-    → are_ascending (mounts_in (with_points points entries) ++ back) ≡ are_ascending (mounts_in entries ++ back)
-points_ascend [] entries back = refl
-points_ascend (point ∷ rest) entries back =
-    one_ascends (counted point.mount.count) point.place back (with_points rest entries)
-    ∙ points_ascend rest entries back
 
 -- What a look at the mounts tells of a mount that moves
 
@@ -69,34 +45,10 @@ there_is entries number result is =
     sym (is_some_mapped (λ (entry : MountEntry). entry.mount) (entry_numbered entries number))
     ∙ ap is_some (sym (found_entry number entries) ∙ sym is) ∙ is_some_mapped mount_of result
 
-pub point_is : (entries : List MountEntry) (number : ℕ) (result : Option Mount)
-    → option_map mount_of result ≡ find (λ (mount : meant.Mount ℕ). nat_eq number mount.number) (mounts_in entries)
-    → point_of number entries ≡ option_and_then (λ (mount : Mount). option_map location_of mount.mount_point) result
-point_is entries number result is =
-    by_entry (entry_numbered entries number)
-    ∙ ap (option_and_then (λ (mount : meant.Mount ℕ). mount.mount_point)) (sym (found_entry number entries) ∙ sym is)
-    ∙ by_mount result
-  where
-    by_entry : (o : Option MountEntry) → option_and_then (λ (entry : MountEntry). entry.mount.mount_point) o
-        ≡ option_and_then (λ (mount : meant.Mount ℕ). mount.mount_point)
-        (option_map (λ (entry : MountEntry). entry.mount) o)
-    by_entry None = refl
-    by_entry (Some entry) = refl
-
-    by_mount : (o : Option Mount) → option_and_then (λ (mount : meant.Mount ℕ). mount.mount_point)
-        (option_map mount_of o)
-        ≡ option_and_then (λ (mount : Mount). option_map location_of mount.mount_point) o
-    by_mount None = refl
-    by_mount (Some mount) = refl
-
 pub mapped_points : (o : Option Location)
     → map location_of (option_to_list o) ≡ option_to_list (option_map location_of o)
 mapped_points None = refl
 mapped_points (Some point) = refl
-
-pub either_way : {A B : Type 0} (result : Result A B) (P : Type 0) → P → OnOk result P
-either_way (Ok a) P p = p
-either_way (Err b) P p = tt
 
 -- The mount points that are taken are among those of the list
 
@@ -143,18 +95,15 @@ pins_mounts [] other all = refl
 pins_mounts (point ∷ rest) other all = pins_mounts rest other (pinned_by all point)
     ∙ pinned_mounts (inode_of point.node) other all
 
--- each has room when its turn comes
-pub pin_room : (points : List Location) (all now : List Shown) (i : ℕ) (d : Location) → i < length points
-    → length points ≤ most_counted
-    → point_has_room (most_counted - length points) all (Some (get_or points i d)) ≡ true
-    → now ≡ folded pinned_by all (take i points)
-    → uses_shown (inode_of (get_or points i d).node) now < most_counted
-pin_room points all now i d less fits room so_far =
-    let was = leb-true (uses_shown (inode_of (get_or points i d).node) all) (most_counted - length points) room in
-    let more = pins_more (take i points) (inode_of (get_or points i d).node) all in
-    let size = length-take-le i points (omega (arith, less)) in
-    subst (λ later. uses_shown (inode_of (get_or points i d).node) later < most_counted) (sym so_far)
-    (omega (arith, was, more, size, less, fits))
+-- one has room when those before it are in use
+pin_room : (front : List Location) (point : Location) (all now : List Shown) (n : ℕ) → length front < n
+    → n ≤ most_counted → point_has_room (most_counted - n) all (Some point) ≡ true → now ≡ folded pinned_by all front
+    → uses_shown (inode_of point.node) now < most_counted
+pin_room front point all now n less fits room so_far =
+    let was = leb-true (uses_shown (inode_of point.node) all) (most_counted - n) room in
+    let more = pins_more front (inode_of point.node) all in
+    subst (λ later. uses_shown (inode_of point.node) later < most_counted) (sym so_far)
+    (omega (arith, was, more, less, fits))
 
 -- fewer uses are room for more
 pub room_stays : (most less : ℕ) (all : List Shown) → less ≤ most → (points : List Location)
@@ -202,51 +151,58 @@ module _ (points : List Location) (all : List Shown) (less most : ℕ) (fits : l
 
 -- One step of a loop
 
-pub pinned_next : (points : List Location) (old : List Shown) (before after : Filesystems) (i : ℕ) (d : Location)
-    → i < length points
-    → length points ≤ most_counted
-    → list_all (λ (point : Location). point_has_room (most_counted - length points) old (Some point)) points ≡ true
-    → shown before ≡ folded pinned_by old (take i points) → (result : Result ⊤ Deny)
+pub pinned_next : (moved : List Moved) (old : List Shown) (before after : Filesystems) (i : ℕ) (d : Moved)
+    → i < length moved
+    → length moved ≤ most_counted
+    → list_all (λ (point : Location). point_has_room (most_counted - length moved) old (Some point)) (taken_of moved)
+    ≡ true
+    → shown before ≡ folded pinned_by old (taken_of (take i moved)) → (result : Result ⊤ Deny)
     → (IsErrOf result (denial S5)
-    → uses_in ((inodes_at before (get_or points i d).node.filesystem.count).inode (number_of (get_or points i d).node))
-    ≡ most_counted)
+    → uses_in ((inodes_at before (get_or moved i d).to.node.filesystem.count).inode
+    (number_of (get_or moved i d).to.node)) ≡ most_counted)
     → IfErr result (λ deny. deny ≡ denial S5)
-    → OnOk result (ChangesInodes (get_or points i d).node.filesystem.count
-    (λ inodes. pinned nat_eq inodes (number_of (get_or points i d).node)) before after)
-    → shown after ≡ folded pinned_by old (take (i + 1) points)
-pinned_next points old before after i d less fits room so_far result limit memory ok =
-    let node = (get_or points i d).node in
-    let few = pin_room points old (shown before) i d less fits
-    (passes (λ (point : Location). point_has_room (most_counted - length points) old (Some point)) points room
-    (get_or points i d) (at points i less)) so_far in
+    → OnOk result (ChangesInodes (get_or moved i d).to.node.filesystem.count
+    (λ inodes. pinned nat_eq inodes (number_of (get_or moved i d).to.node)) before after)
+    → shown after ≡ folded pinned_by old (taken_of (take (i + 1) moved))
+pinned_next moved old before after i d less fits room so_far result limit memory ok =
+    let point = (get_or moved i d).to in
+    let node = point.node in
+    let size : length (taken_of (take i moved)) ≡ i =
+    length-map (take i moved) place ∙ length-take-le i moved (omega (arith, less)) in
+    let few = pin_room (taken_of (take i moved)) point old (shown before) (length moved) (omega (arith, size, less))
+    fits
+    (passes (λ (other : Location). point_has_room (most_counted - length moved) old (Some other)) (taken_of moved) room
+    point (among-map place moved (get_or moved i d) (at moved i less))) so_far in
     let same = uses_are_shown node.filesystem.count (number_of node) before in
     pins node.filesystem.count (number_of node) before after
     (not_refused result (ChangesInodes node.filesystem.count
     (λ inodes. pinned nat_eq inodes (number_of node)) before after)
     (uses_in ((inodes_at before node.filesystem.count).inode (number_of node)) ≡ most_counted) limit memory ok
     (λ full. omega (arith, full, few, same)))
-    ∙ ap (λ all. pinned_by all (get_or points i d)) so_far
-    ∙ sym (ap (folded pinned_by old) (take_more points i d less)
-    ∙ folded_more pinned_by (take i points) (get_or points i d) old)
+    ∙ ap (λ all. pinned_by all point) so_far
+    ∙ sym (ap (folded pinned_by old) (map_more place moved i d less)
+    ∙ folded_more pinned_by (taken_of (take i moved)) point old)
   where
-    at : (list : List Location) (k : ℕ) → k < length list → Among (get_or list k d) list
+    place : Moved → Location
+    place one = one.to
+
+    at : (list : List Moved) (k : ℕ) → k < length list → Among (get_or list k d) list
     at list k low =
         subst (Among (get_or list k d)) (take-append-drop (k + 1) list)
         (among-append_left (take (k + 1) list) (drop (k + 1) list) (get_or list k d)
         (subst (Among (get_or list k d)) (sym (take_more list k d low))
         (among-append_right (take k list) (get_or list k d ∷ []) (get_or list k d) (inl refl))))
 
-pub unpinned_next : (points : List Location) (old : List Shown) (before after : Filesystems) (i : ℕ) (d : Location)
-    → i < length points
-    → shown before ≡ folded unpinned_by old (take i points)
-    → ChangesInodes (get_or points i d).node.filesystem.count
-    (λ inodes. unpinned nat_eq inodes (number_of (get_or points i d).node)) before after
-    → shown after ≡ folded unpinned_by old (take (i + 1) points)
-unpinned_next points old before after i d less so_far changes =
-    unpins (get_or points i d).node.filesystem.count (number_of (get_or points i d).node) before after changes
-    ∙ ap (λ all. unpinned_by all (get_or points i d)) so_far
-    ∙ sym (ap (folded unpinned_by old) (take_more points i d less)
-    ∙ folded_more unpinned_by (take i points) (get_or points i d) old)
+pub unpinned_next : (moved : List Moved) (old before after : List Shown) (i : ℕ) (d : Moved) → i < length moved
+    → before ≡ folded unpinned_by old (left_of (take i moved))
+    → after ≡ folded unpinned_by before (option_to_list (get_or moved i d).from)
+    → after ≡ folded unpinned_by old (left_of (take (i + 1) moved))
+unpinned_next moved old before after i d less so_far step =
+    step ∙ ap (λ all. folded unpinned_by all (option_to_list (get_or moved i d).from)) so_far
+    ∙ sym (folded_append unpinned_by old (left_of (take i moved)) (option_to_list (get_or moved i d).from))
+    ∙ ap (folded unpinned_by old)
+    (flat_map_more (λ (one : Moved). option_to_list one.from) [] (take i moved) (get_or moved i d)
+    ∙ sym (ap left_of (take_more moved i d less)))
 
 pub place_next : (most : ℕ) (filesystems : Filesystems) (points : List Point) (i : ℕ) (d : Point) → i < length points
     → list_all (λ (point : Point). point_has_room most (shown filesystems) (Some point.place)) (take i points) ≡ true

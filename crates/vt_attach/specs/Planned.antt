@@ -1,12 +1,13 @@
 -- Mounts that get other mount points while others come.
 use Rattle.std.specs.List.{list_all}
-use Rattle.std.specs.Prelude.{Bool, List, Some, [], if◌then◌else◌, is_some, map, nat_lt, option_to_list, true, ℕ, ◌++◌, ◌∷◌, ◌≡◌}
+use Rattle.std.specs.Prelude.{Bool, List, [], flat_map, if◌then◌else◌, is_some, map, nat_lt, option_to_list, true, ℕ, ◌++◌, ◌∷◌, ◌≡◌}
 use Rattle.vt_location.specs.declared.locations.Location.{Location}
 use Rattle.vt_location.specs.declared.mounts.Mount.{Mount}
 use Rattle.vt_location.specs.Locations.{location_of}
 use Rattle.vt_location.specs.Numbers.{counted}
 use Rattle.vt_fs.specs.FilesystemsValue.{Shown}
-use Rattle.vt_mount.specs.MountsValue.{MountEntry, changed, entry_numbered}
+use Rattle.vt_mount.specs.MountsValue.{MountEntry, entry_numbered}
+use Rattle.vt_mount.specs.declared.moving.Moved.{Moved}
 use Rattle.vt_mount.specs.declared.moving.NewPoint.{NewPoint}
 pub use Rattle.vt_mount.specs.Moving.{moved_to, placed_entry, with_points}
 use Rattle.vt_spec.specs.Lists.{folded}
@@ -16,6 +17,10 @@ use Rattle.vt_detach.specs.Uses.{Kept, inode_of, pinned_in, point_of, shown_by, 
 -- a mount and its new mount point
 abbrev pub Point : Type 0
 Point = NewPoint
+
+-- its mount exists
+abbrev pub exists_in : List MountEntry → Point → Bool
+exists_in entries point = is_some (entry_numbered entries (counted point.mount.count))
 
 -- the mount points that a mount gets and leaves so, if it is there
 abbrev pub taken_at : Point → List MountEntry → List Location
@@ -31,6 +36,13 @@ points_taken (point ∷ rest) entries = points_taken rest entries ++ taken_at po
 abbrev pub points_left : List Point → List MountEntry → List (Place ℕ)
 points_left [] entries = []
 points_left (point ∷ rest) entries = points_left rest entries ++ left_at point (with_points rest entries)
+
+-- the mount points that mounts got and left when they moved
+abbrev pub taken_of : List Moved → List Location
+taken_of moved = map (λ one. one.to) moved
+
+abbrev pub left_of : List Moved → List Location
+left_of moved = flat_map (λ one. option_to_list one.from) moved
 
 -- one use more or less of the inode at a mount point
 abbrev pub pinned_by : List Shown → Location → List Shown

@@ -1,6 +1,6 @@
 //! Planned attachments: mounts get other mount points while others come, with their groups.
 ghost use Rattle.std.specs.List.{list_all};
-ghost use Rattle.std.specs.Prelude.{List, ◌≡◌, ◌++◌, ◌∷◌, ◌+◌, ◌-◌, ◌*◌, ◌≤◌, IfErr, IfOk, IfSome, OnErr, OnOk, length, map, option_to_list, [], Some, true};
+ghost use Rattle.std.specs.Prelude.{List, ◌≡◌, ◌++◌, ◌+◌, ◌-◌, ◌*◌, ◌≤◌, IfErr, IfOk, OnErr, OnOk, filter, length, map, option_to_list, Some, true};
 ghost use Rattle.vt_fs.specs.FilesystemsValue.{shown};
 ghost use Rattle.vt_group.specs.Together.{GrowsTo, new_group, typed};
 ghost use Rattle.vt_location.specs.declared.locations.Location.{Location};
@@ -10,17 +10,17 @@ ghost use Rattle.vt_mount.specs.MountsValue.{are_ascending, mounts_in};
 ghost use Rattle.vt_spec.specs.declared.errors.Rule.TheVariants.{S5};
 ghost use Rattle.vt_spec.specs.Errors.{denial};
 ghost use Rattle.vt_spec.specs.Lists.{folded};
-ghost use Rattle.vt_attach.specs.Planned.{AreMoves, is_small, left_at, moved_to, pinned_by, points_left, points_taken};
-ghost use Rattle.vt_attach.specs.Planned.{taken_at, unpinned_by, with_planned, with_points};
+ghost use Rattle.vt_attach.specs.Planned.{AreMoves, exists_in, is_small, left_of, pinned_by, points_left, points_taken};
+ghost use Rattle.vt_attach.specs.Planned.{taken_of, unpinned_by, with_planned, with_points};
 ghost use Rattle.vt_attach.specs.Room.{has_room, has_small_slots, most_counted, point_has_room};
 ghost use Rattle.vt_detach.specs.Uses.{kept, unused_entry};
 
 use crate::attaching::{enter_all, have_room, remove_all, show_all};
-use std::alloc::{AllocError, Global};
+use std::alloc::Global;
 use vt_fs::Filesystems;
 use vt_group::{Groups, NewGroup};
 use vt_location::{Location, Mount};
-use vt_mount::{Mounts, NewPoint};
+use vt_mount::{Mounts, Moved, NewPoint};
 use vt_spec::errors::{Deny, Rule};
 
 /// What is attached, and what moves for it.
@@ -34,16 +34,9 @@ pub struct Planned<'a> {
     pub points: &'a [NewPoint],
 }
 
-// The mount points that mounts get, and those that they leave.
-#[derive(Debug, Drop)]
-pub(crate) struct Moves {
-    pub(crate) taken: Vec<Location>,
-    pub(crate) left: Vec<Location>,
-}
-
 /// Attaches mounts after all others, with the groups that they form, and moves others: all or nothing. The roots and
 /// the mount points of the mounts that come are in use then, their filesystems are shown, and the mount points that
-/// were left are in use once less. Where mounts move, all mounts are passed over.
+/// were left are in use once less. It costs what the mounts that come and move cost, however many others there are.
 ///
 /// S5 (ENOMEM): an allocation failed, or an inode or a filesystem would have more than 2^64 - 1 uses. Nothing has
 /// changed then.
@@ -69,19 +62,47 @@ pub fn attach_planned(
     ensures err_groups { OnErr result (groups.new ≡ groups.old) }
     ensures err_filesystems { OnErr result (filesystems.new ≡ filesystems.old) }
 {
+    attach_grouped(alloc, mounts, groups, filesystems, plan, plan.copies)
+}
+
+// A planned attachment, in which the groups get the types of these mounts: those that come, and maybe those that move.
+// The mounts that move keep their types in `mounts`.
+pub(crate) fn attach_grouped(
+    alloc: Global,
+    mounts: &mut Mounts,
+    groups: &mut Groups,
+    filesystems: &mut Filesystems,
+    plan: &Planned,
+    types: &[Mount],
+) -> Result<(), Deny>
+    requires { are_ascending (mounts_in mounts.old ++ map mount_of plan.now.copies.now) ≡ true }
+    ensures ok { OnOk result ((left : List Location)
+        × (map location_of left ≡ points_left plan.now.points.now mounts.old)
+        × (list_all is_small left ≡ true)
+        × (kept mounts.new filesystems.new
+        ≡ with_planned plan.now.copies.now plan.now.points.now left (kept mounts.old filesystems.old))) }
+    ensures groups_ok { OnOk result
+        (GrowsTo groups.old groups.new (map typed types.now) (map new_group plan.now.groups.now)) }
+    ensures slots { OnOk result (list_all has_small_slots plan.now.copies.now ≡ true) }
+    ensures places { OnOk result (list_all is_small (points_taken plan.now.points.now mounts.old) ≡ true) }
+    ensures memory { IfErr result (λ deny. deny ≡ denial S5) }
+    ensures err_mounts { OnErr result (mounts.new ≡ mounts.old) }
+    ensures err_groups { OnErr result (groups.new ≡ groups.old) }
+    ensures err_filesystems { OnErr result (filesystems.new ≡ filesystems.old) }
+{
     if !plan_has_room(filesystems, plan) {
         return Err(Rule::S5.denial());
     }
-    let moves = enter_planned(alloc, mounts, groups, plan)?;
-    pin_all(filesystems, &moves.taken);
+    let moved = enter_planned(alloc, mounts, groups, plan, types)?;
+    pin_all(filesystems, &moved);
     show_all(filesystems, plan.copies);
-    unpin_all(filesystems, &moves.left);
+    unpin_all(filesystems, &moved);
     Ok(())
 }
 
 // Whether all uses that come can be counted: two of an inode for each copy, and one for each mount that moves, at the
 // most.
-pub(crate) fn plan_has_room(filesystems: &Filesystems, plan: &Planned) -> bool
+fn plan_has_room(filesystems: &Filesystems, plan: &Planned) -> bool
     ensures fits { result ≡ true → 2 * length plan.now.copies.now + length plan.now.points.now ≤ most_counted }
     ensures copies { result ≡ true → list_all
         (has_room (most_counted - (2 * length plan.now.copies.now + length plan.now.points.now))
@@ -112,151 +133,79 @@ fn places_have_room(filesystems: &Filesystems, points: &[NewPoint], most: u64) -
     true
 }
 
-// Mounts move and come with their groups, all or none. The mount points that they get and leave are returned.
+// Mounts move and come with their groups, all or none. What moved is returned.
 fn enter_planned(
     alloc: Global,
     mounts: &mut Mounts,
     groups: &mut Groups,
     plan: &Planned,
-) -> Result<Moves, Deny>
+    types: &[Mount],
+) -> Result<Vec<Moved>, Deny>
     requires { are_ascending (mounts_in mounts.old ++ map mount_of plan.now.copies.now) ≡ true }
     ensures mounts_ok { OnOk result
         (mounts.new ≡ with_points plan.now.points.now mounts.old ++ map unused_entry plan.now.copies.now) }
-    ensures moves { IfOk result (λ moves. AreMoves plan.now.points.now mounts.old moves.taken.items moves.left.items) }
+    ensures moves { IfOk result (λ moved.
+        AreMoves plan.now.points.now mounts.old (taken_of moved.items) (left_of moved.items)) }
     ensures groups_ok { OnOk result
-        (GrowsTo groups.old groups.new (map typed plan.now.copies.now) (map new_group plan.now.groups.now)) }
+        (GrowsTo groups.old groups.new (map typed types.now) (map new_group plan.now.groups.now)) }
     ensures memory { IfErr result (λ deny. deny ≡ denial S5) }
     ensures err_mounts { OnErr result (mounts.new ≡ mounts.old) }
     ensures err_groups { OnErr result (groups.new ≡ groups.old) }
 {
-    if plan.points.is_empty() {
-        enter_grouped(mounts, groups, plan)?;
-        return Ok(Moves {
-            taken: Vec::new(alloc),
-            left: Vec::new(alloc),
-        });
-    }
-    // A move that was made cannot be taken back without memory, so that they are made on a copy.
-    let mut changed = mounts.copied()?;
-    match change_all(alloc, &mut changed, groups, plan) {
-        Ok(moves) => {
-            *mounts = changed;
-            Ok(moves)
+    // A point may name a mount that comes, which is not to move.
+    let there = existing(alloc, mounts, plan.points)?;
+    enter_all(mounts, plan.copies)?;
+    match mounts.move_all_then(&there, groups, |groups| groups.add(types, plan.groups)) {
+        Ok(moved) => Ok(moved),
+        Err(deny) => {
+            remove_all(mounts, plan.copies);
+            Err(deny)
         }
-        Err(deny) => Err(deny),
     }
 }
 
-// Mounts come with their groups, all or none.
-fn enter_grouped(mounts: &mut Mounts, groups: &mut Groups, plan: &Planned) -> Result<(), Deny>
-    requires { are_ascending (mounts_in mounts.old ++ map mount_of plan.now.copies.now) ≡ true }
-    ensures mounts_ok { OnOk result (mounts.new ≡ mounts.old ++ map unused_entry plan.now.copies.now) }
-    ensures groups_ok { OnOk result
-        (GrowsTo groups.old groups.new (map typed plan.now.copies.now) (map new_group plan.now.groups.now)) }
-    ensures memory { IfErr result (λ deny. deny ≡ denial S5) }
-    ensures err_mounts { OnErr result (mounts.new ≡ mounts.old) }
-    ensures err_groups { OnErr result (groups.new ≡ groups.old) }
-{
-    enter_all(mounts, plan.copies)?;
-    if let Err(deny) = groups.add(plan.copies, plan.groups) {
-        remove_all(mounts, plan.copies);
-        return Err(deny);
-    }
-    Ok(())
-}
-
-// Mounts move and come with their groups. If it fails the groups stay, and the mounts are of no use.
-fn change_all(
-    alloc: Global,
-    mounts: &mut Mounts,
-    groups: &mut Groups,
-    plan: &Planned,
-) -> Result<Moves, Deny>
-    requires { are_ascending (mounts_in mounts.old ++ map mount_of plan.now.copies.now) ≡ true }
-    ensures mounts_ok { OnOk result
-        (mounts.new ≡ with_points plan.now.points.now mounts.old ++ map unused_entry plan.now.copies.now) }
-    ensures moves { IfOk result (λ moves. AreMoves plan.now.points.now mounts.old moves.taken.items moves.left.items) }
-    ensures groups_ok { OnOk result
-        (GrowsTo groups.old groups.new (map typed plan.now.copies.now) (map new_group plan.now.groups.now)) }
-    ensures memory { IfErr result (λ deny. deny ≡ denial S5) }
-    ensures err_groups { OnErr result (groups.new ≡ groups.old) }
-{
-    let moves = move_all(alloc, mounts, plan.points)?;
-    enter_all(mounts, plan.copies)?;
-    groups.add(plan.copies, plan.groups)?;
-    Ok(moves)
-}
-
-// Mounts move, the last one of the list first.
-pub(crate) fn move_all(
-    alloc: Global,
-    mounts: &mut Mounts,
-    points: &[NewPoint],
-) -> Result<Moves, Deny>
-    ensures mounts { OnOk result (mounts.new ≡ with_points points.now mounts.old) }
-    ensures moves { IfOk result (λ moves. AreMoves points.now mounts.old moves.taken.items moves.left.items) }
+// The new mount points of mounts that exist.
+fn existing(alloc: Global, mounts: &Mounts, points: &[NewPoint]) -> Result<Vec<NewPoint>, Deny>
+    ensures ok { IfOk result (λ there. there.items ≡ filter (exists_in mounts.now) points.now) }
     ensures memory { IfErr result (λ deny. deny ≡ denial S5) }
 {
-    let mut moves = Moves {
-        taken: Vec::new(alloc),
-        left: Vec::new(alloc),
-    };
-    for point in points.iter().rev() {
-        move_one(mounts, *point, &mut moves)?;
-    }
-    Ok(moves)
-}
-
-// A mount moves, if it is there.
-fn move_one(mounts: &mut Mounts, point: NewPoint, moves: &mut Moves) -> Result<(), Deny>
-    ensures mounts { OnOk result (mounts.new ≡ moved_to point mounts.old) }
-    ensures taken { OnOk result (moves.new.taken.items ≡ moves.old.taken.items ++ taken_at point mounts.old) }
-    ensures left { OnOk result
-        (map location_of moves.new.left.items ≡ map location_of moves.old.left.items ++ left_at point mounts.old) }
-    ensures small { list_all is_small moves.old.taken.items ≡ true → list_all is_small moves.old.left.items ≡ true
-        → OnOk result ((list_all is_small moves.new.taken.items ≡ true)
-        × (list_all is_small moves.new.left.items ≡ true)) }
-    ensures memory { IfErr result (λ deny. deny ≡ denial S5) }
-{
-    if let Some(mount) = mounts.get(point.mount) {
-        let Ok(()) = note(moves, point.place, mount.mount_point) else {
-            return Err(Rule::S5.denial());
-        };
-    }
-    mounts.move_to(point.mount, point.place)
-}
-
-// A mount point that a mount gets, and the one that it leaves.
-fn note(moves: &mut Moves, taken: Location, left: Option<Location>) -> Result<(), AllocError>
-    ensures taken { OnOk result (moves.new.taken.items ≡ moves.old.taken.items ++ taken ∷ []) }
-    ensures left { OnOk result (moves.new.left.items ≡ moves.old.left.items ++ option_to_list left) }
-    ensures small_taken { is_small taken ≡ true }
-    ensures small_left { IfSome left (λ point. is_small point ≡ true) }
-{
-    moves.taken.push(taken)?;
-    if let Some(point) = left {
-        moves.left.push(point)?;
-    }
-    Ok(())
-}
-
-// The inodes at mount points are used once more.
-pub(crate) fn pin_all(filesystems: &mut Filesystems, points: &[Location])
-    requires { list_all (λ point. point_has_room (most_counted - length points.now) (shown filesystems.old)
-        (Some point)) points.now ≡ true }
-    ensures { shown filesystems.new ≡ folded pinned_by (shown filesystems.old) points.now }
-{
+    let mut there = Vec::new(alloc);
     for point in points {
+        if mounts.get(point.mount).is_some() {
+            let Ok(()) = there.push(*point) else {
+                return Err(Rule::S5.denial());
+            };
+        }
+    }
+    Ok(there)
+}
+
+// The inodes at the mount points that mounts got are used once more.
+fn pin_all(filesystems: &mut Filesystems, moved: &[Moved])
+    requires { list_all (λ point. point_has_room (most_counted - length moved.now) (shown filesystems.old)
+        (Some point)) (taken_of moved.now) ≡ true }
+    ensures { shown filesystems.new ≡ folded pinned_by (shown filesystems.old) (taken_of moved.now) }
+{
+    for one in moved {
         // It does not fail: there is room.
-        let _ = filesystems.pin(point.node);
+        let _ = filesystems.pin(one.to.node);
     }
 }
 
-// The inodes at mount points are used once less.
-pub(crate) fn unpin_all(filesystems: &mut Filesystems, points: &[Location])
-    ensures { shown filesystems.new ≡ folded unpinned_by (shown filesystems.old) points.now }
+// The inodes at the mount points that mounts left are used once less.
+fn unpin_all(filesystems: &mut Filesystems, moved: &[Moved])
+    ensures { shown filesystems.new ≡ folded unpinned_by (shown filesystems.old) (left_of moved.now) }
 {
-    for point in points {
+    for one in moved {
+        unpin_point(filesystems, one.from);
+    }
+}
+
+// The inode at a mount point is used once less.
+fn unpin_point(filesystems: &mut Filesystems, point: Option<Location>)
+    ensures { shown filesystems.new ≡ folded unpinned_by (shown filesystems.old) (option_to_list point) }
+{
+    if let Some(point) = point {
         filesystems.unpin(point.node);
     }
 }

@@ -4,4 +4,4 @@
 mod handing;
 mod retyping;
 
-pub use retyping::{add, leave, leave_all, make_slaves, share};
+pub use retyping::{leave, leave_all, make_slaves, set_types, share};

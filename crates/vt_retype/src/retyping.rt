@@ -1,8 +1,8 @@
 //! Mounts and their groups change together: mount(2) with `MS_SHARED`, `MS_SLAVE`, `MS_PRIVATE` and `MS_UNBINDABLE`,
 //! umount(2).
 //!
-//! The type of a mount is kept twice, in the mounts and in the groups. These functions change both; where a group ends,
-//! they set the types of the slaves that it leaves, and of no other mount.
+//! The type of a mount is kept twice, in the mounts and in the groups. These functions change both, except
+//! `set_types`; where a group ends, they set the types of the slaves that it leaves, and of no other mount.
 ghost use Rattle.std.specs.Prelude.{[], ◌≡◌, ⊤, ℕ, if◌then◌else◌, IfErr, None, OnErr, OnOk, map};
 ghost use Rattle.vt_spec.specs.declared.errors.Rule.TheVariants.{S5};
 ghost use Rattle.vt_spec.specs.Errors.{denial};
@@ -13,7 +13,7 @@ ghost use Rattle.vt_spec.specs.Machine.Mounts.Propagation.{Private, Shared, Slav
 ghost use Rattle.vt_group.specs.Grouping.{Follows, propagation_in, with_propagation};
 ghost use Rattle.vt_group.specs.Leaving.{type_once_left, type_once_slave};
 ghost use Rattle.vt_group.specs.Steps.{retyped};
-ghost use Rattle.vt_group.specs.Together.{GrowsTo, Retypes, Shares, TakesAway, new_group, pair_of, typed};
+ghost use Rattle.vt_group.specs.Together.{Retypes, Shares, TakesAway, pair_of, typed};
 ghost use Rattle.vt_location.specs.MountValue.{propagation_of};
 ghost use Rattle.vt_location.specs.Numbers.{counted};
 ghost use Rattle.vt_mount.specs.MountsValue.{changed};
@@ -21,7 +21,7 @@ ghost use Rattle.vt_retype.specs.Leaving.{HaveSources, OnlyTypesChange, once_lef
 ghost use Rattle.vt_retype.specs.Retyping.{FollowsTypes, FollowsTypesLeft, shared_by, typed_entry, with_type_in};
 
 use crate::handing::hand_on;
-use vt_group::{Groups, NewGroup};
+use vt_group::Groups;
 use vt_location::{GroupId, Mount, MountId, Propagation};
 use vt_mount::Mounts;
 use vt_spec::errors::Deny;
@@ -103,28 +103,14 @@ pub fn share(
     Ok(())
 }
 
-/// Mounts get the types that they have here, and new groups their masters: an attachment. The copies that are attached
-/// have their types already; mounts that move get theirs. A number that no mount has gets a type in the groups alone.
-///
-/// S5 (ENOMEM): an allocation failed. Nothing has changed then, so that this is the last step of an attachment that can
-/// fail.
-pub fn add(
-    mounts: &mut Mounts,
-    groups: &mut Groups,
-    types: &[Mount],
-    new: &[NewGroup],
-) -> Result<(), Deny>
-    ensures groups_ok { OnOk result (GrowsTo groups.old groups.new (map typed types.now) (map new_group new.now)) }
-    ensures types_ok { OnOk result (mounts.new ≡ folded with_type_in mounts.old (map typed types.now)) }
-    ensures memory { IfErr result (λ deny. deny ≡ denial S5) }
-    ensures groups_err { OnErr result (groups.new ≡ groups.old) }
-    ensures mounts_err { OnErr result (mounts.new ≡ mounts.old) }
+/// Mounts get the types that they have here, as the groups have them already: the mounts that move for an attachment.
+/// A number that no mount has changes nothing. It does not allocate.
+pub fn set_types(mounts: &mut Mounts, types: &[Mount])
+    ensures { mounts.new ≡ folded with_type_in mounts.old (map typed types.now) }
 {
-    groups.add(types, new)?;
     for mount in types {
         mounts.set_propagation(mount.number, mount.propagation);
     }
-    Ok(())
 }
 
 // A mount gets the type that the groups tell.

@@ -8,7 +8,7 @@ use Rattle.vt_group.specs.Together.{GrowsTo, new_group, typed}
 use Rattle.vt_location.specs.declared.mounts.Mount.{Mount}
 use Rattle.vt_location.specs.MountValue.{mount_of}
 use Rattle.vt_mount.specs.MountsValue.{are_ascending, mounts_in}
-use Rattle.vt_attach.specs.Moved.{top_point, with_types}
+use Rattle.vt_attach.specs.Moved.{top_point, typed_all, with_types}
 use Rattle.vt_attach.specs.Planned.{Point, is_small, points_left, points_taken, with_planned}
 use Rattle.vt_attach.specs.Room.{has_small_slots}
 use Rattle.vt_detach.specs.Uses.{kept}
@@ -18,8 +18,8 @@ use Rattle.vt_attach.proofs.moved.move_tree.Goals as goal
 from_there : {A : Type 0} (n : ℕ) (xs : List A) → take (length xs - n) (drop n xs) ≡ drop n xs
 from_there n xs = (λ i. take (sym (length-drop n xs) i) (drop n xs)) ∙ take-length (drop n xs)
 
-pub move_planned-requires : goal.move_planned-requires
-move_planned-requires c =
+pub attach_grouped-requires : goal.attach_grouped-requires
+attach_grouped-requires c =
     let may = c.requires.may in
     let n = length c.args.graft.now.tree.now in
     let front = mounts_in c.args.mounts.now in
@@ -34,13 +34,15 @@ returns-clause-ok c =
     let plan = c.in_ok-plan.plan in
     let n = length c.args.graft.now.tree.now in
     let old = kept c.args.mounts.now c.args.filesystems.now in
-    let new = kept c.move_planned.new.mounts c.move_planned.new.filesystems in
-    let made = c.in_ok-move_planned.ensures.ok in
+    let made = c.in_ok-attach_grouped.ensures.ok in
     let come : take (length c.deref.result.now - n) (drop n c.deref.result.now) ≡ drop n plan.copies.items =
     from_there n c.deref.result.now ∙ ap (drop n) c.deref.ensures.value in
     let points : c.deref-3.result.now ≡ plan.points.items ++ top_point c.args.graft.now =
     c.deref-3.ensures.value ∙ c.in_ok-add_top.ensures.points in
     let types : c.deref-4.result.now ≡ plan.copies.items = c.deref-4.ensures.value in
+    let retyped : c.set_types.new.mounts ≡ typed_all (map typed plan.copies.items) c.attach_grouped.new.mounts =
+    c.set_types.ensures
+    ∙ ap (λ (list : List Mount). typed_all (map typed list) c.attach_grouped.new.mounts) c.deref-5.ensures.value in
     record {
       copies = plan.copies.items;
       groups = plan.groups.items;
@@ -51,13 +53,14 @@ returns-clause-ok c =
       leaver = c.in_ok-plan.ensures.leaver;
       left_are = made.1 ∙ ap (λ (list : List Point). points_left list c.args.mounts.now) points;
       left_small = made.2;
-      done = made.3 ∙ (λ i. with_types (map typed (types i)) (with_planned (come i) (points i) made.0 old));
-      grows = subst (λ (list : List Mount). GrowsTo c.args.groups.now c.move_planned.new.groups (map typed list)
+      done = ap (λ mounts. kept mounts c.attach_grouped.new.filesystems) retyped
+          ∙ ap (with_types (map typed plan.copies.items)) (made.3 ∙ (λ i. with_planned (come i) (points i) made.0 old));
+      grows = subst (λ (list : List Mount). GrowsTo c.args.groups.now c.attach_grouped.new.groups (map typed list)
           (map new_group plan.groups.items)) types
-          (subst (λ (list : List NewGroup). GrowsTo c.args.groups.now c.move_planned.new.groups
+          (subst (λ (list : List NewGroup). GrowsTo c.args.groups.now c.attach_grouped.new.groups
           (map typed c.deref-4.result.now) (map new_group list)) c.deref-2.ensures.value
-          c.in_ok-move_planned.ensures.groups_ok);
-      slots = ap (list_all has_small_slots) (sym come) ∙ c.in_ok-move_planned.ensures.slots;
+          c.in_ok-attach_grouped.ensures.groups_ok);
+      slots = ap (list_all has_small_slots) (sym come) ∙ c.in_ok-attach_grouped.ensures.slots;
       taken_small = ap (λ (list : List Point). list_all is_small (points_taken list c.args.mounts.now)) (sym points)
-          ∙ c.in_ok-move_planned.ensures.places;
+          ∙ c.in_ok-attach_grouped.ensures.places;
     }

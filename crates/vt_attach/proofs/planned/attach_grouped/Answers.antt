@@ -1,25 +1,30 @@
 use Rattle.std.proofs.Common.{List, Some, ap, arith, length, refl, subst, sym, true, ◌*◌, ◌+◌, ◌-◌, ◌≡◌, ◌∙◌}
 use Rattle.std.specs.List.{list_all}
+use Rattle.std.proofs.lemmas.List.{length-map}
 use Rattle.vt_fs.specs.FilesystemsValue.{shown}
 use Rattle.vt_location.specs.declared.locations.Location.{Location}
+use Rattle.vt_mount.specs.declared.moving.Moved.{Moved}
 use Rattle.vt_spec.specs.Lists.{folded}
-use Rattle.vt_attach.specs.Planned.{pinned_by, points_taken, unpinned_by}
+use Rattle.vt_attach.specs.Planned.{left_of, pinned_by, points_taken, taken_of, unpinned_by}
 use Rattle.vt_attach.specs.Room.{has_room, most_counted, point_has_room}
 use Rattle.vt_detach.specs.Uses.{shown_by}
 use Rattle.vt_attach.proofs.PlannedMoves.{all_room_then, room_stays, taken_few, taken_pass}
-use Rattle.vt_attach.proofs.moved.move_planned.Goals as goal
+use Rattle.vt_attach.proofs.planned.attach_grouped.Goals as goal
 
 pub pin_all-requires : goal.pin_all-requires
 pin_all-requires c =
     let plan = c.args.plan.now in
     let all = shown c.args.filesystems.now in
+    let moved = c.deref.result.now in
     let taken = points_taken plan.points.now c.args.mounts.now in
     let less = most_counted - (2 * length plan.copies.now + length plan.points.now) in
     let few = taken_few plan.points.now c.args.mounts.now in
+    let are : taken_of moved ≡ taken = ap taken_of c.deref.ensures.value ∙ c.in_ok-moved.ensures.moves.taken_are in
+    let many : length moved ≡ length taken = sym (length-map moved (λ (one : Moved). one.to)) ∙ ap length are in
     subst (λ (list : List Location). list_all
-    (λ (point : Location). point_has_room (most_counted - length list) all (Some point)) list ≡ true)
-    (sym (c.deref.ensures.value ∙ c.in_ok-moves.ensures.moves.taken_are))
-    (room_stays (most_counted - length taken) less all (omega (arith, few)) taken
+    (λ (point : Location). point_has_room (most_counted - length moved) all (Some point)) list ≡ true)
+    (sym are)
+    (room_stays (most_counted - length moved) less all (omega (arith, few, many)) taken
     (taken_pass (λ (point : Location). point_has_room less all (Some point)) plan.points.now c.args.mounts.now
     (c.if-not-plan_has_room.ensures.points refl)))
 
@@ -32,7 +37,8 @@ show_all-requires c =
     let few = taken_few plan.points.now c.args.mounts.now in
     let fits = c.if-not-plan_has_room.ensures.fits refl in
     let pinned_so : shown c.pin_all.new.filesystems ≡ folded pinned_by all taken =
-    c.pin_all.ensures ∙ ap (folded pinned_by all) (c.deref.ensures.value ∙ c.in_ok-moves.ensures.moves.taken_are) in
+    c.pin_all.ensures
+    ∙ ap (folded pinned_by all) (ap taken_of c.deref.ensures.value ∙ c.in_ok-moved.ensures.moves.taken_are) in
     subst (λ later. list_all (has_room (most_counted - 2 * length plan.copies.now) later) plan.copies.now ≡ true)
     (sym pinned_so)
     (all_room_then taken all less (most_counted - 2 * length plan.copies.now) (omega (arith, few, fits)) plan.copies.now
@@ -42,16 +48,17 @@ pub returns-clause-ok : goal.returns-clause-ok
 returns-clause-ok c =
     let plan = c.args.plan.now in
     let all = shown c.args.filesystems.now in
-    let moves = c.in_ok-moves.ensures.moves in
+    let moves = c.in_ok-moved.ensures.moves in
+    let left = left_of c.in_ok-moved.moved.items in
     let pinned_so : shown c.pin_all.new.filesystems
     ≡ folded pinned_by all (points_taken plan.points.now c.args.mounts.now) =
-    c.pin_all.ensures ∙ ap (folded pinned_by all) (c.deref.ensures.value ∙ moves.taken_are) in
+    c.pin_all.ensures ∙ ap (folded pinned_by all) (ap taken_of c.deref.ensures.value ∙ moves.taken_are) in
     let files = c.unpin_all.ensures
-    ∙ ap (folded unpinned_by (shown c.show_all.new.filesystems)) c.deref-2.ensures.value
-    ∙ ap (λ later. folded unpinned_by later c.in_ok-moves.moves.left.items)
+    ∙ ap (λ moved. folded unpinned_by (shown c.show_all.new.filesystems) (left_of moved)) c.deref-2.ensures.value
+    ∙ ap (λ later. folded unpinned_by later left)
     (c.show_all.ensures ∙ ap (λ later. folded shown_by later plan.copies.now) pinned_so) in (
-      c.in_ok-moves.moves.left.items,
+      left,
       moves.left_are,
       moves.left_small,
-      λ i. record { mounts = c.in_ok-moves.ensures.mounts_ok i; filesystems = files i },
+      λ i. record { mounts = c.in_ok-moved.ensures.mounts_ok i; filesystems = files i },
     )
