@@ -1,5 +1,5 @@
 //! The opening world: one namespace with one mount of one filesystem, and one task.
-ghost use Rattle.std.specs.Prelude.{◌≡◌, ◌∷◌, [], nat_eq, IfErr, IfOk};
+ghost use Rattle.std.specs.Prelude.{◌≡◌, ◌∷◌, [], nat_eq, IfErr, IfOk, OnOk};
 ghost use Rattle.vt_spec.specs.declared.errors.Rule.TheVariants.{S5};
 ghost use Rattle.vt_spec.specs.Errors.{denial};
 ghost use Rattle.vt_spec.specs.Machine.World.{opening};
@@ -44,18 +44,32 @@ impl World {
             flags: MountFlags::plain(),
             propagation: Propagation::Private,
         };
+        let place = Location {
+            mount: number,
+            node: root,
+        };
+        let tasks = Tasks::new(alloc, namespace, place)?;
+        // What was made is dropped by calls: the proof of a function that drops such values itself takes minutes.
+        let Ok(namespaces) = first_namespaces(alloc, namespace) else {
+            drop(tasks);
+            return Err(Rule::S5.denial());
+        };
+        let Ok(filesystems) = first_filesystems(alloc, filesystem) else {
+            drop(tasks);
+            drop(namespaces);
+            return Err(Rule::S5.denial());
+        };
+        let Ok(mounts) = first_mounts(alloc, mount) else {
+            drop(tasks);
+            drop(namespaces);
+            drop(filesystems);
+            return Err(Rule::S5.denial());
+        };
         Ok(World {
-            mounts: first_mounts(alloc, mount)?,
-            filesystems: first_filesystems(alloc, filesystem)?,
-            namespaces: first_namespaces(alloc, namespace)?,
-            tasks: Tasks::new(
-                alloc,
-                namespace,
-                Location {
-                    mount: number,
-                    node: root,
-                },
-            )?,
+            mounts,
+            filesystems,
+            namespaces,
+            tasks,
             groups: Groups::new(alloc),
             next: 3,
             alloc,
@@ -69,10 +83,20 @@ fn first_mounts(alloc: Global, mount: Mount) -> Result<Mounts, Deny>
     ensures memory { IfErr result (λ deny. deny ≡ denial S5) }
 {
     let mut mounts = Mounts::new(alloc);
+    if attach_first(&mut mounts, mount).is_err() {
+        drop(mounts);
+        return Err(Rule::S5.denial());
+    }
+    Ok(mounts)
+}
+
+fn attach_first(mounts: &mut Mounts, mount: Mount) -> Result<(), Deny>
+    requires { mounts.old ≡ [] }
+    ensures { OnOk result (mounts.new ≡ record { mount = mount_of mount; uses = 2; writers = 0 } ∷ []) }
+{
     mounts.attach(mount)?;
     mounts.hold(mount.number, false)?;
-    mounts.hold(mount.number, false)?;
-    Ok(mounts)
+    mounts.hold(mount.number, false)
 }
 
 // A filesystem alone, whose root directory is the root of one mount, and the root and the working directory of one
@@ -82,6 +106,17 @@ fn first_filesystems(alloc: Global, filesystem: FilesystemId) -> Result<Filesyst
     ensures memory { IfErr result (λ deny. deny ≡ denial S5) }
 {
     let mut filesystems = Filesystems::new(alloc);
+    if add_first(&mut filesystems, filesystem).is_err() {
+        drop(filesystems);
+        return Err(Rule::S5.denial());
+    }
+    Ok(filesystems)
+}
+
+fn add_first(filesystems: &mut Filesystems, filesystem: FilesystemId) -> Result<(), Deny>
+    requires { filesystems.old ≡ [] }
+    ensures { OnOk result (shown filesystems.new ≡ first_shown filesystem.count) }
+{
     filesystems.add(filesystem, root_attr())?;
     filesystems.hold_mount(filesystem)?;
     let root = NodeRef {
@@ -90,8 +125,7 @@ fn first_filesystems(alloc: Global, filesystem: FilesystemId) -> Result<Filesyst
     };
     filesystems.pin(root)?;
     filesystems.pin(root)?;
-    filesystems.pin(root)?;
-    Ok(filesystems)
+    filesystems.pin(root)
 }
 
 // A namespace alone, with one task.
