@@ -1,5 +1,6 @@
 -- A mount is in the tree of another just if going up by parents meets that one.
-use Rattle.std.proofs.Common.{◌≡◌, refl, sym, ap, ◌∙◌, ⊎_elim, ℕ, zero, suc, nat_eq, eqb-true, eq-eqb, Bool, true, false, true≢false, ◌||◌, List, [], ◌∷◌, ◌++◌, length, Option, Some, None}
+use Rattle.std.proofs.Common.{◌≡◌, refl, sym, ap, ◌∙◌, ⊎_elim, ℕ, zero, suc, nat_eq, eqb-true, eq-eqb, Bool, true, false, true≢false, ◌||◌, List, [], ◌∷◌, length, Option, Some, None}
+use Rattle.std.proofs.lemmas.List.Folds.{list_any-append}
 use Rattle.std.specs.Prelude.{flat_map}
 use Rattle.std.specs.List.{list_any}
 use Rattle.vt_spec.specs.Lists.{any_pair, holds_of}
@@ -10,6 +11,7 @@ use Rattle.vt_mount_laws.proofs.MountsReplaced.{found_itself}
 use Rattle.vt_detach.proofs.LookLemmas.{turned}
 use Rattle.vt_detach.proofs.TreesLookedAt.{or_nothing}
 use Rattle.vt_detach.proofs.NumbersBeside.{one_test}
+use Rattle.vt_spec.proofs.Truths.{nat_eq_itself}
 
 -- going up from a mount meets another, in at most so many steps
 abbrev pub meets : List (Mount ℕ) → ℕ → ℕ → ℕ → Bool
@@ -37,20 +39,10 @@ pub met_above : (mounts : List (Mount ℕ)) (top steps number : ℕ) (place : Lo
 met_above mounts top steps number place other is = λ i. other i
     || holds_of (λ place. meets mounts top steps place.mount) (is i)
 
-any_append : {A : Type 0} (test : A → Bool) (one other : List A)
-    → list_any test (one ++ other) ≡ (list_any test one || list_any test other)
-any_append test [] other = refl
-any_append test (a ∷ one) other = ap (λ b. test a || b) (any_append test one other)
-    ∙ again (test a) (list_any test one) (list_any test other)
-  where
-    again : (x y z : Bool) → (x || (y || z)) ≡ ((x || y) || z)
-    again true y z = refl
-    again false y z = refl
-
 any_flat : {A B : Type 0} (test : B → Bool) (f : A → List B) (list : List A)
     → list_any test (flat_map f list) ≡ list_any (λ a. list_any test (f a)) list
 any_flat test f [] = refl
-any_flat test f (a ∷ rest) = any_append test (f a) (flat_map f rest)
+any_flat test f (a ∷ rest) = list_any-append test (f a) (flat_map f rest)
     ∙ ap (λ b. list_any test (f a) || b) (any_flat test f rest)
 
 any_either : {A : Type 0} (one other : A → Bool) (list : List A)
@@ -104,13 +96,10 @@ module _ (mounts : List (Mount ℕ)) (one : any_pair (λ (a b : Mount ℕ). nat_
           ⊎_elim
           (λ m. any_from_among (λ child. nat_eq number child.number) (children nat_eq mounts top) mount
           (among-filter (stands_on nat_eq top) mounts mount m (on mount mount.mount_point ∙ stands))
-          (ap (nat_eq number) (number_found mounts number) ∙ itself number))
+          (ap (nat_eq number) (number_found mounts number) ∙ nat_eq_itself number))
           (λ none. absurd (true≢false (sym stands
           ∙ ap (λ (x : Mount ℕ). holds_of (λ place. nat_eq place.mount top) x.mount_point) none)))
           (found_or_none mounts number)
-        where
-          itself : (n : ℕ) → nat_eq n n ≡ true
-          itself n = eq-eqb n n refl
 
   children_meet : (steps top number : ℕ)
       → list_any (λ child. meets mounts child.number steps number) (children nat_eq mounts top)

@@ -1,5 +1,6 @@
 -- A task opens a file: open(2).
 use Rattle.std.proofs.Common.{◌≡◌, ◌<◌, refl, sym, ap, subst, ◌∙◌, ℕ, ◌+◌, nat_eq, Bool, true, false, cond, ◌&&◌, List, [], ◌∷◌, ◌++◌, map, find, Option, None, Some, unwrap_or, arith}
+use Rattle.std.proofs.Math.Bool.{and-false}
 use Rattle.std.specs.Prelude.{nat_lt}
 use Rattle.std.proofs.lemmas.Bool.{leb-false}
 use Rattle.std.proofs.lemmas.List.{map-append}
@@ -150,12 +151,8 @@ pub nothing_copied : (value : WorldValue) (file : meant.Location ℕ) (access : 
 nothing_copied value file access =
     ap (λ (o : Option (Overlay ℕ)). access.writes && overlay_or false (λ overlay. lies_below overlay file.node) o)
     (no_overlay value.filesystems (mount_at nat_eq (world_of value) file).filesystem)
-    ∙ never access.writes
+    ∙ and-false access.writes
   where
-    never : (b : Bool) → (b && false) ≡ false
-    never true = refl
-    never false = refl
-
     no_overlay : (entries : Filesystems) (number : ℕ)
         → (unwrap_or (find (λ f. nat_eq number f.number) (filesystems_seen entries)) (no_filesystem number)).overlay
         ≡ None

@@ -4,7 +4,7 @@ use Rattle.std.specs.Prelude.{filter_map, flat_map, if◌then◌else◌}
 use Rattle.std.specs.List.{cons_option}
 use Rattle.std.specs.Map.{keys_of}
 use Rattle.std.proofs.lemmas.Grind.{flat_map-append}
-use Rattle.std.proofs.lemmas.List.{append-nil, length-append, map-append}
+use Rattle.std.proofs.lemmas.List.{append-nil, length-append, length-map, map-append}
 use Rattle.vt_letting_go.proofs.Lists.{map_twice}
 use Rattle.vt_location.specs.declared.numbers.GroupId.{GroupId}
 use Rattle.vt_location.specs.declared.numbers.MountId.{MountId}
@@ -119,17 +119,13 @@ next_placed world i number d ids within same so_far new is before_is =
     let before : List ℕ = map count (take i ids) in
     let last : ℕ = count (get_or ids i d) in
     let size : number + 1 ≡ 1 + length before =
-    omega (arith, same, length_taken i ids within, lengths count (take i ids)) in
+    omega (arith, same, length_taken i ids within, length-map (take i ids) count) in
     is ∙ ap (λ list. list ++ placed_in world (number + 1) last) before_is
     ∙ ap (λ k. placed_from world 1 before ++ placed_in world k last) size
     ∙ sym (flat_last (λ (one : ℕ × ℕ). placed_in world one.0 one.1) (counted_from 1 before) (1 + length before, last))
     ∙ ap (flat_map (λ (one : ℕ × ℕ). placed_in world one.0 one.1)) (sym (counted_more 1 before last))
     ∙ ap (placed_from world 1) (sym (map-append count (take i ids) (get_or ids i d ∷ []))
     ∙ ap (map count) (sym (taken_more i d ids within)))
-  where
-    lengths : {A B : Type 0} (f : A → B) (xs : List A) → length (map f xs) ≡ length xs
-    lengths f [] = refl
-    lengths f (x ∷ xs) = ap suc (lengths f xs)
 
 -- the mounts of one namespace so far, each with its place
 abbrev pub each_placed : ℕ → List (Mount ℕ) → List (ℕ × ℕ × Propagation ℕ)

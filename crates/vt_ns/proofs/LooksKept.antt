@@ -1,5 +1,6 @@
 -- What code finds in what is kept of a world is what the definitions see of its value.
-use Rattle.std.proofs.Common.{◌≡◌, refl, sym, ap, subst, ◌∙◌, ℕ, ◌<◌, nat_eq, Bool, true, false, cond, not, ◌&&◌, List, [], ◌∷◌, zero, suc, length, Option, Some, None, filter, flat_map, map, option_map, unwrap_or}
+use Rattle.std.proofs.Common.{◌≡◌, refl, sym, ap, subst, ◌∙◌, ℕ, ◌<◌, nat_eq, Bool, true, false, cond, ◌&&◌, List, [], ◌∷◌, zero, suc, length, Option, Some, None, filter, flat_map, map, option_map, unwrap_or}
+use Rattle.std.proofs.lemmas.Bool.{not-true}
 use Rattle.std.specs.Prelude.{find, option_to_list}
 use Rattle.std.specs.List.{list_any}
 use Rattle.vt_spec.specs.FileTree.{is_directory_under, is_removed}
@@ -184,10 +185,6 @@ bare_top value mount none at on =
     (λ here. option_map root_of (child_at nat_eq (mounts_in value.mounts) here)) at
     (ap (option_map root_of) (none_at at (mounts_in value.mounts)
     (ap (λ n. list_any (stands_on nat_eq n) (mounts_in value.mounts)) on ∙ none)))
-
-pub no_child : (b : Bool) → not b ≡ true → b ≡ false
-no_child false is = refl
-no_child true is = sym is
 
 -- an inode that is in the filesystem of the ground is seen
 pub seen_on : (value : WorldValue) (at : Location) (ground : Ground) (b : Bool)

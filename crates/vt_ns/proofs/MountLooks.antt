@@ -1,5 +1,6 @@
 -- What the rules of mount calls look at, by what is counted beside the mounts.
 use Rattle.std.proofs.Common.{◌≡◌, refl, sym, ap, ◌∙◌, inr, ℕ, zero, suc, ◌+◌, nat_eq, nat_lt, eqb-true, Bool, true, false, cond, ◌||◌, ◌&&◌, List, [], ◌∷◌, map, Option, Some, None, option_map, unwrap_or, arith}
+use Rattle.std.proofs.Math.Bool.{and-false}
 use Rattle.std.specs.List.{list_any}
 use Rattle.std.proofs.lemmas.Bool.{and_parts}
 use Rattle.std.proofs.lemmas.Bool.Decides.{nat_tests}
@@ -98,11 +99,7 @@ module _ (value : WorldValue) (held : IsHeld value) (number : ℕ) where
           (none_located missing) descriptor.location
           (among-flat_map locations_of value.tasks task descriptor.location t
           (inr (inr (among-map (λ (one : Descriptor ℕ). one.location) task.descriptors descriptor d)))))
-          ∙ nothing descriptor.writes))
-        where
-          nothing : (b : Bool) → (b && false) ≡ false
-          nothing true = refl
-          nothing false = refl
+          ∙ and-false descriptor.writes))
 
       by : (o : Option MountEntry) → entry_numbered value.mounts number ≡ o
           → nat_lt 0 (writers_of value.mounts number) ≡ is_written_through nat_eq (world_of value) number

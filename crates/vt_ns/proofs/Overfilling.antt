@@ -1,9 +1,9 @@
 -- Whether a namespace has too many mounts once a tree is attached: ENOSPC of mount(2).
-use Rattle.std.proofs.Common.{◌≡◌, refl, sym, ap, subst, ◌∙◌, ⊎_elim, ◌+◌, ◌-◌, ◌*◌, ℕ, nat_eq, Bool, true, false, true≢false, cond, ◌||◌, List, [], ◌∷◌, map, filter, find, length, take, Option, Some, None, is_some, option_map, unwrap_or, arith}
+use Rattle.std.proofs.Common.{◌≡◌, refl, sym, ap, subst, ◌∙◌, ⊎_elim, ◌+◌, ◌-◌, ◌*◌, ℕ, nat_eq, Bool, true, false, true≢false, List, [], ◌∷◌, map, filter, find, length, take, Option, Some, None, is_some, option_map, unwrap_or, arith}
 use Rattle.std.proofs.lemmas.List.{length-map}
 use Rattle.std.specs.Prelude.{Contains, drop}
 use Rattle.vt_spec.specs.Language.Calls.{MountFlags}
-use Rattle.vt_spec.specs.Lists.{is_among, odds, rest_of}
+use Rattle.vt_spec.specs.Lists.{odds, rest_of}
 use Rattle.vt_spec.specs.Machine.Attach.{Copies, attached_by, bind_tree, copies_from, has_too_many, parts_of, receivers_of, takes_part}
 use Rattle.vt_spec.specs.Machine.Invariants.{NamespaceInvariants}
 use Rattle.vt_spec.specs.Machine.Mounts.{Location, Mount, mount_tree, no_mount}
@@ -26,6 +26,7 @@ use Rattle.vt_letting_go.proofs.Lists.{among-from_filter}
 use Rattle.vt_run_laws.specs.Handed.{counts_from}
 use Rattle.vt_world_laws.proofs.FewMounts.{shrinks_few}
 use Rattle.vt_attach.proofs.CopyLemmas.{all_taken}
+use Rattle.vt_detach.proofs.Leaving.{none_among}
 use Rattle.vt_detach.specs.Held.{IsHeld}
 use Rattle.vt_detach.specs.Looking.{overfills_of}
 use Rattle.vt_detach.specs.WorldValue.{WorldValue, world_of}
@@ -58,19 +59,6 @@ module _ (mounts : List (Mount ℕ)) (place : Location ℕ)
         refl,
       )
       invariants.few_mounts)
-
--- what no mount has is no number of one
-none_has : (number : ℕ) (mounts : List (Mount ℕ)) → find (λ (mount : Mount ℕ). nat_eq number mount.number) mounts ≡ None
-    → is_among nat_eq number (map (λ (mount : Mount ℕ). mount.number) mounts) ≡ false
-none_has number [] none = refl
-none_has number (mount ∷ rest) none = by (nat_eq number mount.number) none (none_has number rest)
-  where
-    by : (b : Bool) → cond b (Some mount) (find (λ (one : Mount ℕ). nat_eq number one.number) rest) ≡ None
-        → (find (λ (one : Mount ℕ). nat_eq number one.number) rest ≡ None
-        → is_among nat_eq number (map (λ (one : Mount ℕ). one.number) rest) ≡ false)
-        → (b || is_among nat_eq number (map (λ (one : Mount ℕ). one.number) rest)) ≡ false
-    by true e later = absurd cc
-    by false e later = later e
 
 module _ (value : WorldValue) (held : IsHeld value) (number : ℕ) (place : Location ℕ) where
   abbrev world : World ℕ
@@ -155,7 +143,7 @@ module _ (value : WorldValue) (held : IsHeld value) (number : ℕ) (place : Loca
         ≡ mount_count (mounts_in value.mounts) namespace + mount_count others namespace * 1
     counted_so namespace =
         absent_counted world place new tree (no_mount number) alone
-        (none_has number (mounts_in value.mounts) missing) namespace
+        (none_among number (mounts_in value.mounts) missing) namespace
         ∙ ap (λ list. mount_count (mounts_in value.mounts) namespace + mount_count others namespace * length list) alone
 
     pub absent_grows : GrowsBy (world_of value) (attached_by nat_eq (world_of value) new place true tree)

@@ -1,7 +1,7 @@
 -- The root mount of a namespace, among the mounts that are listed for it.
 use Rattle.std.proofs.Common.{◌≡◌, refl, sym, ap, ◌∙◌, ℕ, zero, suc, ◌+◌, nat_eq, Bool, true, false, cond, not, List, [], ◌∷◌, map, filter, find, take, Option, Some, None, option_map, is_some, length, get_or, ◌<◌, arith}
 use Rattle.std.specs.Prelude.{slice_get}
-use Rattle.std.proofs.lemmas.Option.{same_Some, slice_get-get_or}
+use Rattle.std.proofs.lemmas.Option.{same_Some, slice_get-get_or, slice_get-map}
 use Rattle.vt_spec.specs.Lists.{holds_of}
 use Rattle.vt_spec.specs.Machine.Mounts.{Mount}
 use Rattle.vt_letting_go.proofs.Lists.{among-from_filter, among-from_map}
@@ -14,11 +14,6 @@ use Rattle.vt_mount.specs.MountsValue.{MountEntry, are_ascending, mounts_in}
 use Rattle.vt_ns.specs.Entering.{root_mount_in}
 use Rattle.vt_detach.proofs.EndingLemmas.{entry_ascending, last_is_among}
 use Rattle.vt_detach.proofs.Shown.{found_entry, is_some_mapped}
-
-at_mapped : {A B : Type 0} (f : A → B) (xs : List A) (n : ℕ) → slice_get (map f xs) n ≡ option_map f (slice_get xs n)
-at_mapped f [] n = refl
-at_mapped f (x ∷ xs) zero = refl
-at_mapped f (x ∷ xs) (suc n) = at_mapped f xs n
 
 -- the first that passes is the next one, or none of those with it passes
 pub next_passes : {A : Type 0} (p : A → Bool) (xs : List A) (n : ℕ) (x : A) → find p (take n xs) ≡ None
@@ -68,9 +63,9 @@ listed_at entries namespace ids n id rising listed at = by (slice_get inside n) 
 
     numbers : Some (counted id.count) ≡ option_map (λ (mount : Mount ℕ). mount.number) (slice_get inside n)
     numbers =
-        sym (at_mapped (λ (id : MountId). counted id.count) ids n
+        sym (slice_get-map (λ (id : MountId). counted id.count) ids n
         ∙ ap (option_map (λ (id : MountId). counted id.count)) at)
-        ∙ ap (λ all. slice_get all n) listed ∙ at_mapped (λ (mount : Mount ℕ). mount.number) inside n
+        ∙ ap (λ all. slice_get all n) listed ∙ slice_get-map (λ (mount : Mount ℕ). mount.number) inside n
 
     by : (o : Option (Mount ℕ)) → slice_get inside n ≡ o
         → (mount : Mount ℕ) × (slice_get inside n ≡ Some mount)

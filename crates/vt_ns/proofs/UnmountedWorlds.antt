@@ -4,6 +4,7 @@ use Rattle.std.specs.Map.{lookup}
 use Rattle.std.specs.Prelude.{option_to_list}
 use Rattle.std.specs.List.{list_all}
 use Rattle.std.proofs.lemmas.Bool.{and_parts}
+use Rattle.std.proofs.lemmas.Option.{none-some}
 use Rattle.vt_spec.specs.Language.Calls.{TaskName}
 use Rattle.vt_spec.specs.Lists.{is_among, or_else}
 use Rattle.vt_spec.specs.Machine.Detach.{is_going}
@@ -50,10 +51,8 @@ use Rattle.vt_detach.proofs.Staying.{IsDone, world_is_plain}
 use Rattle.vt_detach.proofs.TypedEvents.{counts_typed, swept_typed, typed_value}
 use Rattle.vt_detach.proofs.TypedWorlds.{settled_without_groups, typed_world}
 use Rattle.vt_detach.proofs.UnmountedLazily.{all_detached}
+use Rattle.vt_mount_laws.proofs.MountsFound.{placed_among}
 use Rattle.vt_ns.proofs.PointsMoved.{MayMove, gained, looked_up, lost, moved_is_kept, moved_world}
-
-none_some : {A : Type 0} (a : A) → None ≡ Some a → ⊥
-none_some a e = cc
 
 -- a mount with a mount point is in a namespace
 placed_is_attached : (mount : Mount ℕ) → is_nowhere_or_attached mount ≡ true → is_some mount.mount_point ≡ true
@@ -73,17 +72,6 @@ outside_is_placeless mount is none = by mount.mount_point refl
     by : (o : Option (Location ℕ)) → mount.mount_point ≡ o → mount.mount_point ≡ None
     by None e = e
     by (Some place) e = absurd (true≢false (sym (placed_is_attached mount is (ap is_some e)) ∙ none))
-
--- a mount with a mount point that is found is there
-placed_is_there : (mounts : List (Mount ℕ)) (number : ℕ) (place : Location ℕ)
-    → (mount_in nat_eq mounts number).mount_point ≡ Some place
-    → Among (mount_in nat_eq mounts number) mounts
-placed_is_there mounts number place is = by (find (λ (x : Mount ℕ). nat_eq number x.number) mounts) refl is
-  where
-    by : (o : Option (Mount ℕ)) → find (λ (x : Mount ℕ). nat_eq number x.number) mounts ≡ o
-        → (unwrap_or o (no_mount number)).mount_point ≡ Some place → Among (unwrap_or o (no_mount number)) mounts
-    by None e f = absurd (none_some place f)
-    by (Some mount) e f = (found_it (λ (x : Mount ℕ). nat_eq number x.number) mounts mount e).0
 
 -- The policy's world, before what nothing uses goes: `gone` are detached, the others stand at these mount points, and
 -- each mount has
@@ -235,7 +223,7 @@ module _ (value : WorldValue) (whole : IsHeld value) (name : TaskName) (permit :
       by (Some place) e =
           let from = among-from_map point_seen points (mount.number, place)
           (looked_up mount.number (map point_seen points) place e) in
-          absurd (none_some (location_of from.0.place)
+          absurd (none-some (location_of from.0.place)
           (sym (final_gone mount goes).1 ∙ ap (λ (x : Mount ℕ). x.mount_point) (sym (final_found mount m))
           ∙ ap (λ n. (mount_numbered nat_eq policy n).mount_point) (ap (λ (pair : ℕ × Location ℕ). pair.0) from.2)
           ∙ tells from.0 from.1))
@@ -244,7 +232,7 @@ module _ (value : WorldValue) (whole : IsHeld value) (name : TaskName) (permit :
   may = record {
     each = λ point m.
         place_is_there (mount_numbered nat_eq policy (counted point.mount.count))
-        (placed_is_there policy.mounts (counted point.mount.count) (location_of point.place) (tells point m))
+        (placed_among policy.mounts (counted point.mount.count) (location_of point.place) (tells point m))
         (location_of point.place) (tells point m);
     attached = λ mount m place at. attached mount m place at (is_going nat_eq gone mount.number) refl;
     outside = λ mount m none. outside mount m none (is_going nat_eq gone mount.number) refl;

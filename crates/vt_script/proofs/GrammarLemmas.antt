@@ -1,53 +1,10 @@
 -- What the grammar has: its calls, of which none mounts an overlay.
 use Rattle.std.proofs.Common.{◌≡◌, refl, ℕ, Bool, true, false, cond, List, [], ◌∷◌, Option, Some, None, option_map, subst}
 use Rattle.vt_spec.specs.Language.Calls.{Call, Directive, TaskName}
-use Rattle.vt_spec.specs.Language.Calls.Call.{Bind, Chdir, Chmod, Chown, Chroot, Close, Drop, Exec, Exit, Fork, Lazy, LinkTo, ListMounts, Ls, Lstat, MakeWhiteout, Mkdir, MountOverlay, MountPlain, MoveMount, Opaque, OpenFile, PivotRoot, Pread, Pwrite, Read, Readlink, Remount, Rename, Rmdir, SetType, Setns, Stat, SymlinkAt, Umask, Umount, Unlink, Unshare, Write}
 use Rattle.vt_spec.specs.Language.Script.{Request, Who, asked_by, call_asked, call_words, directive_asked, directive_words, each_of, propagation, raw_tokens, request_of, request_of_texts, token_text, who_of}
 use Rattle.vt_spec.specs.Language.Script.Request.{Asking, Calling}
 use Rattle.vt_spec.specs.Language.Script.Who.{Nobody, Someone}
 use Rattle.vt_spec.specs.Lists.{then_some, when}
-use Rattle.vt_tree_laws.specs.Trees.Calls.{mounts_overlay}
-
-pub no_overlays : (call : Call) → propagation.has call ≡ true → mounts_overlay call ≡ false
-no_overlays (Ls path) has = refl
-no_overlays (Stat path) has = refl
-no_overlays (Lstat path) has = refl
-no_overlays (Readlink path) has = refl
-no_overlays (Read path) has = refl
-no_overlays (Write path bytes) has = refl
-no_overlays (Exec path) has = refl
-no_overlays (Mkdir path mode) has = refl
-no_overlays (SymlinkAt text path) has = refl
-no_overlays (MakeWhiteout path) has = refl
-no_overlays (LinkTo old new) has = refl
-no_overlays (Unlink path) has = refl
-no_overlays (Rmdir path) has = refl
-no_overlays (Rename old new) has = refl
-no_overlays (Chmod path mode) has = refl
-no_overlays (Chown path uid gid) has = refl
-no_overlays (Opaque path mark) has = refl
-no_overlays (OpenFile path access made) has = refl
-no_overlays (Pread descriptor offset size) has = refl
-no_overlays (Pwrite descriptor offset bytes) has = refl
-no_overlays (Close descriptor) has = refl
-no_overlays (Chdir path) has = refl
-no_overlays (Chroot path) has = refl
-no_overlays (Umask mode) has = refl
-no_overlays (Drop which) has = refl
-no_overlays (Fork words) has = refl
-no_overlays Exit has = refl
-no_overlays Unshare has = refl
-no_overlays (Setns task) has = refl
-no_overlays (MountPlain path flags) has = refl
-no_overlays (MountOverlay path options flags) has = cc
-no_overlays (Bind source path recursive) has = refl
-no_overlays (MoveMount source path) has = refl
-no_overlays (Umount path) has = refl
-no_overlays (Lazy path) has = refl
-no_overlays (Remount path flags) has = refl
-no_overlays (SetType path word recursive) has = refl
-no_overlays (PivotRoot new put) has = refl
-no_overlays ListMounts has = refl
 
 -- a call that is asked for is one that the grammar has
 abbrev IsHad : Option Request → Type 0

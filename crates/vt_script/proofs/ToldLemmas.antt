@@ -8,8 +8,7 @@ use Rattle.vt_spec.specs.Machine.Run.{first_world, script_text, text_from}
 use Rattle.vt_run_laws.specs.Handed.{may_be_given}
 use Rattle.vt_run_laws.specs.Runs.{TellsAlike}
 use Rattle.vt_run_laws.proofs.Counts.{programs_have_one_text}
-use Rattle.vt_run_laws.proofs.GrammarsPlain.{grammars_keep_overlays_out}
-use Rattle.vt_script.proofs.GrammarLemmas.{no_overlays}
+use Rattle.vt_run_laws.proofs.GrammarsPlain.{grammars_keep_overlays_out, propagation_mounts_no_overlay}
 use Rattle.std.specs.Prelude.{OnOk, IsErrOf}
 use Rattle.vt_io.specs.declared.output.Sink.{Ghosts}
 use Rattle.vt_io.specs.Sink.{WroteFront}
@@ -38,7 +37,7 @@ module _ {first : Moment} (opens : IsOpening first) where
   unfolding script_text
   one_text script refused text told =
       programs_have_one_text propagation refused script text opens.0 opens.1
-      (grammars_keep_overlays_out propagation no_overlays (lines_of script))
+      (grammars_keep_overlays_out propagation propagation_mounts_no_overlay (lines_of script))
       (subst (λ (moment : Moment). TellsAlike propagation may_be_given moment.world (moment.answered + 1)
       (lines_of script) refused text) opens.2 told)
 

@@ -1,9 +1,10 @@
 use Rattle.std.proofs.Common.{◌∙◌, ap, nat_eq, sym}
+use Rattle.std.proofs.lemmas.Bool.{not-true}
 use Rattle.std.specs.List.{list_any}
 use Rattle.vt_spec.specs.Machine.Mounts.{stands_on}
 use Rattle.vt_location.specs.Numbers.{counted}
 use Rattle.vt_mount.specs.MountsValue.{mounts_in}
-use Rattle.vt_ns.proofs.LooksKept.{bare_top, no_child}
+use Rattle.vt_ns.proofs.LooksKept.{bare_top}
 use Rattle.vt_ns.proofs.looking.WorldLook.ground.Goals as goal
 use Rattle.vt_detach.specs.WorldValue.{WorldValue}
 
@@ -14,5 +15,5 @@ returns c =
     record {
       filesystem = c.shown.ensures;
       bare = λ bare at on. bare_top c.args.self.now (counted c.args.mount.count)
-          (sym (ap children c.self.view_is) ∙ sym c.has_child.ensures ∙ no_child c.has_child.result bare) at on;
+          (sym (ap children c.self.view_is) ∙ sym c.has_child.ensures ∙ not-true c.has_child.result bare) at on;
     }

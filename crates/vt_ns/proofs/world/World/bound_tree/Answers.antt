@@ -1,6 +1,6 @@
-use Rattle.std.proofs.Common.{List, ap, arith, filter, length, nat_eq, refl, sym, [], ◌++◌, ◌≡◌, ◌∙◌, ◌∷◌}
+use Rattle.std.proofs.Common.{ap, filter, length, nat_eq, sym, [], ◌++◌, ◌∙◌, ◌∷◌}
 use Rattle.std.specs.Prelude.{flat_map}
-use Rattle.std.proofs.lemmas.List.{append-nil}
+use Rattle.std.proofs.lemmas.List.{append-nil, nil_from_length}
 use Rattle.vt_location.specs.Locations.{location_of}
 use Rattle.vt_mount.proofs.PlaceLemmas.{counts, numbers}
 use Rattle.vt_mount.specs.MountsValue.{mounts_in}
@@ -9,10 +9,6 @@ use Rattle.vt_spec.specs.Machine.Attach.{bind_tree, bindable_children, bindable_
 use Rattle.vt_ns.specs.Trees.{bindable_to_come}
 use Rattle.vt_detach.specs.WorldValue.{world_of}
 use Rattle.vt_ns.proofs.world.World.bound_tree.Goals as goal
-
-none : {X : Type 0} (xs : List X) → length xs ≡ 0 → xs ≡ []
-none [] few = refl
-none (x ∷ xs) few = absurd (omega (arith, few))
 
 pub returns-then-not-recursive : goal.returns-then-not-recursive
 returns-then-not-recursive c =

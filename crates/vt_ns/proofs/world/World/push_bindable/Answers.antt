@@ -1,4 +1,4 @@
-use Rattle.std.proofs.Common.{Err, Ok, OnOk, Result, ap, arith, rules, subst, suc, sym, nat_eq, ◌-◌, ◌≡◌, ◌∙◌, ◌∷◌}
+use Rattle.std.proofs.Common.{ap, arith, rules, subst, suc, sym, nat_eq, ◌-◌, ◌≡◌, ◌∙◌, ◌∷◌}
 use Rattle.std.proofs.lemmas.Iterator.{YieldsList-from_map}
 use Rattle.std.proofs.lemmas.Iterator.Adapters.{YieldsList-from_rev_slice, items_from_extend}
 use Rattle.std.proofs.lemmas.Iterator.Consumers.{YieldsList-from_filter}
@@ -11,10 +11,7 @@ use Rattle.vt_ns.specs.Trees.{bindable_to_come}
 use Rattle.vt_detach.specs.WorldValue.{WorldValue}
 use Rattle.vt_ns.proofs.BoundTrees.{bindable, bindable_kids, branch_of, next-deep, next-flat}
 use Rattle.vt_ns.proofs.world.World.push_bindable.Goals as goal
-
-on-ok : {A E P Q : Type 0} (r : Result A E) → (P → Q) → OnOk r P → OnOk r Q
-on-ok (Ok a) so p = so p
-on-ok (Err e) so p = tt
+use Rattle.vt_spec.proofs.Options.{OnOk_then}
 
 pub returns-then-branch-eq0 : goal.returns-then-branch-eq0
 returns-then-branch-eq0 c = next-flat
@@ -29,7 +26,7 @@ returns c =
     (counted c.args.branch.mount.count) c.children.result.now
     (c.children.ensures ∙ ap (λ (value : WorldValue). numbers
     (children nat_eq (mounts_in value.mounts) (counted c.args.branch.mount.count))) c.self.view_is) in
-    on-ok c.extend.result
+    OnOk_then c.extend.result
     (λ pushed. next-deep mounts c.args.waiting.now.items c.args.branch (c.args.branch.depth - 1)
     (bindable mounts) c.children.result.now deep kids
     ∙ ap (λ waiting. counted c.args.branch.mount.count ∷ bindable_to_come mounts waiting) (sym pushed.0))

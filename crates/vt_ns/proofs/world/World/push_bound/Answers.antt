@@ -1,4 +1,4 @@
-use Rattle.std.proofs.Common.{Err, Ok, OnOk, Result, ap, filter, length, map, rules, subst, sym, nat_eq, ◌&&◌, ◌≡◌, ◌∙◌, ◌++◌}
+use Rattle.std.proofs.Common.{ap, filter, length, map, rules, subst, sym, nat_eq, ◌&&◌, ◌≡◌, ◌∙◌, ◌++◌}
 use Rattle.std.specs.Prelude.{reverse}
 use Rattle.std.proofs.lemmas.Iterator.{YieldsList-from_map}
 use Rattle.std.proofs.lemmas.Iterator.Adapters.{YieldsList-from_rev_slice, items_from_extend}
@@ -16,10 +16,7 @@ use Rattle.vt_ns.specs.Trees.{bindable_to_come}
 use Rattle.vt_detach.specs.WorldValue.{WorldValue, world_of}
 use Rattle.vt_ns.proofs.BoundTrees.{bindable, bound_kids, branch_of, chosen-come}
 use Rattle.vt_ns.proofs.world.World.push_bound.Goals as goal
-
-on-ok : {A E P Q : Type 0} (r : Result A E) → (P → Q) → OnOk r P → OnOk r Q
-on-ok (Ok a) so p = so p
-on-ok (Err e) so p = tt
+use Rattle.vt_spec.proofs.Options.{OnOk_then}
 
 pub returns : goal.returns
 returns c =
@@ -33,7 +30,7 @@ returns c =
     let kids = bound_kids mounts held.in_world.mounts.one_number number c.children.result.now
     (c.children.ensures ∙ ap (λ (value : WorldValue). numbers
     (children nat_eq (mounts_in value.mounts) number)) c.self.view_is) under in
-    on-ok c.extend.result
+    OnOk_then c.extend.result
     (λ pushed.
     ap (bindable_to_come mounts) pushed.0
     ∙ ap (λ depth. bindable_to_come mounts

@@ -1,6 +1,6 @@
-use Rattle.std.proofs.Common.{List, ap, arith, find, map, nat_eq, option_map, refl, rules, sym, ◌++◌, ◌∷◌, [], ◌≡◌, ◌∙◌, ℕ}
+use Rattle.std.proofs.Common.{ap, arith, find, nat_eq, option_map, rules, sym, ◌++◌, ◌∷◌, [], ◌∙◌, ℕ}
 use Rattle.std.specs.Prelude.{filter_map}
-use Rattle.std.proofs.lemmas.List.{map-append}
+use Rattle.std.proofs.lemmas.List.{map-append, map-id}
 use Rattle.vt_letting_go.proofs.Lists.{among-from_filter}
 use Rattle.vt_location.specs.MountValue.{mount_of}
 use Rattle.vt_location.specs.Numbers.{counted}
@@ -14,10 +14,6 @@ use Rattle.vt_ns.specs.GroupsListed.{all_seen, placed_seen}
 use Rattle.vt_ns.proofs.ListedPeers.{each_placed, mounts_next, mounts_same}
 use Rattle.vt_ns.proofs.world.World.push_placed.Goals as goal
 use Rattle.vt_ns.proofs.world.World.push_placed.Goals.{in-Some+in-Ok, in_default}
-
-map_itself : (list : List (Mount ℕ)) → map (λ (mount : Mount ℕ). mount) list ≡ list
-map_itself [] = refl
-map_itself (mount ∷ list) = ap (λ others. mount ∷ others) (map_itself list)
 
 pub loop-id-preserved : goal.loop-id-preserved
 loop-id-preserved c =
@@ -65,6 +61,6 @@ returns-clause-ok c =
     (picked same mounts all c.attached_in-id-items.result.now c.attached_in-id-items.ensures
     (λ mount m. ascending_found mounts c.are_ascending.ensures mount
     (among-from_filter (λ mount. holds_of (nat_eq (counted c.args.namespace.count)) mount.namespace) mounts mount m).0)
-    ∙ map_itself all)
+    ∙ map-id all)
     ∙ ap (λ (value : WorldValue). all_seen c.args.placed.now.items
     ++ each_placed c.args.number (attached_in (counted c.args.namespace.count) value.mounts)) c.self.view_is

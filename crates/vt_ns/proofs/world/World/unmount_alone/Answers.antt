@@ -1,5 +1,5 @@
-use Rattle.std.proofs.Common.{not, sym, subst, true, true≢false, false, Bool, ◌≡◌, refl}
-use Rattle.std.proofs.lemmas.Bool.{and_parts}
+use Rattle.std.proofs.Common.{sym, subst, true, ◌≡◌}
+use Rattle.std.proofs.lemmas.Bool.{and_parts, not-true}
 use Rattle.vt_location.specs.Numbers.{counted}
 use Rattle.vt_mount.specs.MountsValue.{mounts_in}
 use Rattle.vt_spec.specs.Machine.Permits.Permit.{ToUnmount}
@@ -10,10 +10,6 @@ use Rattle.vt_detach.proofs.Remaining.{remade}
 use Rattle.vt_detach.proofs.UnmountedAlone.{unmount_is_done}
 use Rattle.vt_ns.proofs.world.World.unmount_alone.Goals as goal
 
-turned : (b : Bool) → not b ≡ true → b ≡ false
-turned true e = absurd (true≢false (sym e))
-turned false e = refl
-
 pub invariant_of-self : goal.invariant_of-self
 invariant_of-self c =
     let alone = and_parts _ _ (subst
@@ -23,7 +19,7 @@ invariant_of-self c =
     (counted c.args.mount.count) c.detach.result c.detach.new.mounts c.detach.new.filesystems c.self.invariant
     (subst (λ value. Permits value c.args.name.now (ToUnmount (counted c.args.mount.count)))
     (sym c.self.view_is) c.requires.permitted)
-    alone.0 (turned _ alone.1) c.detach.ensures.point c.detach.ensures.slot c.detach.ensures.left).held
+    alone.0 (not-true _ alone.1) c.detach.ensures.point c.detach.ensures.slot c.detach.ensures.left).held
 
 pub returns : goal.returns
 returns c =
@@ -37,4 +33,4 @@ returns c =
     (counted c.args.mount.count) c.detach.result c.detach.new.mounts c.detach.new.filesystems c.self.invariant
     (subst (λ value. Permits value c.args.name.now (ToUnmount (counted c.args.mount.count)))
     (sym c.self.view_is) c.requires.permitted)
-    alone.0 (turned _ alone.1) c.detach.ensures.point c.detach.ensures.slot c.detach.ensures.left).becomes
+    alone.0 (not-true _ alone.1) c.detach.ensures.point c.detach.ensures.slot c.detach.ensures.left).becomes

@@ -1,5 +1,5 @@
-use Rattle.std.proofs.Common.{not, map, sym, subst, true, true≢false, false, Bool, List, ◌&&◌, ◌≡◌, refl, ℕ}
-use Rattle.std.proofs.lemmas.Bool.{and_parts}
+use Rattle.std.proofs.Common.{not, map, sym, subst, true, List, ◌&&◌, ◌≡◌, ℕ}
+use Rattle.std.proofs.lemmas.Bool.{and_parts, not-true}
 use Rattle.vt_location.specs.Numbers.{counted}
 use Rattle.vt_mount.specs.MountsValue.{mounts_in}
 use Rattle.vt_spec.specs.Machine.Permits.Permit.{ToUnmountLazily}
@@ -11,10 +11,6 @@ use Rattle.vt_detach.specs.WorldValue.{WorldValue}
 use Rattle.vt_detach.proofs.Remaining.{remade}
 use Rattle.vt_detach.proofs.UnmountedLazily.{lazy_unmount_is_done}
 use Rattle.vt_ns.proofs.world.World.unmount_tree_alone.Goals as goal
-
-turned : (b : Bool) → not b ≡ true → b ≡ false
-turned true e = absurd (true≢false (sym e))
-turned false e = refl
 
 pub invariant_of-self : goal.invariant_of-self
 invariant_of-self c =
@@ -29,7 +25,7 @@ invariant_of-self c =
     (subst (λ value. Permits value c.args.name.now (ToUnmountLazily number)) (sym c.self.view_is) c.requires.permitted)
     (subst (λ (value : WorldValue). tree ≡ tree_numbers (mounts_in value.mounts) number) (sym c.self.view_is)
     c.requires.tree)
-    alone.0 (turned _ alone.1) c.detach_each.ensures).held
+    alone.0 (not-true _ alone.1) c.detach_each.ensures).held
 
 pub returns : goal.returns
 returns c =
@@ -47,4 +43,4 @@ returns c =
     (subst (λ value. Permits value c.args.name.now (ToUnmountLazily number)) (sym c.self.view_is) c.requires.permitted)
     (subst (λ (value : WorldValue). tree ≡ tree_numbers (mounts_in value.mounts) number) (sym c.self.view_is)
     c.requires.tree)
-    alone.0 (turned _ alone.1) c.detach_each.ensures).becomes
+    alone.0 (not-true _ alone.1) c.detach_each.ensures).becomes
