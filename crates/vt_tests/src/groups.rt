@@ -1,4 +1,9 @@
 //! Peer groups as mount_namespaces(7) tells of them.
+//!
+//! Each test drops its groups by a call, since the proof of a function that drops them itself at an early return takes
+//! minutes.
+use std::alloc::Global;
+use std::process::Abort;
 use std::test::Fail;
 use vt_cred::MountFlags;
 use vt_group::{Groups, NewGroup};
@@ -14,39 +19,52 @@ fn group(count: u64) -> GroupId {
 
 // Mounts 1 and 2 are in group 10, mount 3 is its slave; mount 4 is in group 11 below it, and mount 5 that group's
 // slave.
-fn family(rt: HostRuntime) -> Result<Groups, Fail> {
-    let mut groups = Groups::new(rt.alloc());
+fn make_family(groups: &mut Groups) -> Result<(), Fail> {
     groups.start_group(group(10), mount(2), None)?;
     groups.join(group(10), mount(1))?;
     groups.make_slave(mount(3), group(10))?;
     groups.start_group(group(11), mount(4), Some(group(10)))?;
     groups.make_slave(mount(5), group(11))?;
-    Ok(groups)
+    Ok(())
 }
 
 #[test]
 fn events_go_to_members_slaves_and_groups_below(rt: HostRuntime) -> Result<(), Fail> {
-    let groups = family(rt)?;
-    let all = groups.receivers(rt.alloc(), group(10))?;
+    let mut groups = Groups::new(rt.alloc());
+    let outcome = see_receivers(&rt, rt.alloc(), &mut groups);
+    drop(groups);
+    outcome
+}
+
+fn see_receivers(rt: &impl Abort, alloc: Global, groups: &mut Groups) -> Result<(), Fail> {
+    make_family(groups)?;
+    let all = groups.receivers(alloc, group(10))?;
     assert_eq!(rt;
         all.as_slice(),
         [mount(1), mount(2), mount(3), mount(4), mount(5)].as_slice()
     );
-    let below = groups.receivers(rt.alloc(), group(11))?;
+    let below = groups.receivers(alloc, group(11))?;
     assert_eq!(rt; below.as_slice(), [mount(4), mount(5)].as_slice());
     Ok(())
 }
 
 #[test]
 fn slaves_of_an_ended_group_go_to_its_master(rt: HostRuntime) -> Result<(), Fail> {
-    let mut groups = family(rt)?;
+    let mut groups = Groups::new(rt.alloc());
+    let outcome = see_heir(&rt, rt.alloc(), &mut groups);
+    drop(groups);
+    outcome
+}
+
+fn see_heir(rt: &impl Abort, alloc: Global, groups: &mut Groups) -> Result<(), Fail> {
+    make_family(groups)?;
     groups.leave(mount(4));
     assert_eq!(rt;
         groups.propagation_of(mount(5)),
         Some(Propagation::Slave(group(10)))
     );
     assert_eq!(rt; groups.master_of(group(11)), None);
-    let all = groups.receivers(rt.alloc(), group(10))?;
+    let all = groups.receivers(alloc, group(10))?;
     assert_eq!(rt;
         all.as_slice(),
         [mount(1), mount(2), mount(3), mount(5)].as_slice()
@@ -56,7 +74,14 @@ fn slaves_of_an_ended_group_go_to_its_master(rt: HostRuntime) -> Result<(), Fail
 
 #[test]
 fn slaves_without_an_heir_are_private(rt: HostRuntime) -> Result<(), Fail> {
-    let mut groups = family(rt)?;
+    let mut groups = Groups::new(rt.alloc());
+    let outcome = see_no_heir(&rt, rt.alloc(), &mut groups);
+    drop(groups);
+    outcome
+}
+
+fn see_no_heir(rt: &impl Abort, alloc: Global, groups: &mut Groups) -> Result<(), Fail> {
+    make_family(groups)?;
     groups.make_slave(mount(1), group(10))?;
     groups.leave(mount(2));
     assert_eq!(rt; groups.propagation_of(mount(1)), None);
@@ -71,7 +96,14 @@ fn slaves_without_an_heir_are_private(rt: HostRuntime) -> Result<(), Fail> {
 
 #[test]
 fn mounts_become_shared_and_slaves_at_once(rt: HostRuntime) -> Result<(), Fail> {
-    let mut groups = family(rt)?;
+    let mut groups = Groups::new(rt.alloc());
+    let outcome = see_types(&rt, rt.alloc(), &mut groups);
+    drop(groups);
+    outcome
+}
+
+fn see_types(rt: &impl Abort, alloc: Global, groups: &mut Groups) -> Result<(), Fail> {
+    make_family(groups)?;
     groups.share([(mount(3), group(12)), (mount(6), group(13))].as_slice())?;
     assert_eq!(rt; groups.master_of(group(12)), Some(group(10)));
     assert_eq!(rt;
@@ -104,7 +136,14 @@ fn typed(count: u64, propagation: Propagation) -> Mount {
 
 #[test]
 fn a_group_is_added_before_its_master(rt: HostRuntime) -> Result<(), Fail> {
-    let mut groups = family(rt)?;
+    let mut groups = Groups::new(rt.alloc());
+    let outcome = see_added(&rt, rt.alloc(), &mut groups);
+    drop(groups);
+    outcome
+}
+
+fn see_added(rt: &impl Abort, alloc: Global, groups: &mut Groups) -> Result<(), Fail> {
+    make_family(groups)?;
     let mounts = [
         typed(6, Propagation::Shared(group(12))),
         typed(7, Propagation::Shared(group(13))),
@@ -120,7 +159,7 @@ fn a_group_is_added_before_its_master(rt: HostRuntime) -> Result<(), Fail> {
         },
     ];
     groups.add(mounts.as_slice(), new.as_slice())?;
-    let below = groups.receivers(rt.alloc(), group(13))?;
+    let below = groups.receivers(alloc, group(13))?;
     assert_eq!(rt; below.as_slice(), [mount(6), mount(7)].as_slice());
     groups.leave(mount(7));
     assert_eq!(rt; groups.master_of(group(12)), Some(group(10)));
