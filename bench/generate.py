@@ -14,8 +14,13 @@ mounts  binds, moves and unmounts in a namespace of some 4,000 mounts, and files
 spaces  200 namespaces of 20 mounts each: unshared, entered and left, with mounts of their own in between
 received60, received600, received2000
         one mount and its unmount, which so many namespaces receive, and files read on a copy
+services60, services600, services2000
+        a mount and its unmount in one of so many namespaces, each with peer groups of its own that are slaves of one
+        group
 chain   a mount and its unmount along 200 peer groups, each the slave of the one before
 trees   a tree of 1,000 mounts, bound recursively onto a shared mount with one more peer, and unmounted lazily
+lazy60, lazy600, lazy2000
+        three mounts at a shared mount with one more peer, and their lazy unmount, in a world with so many other mounts
 
 The number of directories is 1,000, or fewer for a short script. The same words give the same script.
 """
@@ -198,13 +203,15 @@ def spaces_round(i, names):
     yield f'{other} umount /m{i % 19}'
 
 
-def received(lines, count):
-    """One mount and its unmount, which the namespaces of all tasks receive."""
+def shared_mount():
     yield 't mkdir /a'
     yield 't mount plain /a'
     yield 't mkdir /a/b'
     yield 't type /a shared'
-    names = []
+
+
+def forked(count, names):
+    """So many tasks, none with more than 40 children, each in a namespace of its own."""
     for i in range((count + 39) // 40):
         yield 't fork'
         for k in range(min(40, count - 40 * i)):
@@ -212,6 +219,13 @@ def received(lines, count):
             names.append(f't.{i + 1}.{k + 1}')
     for name in names:
         yield f'{name} unshare'
+
+
+def received(lines, count):
+    """One mount and its unmount, which the namespaces of all tasks receive."""
+    names = []
+    yield from shared_mount()
+    yield from forked(count, names)
     yield from rounds(lines - 4 - (count + 39) // 40 - 2 * count, count, lambda i, count: received_round(i, names))
 
 
@@ -220,6 +234,25 @@ def received_round(i, names):
     yield f't write /a/b/f value-{i}'
     yield f'{names[i * 7 % len(names)]} read /a/b/f'
     yield 't umount /a/b'
+
+
+def services(lines, count):
+    """Namespaces that receive from the first one and are shared themselves, as system managers make them."""
+    names = []
+    yield from shared_mount()
+    yield from forked(count, names)
+    for name in names:
+        yield f'{name} type /a slave'
+        yield f'{name} type /a shared'
+    yield from rounds(lines - 4 - (count + 39) // 40 - 4 * count, count, lambda i, count: services_round(i, names))
+
+
+def services_round(i, names):
+    name = names[i * 7 % len(names)]
+    yield f'{name} mount plain /a/b'
+    yield f'{name} write /a/b/f value-{i}'
+    yield f'{name} read /a/b/f'
+    yield f'{name} umount /a/b'
 
 
 GROUPS = 200
@@ -274,11 +307,34 @@ def trees_round(i, count):
     yield 't lazy /s/d'
 
 
+def lazy(lines, count):
+    yield from shared_mount()
+    yield 't mkdir /r'
+    yield 't bind /a /r'
+    yield 't mkdir /others'
+    for i in range(count):
+        yield f't mkdir /others/{i}'
+        yield f't mount plain /others/{i}'
+    yield from rounds(lines - 7 - 2 * count, count, lazy_round)
+
+
+def lazy_round(i, count):
+    yield 't mount plain /a/b'
+    yield 't mkdir /a/b/c'
+    yield 't mount plain /a/b/c'
+    yield f't bind /others/{i * 37 % count} /a/b/c'
+    yield 't lazy /a/b'
+
+
 KINDS = {
     'files': files, 'listed': listed, 'deep': deep, 'one': one, 'users': users, 'links': links, 'mounts': mounts,
     'spaces': spaces,
     'received60': lambda lines: received(lines, 60), 'received600': lambda lines: received(lines, 600),
-    'received2000': lambda lines: received(lines, 2000), 'chain': chain, 'trees': trees,
+    'received2000': lambda lines: received(lines, 2000),
+    'services60': lambda lines: services(lines, 60), 'services600': lambda lines: services(lines, 600),
+    'services2000': lambda lines: services(lines, 2000), 'chain': chain, 'trees': trees,
+    'lazy60': lambda lines: lazy(lines, 60), 'lazy600': lambda lines: lazy(lines, 600),
+    'lazy2000': lambda lines: lazy(lines, 2000),
 }
 
 

@@ -31,6 +31,7 @@ use Rattle.vt_overlay_laws.specs.LayersApart.{LayersStayApart, StandApart}
 use Rattle.vt_overlay_laws.specs.WhatIsShown.{IsWhole}
 use Rattle.vt_overlay_laws.specs.WholeChanges.{IsAskedWell}
 use Rattle.vt_overlay_laws.specs.WholeStays.{AreNew, IsNewBy}
+use Rattle.vt_overlay_laws.proofs.ApartPairs.{no_pair_later, two_apart}
 use Rattle.vt_overlay_laws.proofs.ApartPaths.{led_under, under_led}
 use Rattle.vt_overlay_laws.proofs.UpperGoes.{Goes}
 use Rattle.vt_overlay_laws.proofs.UpperOwn
@@ -43,39 +44,6 @@ use Rattle.std.proofs.lemmas.Option.{same_Some}
 use Rattle.vt_spec.proofs.Options.{none_is_some}
 use Rattle.vt_spec.proofs.Truths.{and_true_left, and_true_right, or_false_alone, or_false_left, or_false_right}
 use Rattle.vt_spec.proofs.Worlds.{layers_of_all}
-
--- of two that differ in a list of which no pair passes
-two_apart : {A : Type 0} (test : A → A → Bool) (xs : List A) → any_pair test xs ≡ false → (a b : A) → Among a xs
-    → Among b xs → a ≢ b
-    → (test a b ≡ false) ⊎ (test b a ≡ false)
-two_apart test [] e a b m n differ = absurd m
-two_apart test (x ∷ xs) e a b m n differ =
-    ⊎_elim
-    (λ (ax : a ≡ x). ⊎_elim (λ (bx : b ≡ x). absurd (differ (ax ∙ sym bx)))
-    (λ l. inl (ap (λ y. test y b) ax
-    ∙ none_among (test x) xs (or_false_left (list_any (test x) xs) (any_pair test xs) e) b l)) n)
-    (λ k. ⊎_elim (λ (bx : b ≡ x). inr (ap (λ y. test y a) bx
-    ∙ none_among (test x) xs (or_false_left (list_any (test x) xs) (any_pair test xs) e) a k))
-    (λ l. two_apart test xs (or_false_right (list_any (test x) xs) (any_pair test xs) e) a b k l differ) n) m
-
--- no pair passes where each that does passed another test of which none does
-pub no_pair_later : {A : Type 0} (test later : A → A → Bool) (xs : List A)
-    → ((a b : A) → Among a xs → Among b xs → later a b ≡ true → test a b ≡ true) → any_pair test xs ≡ false
-    → any_pair later xs ≡ false
-no_pair_later test later [] h e = refl
-no_pair_later test later (x ∷ xs) h e =
-    by (list_any (later x) xs) refl (list_any (test x) xs) (any_pair test xs) refl refl e
-    (λ f. no_pair_later test later xs (λ a b m n. h a b (inr m) (inr n)) f)
-  where
-    by : (p : Bool) → list_any (later x) xs ≡ p → (q r : Bool) → list_any (test x) xs ≡ q → any_pair test xs ≡ r
-        → (q || r) ≡ false
-        → (any_pair test xs ≡ false → any_pair later xs ≡ false) → (p || any_pair later xs) ≡ false
-    by p f true r g k e rest = absurd (true≢false e)
-    by false f false r g k e rest = rest (k ∙ e)
-    by true f false r g k e rest =
-        let found = any_among (later x) xs f in
-        absurd (true≢false
-        (sym (any_from_among (test x) xs found.0 found.1 (h x found.0 (inl refl) (inr found.1) found.2)) ∙ g))
 
 module _ (fresh : Fresh ℕ) (world : World ℕ) (location : Location ℕ) (change : Change ℕ) (overlay : Overlay ℕ)
     (upper : Layer ℕ) (conditions : IsWorld nat_eq world)

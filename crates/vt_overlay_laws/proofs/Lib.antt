@@ -2,6 +2,7 @@ pub mod UpperLimits
 pub mod UpperSizes
 pub mod ApartInvariants
 pub mod ApartLater
+pub mod ApartPairs
 pub mod ApartPaths
 pub mod ApartReached
 pub mod UpperOwn
