@@ -1,7 +1,6 @@
 -- The types of mounts where a group ends and its slaves get its master, one after another.
-use Rattle.std.proofs.Common.{◌≡◌, ℕ, Bool, true, false, true≢false, ◌||◌, List, [], ◌∷◌, ◌++◌, ◌+◌, ◌<◌, map, nat_eq, nat_lt, Option, None, Some, is_some, get_or, length, take, refl, ap, sym, ◌∙◌, cond, arith}
+use Rattle.std.proofs.Common.{◌≡◌, ℕ, Bool, true, false, true≢false, ◌||◌, List, [], ◌∷◌, map, nat_eq, nat_lt, Option, None, Some, is_some, refl, ap, sym, ◌∙◌, cond, arith}
 use Rattle.std.proofs.lemmas.Bool.{and_parts, eqb-true, ltb-true}
-use Rattle.std.proofs.lemmas.List.{map-append, take_more}
 use Rattle.std.proofs.lemmas.Option.{same_Some}
 use Rattle.std.specs.List.{list_all}
 use Rattle.std.specs.Prelude.{find, if◌then◌else◌}
@@ -11,9 +10,7 @@ use Rattle.vt_spec.specs.Machine.Mounts.Propagation.{Private, Shared, Slave, Unb
 use Rattle.vt_spec.proofs.Lists.{Among, among_from_all, map_same}
 use Rattle.vt_group.specs.Grouping.{Grouping, master_in, propagation_in}
 use Rattle.vt_group.specs.Leaving.{lone_group, slave_or_private, type_after_end, type_once_ended}
-use Rattle.vt_group.proofs.Together.{eqb-swapped, is_among-snoc, map-twice, map_alike}
-use Rattle.vt_location.specs.Numbers.{counted}
-use Rattle.vt_location.specs.declared.numbers.MountId.{MountId}
+use Rattle.vt_group.proofs.Together.{eqb-swapped, map-twice, map_alike}
 use Rattle.vt_mount.specs.MountsValue.{MountEntry, are_ascending, changed, mounts_in}
 use Rattle.vt_retype.specs.Leaving.{HaveSources, OnlyTypesChange, after_end, after_end_of, once_left}
 use Rattle.vt_retype.specs.Retyping.{retyped, typed_entry, with_kind}
