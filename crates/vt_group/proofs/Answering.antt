@@ -94,7 +94,7 @@ pub listed_ok : {T E P : Type 0} (r : Result T E) → OnOk r P → is_err r ≡ 
 listed_ok (Ok t) p err = p
 listed_ok (Err e) p err = absurd (true≢false err)
 
-pub unlisted_none : {A : Type 0} {b : Bool} (found : Option A) → ((one : A) → found ≡ Some one → b ≡ true) → b ≡ false
-    → found ≡ None
-unlisted_none None listed not = refl
-unlisted_none (Some one) listed not = absurd (true≢false (sym (listed one refl) ∙ not))
+pub ok_where_some : {T E A P : Type 0} (r : Result T E) (found : Option A) (one : A) → found ≡ Some one
+    → OnErr r (found ≡ None) → OnOk r P → P
+ok_where_some (Ok t) found one is none p = p
+ok_where_some (Err e) found one is none p = absurd (true≢false (ap is_some (sym is ∙ none)))

@@ -4,6 +4,7 @@ use Rattle.std.proofs.lemmas.Bool.{eqb-true}
 use Rattle.std.proofs.lemmas.List.{take_more}
 use Rattle.std.proofs.lemmas.Option.{same_Some}
 use Rattle.std.specs.Map.{lookup}
+use Rattle.std.specs.Prelude.{unwrap_or}
 use Rattle.std.specs.Ordering.{nat_cmp}
 use Rattle.std.specs.BTreeMap.{BTreeMap, get, insert_entry, is_at}
 use Rattle.vt_spec.specs.Language.Calls.TypeWord.{ToShared}
@@ -13,7 +14,7 @@ use Rattle.vt_spec.specs.Machine.Mounts.{Propagation as Type_of_mount, source_of
 use Rattle.vt_location.specs.declared.mounts.Mount.{Mount}
 use Rattle.vt_location.specs.declared.mounts.Propagation.{Propagation}
 use Rattle.vt_location.specs.declared.mounts.Propagation.TheVariants.{Private, Shared, Slave, Unbindable}
-use Rattle.vt_spec.specs.Machine.Mounts.Propagation.{Shared as MeansShared, Slave as MeansSlave}
+use Rattle.vt_spec.specs.Machine.Mounts.Propagation.{Private as MeansPrivate, Shared as MeansShared, Slave as MeansSlave}
 use Rattle.vt_location.specs.declared.numbers.GroupId.{GroupId}
 use Rattle.vt_location.specs.declared.numbers.MountId.{MountId}
 use Rattle.vt_location.specs.MountValue.{propagation_of}
@@ -110,6 +111,17 @@ kept_kind es count kind is =
     by : (found : Option Propagation) → option_map propagation_of found ≡ Some (propagation_of kind) → found ≡ Some kind
     by None is = absurd (true≢false (sym (ap is_some is)))
     by (Some one) is = ap Some (kind_same one kind (same_Some (propagation_of one) (propagation_of kind) is))
+
+pub kept_shared : (es : List (ℕ × Propagation)) (count : ℕ) (group : GroupId)
+    → unwrap_or (lookup (nat_eq (counted count)) (map numbered_peer es)) MeansPrivate ≡ MeansShared (group_number group)
+    → lookup (is_at (nat_cmp count)) es ≡ Some (Shared group)
+kept_shared es count group is =
+    kept_kind es count (Shared group) (by (lookup (nat_eq (counted count)) (map numbered_peer es)) is)
+  where
+    by : (found : Option (Type_of_mount ℕ)) → unwrap_or found MeansPrivate ≡ MeansShared (group_number group)
+        → found ≡ Some (MeansShared (group_number group))
+    by None is = absurd cc
+    by (Some kind) is = ap Some is
 
 pub kept_master : (es : List (ℕ × GroupId)) (count : ℕ) (master : GroupId)
     → lookup (nat_eq (counted count)) (map numbered_master es) ≡ Some (group_number master)

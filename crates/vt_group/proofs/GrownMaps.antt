@@ -38,11 +38,12 @@ module _ (old new : Index) (types : BTreeMap ℕ Propagation) (above : BTreeMap 
     -- an index that lists no more than what is there
     pub lists_unlisted : ((mount : MountId) (kind : Propagation) → get nat_cmp types mount.count ≡ Some kind
         → is_listed old mount kind ≡ true → is_listed new mount kind ≡ true)
-        → ((lower upper : GroupId) → is_lower old lower upper ≡ true → is_lower new lower upper ≡ true)
+        → ((lower upper : GroupId) → get nat_cmp above lower.count ≡ Some upper → is_lower old lower upper ≡ true
+        → is_lower new lower upper ≡ true)
         → Lists new types above
     lists_unlisted kept lower = record {
       listed = λ mount kind at. kept (mount_at mount) kind at (lists.listed mount kind at);
-      lower = λ low up at. lower (group_at low) up (lists.lower low up at);
+      lower = λ low up at. lower (group_at low) up at (lists.lower low up at);
       ordered = lists.ordered;
       ordered_above = lists.ordered_above;
     }

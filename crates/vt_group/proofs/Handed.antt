@@ -1,7 +1,6 @@
 -- What a group that ends leaves, one by one.
-use Rattle.std.proofs.Common.{◌≡◌, ℕ, Bool, true, false, ◌||◌, ◌+◌, ◌<◌, List, nat_eq, Option, None, Some, get_or, length, refl, sym, ap, ◌∙◌, take, option_map}
+use Rattle.std.proofs.Common.{◌≡◌, ℕ, Bool, true, false, ◌||◌, ◌∷◌, List, nat_eq, Option, None, Some, refl, sym, ap, ◌∙◌, option_map}
 use Rattle.std.proofs.lemmas.Bool.{eqb-true}
-use Rattle.std.proofs.lemmas.List.Folds.{list_any_more}
 use Rattle.std.specs.List.{list_any}
 use Rattle.std.specs.Prelude.{if◌then◌else◌}
 use Rattle.vt_spec.specs.Lists.{then_some}
@@ -12,7 +11,7 @@ use Rattle.vt_group.specs.Handing.{group_handed, kind_handed}
 use Rattle.vt_spec.specs.Machine.Mounts.Propagation.{Slave as SlaveOf}
 use Rattle.vt_location.specs.MountValue.{propagation_of}
 use Rattle.vt_location.specs.Numbers.{counted}
-use Rattle.vt_group.specs.Families.{has_source}
+use Rattle.vt_group.specs.Indexed.{has_source}
 use Rattle.vt_group.specs.Sets.{same_group}
 use Rattle.vt_group.specs.Steps.{group_number, handed, handed_type}
 use Rattle.vt_group.proofs.CountLemmas.{same_count}
@@ -58,39 +57,29 @@ kind_handed-twice lost heir (Slave master) =
 kind_handed-twice lost heir Private = refl
 kind_handed-twice lost heir Unbindable = refl
 
+-- where one is handed, what is left to be handed leads to the same
 module _ {A K : Type 0} (hand : A → Option A) (twice : (value : A) → then_some (hand value) hand ≡ hand value)
-    (ids : List K) (i : ℕ) (default : K) (less : i < length ids) (count : K → ℕ) (number : ℕ)
-    (old now new : ℕ → Option A) where
-  pub handed_more : new number
-      ≡ (if nat_eq number (count (get_or ids i default)) then then_some (now (count (get_or ids i default))) hand
-      else now number)
-      → now number ≡ (if list_any (λ id. nat_eq number (count id)) (take i ids) then then_some (old number) hand
-      else old number)
-      → new number
-      ≡ (if list_any (λ id. nat_eq number (count id)) (take (i + 1) ids) then then_some (old number) hand
-      else old number)
-  handed_more step sofar =
-      step
-      ∙ by (nat_eq number (count (get_or ids i default))) refl (list_any (λ id. nat_eq number (count id)) (take i ids)) sofar
-      ∙ ap (λ b. if b then then_some (old number) hand else old number)
-      (sym (list_any_more (λ id. nat_eq number (count id)) ids i default less))
+    (count : K → ℕ) (number : ℕ) (now new : ℕ → Option A) (id : K) (rest : List K) where
+  pub handed_next : new number ≡ (if nat_eq number (count id) then then_some (now (count id)) hand else now number)
+      → (if list_any (λ id. nat_eq number (count id)) rest then then_some (new number) hand else new number)
+      ≡ (if list_any (λ id. nat_eq number (count id)) (id ∷ rest) then then_some (now number) hand else now number)
+  handed_next step =
+      ap (λ found. if list_any (λ id. nat_eq number (count id)) rest then then_some found hand else found) step
+      ∙ by (nat_eq number (count id)) refl (list_any (λ id. nat_eq number (count id)) rest)
     where
       again : (found : Option A) → then_some (then_some found hand) hand ≡ then_some found hand
       again None = refl
       again (Some value) = twice value
 
-      by : (b : Bool) → nat_eq number (count (get_or ids i default)) ≡ b → (a : Bool)
-          → now number ≡ (if a then then_some (old number) hand else old number)
-          → (if b then then_some (now (count (get_or ids i default))) hand else now number)
-          ≡ (if a || b then then_some (old number) hand else old number)
-      by true same true was =
-          ap (λ n. then_some (now n) hand) (sym (eqb-true number (count (get_or ids i default)) same))
-          ∙ ap (λ found. then_some found hand) was ∙ again (old number)
-      by true same false was =
-          ap (λ n. then_some (now n) hand) (sym (eqb-true number (count (get_or ids i default)) same))
-          ∙ ap (λ found. then_some found hand) was
-      by false apart true was = was
-      by false apart false was = was
+      by : (b : Bool) → nat_eq number (count id) ≡ b → (a : Bool)
+          → (if a then then_some (if b then then_some (now (count id)) hand else now number) hand
+          else (if b then then_some (now (count id)) hand else now number))
+          ≡ (if b || a then then_some (now number) hand else now number)
+      by true same true =
+          ap (λ n. then_some (then_some (now n) hand) hand) (sym (eqb-true number (count id) same)) ∙ again (now number)
+      by true same false = ap (λ n. then_some (now n) hand) (sym (eqb-true number (count id) same))
+      by false apart true = refl
+      by false apart false = refl
 
 pub unhanded_kind : (lost : GroupId) (heir : Option GroupId) (kind : Propagation) → has_source lost kind ≡ false
     → kind_handed lost heir kind ≡ Some kind

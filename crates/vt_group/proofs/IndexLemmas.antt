@@ -1,25 +1,78 @@
 -- What an index lists, once a part of it changed.
-use Rattle.std.proofs.Common.{◌≡◌, ℕ, Bool, true, false, cond, List, filter, nat_eq, Option, Some, is_some, refl, sym, ap, subst, ◌∙◌, true≢false, ne_eqb}
+use Rattle.std.proofs.Common.{◌≡◌, ℕ, Bool, true, false, List, [], ◌∷◌, ◌||◌, filter, nat_eq, Option, Some, is_some, refl, sym, ap, subst, ◌∙◌, true≢false, ne_eqb, eq-eqb, flat_map, not}
 use Rattle.std.proofs.lemmas.Bool.{and_from, and_parts, eqb-true}
 use Rattle.std.proofs.lemmas.Map.Views.{any-filter_same}
+use Rattle.std.proofs.lemmas.List.Folds.{list_any-append}
 use Rattle.std.specs.List.{list_any}
 use Rattle.std.specs.Prelude.{◌&&◌}
 use Rattle.vt_location.specs.declared.mounts.Propagation.{Propagation}
 use Rattle.vt_location.specs.declared.mounts.Propagation.TheVariants.{Private, Shared, Slave, Unbindable}
 use Rattle.vt_location.specs.declared.numbers.GroupId.{GroupId}
 use Rattle.vt_location.specs.declared.numbers.MountId.{MountId}
-use Rattle.vt_group.specs.declared.families.Families.{Families}
-use Rattle.vt_group.specs.Families.{has_source, is_kin, lists}
+use Rattle.vt_group.specs.declared.index.Index.{Index}
+use Rattle.vt_group.specs.declared.sets.Sets.{Sets}
+use Rattle.vt_group.specs.Indexed.{group_of_kind, has_source, is_listed, is_relative, source_of_kind}
+use Rattle.vt_group.specs.Names.{KeepsNames, Named, is_under, names_of}
+use Rattle.vt_group.specs.Sets.{has, same_group, same_id}
 use Rattle.vt_group.proofs.SetsLemmas.{same_id as same_number}
 
 pub both : (a b c d : Bool) → (a ≡ true → c ≡ true) → (b ≡ true → d ≡ true) → (a && b) ≡ true → (c && d) ≡ true
 both a b c d first second is =
     let parts = and_parts a b is in and_from c d (first parts.0) (second parts.1)
 
--- one more
-pub with_one : (b there then : Bool) → then ≡ cond b true there → there ≡ true → then ≡ true
-with_one true there then is e = is
-with_one false there then is e = is ∙ e
+pub or_true : (b : Bool) → (b || true) ≡ true
+or_true true = refl
+or_true false = refl
+
+module _ {A : Type 0} (p q : A → Bool) where
+  one_more : (x : A) (xs : List A) → (p x ≡ true → q x ≡ true) → (list_any p xs ≡ true → list_any q xs ≡ true)
+      → (p x || list_any p xs) ≡ true → (q x || list_any q xs) ≡ true
+  one_more x xs first later any = by (p x) first any
+    where
+      by : (b : Bool) → (b ≡ true → q x ≡ true) → (b || list_any p xs) ≡ true → (q x || list_any q xs) ≡ true
+      by true first any = ap (λ t. t || list_any q xs) (first refl)
+      by false first any = ap (λ t. q x || t) (later any) ∙ or_true (q x)
+
+  pub any_still : ((x : A) → p x ≡ true → q x ≡ true) → (xs : List A) → list_any p xs ≡ true → list_any q xs ≡ true
+  any_still so [] any = any
+  any_still so (x ∷ xs) any = one_more x xs (so x) (any_still so xs) any
+
+  pub any_within : (same : A → A → Bool) → ((x : A) → same x x ≡ true) → (xs : List A)
+      → ((x : A) → list_any (λ y. same y x) xs ≡ true → p x ≡ true → q x ≡ true)
+      → list_any p xs ≡ true → list_any q xs ≡ true
+  any_within same itself [] so any = any
+  any_within same itself (x ∷ xs) so any =
+      one_more x xs (so x (ap (λ t. t || list_any (λ y. same y x) xs) (itself x)))
+      (any_within same itself xs (λ y among. so y (ap (λ t. same x y || t) among ∙ or_true (same x y)))) any
+
+pub any_flat : {A B : Type 0} (test : B → Bool) (f : A → List B) (xs : List A)
+    → list_any test (flat_map f xs) ≡ list_any (λ x. list_any test (f x)) xs
+any_flat test f [] = refl
+any_flat test f (x ∷ xs) =
+    list_any-append test (f x) (flat_map f xs) ∙ ap (λ b. list_any test (f x) || b) (any_flat test f xs)
+
+pub itself : (group : GroupId) → same_group group group ≡ true
+itself group = eq-eqb group.count group.count refl
+
+module _ {T : Type 0} (eq : T → T → Bool) (names now : Named) (old new : Sets T) (one : T) where
+  pub under_still : KeepsNames names now
+      → ((at : GroupId) → has eq at one old ≡ true → has eq at one new ≡ true)
+      → (group : GroupId) → is_under eq names old one group ≡ true → is_under eq now new one group ≡ true
+  under_still keeps sets group under =
+      keeps group (λ name. has eq name one new)
+      (any_still (λ name. has eq name one old) (λ name. has eq name one new) sets (names_of names group) under)
+
+module _ (old new : Index) (mount : MountId) where
+  pub listed_still : (kind : Propagation)
+      → ((group : GroupId) → has_source group kind ≡ true → is_relative old mount group ≡ true
+      → is_relative new mount group ≡ true)
+      → ((group : GroupId) → group_of_kind kind ≡ Some group → has same_id group mount old.members ≡ true
+      → has same_id group mount new.members ≡ true)
+      → is_listed old mount kind ≡ true → is_listed new mount kind ≡ true
+  listed_still (Shared group) relatives members = both _ _ _ _ (relatives group (itself group)) (members group refl)
+  listed_still (Slave master) relatives members = relatives master (itself master)
+  listed_still Private relatives members = λ listed. refl
+  listed_still Unbindable relatives members = λ listed. refl
 
 pub apart_by : {A : Type 0} (at : ℕ → Option A) (a b : ℕ) → is_some (at a) ≡ false → is_some (at b) ≡ true
     → nat_eq a b ≡ false
@@ -34,14 +87,14 @@ any-kept count at number ids left is some there =
     (λ id same. ap (λ n. is_some (at n)) (sym (eqb-true number (count id) same)) ∙ some) ids
     ∙ there
 
-pub kin_of_source : (families : Families) (mount : MountId) (kind : Propagation) (group : GroupId)
-    → has_source group kind ≡ true → lists families mount kind ≡ true → is_kin families mount group ≡ true
-kin_of_source families mount (Shared own) group source listed =
-    ap (is_kin families mount) (sym (same_number group own source)) ∙ (and_parts _ _ listed).0
-kin_of_source families mount (Slave master) group source listed =
-    ap (is_kin families mount) (sym (same_number group master source)) ∙ listed
-kin_of_source families mount Private group source listed = absurd (true≢false (sym source))
-kin_of_source families mount Unbindable group source listed = absurd (true≢false (sym source))
+pub relative_of_source : (index : Index) (mount : MountId) (kind : Propagation) (group : GroupId)
+    → has_source group kind ≡ true → is_listed index mount kind ≡ true → is_relative index mount group ≡ true
+relative_of_source index mount (Shared own) group source listed =
+    ap (is_relative index mount) (sym (same_number group own source)) ∙ (and_parts _ _ listed).0
+relative_of_source index mount (Slave master) group source listed =
+    ap (is_relative index mount) (sym (same_number group master source)) ∙ listed
+relative_of_source index mount Private group source listed = absurd (true≢false (sym source))
+relative_of_source index mount Unbindable group source listed = absurd (true≢false (sym source))
 
 -- where a mount is taken out for another type than its own, each is still listed for its type
 pub unlisted_still : (Was Is : MountId → Propagation → Type 0) (types : ℕ → Option Propagation) (mount : MountId)
@@ -58,3 +111,38 @@ unlisted_still Was Is types mount found is others own other kind at =
         subst (λ (id : MountId). types id.count ≡ Some kind → Was id kind → Is id kind) one
         (λ found_at. own kind (is ∙ found_at)) at
     by false apart = others other kind apart
+
+pub apart_source : (lost group : GroupId) (kind : Propagation) → has_source lost kind ≡ false
+    → has_source group kind ≡ true → same_group lost group ≡ false
+apart_source lost group (Shared own) apart source =
+    ap (same_group lost) (sym (same_number group own source)) ∙ apart
+apart_source lost group (Slave master) apart source =
+    ap (same_group lost) (sym (same_number group master source)) ∙ apart
+apart_source lost group Private apart source = absurd (true≢false (sym source))
+apart_source lost group Unbindable apart source = absurd (true≢false (sym source))
+
+-- one that stays under the names of a group is not taken out
+pub stays_under : {T : Type 0} (eq : T → T → Bool) (names : Named) (old new : Sets T) (one : T) (group : GroupId)
+    (stays : List GroupId) → stays ≡ names_of names group
+    → ((at : GroupId) → list_any (λ name. same_group name at) stays ≡ true → has eq at one old ≡ true
+    → has eq at one new ≡ true)
+    → is_under eq names old one group ≡ true → is_under eq names new one group ≡ true
+stays_under eq names old new one group stays is keeps under =
+    ap (list_any (λ name. has eq name one new)) (sym is)
+    ∙ any_within (λ name. has eq name one old) (λ name. has eq name one new) same_group itself stays keeps
+    (ap (list_any (λ name. has eq name one old)) is ∙ under)
+
+pub neither_one : (a b : Bool) → b ≡ false → (a && b) ≡ false
+neither_one true b is = is
+neither_one false b is = refl
+
+pub not-true : (b : Bool) → not b ≡ true → b ≡ false
+not-true true is = absurd (true≢false (sym is))
+not-true false is = refl
+
+pub source_told_kind : (group : GroupId) (kind : Propagation) → has_source group kind ≡ true
+    → source_of_kind kind ≡ Some group
+source_told_kind group (Shared own) source = ap Some (same_number group own source)
+source_told_kind group (Slave master) source = ap Some (same_number group master source)
+source_told_kind group Private source = absurd (true≢false (sym source))
+source_told_kind group Unbindable source = absurd (true≢false (sym source))

@@ -14,7 +14,7 @@ use Rattle.vt_location.specs.declared.mounts.Propagation.TheVariants.{Private as
 use Rattle.vt_location.specs.declared.numbers.GroupId.{GroupId}
 use Rattle.vt_location.specs.declared.numbers.MountId.{MountId}
 use Rattle.vt_location.specs.MountValue.{propagation_of}
-use Rattle.vt_group.specs.Families.{has_source}
+use Rattle.vt_group.specs.Indexed.{has_source}
 use Rattle.vt_group.specs.Steps.{numbered_peer}
 use Rattle.std.proofs.lemmas.Option.{same_Some}
 use Rattle.vt_location.specs.Numbers.{counted}

@@ -1,5 +1,5 @@
 -- The mounts of a world have one type each.
-use Rattle.std.proofs.Common.{◌≡◌, nat_lt, option_map, Some, refl, ap, sym, ◌∙◌, ℕ, true, List, [], ◌∷◌, Option, None}
+use Rattle.std.proofs.Common.{◌≡◌, nat_lt, option_map, Some, refl, ap, ◌∙◌, ℕ, true, List, [], ◌∷◌, Option, None}
 use Rattle.std.proofs.lemmas.Bool.{and_from, and_parts}
 use Rattle.std.specs.List.{cons_option, list_all}
 use Rattle.vt_spec.specs.Machine.Mounts.{Mount, source_of}

@@ -1,7 +1,7 @@
--- Who receives from a group, found by going up the masters of each mount's group.
+-- Who receives from a group: the mounts of the groups that are found from it downwards.
 use Rattle.std.proofs.lemmas.List.Filters.{length-filter_both}
-use Rattle.std.proofs.Common.{◌≡◌, refl, sym, ap, subst, ◌∙◌, true, false, zero, suc, Bool, List, None, Option, Some, [], arith, cond, is_some, length, map, nat_eq, option_map, true≢false, ℕ, ◌&&◌, ◌∷◌, ◌≤◌, filter, not, ⊎_elim, inl, inr}
-use Rattle.std.proofs.lemmas.Bool.{and_parts, eqb-true, false_from_ne_true, or_from, or_parts}
+use Rattle.std.proofs.Common.{◌≡◌, refl, sym, ap, subst, ◌∙◌, true, false, zero, suc, Bool, List, None, Option, Some, [], arith, cond, is_some, length, map, nat_eq, option_map, true≢false, ℕ, ◌&&◌, ◌||◌, ◌+◌, ◌∷◌, ◌≤◌, filter, not, ⊎_elim, inl, inr}
+use Rattle.std.proofs.lemmas.Bool.{and_parts, eqb-true, false_from_ne_true, or_cases, or_from, or_parts}
 use Rattle.std.proofs.lemmas.Option.{same_Some}
 use Rattle.std.specs.List.{cons_option, list_all, list_any}
 use Rattle.vt_spec.specs.Lists.{any_pair, chain, holds_of, is_among, last_or}
@@ -12,6 +12,7 @@ use Rattle.vt_spec.specs.Machine.Invariants.{HasLivingGroups, Lives}
 use Rattle.vt_spec.specs.Machine.Invariants.Lives.{has_master, has_no_master}
 use Rattle.vt_spec.proofs.Lists.{Among, among-filter, among_from_all, among_from_list_all, among_numbers, any_among, any_from_among, chain_ends, chain_goes_on, last_of_chain, list_all_from_among, none_among}
 use Rattle.vt_group.specs.Grouping.{Grouping, GroupsLive, Has, master_in, peer_of, peers_of}
+use Rattle.vt_group.specs.Receiving.{FindsBelow}
 use Rattle.vt_group.specs.Steps.{is_member}
 use Rattle.vt_group.proofs.Changes.{live_members}
 use Rattle.vt_group.proofs.Peers.{members-peers}
@@ -135,6 +136,19 @@ module _ (master : ℕ → Option ℕ) where
     way_members group (has_master it next has f later) = ap (λ b. b && list_all members (way next later)) has
         ∙ way_members next later
 
+or_not : (b : Bool) → (b || false) ≡ true → b ≡ true
+or_not true is = refl
+or_not false is = is
+
+either : (a b c : Bool) → (b ≡ true → c ≡ true) → (a || b) ≡ true → (a || c) ≡ true
+either true b c so is = refl
+either false b c so is = so is
+
+same_truth : (a b : Bool) → (a ≡ true → b ≡ true) → (b ≡ true → a ≡ true) → a ≡ b
+same_truth true b so back = sym (so refl)
+same_truth false true so back = back refl
+same_truth false false so back = refl
+
 -- groups that each have a member are no more than the peers
 fewer_groups : (groups : List ℕ) (peers : List (ℕ × Propagation ℕ)) → any_pair nat_eq groups ≡ false
     → list_all (λ group. list_any (is_member group) peers) groups ≡ true → length groups ≤ length peers
@@ -221,9 +235,6 @@ fewer_peers (mount ∷ rest) = by (peer_of mount) (fewer_peers rest)
     by None le = omega (arith, le)
     by (Some peer) le = omega (arith, le)
 
-abbrev pub is_up : Grouping → ℕ → ℕ → Bool
-is_up groups group source = is_among nat_eq group (chain (length groups.peers) (master_in groups) source)
-
 few_on_way : (world : World ℕ) (source : ℕ) (life : Lives (has_members nat_eq world.mounts) world.master source)
     → length (way world.master (has_members nat_eq world.mounts) source life) ≤ length (peers_of world.mounts)
 few_on_way world source life =
@@ -244,42 +255,89 @@ living_ends world source life =
     ends_within world.master (has_members nat_eq world.mounts) (length world.mounts) source life
     (omega (arith, few, fewer_peers world.mounts))
 
-module _ (world : World ℕ) (groups : Grouping) (has : Has world groups) (live : GroupsLive world) where
-  abbrev members : ℕ → Bool
-  members = has_members nat_eq world.mounts
+-- a longer chain has no fewer groups
+longer_chain : (master : ℕ → Option ℕ) (group : ℕ) (n m source : ℕ) → n ≤ m
+    → is_among nat_eq group (chain n master source) ≡ true → is_among nat_eq group (chain m master source) ≡ true
+longer_chain master group zero zero source le is = is
+longer_chain master group zero (suc m) source le is = by (master source) refl
+  where
+    by : (o : Option ℕ) → master source ≡ o → is_among nat_eq group (chain (suc m) master source) ≡ true
+    by None e = ap (is_among nat_eq group) (chain_ends master m source e) ∙ is
+    by (Some next) e =
+        ap (is_among nat_eq group) (chain_goes_on master m source next e)
+        ∙ ap (λ b. b || is_among nat_eq group (chain m master next)) (or_not (nat_eq group source) is)
+longer_chain master group (suc n) zero source le is = absurd (omega (arith, le))
+longer_chain master group (suc n) (suc m) source le is =
+    by (master source) refl (λ next. longer_chain master group n m next (omega (arith, le)))
+  where
+    by : (o : Option ℕ) → master source ≡ o
+        → ((next : ℕ) → is_among nat_eq group (chain n master next) ≡ true
+        → is_among nat_eq group (chain m master next) ≡ true)
+        → is_among nat_eq group (chain (suc m) master source) ≡ true
+    by None e later =
+        ap (is_among nat_eq group) (chain_ends master m source e ∙ sym (chain_ends master n source e)) ∙ is
+    by (Some next) e later =
+        ap (is_among nat_eq group) (chain_goes_on master m source next e)
+        ∙ either (nat_eq group source) (is_among nat_eq group (chain n master next))
+        (is_among nat_eq group (chain m master next)) (later next)
+        (ap (is_among nat_eq group) (sym (chain_goes_on master n source next e)) ∙ is)
 
-  same_masters : (group : ℕ) → members group ≡ true → master_in groups group ≡ world.master group
-  same_masters group lives = has.masters group ∙ ap (λ b. cond b (world.master group) None) lives
+module _ (groups : Grouping) (group : ℕ) (found : ℕ → Bool) (finds : FindsBelow groups group found) where
+  first_found : (source : ℕ) → nat_eq group source ≡ true → found source ≡ true
+  first_found source same = ap found (sym (eqb-true group source same)) ∙ finds.first
 
-  up_alike : (group source : ℕ) → Lives members world.master source
-      → is_up groups group source ≡ is_among nat_eq group (groups_up world source)
-  up_alike group source life =
-      let on_way : (n : ℕ) → list_all members (chain n world.master source)
-      ≡ true = λ n. all_on_way world.master members n source life in
-      let few : length (way world.master members source life) ≤ length
-      (peers_of world.mounts) = few_on_way world source life in
-      let ends = ends_within world.master members (length (peers_of world.mounts)) source life (omega (arith, few)) in
-      ap (is_among nat_eq group) (
-      ap (λ peers. chain (length peers) (master_in groups) source) has.peers
-      ∙ chain_alike world.master (master_in groups) members same_masters (length (peers_of world.mounts)) source
-      (on_way (length (peers_of world.mounts)))
-      ∙ sym (chain_same world.master (length (peers_of world.mounts)) (length world.mounts) source
-      (fewer_peers world.mounts) ends))
-
-  pub receivers_picked : (group : ℕ)
-      → picked (is_up groups group) groups.peers ≡ map (λ mount. mount.number) (receivers nat_eq world group)
-  receivers_picked group =
-      ap (picked (is_up groups group)) has.peers
-      ∙ picked-mounts (is_up groups group) (receives nat_eq world group) world.mounts
-      (λ mount m. by mount m (source_of mount.propagation) refl)
+  -- what the group is up the masters of is found
+  below_found : (n source : ℕ) → is_among nat_eq group (chain n (master_in groups) source) ≡ true → found source ≡ true
+  below_found zero source is = first_found source (or_not (nat_eq group source) is)
+  below_found (suc n) source is = by (master_in groups source) refl (below_found n)
     where
-      by : (mount : Mount ℕ) → Among mount world.mounts → (o : Option ℕ) → source_of mount.propagation ≡ o
-          → receives nat_eq world group mount ≡ holds_of (is_up groups group) (source_of mount.propagation)
-      by mount m None e =
-          ap (holds_of (λ source. is_among nat_eq group (groups_up world source))) e
-          ∙ sym (ap (holds_of (is_up groups group)) e)
-      by mount m (Some source) e =
-          ap (holds_of (λ source. is_among nat_eq group (groups_up world source))) e
-          ∙ sym (up_alike group source (among_from_all
-          (HasLivingGroups nat_eq world) world.mounts live mount m source e))
-          ∙ sym (ap (holds_of (is_up groups group)) e)
+      by : (o : Option ℕ) → master_in groups source ≡ o
+          → ((next : ℕ) → is_among nat_eq group (chain n (master_in groups) next) ≡ true → found next ≡ true)
+          → found source ≡ true
+      by None e later =
+          first_found source (or_not (nat_eq group source)
+          (ap (is_among nat_eq group) (sym (chain_ends (master_in groups) n source e)) ∙ is))
+      by (Some next) e later =
+          ⊎_elim (first_found source) (λ among. finds.lower source next e (later next among))
+          (or_cases (nat_eq group source) (is_among nat_eq group (chain n (master_in groups) next))
+          (ap (is_among nat_eq group) (sym (chain_goes_on (master_in groups) n source next e)) ∙ is))
+
+  module _ (world : World ℕ) (has : Has world groups) (live : GroupsLive world) where
+    abbrev members : ℕ → Bool
+    members = has_members nat_eq world.mounts
+
+    same_masters : (one : ℕ) → members one ≡ true → master_in groups one ≡ world.master one
+    same_masters one lives = has.masters one ∙ ap (λ b. cond b (world.master one) None) lives
+
+    alike : (n source : ℕ) → Lives members world.master source
+        → chain n (master_in groups) source ≡ chain n world.master source
+    alike n source life =
+        chain_alike world.master (master_in groups) members same_masters n source
+        (all_on_way world.master members n source life)
+
+    found_alike : (source : ℕ) → Lives members world.master source
+        → is_among nat_eq group (groups_up world source) ≡ found source
+    found_alike source life = same_truth (is_among nat_eq group (groups_up world source)) (found source)
+        (λ is. below_found (length world.mounts) source
+        (ap (is_among nat_eq group) (alike (length world.mounts) source life) ∙ is))
+        (λ is. let reaches = finds.reaches source is in
+        let most = reaches.0 + length world.mounts in
+        ap (is_among nat_eq group)
+        (sym (chain_same world.master (length world.mounts) most source (omega arith) (living_ends world source life)))
+        ∙ longer_chain world.master group reaches.0 most source (omega arith)
+        (ap (is_among nat_eq group) (sym (alike reaches.0 source life)) ∙ reaches.1))
+
+    pub receivers_found : picked found groups.peers ≡ map (λ mount. mount.number) (receivers nat_eq world group)
+    receivers_found =
+        ap (picked found) has.peers
+        ∙ picked-mounts found (receives nat_eq world group) world.mounts
+        (λ mount m. by mount m (source_of mount.propagation) refl)
+      where
+        by : (mount : Mount ℕ) → Among mount world.mounts → (o : Option ℕ) → source_of mount.propagation ≡ o
+            → receives nat_eq world group mount ≡ holds_of found (source_of mount.propagation)
+        by mount m None e =
+            ap (holds_of (λ source. is_among nat_eq group (groups_up world source))) e ∙ sym (ap (holds_of found) e)
+        by mount m (Some source) e =
+            ap (holds_of (λ source. is_among nat_eq group (groups_up world source))) e
+            ∙ found_alike source (among_from_all (HasLivingGroups nat_eq world) world.mounts live mount m source e)
+            ∙ sym (ap (holds_of found) e)

@@ -1,43 +1,63 @@
 -- The lists by which the groups find mounts and groups.
-use Rattle.std.specs.Prelude.{Bool, None, Option, Some, true, ℕ, ◌&&◌, ◌≡◌}
+use Rattle.std.specs.Prelude.{Bool, IsSome, None, Option, Some, false, true, ℕ, ◌&&◌, ◌≡◌}
 use Rattle.std.specs.BTreeMap.{BTreeMap, IsOrdered, get}
-use Rattle.std.specs.List.{list_any}
 use Rattle.std.specs.Ordering.{nat_cmp}
 use Rattle.vt_location.specs.declared.mounts.Propagation.{Propagation}
+use Rattle.vt_location.specs.declared.mounts.Propagation.TheVariants.{Private, Shared, Slave, Unbindable}
 use Rattle.vt_location.specs.declared.numbers.GroupId.{GroupId}
 use Rattle.vt_location.specs.declared.numbers.MountId.{MountId}
-use Rattle.vt_group.specs.declared.families.Families.{Families}
 use Rattle.vt_group.specs.declared.index.Index.{Index}
-use Rattle.vt_group.specs.Families.{are_joined, is_kin, lists}
-use Rattle.vt_group.specs.Sets.{same_group, same_id}
+use Rattle.vt_group.specs.Handing.{group_handed, kind_handed}
+use Rattle.vt_group.specs.Names.{is_under}
+use Rattle.vt_group.specs.Sets.{has, same_group, same_id}
 
--- where there are no families, all are one
-abbrev pub all_list : Option Families → MountId → Propagation → Bool
-all_list None mount kind = true
-all_list (Some families) mount kind = lists families mount kind
+abbrev pub group_of_kind : Propagation → Option GroupId
+group_of_kind (Shared group) = Some group
+group_of_kind (Slave master) = None
+group_of_kind Private = None
+group_of_kind Unbindable = None
 
-abbrev pub all_join : Option Families → GroupId → GroupId → Bool
-all_join None lower upper = true
-all_join (Some families) lower upper = are_joined families lower upper
+abbrev pub source_of_kind : Propagation → Option GroupId
+source_of_kind (Shared group) = Some group
+source_of_kind (Slave master) = Some master
+source_of_kind Private = None
+source_of_kind Unbindable = None
 
-abbrev pub lists_mount : MountId → Index → Bool
-lists_mount mount index = list_any (same_id mount) index.mounts.keys
+-- mounts of this type receive from this group
+abbrev pub has_source : GroupId → Propagation → Bool
+has_source group (Shared own) = same_group group own
+has_source group (Slave master) = same_group group master
+has_source group Private = false
+has_source group Unbindable = false
 
--- a mount of this type is listed
-abbrev pub is_listed : Index → MountId → Propagation → Bool
-is_listed index mount kind = lists_mount mount index && all_list index.families mount kind
-
--- a mount is of a group's family
-abbrev pub all_relate : Option Families → MountId → GroupId → Bool
-all_relate None mount group = true
-all_relate (Some families) mount group = is_kin families mount group
-
+-- a mount is among those of a group
 abbrev pub is_relative : Index → MountId → GroupId → Bool
-is_relative index mount group = lists_mount mount index && all_relate index.families mount group
+is_relative index mount group = is_under same_id index.names index.mounts mount group
 
--- a group with this master is listed
+-- a group is among those that have this master
 abbrev pub is_lower : Index → GroupId → GroupId → Bool
-is_lower index lower upper = list_any (same_group lower) index.groups.keys && all_join index.families lower upper
+is_lower index lower upper = is_under same_group index.names index.lowers lower upper
+
+-- a mount of this type is where it has to be
+abbrev pub is_listed : Index → MountId → Propagation → Bool
+is_listed index mount (Shared group) = is_relative index mount group && has same_id group mount index.members
+is_listed index mount (Slave master) = is_relative index mount master
+is_listed index mount Private = true
+is_listed index mount Unbindable = true
+
+-- Once a group without members has ended, what has the group's heir in its place is listed so, if it was listed before.
+pub record Hands (old new : Index) (lost : GroupId) (heir : Option GroupId) (types : BTreeMap ℕ Propagation)
+    (above : BTreeMap ℕ GroupId) : Type 0 where
+  pub mounts : (mount : MountId) (was kind : Propagation)
+      → ((upper : GroupId) → heir ≡ Some upper → is_lower old lost upper ≡ true)
+      → (was ≡ Shared lost → ⊥)
+      → IsSome (get nat_cmp types mount.count) → kind_handed lost heir was ≡ Some kind
+      → is_listed old mount was ≡ true → is_listed new mount kind ≡ true
+  pub groups : (lower was upper : GroupId)
+      → ((upper : GroupId) → heir ≡ Some upper → is_lower old lost upper ≡ true)
+      → same_group lost lower ≡ false → IsSome (get nat_cmp above lower.count)
+      → group_handed lost heir was ≡ Some upper
+      → is_lower old lower was ≡ true → is_lower new lower upper ≡ true
 
 abbrev pub mount_at : ℕ → MountId
 mount_at count = record { count = count }

@@ -1,4 +1,4 @@
-pub mod Families
+pub mod Names
 pub mod Grouping
 pub mod Handing
 pub mod Steps

@@ -1,5 +1,5 @@
 //! Peer groups.
-ghost use Rattle.std.specs.Prelude.{◌≡◌, ◌∷◌, ◌&&◌, filter_map, not, [], ⊤, ℕ, None, Some, false, true, if◌then◌else◌, length, nat_eq, map, IfOk, IfErr, IfSome, OnOk, OnErr, option_map};
+ghost use Rattle.std.specs.Prelude.{◌≡◌, Bool, ◌⊎◌, ◌&&◌, filter_map, not, [], ⊤, ℕ, None, Some, false, true, if◌then◌else◌, length, nat_eq, map, IfOk, IfErr, IfSome, OnOk, OnErr, option_map};
 ghost use Rattle.vt_spec.specs.Errors.{denial};
 ghost use Rattle.vt_spec.specs.Lists.{chain, holds_of, is_among};
 ghost use Rattle.vt_spec.specs.Machine.Mounts.Propagation.{Private, Shared as SharedIn, Slave as SlaveOf};
@@ -7,6 +7,7 @@ ghost use Rattle.vt_spec.specs.Machine.Receives.{receivers};
 ghost use Rattle.vt_spec.specs.Machine.Mounts.{group_of, source_of};
 ghost use Rattle.vt_spec.specs.Machine.World.{World};
 ghost use Rattle.vt_spec.specs.declared.errors.Rule.TheVariants.{S5};
+ghost use Rattle.vt_location.specs.declared.numbers.GroupId.{GroupId as GroupNumber};
 ghost use Rattle.vt_location.specs.MountValue.{propagation_of};
 ghost use Rattle.vt_location.specs.Numbers.{counted};
 ghost use Rattle.vt_group.specs.Grouping.{Follows, GroupsLive, Has, HasGroup, HasMount, LacksGroup, below, master_in, no_groups, numbers_of, propagation_in, with_propagation};
@@ -17,14 +18,16 @@ ghost use Rattle.vt_group.specs.Leaving.{is_member_of, lone_group, lost_group, m
 ghost use Rattle.std.specs.BTreeMap.{IsOrdered, get};
 ghost use Rattle.std.specs.Ordering.{nat_cmp};
 ghost use Rattle.vt_spec.specs.Lists.{or_else};
-ghost use Rattle.vt_group.specs.Receiving.{receiving_peer, receiving_type};
+ghost use Rattle.vt_group.specs.Receiving.{FindsBelow, IsLonger, is_in, peer_from, type_from};
 ghost use Rattle.vt_group.specs.Steps.{numbered_peer};
 ghost use Rattle.vt_group.specs.Steps.{ended, ended_if_lost, group_number, handed, handed_type, has_peers, retyped, type_or_private};
 
 use crate::additions::{add_all, types_of};
 use crate::handing::{hand_groups, hand_mounts};
 use crate::index::Index;
-use crate::propagation::{is_in, own_group, source};
+use crate::listed::Listed;
+use crate::propagation::{has_source, is_in, own_group};
+use indexmap::IndexSet;
 use std::alloc::{AllocError, Global};
 use std::collections::BTreeMap;
 use std::marker::Model;
@@ -136,9 +139,9 @@ impl Groups {
     }
 
     /// Mounts among which each member and each slave of a group is; others may be among them too.
-    pub fn relatives(&self, group: GroupId) -> &[MountId]
+    pub fn relatives(&self, group: GroupId) -> Listed<'_, MountId>
         ensures { (mount : ℕ) → source_of (propagation_in self.now mount) ≡ Some (counted group.count)
-            → is_among nat_eq mount (map (λ mount. counted mount.count) result.now) ≡ true }
+            → is_among nat_eq mount (map (λ mount. counted mount.count) result) ≡ true }
     {
         self.index.relatives(group)
     }
@@ -165,24 +168,50 @@ impl Groups {
         Ok(ids)
     }
 
-    // The types of the mounts that receive the events of a group.
+    // The types of the mounts that receive the events of a group: those of the group and of the groups below it, which
+    // are looked for level by level.
     fn receiving(
         &self,
         alloc: Global,
         group: GroupId,
     ) -> Result<BTreeMap<u64, Propagation>, AllocError>
-        ensures { IfOk result (λ types. map numbered_peer types.entries
-            ≡ filter_map (receiving_peer self.now (counted group.count)) self.now.peers) }
+        ensures { IfOk result (λ types. (found : ℕ → Bool)
+            × FindsBelow self.now (counted group.count) found
+            × (map numbered_peer types.entries ≡ filter_map (peer_from found) self.now.peers)) }
     {
+        let _ = &self.mounts;
         let mut types = BTreeMap::new(alloc);
-        for mount in self.index.relatives(group) {
-            self.add_receiver(&mut types, *mount, group)?;
+        let mut found = IndexSet::new(alloc);
+        found.insert(group)?;
+        let mut next = 0;
+        while next < found.len() {
+            let here = found.as_slice()[next];
+            self.add_relatives(&mut types, here)?;
+            self.add_lowers(&mut found, here)?;
+            next += 1;
         }
         Ok(types)
     }
 
-    // Adds the type of a mount, if it receives the events of a group.
-    fn add_receiver(
+    // Adds the types of the members and slaves of a group.
+    fn add_relatives(
+        &self,
+        types: &mut BTreeMap<u64, Propagation>,
+        group: GroupId,
+    ) -> Result<(), AllocError>
+        ensures ordered { OnOk result (IsOrdered nat_cmp types.old → IsOrdered nat_cmp types.new) }
+        ensures each { OnOk result ((mount : ℕ) → option_map propagation_of (get nat_cmp types.new mount)
+            ≡ or_else (type_from self.now (nat_eq (counted group.count)) (counted mount))
+            (option_map propagation_of (get nat_cmp types.old mount))) }
+    {
+        for mount in self.relatives(group) {
+            self.add_relative(types, mount, group)?;
+        }
+        Ok(())
+    }
+
+    // Adds the type of a mount, if it is a member or a slave of a group.
+    fn add_relative(
         &self,
         types: &mut BTreeMap<u64, Propagation>,
         mount: MountId,
@@ -191,46 +220,57 @@ impl Groups {
         ensures ordered { OnOk result (IsOrdered nat_cmp types.old → IsOrdered nat_cmp types.new) }
         ensures each { OnOk result ((other : ℕ) → option_map propagation_of (get nat_cmp types.new other)
             ≡ (if nat_eq other mount.count then or_else
-            (receiving_type self.now (counted group.count) (propagation_in self.now (counted other)))
+            (type_from self.now (nat_eq (counted group.count)) (counted other))
             (option_map propagation_of (get nat_cmp types.old other))
             else option_map propagation_of (get nat_cmp types.old other))) }
     {
         let Some(kind) = self.propagation_of(mount) else {
             return Ok(());
         };
-        if self.receives(kind, group) {
+        if has_source(kind, group) {
             types.insert(mount.count, kind)?;
         }
         Ok(())
     }
 
-    // Whether a mount of this type receives the events of a group.
-    fn receives(&self, kind: Propagation, group: GroupId) -> bool
-        ensures { result ≡ holds_of (λ source. is_among nat_eq (counted group.count)
-            (chain (length self.now.peers) (master_in self.now) source)) (source_of (propagation_of kind)) }
+    // Adds the groups that have this one as their master.
+    fn add_lowers(&self, found: &mut IndexSet<GroupId>, group: GroupId) -> Result<(), AllocError>
+        ensures longer { OnOk result (IsLonger found.old.keys found.new.keys) }
+        ensures lower { OnOk result ((one : ℕ) → is_in found.new.keys one ≡ true
+            → (is_in found.old.keys one ≡ true) ⊎ (master_in self.now one ≡ Some (counted group.count))) }
+        ensures all { OnOk result ((one : ℕ) → master_in self.now one ≡ Some (counted group.count)
+            → is_in found.new.keys one ≡ true) }
     {
-        let Some(source) = source(kind) else {
-            return false;
-        };
-        self.is_at_or_below(source, group)
+        for lower in self.lowers(group) {
+            self.add_lower(found, lower, group)?;
+        }
+        Ok(())
     }
 
-    // Whether a group is this one, or comes up its masters.
-    fn is_at_or_below(&self, lower: GroupId, group: GroupId) -> bool
-        ensures { result ≡ is_among nat_eq (counted group.count)
-            (chain (length self.now.peers) (master_in self.now) (counted lower.count)) }
+    // Adds a group, if it has that one as its master.
+    fn add_lower(
+        &self,
+        found: &mut IndexSet<GroupId>,
+        lower: GroupId,
+        group: GroupId,
+    ) -> Result<(), AllocError>
+        ensures longer { OnOk result (IsLonger found.old.keys found.new.keys) }
+        ensures lower { OnOk result ((one : ℕ) → is_in found.new.keys one ≡ true
+            → (is_in found.old.keys one ≡ true) ⊎ (master_in self.now one ≡ Some (counted group.count))) }
+        ensures there { OnOk result (master_in self.now (counted lower.count) ≡ Some (counted group.count)
+            → is_in found.new.keys (counted lower.count) ≡ true) }
     {
-        let mut here = lower;
-        for _ in 0..self.mounts.len() {
-            if here == group {
-                return true;
-            }
-            let Some(master) = self.master_of(here) else {
-                return false;
-            };
-            here = master;
+        if self.master_of(lower) == Some(group) {
+            found.insert(lower)?;
         }
-        here == group
+        Ok(())
+    }
+
+    // Groups among which each is that has this one as its master.
+    fn lowers(&self, group: GroupId) -> Listed<'_, GroupId>
+        ensures { (one : ℕ) → master_in self.now one ≡ Some (counted group.count) → is_in result one ≡ true }
+    {
+        self.index.lowers(group)
     }
 
     /// A mount becomes a member of a group. A group that is not there is made, without a master.
@@ -243,8 +283,6 @@ impl Groups {
             (λ world. HasMount world mount × (LacksGroup world group → world.master group ≡ None))
             (λ world. with_propagation world mount (SharedIn group))) }
         ensures memory { IfErr result (λ deny. deny ≡ denial S5) }
-        // a mount that has a type already needs no memory
-        ensures private { OnErr result (propagation_in self.old (counted mount.count) ≡ Private) }
         ensures err { OnErr result (self.new ≡ self.old) }
     {
         self.set(mount, Propagation::Shared(group))
@@ -260,8 +298,6 @@ impl Groups {
             (λ world. HasMount world mount × HasGroup world master)
             (λ world. with_propagation world mount (SlaveOf master))) }
         ensures memory { IfErr result (λ deny. deny ≡ denial S5) }
-        // a mount that has a type already needs no memory
-        ensures private { OnErr result (propagation_in self.old (counted mount.count) ≡ Private) }
         ensures err { OnErr result (self.new ≡ self.old) }
     {
         self.set(mount, Propagation::Slave(master))
@@ -276,7 +312,7 @@ impl Groups {
             ≡ type_once_left self.old (counted mount.count) other }
     {
         let old = self.mounts.remove(&mount.count);
-        self.index.leave(mount, old);
+        self.index.leave(mount, old, None);
         self.end_if_lost(old);
     }
 
@@ -296,8 +332,22 @@ impl Groups {
         let Some(group) = own_group(kind) else {
             return;
         };
+        self.set_slave(mount, group);
+    }
+
+    // A member of a group becomes a slave of it.
+    fn set_slave(&mut self, mount: MountId, group: GroupId)
+        requires { propagation_in self.old (counted mount.count) ≡ SharedIn (counted group.count) }
+        ensures new { self.new ≡ retyped (counted mount.count) (SlaveOf (counted group.count)) self.old }
+        ensures types { (other : ℕ) → propagation_in self.new other
+            ≡ type_once_retyped self.old (counted mount.count) (SlaveOf (counted group.count)) other }
+    {
+        let member = Propagation::Shared(group);
+        let slave = Propagation::Slave(group);
         // It cannot fail: the mount has a type.
-        let _ = self.set(mount, Propagation::Slave(group));
+        let _ = self.mounts.insert(mount.count, slave);
+        self.index.leave(mount, Some(member), Some(slave));
+        self.end_if_lost(Some(member));
     }
 
     /// Mounts get the types that they have here, and new groups their masters, in whatever order they come: an
@@ -325,6 +375,7 @@ impl Groups {
             .is_err()
         {
             self.index.unlist_all(types.as_slice(), &self.mounts);
+            self.index.part_all(new, &self.above);
             return Err(Rule::S5.denial());
         }
         Ok(())
@@ -357,6 +408,7 @@ impl Groups {
             .is_err()
         {
             self.index.unlist_all(types.as_slice(), &self.mounts);
+            self.index.part_all(new.as_slice(), &self.above);
             return Err(Rule::S5.denial());
         }
         Ok(())
@@ -421,17 +473,6 @@ impl Groups {
         }
     }
 
-    /// All groups once more, for one who makes changes on trial. It passes over all mounts that are in groups.
-    pub fn copied(&self) -> Result<Groups, AllocError>
-        ensures { IfOk result (λ copy. copy ≡ self.now) }
-    {
-        Ok(Groups {
-            mounts: types_copied(&self.mounts)?,
-            above: masters_copied(&self.above)?,
-            index: self.index.copied()?,
-        })
-    }
-
     /// A mount becomes the first member of a new group, which has this master, if any. A group that has a master keeps
     /// it.
     ///
@@ -469,7 +510,8 @@ impl Groups {
             self.above.remove(&group.count);
             return Err(Rule::S5.denial());
         };
-        self.index.change(mount, old, Propagation::Shared(group));
+        self.index
+            .leave(mount, old, Some(Propagation::Shared(group)));
         self.end_if_lost(old);
         Ok(())
     }
@@ -480,7 +522,6 @@ impl Groups {
         ensures types { OnOk result ((other : ℕ) → propagation_in self.new other
             ≡ type_once_retyped self.old (counted mount.count) (propagation_of kind) other) }
         ensures memory { IfErr result (λ deny. deny ≡ denial S5) }
-        ensures private { OnErr result (propagation_in self.old (counted mount.count) ≡ Private) }
         ensures err { OnErr result (self.new ≡ self.old) }
     {
         if self.index.list(mount, kind).is_err() {
@@ -489,7 +530,7 @@ impl Groups {
         let Ok(old) = self.mounts.insert(mount.count, kind) else {
             return Err(Rule::S5.denial());
         };
-        self.index.change(mount, old, kind);
+        self.index.leave(mount, old, Some(kind));
         self.end_if_lost(old);
         Ok(())
     }
@@ -509,11 +550,7 @@ impl Groups {
         if self.has_members(group) {
             return;
         }
-        let heir = self.master_of(group);
         self.end(group);
-        if heir != Some(group) {
-            self.index.forget(group);
-        }
     }
 
     fn has_members(&self, group: GroupId) -> bool
@@ -530,6 +567,7 @@ impl Groups {
 
     // A group has no members left: its slaves and lower groups get its master.
     fn end(&mut self, group: GroupId)
+        requires { has_peers (counted group.count) self.old ≡ false }
         ensures ended { self.new ≡ ended (counted group.count) self.old }
         ensures types { (mount : ℕ) → propagation_in self.new mount
             ≡ type_after_end (counted group.count) (master_in self.old (counted group.count))
@@ -539,22 +577,8 @@ impl Groups {
     {
         let heir = self.above.get(&group.count).copied();
         hand_mounts(&mut self.mounts, self.index.relatives(group), group, heir);
-        hand_groups(&mut self.above, self.index.kindred(group), group, heir);
+        hand_groups(&mut self.above, self.index.lowers(group), group, heir);
         self.above.remove(&group.count);
-        self.index.settle(group, &self.mounts, &self.above);
+        self.index.end(group, heir, &self.mounts, &self.above);
     }
-}
-
-fn types_copied(
-    types: &BTreeMap<u64, Propagation>,
-) -> Result<BTreeMap<u64, Propagation>, AllocError>
-    ensures { IfOk result (λ copy. copy.entries ≡ types.now.entries) }
-{
-    Ok(types.clone()?)
-}
-
-fn masters_copied(above: &BTreeMap<u64, GroupId>) -> Result<BTreeMap<u64, GroupId>, AllocError>
-    ensures { IfOk result (λ copy. copy.entries ≡ above.now.entries) }
-{
-    Ok(above.clone()?)
 }

@@ -6,6 +6,7 @@ ghost use Rattle.std.specs.Ordering.{nat_cmp};
 ghost use Rattle.vt_spec.specs.Lists.{then_some};
 ghost use Rattle.vt_group.specs.Handing.{group_handed, kind_handed};
 
+use crate::listed::Listed;
 use crate::propagation::{handed, handed_master};
 use std::collections::BTreeMap;
 use vt_location::{GroupId, MountId, Propagation};
@@ -13,17 +14,17 @@ use vt_location::{GroupId, MountId, Propagation};
 /// The slaves of a lost group that are among these mounts get its heir, or no type if there is none.
 pub(crate) fn hand_mounts(
     types: &mut BTreeMap<u64, Propagation>,
-    mounts: &[MountId],
+    mounts: Listed<'_, MountId>,
     lost: GroupId,
     heir: Option<GroupId>,
 )
     ensures ordered { IsOrdered nat_cmp types.old → IsOrdered nat_cmp types.new }
     ensures each { (mount : ℕ) → get nat_cmp types.new mount
-        ≡ (if list_any (λ id. nat_eq mount id.count) mounts.now
+        ≡ (if list_any (λ id. nat_eq mount id.count) mounts.entry
         then then_some (get nat_cmp types.old mount) (kind_handed lost heir) else get nat_cmp types.old mount) }
 {
     for mount in mounts {
-        hand_mount(types, *mount, lost, heir);
+        hand_mount(types, mount, lost, heir);
     }
 }
 
@@ -55,17 +56,17 @@ fn hand_mount(
 /// Those of these groups that have a lost one as their master get its heir, or no master if there is none.
 pub(crate) fn hand_groups(
     above: &mut BTreeMap<u64, GroupId>,
-    groups: &[GroupId],
+    groups: Listed<'_, GroupId>,
     lost: GroupId,
     heir: Option<GroupId>,
 )
     ensures ordered { IsOrdered nat_cmp above.old → IsOrdered nat_cmp above.new }
     ensures each { (group : ℕ) → get nat_cmp above.new group
-        ≡ (if list_any (λ id. nat_eq group id.count) groups.now
+        ≡ (if list_any (λ id. nat_eq group id.count) groups.entry
         then then_some (get nat_cmp above.old group) (group_handed lost heir) else get nat_cmp above.old group) }
 {
     for group in groups {
-        hand_group(above, *group, lost, heir);
+        hand_group(above, group, lost, heir);
     }
 }
 

@@ -1,5 +1,5 @@
 //! The lists by which the groups find mounts and groups without passing over all of them.
-ghost use Rattle.std.specs.Prelude.{◌≡◌, ℕ, None, Some, IfOk, OnErr, OnOk, IsSome, false, true, nat_eq};
+ghost use Rattle.std.specs.Prelude.{◌≡◌, ◌≢◌, ℕ, None, Some, OnErr, OnOk, IsSome, false, true};
 ghost use Rattle.std.specs.BTreeMap.{get};
 ghost use Rattle.std.specs.List.{list_any};
 ghost use Rattle.std.specs.Ordering.{nat_cmp};
@@ -7,65 +7,63 @@ ghost use Rattle.vt_location.specs.declared.mounts.Propagation.{Propagation as T
 ghost use Rattle.vt_location.specs.declared.mounts.Propagation.TheVariants.{Shared as SharedIn};
 ghost use Rattle.vt_location.specs.declared.numbers.GroupId.{GroupId as GroupNumber};
 ghost use Rattle.vt_location.specs.declared.numbers.MountId.{MountId as MountNumber};
-ghost use Rattle.vt_group.specs.Families.{has_source};
-ghost use Rattle.vt_group.specs.Indexed.{all_join, all_list, is_listed, is_lower, is_relative, lists_mount};
+ghost use Rattle.vt_spec.specs.Lists.{then_some};
+ghost use Rattle.vt_group.specs.Handing.{group_handed, kind_handed};
+ghost use Rattle.vt_group.specs.Indexed.{Hands, group_of_kind, has_source, is_listed, is_lower, is_relative, source_of_kind};
 ghost use Rattle.vt_group.specs.Listing.{EachJoined, EachListed, EachShared, IsJoined, IsListed, IsShared};
-ghost use Rattle.vt_group.specs.Sets.{same_group, same_id};
+ghost use Rattle.vt_group.specs.Names.{KeepsNames, is_under};
+ghost use Rattle.vt_group.specs.Sets.{has, same_group, same_id};
 
-use crate::families::Families;
 use crate::groups::NewGroup;
-use indexmap::IndexSet;
+use crate::listed::Listed;
+use crate::names::Names;
+use crate::sets::{Sets, keep_lower, keep_typed};
 use std::alloc::{AllocError, Global};
-use std::collections::BTreeMap;
+use std::collections::{BTreeMap, LinkedList};
+use std::hash::Hash;
 use vt_location::{GroupId, Mount, MountId, Propagation};
 
-/// The mounts that are shared or slaves, and the groups that have masters. It may list more than these, and never less.
+/// The members and slaves of groups, and the groups that have masters. It may list more than these, and never less.
 #[derive(Debug, Drop)]
 pub(crate) struct Index {
-    mounts: IndexSet<MountId>,
-    groups: IndexSet<GroupId>,
-    // Where there are none, all are one family: after an allocation failed.
-    families: Option<Families>,
+    names: Names,
+    // By names: the mounts of groups, and the groups below them.
+    mounts: Sets<MountId>,
+    lowers: Sets<GroupId>,
+    // By groups.
+    members: Sets<MountId>,
 }
 
 impl Index {
     /// No mounts and no groups. It does not allocate.
     pub(crate) fn new(alloc: Global) -> Self {
         Index {
-            mounts: IndexSet::new(alloc),
-            groups: IndexSet::new(alloc),
-            families: Some(Families::new(alloc)),
+            names: Names::new(alloc),
+            mounts: Sets::new(alloc),
+            lowers: Sets::new(alloc),
+            members: Sets::new(alloc),
         }
     }
 
     /// The allocator of its lists.
     pub(crate) fn allocator(&self) -> Global {
-        *self.mounts.allocator()
-    }
-
-    /// The same mounts and groups once more.
-    pub(crate) fn copied(&self) -> Result<Self, AllocError>
-        ensures mounts { IfOk result (λ copy. (mount : MountNumber) (kind : TypeKept)
-            → is_listed self.now mount kind ≡ true → is_listed copy mount kind ≡ true) }
-        ensures groups { IfOk result (λ copy. (lower upper : GroupNumber)
-            → is_lower self.now lower upper ≡ true → is_lower copy lower upper ≡ true) }
-    {
-        Ok(Index {
-            mounts: self.mounts.clone()?,
-            groups: self.groups.clone()?,
-            families: families_copied(&self.families)?,
-        })
+        self.names.allocator()
     }
 
     /// Mounts among which each member and each slave of a group is.
-    pub(crate) fn relatives(&self, group: GroupId) -> &[MountId]
+    pub(crate) fn relatives(&self, group: GroupId) -> Listed<'_, MountId>
         ensures { (mount : MountNumber) → is_relative self.now mount group ≡ true
-            → list_any (same_id mount) result.now ≡ true }
+            → list_any (same_id mount) result ≡ true }
     {
-        match &self.families {
-            Some(families) => families.relatives(group),
-            None => self.mounts.as_slice(),
-        }
+        Listed::new(self.names.of(group), &self.mounts)
+    }
+
+    /// Groups among which each is that has this one as its master.
+    pub(crate) fn lowers(&self, group: GroupId) -> Listed<'_, GroupId>
+        ensures { (lower : GroupNumber) → is_lower self.now lower group ≡ true
+            → list_any (same_group lower) result ≡ true }
+    {
+        Listed::new(self.names.of(group), &self.lowers)
     }
 
     /// Mounts among which each member of a group is.
@@ -73,21 +71,7 @@ impl Index {
         ensures { (mount : MountNumber) → is_listed self.now mount (SharedIn group) ≡ true
             → list_any (same_id mount) result.now ≡ true }
     {
-        match &self.families {
-            Some(families) => families.members(group),
-            None => self.mounts.as_slice(),
-        }
-    }
-
-    /// Groups among which each is that has this one as its master.
-    pub(crate) fn kindred(&self, group: GroupId) -> &[GroupId]
-        ensures { (lower : GroupNumber) → is_lower self.now lower group ≡ true
-            → list_any (same_group lower) result.now ≡ true }
-    {
-        match &self.families {
-            Some(families) => families.kindred(group),
-            None => self.groups.as_slice(),
-        }
+        self.members.get(group)
     }
 
     /// Lists a mount, before it gets a type.
@@ -97,12 +81,15 @@ impl Index {
             → is_listed self.new other type ≡ true }
         ensures lower { (lower upper : GroupNumber) → is_lower self.old lower upper ≡ true
             → is_lower self.new lower upper ≡ true }
-        // one that is listed already needs no memory
-        ensures absent { OnErr result (lists_mount mount self.old ≡ false) }
     {
-        self.mounts.insert(mount)?;
-        self.families = with_mount(self.families.take(), mount, kind);
-        Ok(())
+        match kind {
+            Propagation::Shared(group) => {
+                put(&mut self.names, &mut self.mounts, group, mount)?;
+                self.members.insert(group, mount)
+            }
+            Propagation::Slave(master) => put(&mut self.names, &mut self.mounts, master, mount),
+            Propagation::Private | Propagation::Unbindable => Ok(()),
+        }
     }
 
     /// Lists a group, before it gets a master.
@@ -112,9 +99,7 @@ impl Index {
             → is_listed self.new mount kind ≡ true }
         ensures lower { (low up : GroupNumber) → is_lower self.old low up ≡ true → is_lower self.new low up ≡ true }
     {
-        self.groups.insert(lower)?;
-        self.families = with_lower(self.families.take(), lower, upper);
-        Ok(())
+        put(&mut self.names, &mut self.lowers, upper, lower)
     }
 
     /// Lists the groups that have masters here.
@@ -223,30 +208,45 @@ impl Index {
         }
     }
 
-    /// Takes out a mount that had this type, once it has none. It does not allocate.
-    pub(crate) fn leave(&mut self, mount: MountId, was: Option<Propagation>)
+    /// Takes out a mount that had this type, once it has that one, or none. It does not allocate.
+    pub(crate) fn leave(
+        &mut self,
+        mount: MountId,
+        was: Option<Propagation>,
+        is: Option<Propagation>,
+    )
         ensures others { (other : MountNumber) (kind : TypeKept) → same_id mount other ≡ false
             → is_listed self.old other kind ≡ true → is_listed self.new other kind ≡ true }
+        ensures own { (kind : TypeKept) → is ≡ Some kind → is_listed self.old mount kind ≡ true
+            → is_listed self.new mount kind ≡ true }
         ensures lower { (lower upper : GroupNumber) → is_lower self.old lower upper ≡ true
             → is_lower self.new lower upper ≡ true }
     {
-        self.mounts.swap_remove(&mount);
-        if let Some(families) = &mut self.families {
-            families.leave(mount, was, None);
+        take_out_of_one(&mut self.members, mount, group_in(was), group_in(is));
+        let now = source_in(is);
+        let Some(group) = source_in(was) else {
+            return;
+        };
+        if now == Some(group) {
+            return;
         }
+        let stays = self.names.of_any(now);
+        take_out(&mut self.mounts, self.names.of(group), stays, mount);
+        self.names.prune(group, &self.mounts, &self.lowers);
     }
 
-    /// Takes a mount out of where it was for its old type, once it has this new one. It does not allocate.
-    pub(crate) fn change(&mut self, mount: MountId, was: Option<Propagation>, is: Propagation)
-        ensures others { (other : MountNumber) (kind : TypeKept) → same_id mount other ≡ false
-            → is_listed self.old other kind ≡ true → is_listed self.new other kind ≡ true }
-        ensures own { is_listed self.old mount is ≡ true → is_listed self.new mount is ≡ true }
-        ensures lower { (lower upper : GroupNumber) → is_lower self.old lower upper ≡ true
+    /// Takes out a group that had this master, once it has that one, or none. It does not allocate.
+    pub(crate) fn part(&mut self, lower: GroupId, was: GroupId, is: Option<GroupId>)
+        ensures kept { (mount : MountNumber) (kind : TypeKept) → is_listed self.old mount kind ≡ true
+            → is_listed self.new mount kind ≡ true }
+        ensures others { (other upper : GroupNumber) → same_group lower other ≡ false
+            → is_lower self.old other upper ≡ true → is_lower self.new other upper ≡ true }
+        ensures own { (upper : GroupNumber) → is ≡ Some upper → is_lower self.old lower upper ≡ true
             → is_lower self.new lower upper ≡ true }
     {
-        if let Some(families) = &mut self.families {
-            families.leave(mount, was, Some(is));
-        }
+        let stays = self.names.of_any(is);
+        take_out(&mut self.lowers, self.names.of(was), stays, lower);
+        self.names.prune(was, &self.mounts, &self.lowers);
     }
 
     /// Takes mounts out of where they are listed for these types, unless they have them. It does not allocate.
@@ -260,134 +260,179 @@ impl Index {
         ensures lower { (low up : GroupNumber) → is_lower self.old low up ≡ true → is_lower self.new low up ≡ true }
     {
         for pair in mounts {
-            self.unlist(pair.0, pair.1, types);
+            self.leave(pair.0, Some(pair.1), types.get(&pair.0.count).copied());
         }
     }
 
-    fn unlist(&mut self, mount: MountId, kind: Propagation, types: &BTreeMap<u64, Propagation>)
-        ensures kept { (other : MountNumber) (type : TypeKept) → get nat_cmp types.now other.count ≡ Some type
-            → is_listed self.old other type ≡ true → is_listed self.new other type ≡ true }
-        ensures lower { (low up : GroupNumber) → is_lower self.old low up ≡ true → is_lower self.new low up ≡ true }
+    /// Takes groups out of where they are listed for these masters, unless they have them. It does not allocate.
+    pub(crate) fn part_all(&mut self, groups: &[NewGroup], above: &BTreeMap<u64, GroupId>)
+        ensures kept { (mount : MountNumber) (kind : TypeKept) → is_listed self.old mount kind ≡ true
+            → is_listed self.new mount kind ≡ true }
+        ensures lower { (low up : GroupNumber) → get nat_cmp above.now low.count ≡ Some up
+            → is_lower self.old low up ≡ true → is_lower self.new low up ≡ true }
     {
-        match types.get(&mount.count).copied() {
-            Some(own) => self.change(mount, Some(kind), own),
-            None => self.leave(mount, Some(kind)),
+        for group in groups {
+            self.part_new(*group, above);
         }
     }
 
-    /// Takes out what has no type or no master any longer, once a group has ended. It does not allocate.
-    pub(crate) fn settle(
+    fn part_new(&mut self, new: NewGroup, above: &BTreeMap<u64, GroupId>)
+        ensures kept { (mount : MountNumber) (kind : TypeKept) → is_listed self.old mount kind ≡ true
+            → is_listed self.new mount kind ≡ true }
+        ensures lower { (low up : GroupNumber) → get nat_cmp above.now low.count ≡ Some up
+            → is_lower self.old low up ≡ true → is_lower self.new low up ≡ true }
+    {
+        if let Some(master) = new.master {
+            self.part(new.group, master, above.get(&new.group.count).copied());
+        }
+    }
+
+    /// A group that has no members has ended, and its heir, if any, has become the master of its slaves and lower groups.
+    /// It does not allocate.
+    pub(crate) fn end(
         &mut self,
-        group: GroupId,
+        lost: GroupId,
+        heir: Option<GroupId>,
+        types: &BTreeMap<u64, Propagation>,
+        above: &BTreeMap<u64, GroupId>,
+    )
+        ensures kept { Hands self.old self.new lost heir types.now above.now }
+    {
+        let Some(heir) = heir else {
+            self.dissolve(lost, types, above);
+            return;
+        };
+        self.pass_on(lost, heir);
+        self.part(lost, heir, None);
+    }
+
+    // A group has ended that has an heir, whose all is that was below it.
+    fn pass_on(&mut self, lost: GroupId, heir: GroupId)
+        ensures mounts { (mount : MountNumber) (was kind : TypeKept) → is_lower self.old lost heir ≡ true
+            → was ≢ SharedIn lost → kind_handed lost (Some heir) was ≡ Some kind
+            → is_listed self.old mount was ≡ true → is_listed self.new mount kind ≡ true }
+        ensures lowers { (lower was upper : GroupNumber) → is_lower self.old lost heir ≡ true
+            → group_handed lost (Some heir) was ≡ Some upper
+            → is_lower self.old lower was ≡ true → is_lower self.new lower upper ≡ true }
+    {
+        if heir == lost {
+            return;
+        }
+        self.names.prune(lost, &self.mounts, &self.lowers);
+        self.names.inherit(lost, heir);
+    }
+
+    // A group has ended that has no heir: what was below it and has no type or no master is taken out.
+    fn dissolve(
+        &mut self,
+        lost: GroupId,
         types: &BTreeMap<u64, Propagation>,
         above: &BTreeMap<u64, GroupId>,
     )
         ensures kept { (mount : MountNumber) (kind : TypeKept) → IsSome (get nat_cmp types.now mount.count)
+            → has_source lost kind ≡ false
             → is_listed self.old mount kind ≡ true → is_listed self.new mount kind ≡ true }
         ensures lower { (lower upper : GroupNumber) → IsSome (get nat_cmp above.now lower.count)
+            → same_group lost upper ≡ false
             → is_lower self.old lower upper ≡ true → is_lower self.new lower upper ≡ true }
     {
-        match &mut self.families {
-            Some(families) => {
-                keep_typed(&mut self.mounts, families.relatives(group), types);
-                keep_lower(&mut self.groups, families.kindred(group), above);
-                families.settle(group, types);
-            }
-            None => {
-                self.mounts.retain(|mount| types.contains_key(&mount.count));
-                self.groups.retain(|group| above.contains_key(&group.count));
-            }
+        let names = self.names.of(lost);
+        keep_under(names, &mut self.mounts, &mut self.lowers, types, above);
+        self.names.forget(lost);
+    }
+}
+
+// Puts one under a name of a group.
+fn put<T: Eq + Hash + Copy + Clone + Drop>(
+    names: &mut Names,
+    sets: &mut Sets<T>,
+    group: GroupId,
+    one: T,
+) -> Result<(), AllocError>
+    ensures there { OnOk result (is_under T.eq names.new sets.new one group ≡ true) }
+    ensures names { KeepsNames names.old names.new }
+    ensures sets { (at : GroupNumber) (other : T) → has T.eq at other sets.old ≡ true
+        → has T.eq at other sets.new ≡ true }
+{
+    let name = names.name(group)?;
+    sets.insert(name, one)
+}
+
+// Takes one out from under these names, except for those under which it stays.
+fn take_out<T: Eq + Hash + Copy + Clone + Drop>(
+    sets: &mut Sets<T>,
+    names: &LinkedList<GroupId>,
+    stays: &LinkedList<GroupId>,
+    one: T,
+)
+    ensures others { (at : GroupNumber) (other : T) → T.eq one other ≡ false → has T.eq at other sets.old ≡ true
+        → has T.eq at other sets.new ≡ true }
+    ensures own { (at : GroupNumber) (other : T) → list_any (λ name. same_group name at) stays.now ≡ true
+        → has T.eq at other sets.old ≡ true → has T.eq at other sets.new ≡ true }
+{
+    for name in names {
+        if !stays.contains(name) {
+            sets.remove(*name, one);
         }
     }
+}
 
-    /// Forgets a group that has ended. It does not allocate.
-    pub(crate) fn forget(&mut self, group: GroupId)
-        ensures kept { (mount : MountNumber) (kind : TypeKept) → has_source group kind ≡ false
-            → is_listed self.old mount kind ≡ true → is_listed self.new mount kind ≡ true }
-        ensures lower { (lower upper : GroupNumber) → same_group group lower ≡ false → same_group group upper ≡ false
-            → is_lower self.old lower upper ≡ true → is_lower self.new lower upper ≡ true }
-    {
-        if let Some(families) = &mut self.families {
-            families.forget(group);
-        }
+// Takes out what is under these names and has no type or no master.
+fn keep_under(
+    names: &LinkedList<GroupId>,
+    mounts: &mut Sets<MountId>,
+    lowers: &mut Sets<GroupId>,
+    types: &BTreeMap<u64, Propagation>,
+    above: &BTreeMap<u64, GroupId>,
+)
+    ensures mounts { (at : GroupNumber) (mount : MountNumber) → IsSome (get nat_cmp types.now mount.count)
+        → has same_id at mount mounts.old ≡ true → has same_id at mount mounts.new ≡ true }
+    ensures lowers { (at lower : GroupNumber) → IsSome (get nat_cmp above.now lower.count)
+        → has same_group at lower lowers.old ≡ true → has same_group at lower lowers.new ≡ true }
+{
+    for name in names {
+        keep_typed(mounts, *name, types);
+        keep_lower(lowers, *name, above);
     }
 }
 
-fn families_copied(families: &Option<Families>) -> Result<Option<Families>, AllocError>
-    ensures mounts { IfOk result (λ copy. (mount : MountNumber) (kind : TypeKept)
-        → all_list families.now mount kind ≡ true → all_list copy mount kind ≡ true) }
-    ensures groups { IfOk result (λ copy. (lower upper : GroupNumber)
-        → all_join families.now lower upper ≡ true → all_join copy lower upper ≡ true) }
+// Takes out a mount from under a group, unless it stays there.
+fn take_out_of_one(
+    sets: &mut Sets<MountId>,
+    mount: MountId,
+    was: Option<GroupId>,
+    is: Option<GroupId>,
+)
+    ensures others { (at : GroupNumber) (other : MountNumber) → same_id mount other ≡ false
+        → has same_id at other sets.old ≡ true → has same_id at other sets.new ≡ true }
+    ensures own { (at : GroupNumber) → is ≡ Some at → has same_id at mount sets.old ≡ true
+        → has same_id at mount sets.new ≡ true }
 {
-    match families {
-        Some(families) => Ok(Some(families.copied()?)),
-        None => Ok(None),
+    let Some(group) = was else {
+        return;
+    };
+    if is != Some(group) {
+        sets.remove(group, mount);
     }
 }
 
-// The families with one more mount, unless an allocation fails.
-fn with_mount(families: Option<Families>, mount: MountId, kind: Propagation) -> Option<Families>
-    ensures listed { all_list result mount kind ≡ true }
-    ensures kept { (other : MountNumber) (type : TypeKept) → all_list families other type ≡ true
-        → all_list result other type ≡ true }
-    ensures lower { (lower upper : GroupNumber) → all_join families lower upper ≡ true
-        → all_join result lower upper ≡ true }
+// The group that a mount of a type is in.
+fn group_in(kind: Option<Propagation>) -> Option<GroupId>
+    ensures { result ≡ then_some kind group_of_kind }
 {
-    let mut families = families?;
-    match families.enter(mount, kind) {
-        Ok(()) => Some(families),
-        Err(AllocError) => None,
+    match kind {
+        Some(Propagation::Shared(group)) => Some(group),
+        Some(Propagation::Slave(_) | Propagation::Private | Propagation::Unbindable) | None => None,
     }
 }
 
-// The families with two groups in one, unless an allocation fails.
-fn with_lower(families: Option<Families>, lower: GroupId, upper: GroupId) -> Option<Families>
-    ensures joined { all_join result lower upper ≡ true }
-    ensures kept { (mount : MountNumber) (kind : TypeKept) → all_list families mount kind ≡ true
-        → all_list result mount kind ≡ true }
-    ensures lower { (low up : GroupNumber) → all_join families low up ≡ true → all_join result low up ≡ true }
+// The group that a mount of a type receives from.
+fn source_in(kind: Option<Propagation>) -> Option<GroupId>
+    ensures { result ≡ then_some kind source_of_kind }
 {
-    let mut families = families?;
-    match families.join(lower, upper) {
-        Ok(()) => Some(families),
-        Err(AllocError) => None,
-    }
-}
-
-// Takes out those of these mounts that have no type.
-fn keep_typed(set: &mut IndexSet<MountId>, mounts: &[MountId], types: &BTreeMap<u64, Propagation>)
-    ensures { (mount : MountNumber) → IsSome (get nat_cmp types.now mount.count)
-        → list_any (same_id mount) set.old.keys ≡ true → list_any (same_id mount) set.new.keys ≡ true }
-{
-    for mount in mounts {
-        keep_if_typed(set, *mount, types);
-    }
-}
-
-fn keep_if_typed(set: &mut IndexSet<MountId>, mount: MountId, types: &BTreeMap<u64, Propagation>)
-    ensures { (other : MountNumber) → IsSome (get nat_cmp types.now other.count)
-        → list_any (same_id other) set.old.keys ≡ true → list_any (same_id other) set.new.keys ≡ true }
-{
-    if !types.contains_key(&mount.count) {
-        set.swap_remove(&mount);
-    }
-}
-
-// Takes out those of these groups that have no master.
-fn keep_lower(set: &mut IndexSet<GroupId>, groups: &[GroupId], above: &BTreeMap<u64, GroupId>)
-    ensures { (group : GroupNumber) → IsSome (get nat_cmp above.now group.count)
-        → list_any (same_group group) set.old.keys ≡ true → list_any (same_group group) set.new.keys ≡ true }
-{
-    for group in groups {
-        keep_if_lower(set, *group, above);
-    }
-}
-
-fn keep_if_lower(set: &mut IndexSet<GroupId>, group: GroupId, above: &BTreeMap<u64, GroupId>)
-    ensures { (other : GroupNumber) → IsSome (get nat_cmp above.now other.count)
-        → list_any (same_group other) set.old.keys ≡ true → list_any (same_group other) set.new.keys ≡ true }
-{
-    if !above.contains_key(&group.count) {
-        set.swap_remove(&group);
+    match kind {
+        Some(Propagation::Shared(group)) => Some(group),
+        Some(Propagation::Slave(master)) => Some(master),
+        Some(Propagation::Private | Propagation::Unbindable) | None => None,
     }
 }

@@ -2,13 +2,15 @@
 #![tactic(auto)]
 
 mod additions;
-mod families;
 mod groups;
 mod handing;
 mod index;
 mod insertions;
 pub mod laws;
+mod listed;
+mod names;
 mod propagation;
 mod sets;
 
 pub use groups::{Groups, NewGroup};
+pub use listed::Listed;

@@ -40,6 +40,17 @@ pub(crate) fn source(kind: Propagation) -> Option<GroupId>
     }
 }
 
+// Whether a mount of this type receives from this group.
+pub(crate) fn has_source(kind: Propagation, group: GroupId) -> bool
+    ensures { result ≡ holds_of (nat_eq (counted group.count)) (source_of (propagation_of kind)) }
+{
+    match kind {
+        Propagation::Shared(own) => group == own,
+        Propagation::Slave(master) => group == master,
+        Propagation::Private | Propagation::Unbindable => false,
+    }
+}
+
 // The type of a mount after a group was lost, to which this one is the heir. A slave of the group is private if there is
 // no heir.
 pub(crate) fn handed(kind: Propagation, lost: GroupId, heir: Option<GroupId>) -> Option<Propagation>

@@ -36,11 +36,11 @@ impl<T: Eq + Hash + Copy + Clone + Drop> Sets<T> {
         }
     }
 
-    /// Adds one under a group. If it fails, the sets are of no use.
+    /// Adds one under a group.
     pub(crate) fn insert(&mut self, group: GroupId, one: T) -> Result<(), AllocError>
         ensures there { OnOk result (has T.eq group one self.new ≡ true) }
-        ensures kept { OnOk result ((at : GroupNumber) (other : T) → has T.eq at other self.old ≡ true
-            → has T.eq at other self.new ≡ true) }
+        ensures kept { (at : GroupNumber) (other : T) → has T.eq at other self.old ≡ true
+            → has T.eq at other self.new ≡ true }
     {
         if let Some(set) = self.sets.get_mut(&group) {
             set.insert(one)?;
@@ -50,18 +50,6 @@ impl<T: Eq + Hash + Copy + Clone + Drop> Sets<T> {
         set.insert(one)?;
         self.sets.insert(group, set)?;
         Ok(())
-    }
-
-    /// Takes out all that is under a group. It does not allocate.
-    pub(crate) fn take(&mut self, group: GroupId) -> IndexSet<T>
-        ensures taken { result.keys ≡ kept_in group self.old }
-        ensures rest { (at : GroupNumber) → same_group group at ≡ false → kept_in at self.new ≡ kept_in at self.old }
-    {
-        let alloc = *self.sets.allocator();
-        match self.sets.swap_remove(&group) {
-            Some(set) => set,
-            None => IndexSet::new(alloc),
-        }
     }
 
     /// Takes out one from under a group. It does not allocate.
@@ -79,24 +67,6 @@ impl<T: Eq + Hash + Copy + Clone + Drop> Sets<T> {
     }
 }
 
-/// The same sets of mounts once more.
-pub(crate) fn mounts_copied(sets: &Sets<MountId>) -> Result<Sets<MountId>, AllocError>
-    ensures { IfOk result (λ copy. (at : GroupNumber) → kept_in at copy ≡ kept_in at sets.now) }
-{
-    Ok(Sets {
-        sets: sets.sets.clone()?,
-    })
-}
-
-/// The same sets of groups once more.
-pub(crate) fn groups_copied(sets: &Sets<GroupId>) -> Result<Sets<GroupId>, AllocError>
-    ensures { IfOk result (λ copy. (at : GroupNumber) → kept_in at copy ≡ kept_in at sets.now) }
-{
-    Ok(Sets {
-        sets: sets.sets.clone()?,
-    })
-}
-
 /// Takes out the mounts under a group that have no type. It does not allocate.
 pub(crate) fn keep_typed(
     sets: &mut Sets<MountId>,
@@ -110,6 +80,20 @@ pub(crate) fn keep_typed(
         return;
     };
     set.retain(|mount| types.contains_key(&mount.count));
+    if set.is_empty() {
+        sets.sets.swap_remove(&group);
+    }
+}
+
+/// Takes out the groups under a group that have no master. It does not allocate.
+pub(crate) fn keep_lower(sets: &mut Sets<GroupId>, group: GroupId, above: &BTreeMap<u64, GroupId>)
+    ensures { (at lower : GroupNumber) → IsSome (get nat_cmp above.now lower.count)
+        → has same_group at lower sets.old ≡ true → has same_group at lower sets.new ≡ true }
+{
+    let Some(set) = sets.sets.get_mut(&group) else {
+        return;
+    };
+    set.retain(|lower| above.contains_key(&lower.count));
     if set.is_empty() {
         sets.sets.swap_remove(&group);
     }

@@ -1,7 +1,6 @@
 -- The types of mounts where a group ends and its slaves get its master, one after another.
-use Rattle.std.proofs.Common.{◌≡◌, ℕ, Bool, true, false, true≢false, ◌||◌, List, [], ◌∷◌, ◌++◌, ◌+◌, ◌<◌, map, nat_eq, nat_lt, Option, None, Some, is_some, get_or, length, take, refl, ap, sym, ◌∙◌, cond, arith}
+use Rattle.std.proofs.Common.{◌≡◌, ℕ, Bool, true, false, true≢false, ◌||◌, List, [], ◌∷◌, map, nat_eq, nat_lt, Option, None, Some, is_some, refl, ap, sym, ◌∙◌, cond, arith}
 use Rattle.std.proofs.lemmas.Bool.{and_parts, eqb-true, ltb-true}
-use Rattle.std.proofs.lemmas.List.{map-append, take_more}
 use Rattle.std.proofs.lemmas.Option.{same_Some}
 use Rattle.std.specs.List.{list_all}
 use Rattle.std.specs.Prelude.{find, if◌then◌else◌}
@@ -11,9 +10,7 @@ use Rattle.vt_spec.specs.Machine.Mounts.Propagation.{Private, Shared, Slave, Unb
 use Rattle.vt_spec.proofs.Lists.{Among, among_from_all, map_same}
 use Rattle.vt_group.specs.Grouping.{Grouping, master_in, propagation_in}
 use Rattle.vt_group.specs.Leaving.{lone_group, slave_or_private, type_after_end, type_once_ended}
-use Rattle.vt_group.proofs.Together.{eqb-swapped, is_among-snoc, map-twice, map_alike}
-use Rattle.vt_location.specs.Numbers.{counted}
-use Rattle.vt_location.specs.declared.numbers.MountId.{MountId}
+use Rattle.vt_group.proofs.Together.{eqb-swapped, map-twice, map_alike}
 use Rattle.vt_mount.specs.MountsValue.{MountEntry, are_ascending, changed, mounts_in}
 use Rattle.vt_retype.specs.Leaving.{HaveSources, OnlyTypesChange, after_end, after_end_of, once_left}
 use Rattle.vt_retype.specs.Retyping.{retyped, typed_entry, with_kind}
@@ -148,56 +145,41 @@ module _ (number : ℕ) where
 -- All relatives
 
 module _ (numbers : List ℕ) (lost : ℕ) (heir : Option ℕ) (number : ℕ) where
-  -- one more is looked at
-  handed_more : (entry : MountEntry)
-      → (if nat_eq number (after_end_of numbers lost heir entry).mount.number
-      then after_end lost heir (after_end_of numbers lost heir entry) else after_end_of numbers lost heir entry)
-      ≡ after_end_of (numbers ++ number ∷ []) lost heir entry
-  handed_more entry =
-      by (is_among nat_eq entry.mount.number numbers) (nat_eq number entry.mount.number) refl
-      ∙ sym (ap (λ b. if b then after_end lost heir entry else entry) (is_among-snoc entry.mount.number number numbers))
+  -- the first is handed before the others
+  handed_first : (entry : MountEntry)
+      → after_end_of numbers lost heir (if nat_eq number entry.mount.number then after_end lost heir entry else entry)
+      ≡ after_end_of (number ∷ numbers) lost heir entry
+  handed_first entry =
+      by (nat_eq number entry.mount.number) refl (is_among nat_eq entry.mount.number numbers) refl
     where
-      by : (a b : Bool) → nat_eq number entry.mount.number ≡ b
-          → (if nat_eq number (if a then after_end lost heir entry else entry).mount.number
-          then after_end lost heir (if a then after_end lost heir entry else entry)
-          else (if a then after_end lost heir entry else entry))
-          ≡ (if a || nat_eq entry.mount.number number then after_end lost heir entry else entry)
-      by true true is =
-          ap (λ b. if b then after_end lost heir (after_end lost heir entry) else after_end lost heir entry) is
+      by : (b : Bool) → nat_eq number entry.mount.number ≡ b → (a : Bool) → is_among nat_eq entry.mount.number numbers ≡ a
+          → after_end_of numbers lost heir (if nat_eq number entry.mount.number then after_end lost heir entry else entry)
+          ≡ after_end_of (number ∷ numbers) lost heir entry
+      by true is true among =
+          ap (λ b. after_end_of numbers lost heir (if b then after_end lost heir entry else entry)) is
+          ∙ ap (λ b. if b then after_end lost heir (after_end lost heir entry) else after_end lost heir entry) among
           ∙ ap (λ kind. with_kind kind entry) (after_end-twice lost heir entry.mount.propagation)
-      by true false is =
-          ap (λ b. if b then after_end lost heir (after_end lost heir entry) else after_end lost heir entry) is
-      by false true is =
-          ap (λ b. if b then after_end lost heir entry else entry) is
-          ∙ sym (ap (λ b. if b then after_end lost heir entry else entry)
+          ∙ sym (ap (λ b. if b || is_among nat_eq entry.mount.number numbers then after_end lost heir entry else entry)
           (eqb-swapped number entry.mount.number true is))
-      by false false is =
-          ap (λ b. if b then after_end lost heir entry else entry) is
-          ∙ sym (ap (λ b. if b then after_end lost heir entry else entry)
+      by true is false among =
+          ap (λ b. after_end_of numbers lost heir (if b then after_end lost heir entry else entry)) is
+          ∙ ap (λ b. if b then after_end lost heir (after_end lost heir entry) else after_end lost heir entry) among
+          ∙ sym (ap (λ b. if b || is_among nat_eq entry.mount.number numbers then after_end lost heir entry else entry)
+          (eqb-swapped number entry.mount.number true is))
+      by false is a among =
+          ap (λ b. after_end_of numbers lost heir (if b then after_end lost heir entry else entry)) is
+          ∙ sym (ap (λ b. if b || is_among nat_eq entry.mount.number numbers then after_end lost heir entry else entry)
           (eqb-swapped number entry.mount.number false is))
 
-  pub changed-handed : (entries : List MountEntry)
-      → changed number (after_end lost heir) (map (after_end_of numbers lost heir) entries)
-      ≡ map (after_end_of (numbers ++ number ∷ []) lost heir) entries
-  changed-handed [] = refl
-  changed-handed (entry ∷ entries) = λ i. handed_more entry i ∷ changed-handed entries i
+  pub handed_next : (entries : List MountEntry)
+      → map (after_end_of numbers lost heir) (changed number (after_end lost heir) entries)
+      ≡ map (after_end_of (number ∷ numbers) lost heir) entries
+  handed_next [] = refl
+  handed_next (entry ∷ entries) = λ i. handed_first entry i ∷ handed_next entries i
 
 pub none_handed : (lost : ℕ) (heir : Option ℕ) (entries : List MountEntry)
     → entries ≡ map (after_end_of [] lost heir) entries
 none_handed lost heir entries = sym (map_same (after_end_of [] lost heir) entries (λ entry m. refl))
-
-module _ (lost : ℕ) (heir : Option ℕ) (old now new : List MountEntry) (ids : List MountId) (i : ℕ) (default : MountId)
-    (less : i < length ids) where
-  pub handed_next : new ≡ changed (counted (get_or ids i default).count) (after_end lost heir) now
-      → now ≡ map (after_end_of (map (λ id. counted id.count) (take i ids)) lost heir) old
-      → new ≡ map (after_end_of (map (λ id. counted id.count) (take (i + 1) ids)) lost heir) old
-  handed_next next sofar =
-      next
-      ∙ ap (changed (counted (get_or ids i default).count) (after_end lost heir)) sofar
-      ∙ changed-handed (map (λ id. counted id.count) (take i ids)) lost heir (counted (get_or ids i default).count) old
-      ∙ ap (λ numbers. map (after_end_of numbers lost heir) old)
-      (sym (map-append (λ (id : MountId). counted id.count) (take i ids) (get_or ids i default ∷ []))
-      ∙ ap (map (λ id. counted id.count)) (sym (take_more ids i default less)))
 
 -- only types of slaves change
 

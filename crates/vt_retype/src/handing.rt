@@ -8,7 +8,7 @@ ghost use Rattle.vt_location.specs.Numbers.{counted};
 ghost use Rattle.vt_mount.specs.MountsValue.{changed};
 ghost use Rattle.vt_retype.specs.Leaving.{HaveSources, OnlyTypesChange, after_end, after_end_of, once_left};
 
-use vt_group::Groups;
+use vt_group::{Groups, Listed};
 use vt_location::{GroupId, MountId, Propagation};
 use vt_mount::Mounts;
 
@@ -25,12 +25,17 @@ pub(crate) fn hand_on(mounts: &mut Mounts, groups: &Groups, id: MountId)
 }
 
 // The slaves of a group that ends which are among these mounts get its master, or become private.
-fn hand_to_all(mounts: &mut Mounts, relatives: &[MountId], lost: GroupId, heir: Option<GroupId>)
-    ensures { mounts.new ≡ map (after_end_of (map (λ id. counted id.count) relatives.now) (counted lost.count)
+fn hand_to_all(
+    mounts: &mut Mounts,
+    relatives: Listed<'_, MountId>,
+    lost: GroupId,
+    heir: Option<GroupId>,
+)
+    ensures { mounts.new ≡ map (after_end_of (map (λ id. counted id.count) relatives.entry) (counted lost.count)
         (option_map group_number heir)) mounts.old }
 {
     for id in relatives {
-        hand_to(mounts, *id, lost, heir);
+        hand_to(mounts, id, lost, heir);
     }
 }
 

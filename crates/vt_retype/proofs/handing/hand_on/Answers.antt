@@ -12,7 +12,7 @@ returns-in_default-clause-slaves c sources =
 
 pub returns-clause-slaves : goal.returns-clause-slaves
 returns-clause-slaves c sources =
-    let numbers = map (λ id. counted id.count) c.relatives.result.now in
+    let numbers = map (λ id. counted id.count) c.relatives.result in
     let lost = counted c.in-Some.lost.count in
     c.hand_to_all.ensures
     ∙ ap (λ heir. map (after_end_of numbers lost heir) c.args.mounts.now) c.master_of.ensures
@@ -22,5 +22,5 @@ returns-clause-slaves c sources =
 pub returns-clause-types : goal.returns-clause-types
 returns-clause-types c =
     subst (OnlyTypesChange c.args.mounts.now) (sym c.hand_to_all.ensures)
-    (only_types-handed (map (λ id. counted id.count) c.relatives.result.now) (counted c.in-Some.lost.count)
+    (only_types-handed (map (λ id. counted id.count) c.relatives.result) (counted c.in-Some.lost.count)
     (option_map group_number c.master_of.result) c.args.mounts.now)

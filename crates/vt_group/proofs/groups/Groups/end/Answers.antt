@@ -1,23 +1,26 @@
-use Rattle.std.proofs.Common.{◌≡◌, None, Option, Some, ap, is_some, nat_eq, option_map, sym, ⊎_elim, ◌∙◌, ℕ}
-use Rattle.std.proofs.lemmas.Bool.{and_parts}
+use Rattle.std.proofs.Common.{◌≡◌, None, Option, Some, ap, eq-eqb, is_some, map, nat_eq, option_map, refl, sym, true≢false, ◌∙◌, ℕ}
+use Rattle.vt_spec.specs.Lists.{holds_of}
+use Rattle.vt_spec.specs.Machine.Mounts.{group_of}
 use Rattle.std.specs.BTreeMap.{get}
 use Rattle.std.specs.Ordering.{nat_cmp}
 use Rattle.std.specs.Prelude.{filter_map, if◌then◌else◌}
 use Rattle.vt_location.specs.declared.numbers.GroupId.{GroupId}
 use Rattle.vt_location.specs.MountValue.{propagation_of}
 use Rattle.vt_location.specs.Numbers.{counted}
-use Rattle.vt_group.specs.Families.{has_source}
 use Rattle.vt_group.specs.Grouping.{are_rising, master_in, propagation_in}
 use Rattle.vt_group.specs.Handing.{group_handed, kind_handed}
-use Rattle.vt_group.specs.Indexed.{group_at, is_listed, is_lower, mount_at}
+use Rattle.vt_group.specs.Indexed.{group_at, has_source, is_lower, mount_at}
 use Rattle.vt_group.specs.Sets.{same_group}
-use Rattle.vt_group.specs.Steps.{group_number, handed, handed_entry, handed_peer, handed_type}
+use Rattle.vt_group.specs.Steps.{group_number, handed, handed_entry, handed_peer, handed_type, numbered_master}
 use Rattle.vt_group.proofs.CountLemmas.{lookup-numbered}
-use Rattle.vt_group.proofs.Ending.{entries_ended, group_lower, held_not, kind_listed, none_or, not_removed, removed_at, was_found}
+use Rattle.vt_group.proofs.Ending.{entries_ended, held_not, none_or, not_removed, removed_at, was_handed}
 use Rattle.vt_group.proofs.EndedTypes.{lookup-changed, rising_numbers, type-ended}
 use Rattle.vt_group.proofs.Handed.{group_seen, kind_seen, left_at, unhanded_group, unhanded_kind}
 use Rattle.vt_group.proofs.Regrouping.{keys}
-use Rattle.vt_group.proofs.Relatives.{relative_listed}
+use Rattle.vt_group.proofs.IndexLemmas.{relative_of_source}
+use Rattle.vt_group.proofs.Invariant.{at_nat}
+use Rattle.vt_group.proofs.Members.{member_found}
+use Rattle.vt_group.proofs.Answering.{shown-type}
 use Rattle.vt_group.proofs.SetsLemmas.{same_id}
 use Rattle.vt_group.proofs.groups.Groups.end.Goals as goal
 
@@ -39,7 +42,7 @@ returns-clause-ended c =
           (c.hand_mounts.ensures.each count)
           (λ kind at apart. unhanded_kind lost heir kind (held_not (has_source lost kind) _
           (λ source. c.relatives.ensures (mount_at count)
-          (relative_listed c.self.inside.index (mount_at count) kind lost source (c.self.invariant.listed count kind at)))
+          (relative_of_source c.self.inside.index (mount_at count) kind lost source (c.self.invariant.listed count kind at)))
           apart))) i;
       masters = entries_ended group_number
           (λ group master. if nat_eq group number then None else handed number left master)
@@ -51,7 +54,7 @@ returns-clause-ended c =
           (get nat_cmp c.self.inside.above count) (get nat_cmp c.hand_groups.new.above count) _
           (c.hand_groups.ensures.each count)
           (λ master at apart. unhanded_group lost heir master (held_not (same_group master lost) _
-          (λ same. c.kindred.ensures (group_at count)
+          (λ same. c.lowers.ensures (group_at count)
           (ap (is_lower c.self.inside.index (group_at count)) (same_id master lost same)
           ∙ c.self.invariant.lower count master at)) apart)))) i;
     })
@@ -82,26 +85,37 @@ returns-clause-masters c other =
 pub invariant_of-self : goal.invariant_of-self
 invariant_of-self c =
     let lost = c.args.group in
+    let number = counted lost.count in
     let heir : Option GroupId = c.copied-heir.result in
     let index = c.self.inside.index in
-    let above = λ (master : GroupId) (is : heir ≡ Some master). (and_parts _ _ (c.self.invariant.lower c.args.group.count master
-    (sym c.get.ensures.value ∙ sym c.copied-heir.ensures ∙ is))).1 in
+    let old = c.args.self.now in
+    let above = λ (master : GroupId) (is : heir ≡ Some master). c.self.invariant.lower lost.count master
+    (sym c.get.ensures.value ∙ sym c.copied-heir.ensures ∙ is) in
     record {
       listed = λ mount kind at.
-          let was = was_found (kind_handed lost heir) (get nat_cmp c.self.inside.mounts mount)
-          (get nat_cmp c.hand_mounts.new.types mount) _ kind (c.hand_mounts.ensures.each mount) at in
-          let listed = c.self.invariant.listed mount was.0 was.1 in
-          c.settle.ensures.kept (mount_at mount) kind (ap is_some at)
-          (⊎_elim (λ same. ap (is_listed index (mount_at mount)) (sym same) ∙ listed)
-          (λ hands. kind_listed index lost heir above (mount_at mount) was.0 kind listed hands) was.2);
+          let was = was_handed (kind_handed lost heir) (get nat_cmp c.self.inside.mounts mount)
+          (get nat_cmp c.hand_mounts.new.types mount) _ kind (c.hand_mounts.ensures.each mount)
+          (λ kind at apart. unhanded_kind lost heir kind (held_not (has_source lost kind) _
+          (λ source. c.relatives.ensures (mount_at mount)
+          (relative_of_source index (mount_at mount) kind lost source (c.self.invariant.listed mount kind at)))
+          apart)) at in
+          let seen = shown-type mount c.self.inside.mounts.entries (map numbered_master c.self.inside.above.entries) old
+          c.self.view_is (Some was.0) (sym was.1) in
+          c.end.ensures.kept.mounts (mount_at mount) was.0 kind above
+          (λ shared. true≢false (sym (member_found number (counted mount) old.peers
+          (ap (λ type. holds_of (nat_eq number) (group_of type)) (sym seen ∙ ap propagation_of shared)
+          ∙ eq-eqb number number refl)) ∙ c.requires))
+          (ap is_some at) was.2 (c.self.invariant.listed mount was.0 was.1);
       lower = λ lower upper at.
           let mid = not_removed _ _ _ upper (c.remove.ensures.updates.0 lower) at in
-          let was = was_found (group_handed lost heir) (get nat_cmp c.self.inside.above lower)
-          (get nat_cmp c.hand_groups.new.above lower) _ upper (c.hand_groups.ensures.each lower) mid in
-          let listed = c.self.invariant.lower lower was.0 was.1 in
-          c.settle.ensures.lower (group_at lower) upper (ap is_some at)
-          (⊎_elim (λ same. ap (is_lower index (group_at lower)) (sym same) ∙ listed)
-          (λ hands. group_lower index lost heir above (group_at lower) was.0 upper listed hands) was.2);
+          let was = was_handed (group_handed lost heir) (get nat_cmp c.self.inside.above lower)
+          (get nat_cmp c.hand_groups.new.above lower) _ upper (c.hand_groups.ensures.each lower)
+          (λ master at apart. unhanded_group lost heir master (held_not (same_group master lost) _
+          (λ same. c.lowers.ensures (group_at lower)
+          (ap (is_lower index (group_at lower)) (same_id master lost same)
+          ∙ c.self.invariant.lower lower master at)) apart)) mid.0 in
+          c.end.ensures.kept.groups (group_at lower) was.0 upper above (sym (at_nat lost.count lower) ∙ mid.1)
+          (ap is_some at) was.2 (c.self.invariant.lower lower was.0 was.1);
       ordered = c.hand_mounts.ensures.ordered c.self.invariant.ordered;
       ordered_above = c.remove.ensures.ordered;
     }

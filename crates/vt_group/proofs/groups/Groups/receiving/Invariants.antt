@@ -1,18 +1,25 @@
-use Rattle.std.proofs.Common.{◌≡◌, None, ℕ, nat_eq, option_map, take}
+use Rattle.std.proofs.Common.{◌≡◌, ◌⊎◌, ◌-◌, ◌≤◌, ℕ, Some, is_some, length, option_map, suc, take, true}
 use Rattle.std.specs.BTreeMap.{IsOrdered, get}
-use Rattle.std.specs.List.{list_any}
 use Rattle.std.specs.Ordering.{nat_cmp}
-use Rattle.std.specs.Prelude.{if◌then◌else◌}
 use Rattle.vt_location.specs.MountValue.{propagation_of}
 use Rattle.vt_location.specs.Numbers.{counted}
-use Rattle.vt_group.specs.Grouping.{propagation_in}
-use Rattle.vt_group.specs.Receiving.{receiving_type}
+use Rattle.vt_group.specs.Grouping.{master_in}
+use Rattle.vt_group.specs.Receiving.{Reaches, is_in, type_from}
 use Rattle.vt_group.proofs.groups.Groups.receiving.Given as goal
 
-abbrev pub invariant-loop-mount : goal.invariant-loop-mount
-invariant-loop-mount l =
-    IsOrdered nat_cmp l.types
-    × ((mount : ℕ) → option_map propagation_of (get nat_cmp l.types mount)
-    ≡ (if list_any (λ id. nat_eq mount id.count) (take l.mount-index l.mount-items)
-    then receiving_type l.self (counted l.group.count) (propagation_in l.self (counted mount))
-    else None))
+abbrev pub invariant-loop-next : goal.invariant-loop-next
+invariant-loop-next l = record {
+  within : l.next ≤ length l.found.keys;
+  first : is_in l.found.keys (counted l.fn.group.count) ≡ true;
+  known : (one : ℕ) → is_in l.found.keys one ≡ true
+      → (one ≡ counted l.fn.group.count) ⊎ (is_some (master_in l.self one) ≡ true);
+  reaches : (one : ℕ) → is_in l.found.keys one ≡ true → Reaches l.self (counted l.fn.group.count) one;
+  lower : (one upper : ℕ) → master_in l.self one ≡ Some upper → is_in (take l.next l.found.keys) upper ≡ true
+      → is_in l.found.keys one ≡ true;
+  ordered : IsOrdered nat_cmp l.types;
+  each : (mount : ℕ) → option_map propagation_of (get nat_cmp l.types mount)
+      ≡ type_from l.self (is_in (take l.next l.found.keys)) (counted mount);
+}
+
+abbrev pub decreases-loop-next : goal.decreases-loop-next
+decreases-loop-next l = suc (length l.self.masters) - l.next

@@ -2,8 +2,7 @@ use Rattle.std.proofs.Common.{◌≡◌, true}
 use Rattle.vt_group.specs.Indexed.{group_at, is_listed, mount_at}
 use Rattle.vt_group.proofs.Invariant.{put_each}
 use Rattle.std.specs.BTreeMap.{get}
-use Rattle.std.proofs.lemmas.Bool.{and_parts}
-use Rattle.std.proofs.Common.{None, sym, ap, ◌∙◌, map}
+use Rattle.std.proofs.Common.{refl, sym, ap, ◌∙◌, map}
 use Rattle.std.specs.BTreeMap.{insert_entry}
 use Rattle.std.specs.Ordering.{nat_cmp}
 use Rattle.vt_spec.specs.Machine.Mounts.{group_of}
@@ -12,7 +11,7 @@ use Rattle.vt_location.specs.MountValue.{propagation_of}
 use Rattle.vt_group.specs.Grouping.{Grouping, propagation_in}
 use Rattle.vt_group.specs.Leaving.{lost_group, type_once_ended}
 use Rattle.vt_group.specs.Steps.{ended_if_lost, numbered_peer}
-use Rattle.vt_group.proofs.Answering.{listed_ok, shown-type, unlisted, unlisted_none}
+use Rattle.vt_group.proofs.Answering.{listed_ok, shown-type}
 use Rattle.vt_group.proofs.CountLemmas.{inserted-numbered}
 use Rattle.vt_group.proofs.groups.Groups.set.Goals as goal
 
@@ -26,18 +25,6 @@ returns-clause-ok c =
     ∙ (λ i. insert_entry nat_cmp (c.self.view_is i).peers (counted count) (propagation_of c.args.kind)) in
     c.end_if_lost.ensures.ended
     ∙ (λ i. ended_if_lost (group_of (old i)) (record { peers = inserted i; masters = (c.self.view_is i).masters }))
-
-pub returns-in_default-clause-private : goal.returns-in_default-clause-private
-returns-in_default-clause-private c =
-    sym (shown-type c.args.mount.count c.self.inside.mounts.entries _ c.args.self.now c.self.view_is None
-    (sym c.in_default.ensures.absent))
-
-pub returns-then-is_err-clause-private : goal.returns-then-is_err-clause-private
-returns-then-is_err-clause-private c =
-    sym (shown-type c.args.mount.count c.self.inside.mounts.entries _ c.args.self.now c.self.view_is None
-    (sym (unlisted_none (get nat_cmp c.self.inside.mounts c.args.mount.count)
-    (λ kind at. (and_parts _ _ (c.self.invariant.listed c.args.mount.count kind at)).0)
-    (unlisted c.list.result c.list.ensures.absent (sym c.is_err.ensures.value ∙ c.if-is_err.true)))))
 
 pub returns-clause-types : goal.returns-clause-types
 returns-clause-types c other =
@@ -53,13 +40,13 @@ returns-clause-types c other =
 
 pub invariant_of-self-2 : goal.invariant_of-self-2
 invariant_of-self-2 c = record {
-  listed = put_each (λ mount kind. is_listed c.change.new.self (mount_at mount) kind ≡ true)
+  listed = put_each (λ mount kind. is_listed c.leave.new.self (mount_at mount) kind ≡ true)
       (get nat_cmp c.self.inside.mounts) (get nat_cmp c.insert.new.self) c.args.mount.count c.args.kind
       c.in-Ok.ensures.updates.0
-      (c.change.ensures.own (listed_ok c.list.result c.list.ensures.ok (sym c.is_err.ensures.value ∙ c.if-is_err.false)))
-      (λ mount kind apart at. c.change.ensures.others (mount_at mount) kind apart
+      (c.leave.ensures.own c.args.kind refl (listed_ok c.list.result c.list.ensures.ok (sym c.is_err.ensures.value ∙ c.if-is_err.false)))
+      (λ mount kind apart at. c.leave.ensures.others (mount_at mount) kind apart
       (c.list.ensures.kept (mount_at mount) kind (c.self.invariant.listed mount kind at)));
-  lower = λ lower upper at. c.change.ensures.lower (group_at lower) upper
+  lower = λ lower upper at. c.leave.ensures.lower (group_at lower) upper
       (c.list.ensures.lower (group_at lower) upper (c.self.invariant.lower lower upper at));
   ordered = c.in-Ok.ensures.ordered;
   ordered_above = c.self.invariant.ordered_above;

@@ -66,7 +66,7 @@ pub invariant_of-self-then-is_err : goal.invariant_of-self-then-is_err
 invariant_of-self-then-is_err c =
     let state = c.then-is_err.self-inside in
     let inside = c.self.inside in
-    lists_unlisted state.index c.unlist_all.new.self state.mounts state.above
+    lists_unlisted state.index c.part_all.new.self state.mounts state.above
     (elim c.then-is_err.branch [
       | then-is_err-via-then-is_err w ↦
           subst (λ s. Lists s.index s.mounts s.above) (sym w.self-inside-is)
@@ -83,7 +83,8 @@ invariant_of-self-then-is_err c =
           (w.add_all.ensures.ordered c.self.invariant.ordered)
           (w.add_all.ensures.ordered_above c.self.invariant.ordered_above))
     ])
-    c.unlist_all.ensures.kept c.unlist_all.ensures.lower
+    (λ mount kind at is. c.part_all.ensures.kept mount kind (c.unlist_all.ensures.kept mount kind at is))
+    (λ low up at is. c.part_all.ensures.lower low up at (c.unlist_all.ensures.lower low up is))
 
 pub returns-then-is_err-clause-err : goal.returns-then-is_err-clause-err
 returns-then-is_err-clause-err c =

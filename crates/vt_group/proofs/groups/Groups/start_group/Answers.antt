@@ -2,7 +2,7 @@ use Rattle.std.specs.BTreeMap.{get}
 use Rattle.vt_location.specs.declared.mounts.Propagation.TheVariants.{Shared as SharedIn}
 use Rattle.vt_group.specs.Indexed.{group_at, is_listed, is_lower, mount_at}
 use Rattle.vt_group.proofs.Invariant.{put_each}
-use Rattle.std.proofs.Common.{◌≡◌, None, Option, Some, ap, cond, false, is_some, map, nat_eq, option_map, subst, sym, true, true≢false, ℕ, ◌∙◌}
+use Rattle.std.proofs.Common.{refl, ◌≡◌, None, Option, Some, ap, cond, false, is_some, map, nat_eq, option_map, subst, sym, true, true≢false, ℕ, ◌∙◌}
 use Rattle.std.specs.Prelude.{IfSome}
 use Rattle.std.specs.BTreeMap.{insert_entry}
 use Rattle.std.specs.Map.{remove_entry}
@@ -104,18 +104,18 @@ invariant_of-self-2 c =
     let joined = listed_ok c.join.result c.join.ensures.ok
     (sym c.is_err-else-is_err.ensures.value ∙ c.if-is_err-2.false) in
     record {
-      listed = put_each (λ mount kind. is_listed c.change.new.self (mount_at mount) kind ≡ true)
+      listed = put_each (λ mount kind. is_listed c.leave.new.self (mount_at mount) kind ≡ true)
           (get nat_cmp c.self.inside.mounts) (get nat_cmp c.insert-2.new.self) c.args.mount.count (SharedIn c.args.group)
           c.in-Ok-insert.ensures.updates.0
-          (c.change.ensures.own (c.join.ensures.kept c.args.mount (SharedIn c.args.group) listed))
-          (λ mount kind apart at. c.change.ensures.others (mount_at mount) kind apart
+          (c.leave.ensures.own (SharedIn c.args.group) refl (c.join.ensures.kept c.args.mount (SharedIn c.args.group) listed))
+          (λ mount kind apart at. c.leave.ensures.others (mount_at mount) kind apart
           (c.join.ensures.kept (mount_at mount) kind
           (c.list.ensures.kept (mount_at mount) kind (c.self.invariant.listed mount kind at))));
-      lower = put_each (λ lower upper. is_lower c.change.new.self (group_at lower) upper ≡ true)
+      lower = put_each (λ lower upper. is_lower c.leave.new.self (group_at lower) upper ≡ true)
           (get nat_cmp c.self.inside.above) (get nat_cmp c.insert.new.self) c.args.group.count c.in-Some.master
           c.in-Ok.ensures.updates.0
-          (c.change.ensures.lower c.args.group c.in-Some.master joined)
-          (λ lower upper apart at. c.change.ensures.lower (group_at lower) upper
+          (c.leave.ensures.lower c.args.group c.in-Some.master joined)
+          (λ lower upper apart at. c.leave.ensures.lower (group_at lower) upper
           (c.join.ensures.lower (group_at lower) upper
           (c.list.ensures.lower (group_at lower) upper (c.self.invariant.lower lower upper at))));
       ordered = c.in-Ok-insert.ensures.ordered;

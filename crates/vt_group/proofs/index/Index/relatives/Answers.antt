@@ -1,9 +1,12 @@
-use Rattle.std.proofs.Common.{ap, sym, ◌∙◌}
-use Rattle.std.proofs.lemmas.Bool.{and_parts}
-use Rattle.vt_group.specs.Indexed.{all_relate}
+use Rattle.std.proofs.Common.{ap, ◌∙◌}
+use Rattle.std.specs.List.{list_any}
+use Rattle.vt_group.specs.Sets.{has, kept_in, same_id}
+use Rattle.vt_group.proofs.IndexLemmas.{any_flat}
 use Rattle.vt_group.proofs.index.Index.relatives.Goals as goal
 
-pub returns-in-Some : goal.returns-in-Some
-returns-in-Some c mount relative =
-    c.relatives.ensures mount
-    (ap (λ families. all_relate families mount c.args.group) (sym c.in-Some.is) ∙ (and_parts _ _ relative).1)
+pub returns : goal.returns
+returns c mount is =
+    ap (list_any (same_id mount)) c.new.ensures
+    ∙ any_flat (same_id mount) (λ name. kept_in name c.args.self.now.mounts) c.of.result.now
+    ∙ ap (list_any (λ name. has same_id name mount c.args.self.now.mounts)) c.of.ensures
+    ∙ is

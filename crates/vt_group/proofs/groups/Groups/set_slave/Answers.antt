@@ -1,0 +1,61 @@
+use Rattle.std.proofs.Common.{◌≡◌, ap, map, refl, sym, true, ◌∙◌}
+use Rattle.std.proofs.lemmas.Bool.{and_parts}
+use Rattle.std.specs.BTreeMap.{get, insert_entry}
+use Rattle.std.specs.Ordering.{nat_cmp}
+use Rattle.vt_spec.specs.Machine.Mounts.{group_of}
+use Rattle.vt_location.specs.declared.mounts.Propagation.TheVariants.{Shared, Slave}
+use Rattle.vt_location.specs.MountValue.{propagation_of}
+use Rattle.vt_location.specs.Numbers.{counted}
+use Rattle.vt_group.specs.Grouping.{Grouping, propagation_in}
+use Rattle.vt_group.specs.Indexed.{group_at, is_listed, mount_at}
+use Rattle.vt_group.specs.Leaving.{lost_group, type_once_ended}
+use Rattle.vt_group.specs.Steps.{ended_if_lost, numbered_peer}
+use Rattle.vt_group.proofs.Answering.{ok_where_some}
+use Rattle.vt_group.proofs.Coming.{kept_shared}
+use Rattle.vt_group.proofs.CountLemmas.{inserted-numbered}
+use Rattle.vt_group.proofs.Invariant.{put_each}
+use Rattle.vt_group.proofs.groups.Groups.set_slave.Goals as goal
+
+pub returns-clause-new : goal.returns-clause-new
+returns-clause-new c =
+    let es = c.self.inside.mounts.entries in
+    let count = c.args.mount.count in
+    let found = kept_shared es count c.args.group (ap (λ groups. propagation_in groups (counted count)) c.self.view_is ∙ c.requires) in
+    let inserted = ap (map numbered_peer) (ok_where_some c.insert.result (get nat_cmp c.self.inside.mounts count) _ found
+    c.insert.ensures.absent c.insert.ensures.entries)
+    ∙ inserted-numbered propagation_of count (Slave c.args.group) es
+    ∙ (λ i. insert_entry nat_cmp (c.self.view_is i).peers (counted count) (propagation_of (Slave c.args.group))) in
+    c.end_if_lost.ensures.ended
+    ∙ (λ i. ended_if_lost (group_of (sym c.requires i)) (record { peers = inserted i; masters = (c.self.view_is i).masters }))
+
+pub returns-clause-types : goal.returns-clause-types
+returns-clause-types c other =
+    let es = c.self.inside.mounts.entries in
+    let count = c.args.mount.count in
+    let found = kept_shared es count c.args.group (ap (λ groups. propagation_in groups (counted count)) c.self.view_is ∙ c.requires) in
+    let inserted = ap (map numbered_peer) (ok_where_some c.insert.result (get nat_cmp c.self.inside.mounts count) _ found
+    c.insert.ensures.absent c.insert.ensures.entries)
+    ∙ inserted-numbered propagation_of count (Slave c.args.group) es
+    ∙ (λ i. insert_entry nat_cmp (c.self.view_is i).peers (counted count) (propagation_of (Slave c.args.group))) in
+    c.end_if_lost.ensures.types other
+    ∙ (λ i. let now : Grouping = record { peers = inserted i; masters = (c.self.view_is i).masters } in
+    type_once_ended now (lost_group now (group_of (sym c.requires i))) (propagation_in now other))
+
+pub invariant_of-self : goal.invariant_of-self
+invariant_of-self c =
+    let es = c.self.inside.mounts.entries in
+    let count = c.args.mount.count in
+    let found = kept_shared es count c.args.group (ap (λ groups. propagation_in groups (counted count)) c.self.view_is ∙ c.requires) in
+    let updates = ok_where_some c.insert.result (get nat_cmp c.self.inside.mounts count) _ found
+    c.insert.ensures.absent c.insert.ensures.updates in
+    record {
+      listed = put_each (λ mount kind. is_listed c.leave.new.self (mount_at mount) kind ≡ true)
+          (get nat_cmp c.self.inside.mounts) (get nat_cmp c.insert.new.self) count (Slave c.args.group) updates.0
+          (c.leave.ensures.own (Slave c.args.group) refl
+          (and_parts _ _ (c.self.invariant.listed count (Shared c.args.group) found)).0)
+          (λ mount kind apart at. c.leave.ensures.others (mount_at mount) kind apart
+          (c.self.invariant.listed mount kind at));
+      lower = λ lower upper at. c.leave.ensures.lower (group_at lower) upper (c.self.invariant.lower lower upper at);
+      ordered = c.insert.ensures.ordered;
+      ordered_above = c.self.invariant.ordered_above;
+    }

@@ -1,0 +1,180 @@
+//! Names, under which the mounts and the lower groups of each group are kept.
+ghost use Rattle.std.specs.Prelude.{◌≡◌, ◌<◌, ◌≤◌, [], Bool, drop, IfOk, false, is_some, length, true};
+ghost use Rattle.std.specs.List.{list_any};
+ghost use Rattle.std.specs.Map.{lookup};
+ghost use Rattle.vt_location.specs.declared.numbers.GroupId.{GroupId as GroupNumber};
+ghost use Rattle.vt_location.specs.declared.numbers.MountId.{MountId as MountNumber};
+ghost use Rattle.vt_group.specs.Names.{KeepsNames, is_under, names_of, names_of_any};
+ghost use Rattle.vt_group.specs.Sets.{has, same_group, same_id};
+
+use crate::sets::Sets;
+use indexmap::IndexMap;
+use std::alloc::{AllocError, Global};
+use std::collections::LinkedList;
+use std::marker::Model;
+use vt_location::{GroupId, MountId};
+
+// As many names as a list has room for.
+const MOST_NAMES: usize = 0x7fff_ffff_ffff_ffff;
+
+/// The names of each group. When a group ends its heir takes over its names, and with them all that is kept under them,
+/// of which nothing has to be moved.
+#[derive(Debug, Drop)]
+pub(crate) struct Names {
+    lists: IndexMap<GroupId, LinkedList<GroupId>>,
+    // The names of a group that has none.
+    none: LinkedList<GroupId>,
+    // How many names were made, so that two lists are known to fit into one.
+    made: usize,
+}
+
+impl Model for Names {
+    ghost use Rattle.std.specs.Prelude.{◌≡◌, ◌<◌, ◌≤◌, ◌^◌, [], List};
+    ghost use Rattle.vt_location.specs.declared.numbers.GroupId.{GroupId};
+    ghost use Rattle.vt_group.specs.Names.{count_names};
+
+    ghost Value = { List (GroupId × List GroupId) };
+
+    ghost view = { λ n. n.lists.entries };
+
+    ghost invariant = { λ n. (n.none ≡ []) × (count_names n.lists.entries ≤ n.made) × (n.made < 2 ^ 63) };
+}
+
+impl Names {
+    /// No names. It does not allocate.
+    pub(crate) fn new(alloc: Global) -> Self {
+        Names {
+            lists: IndexMap::new(alloc),
+            none: LinkedList::new(alloc),
+            made: 0,
+        }
+    }
+
+    /// The allocator of the lists.
+    pub(crate) fn allocator(&self) -> Global {
+        *self.lists.allocator()
+    }
+
+    /// The names of a group.
+    pub(crate) fn of(&self, group: GroupId) -> &LinkedList<GroupId>
+        ensures { result.now ≡ names_of self.now group }
+    {
+        match self.lists.get(&group) {
+            Some(list) => list,
+            None => &self.none,
+        }
+    }
+
+    /// The names of a group, if any.
+    pub(crate) fn of_any(&self, group: Option<GroupId>) -> &LinkedList<GroupId>
+        ensures { result.now ≡ names_of_any self.now group }
+    {
+        match group {
+            Some(group) => self.of(group),
+            None => &self.none,
+        }
+    }
+
+    /// One of the names of a group, which is its own number if it had none.
+    pub(crate) fn name(&mut self, group: GroupId) -> Result<GroupId, AllocError>
+        ensures named { IfOk result (λ name. (test : GroupNumber → Bool) → test name ≡ true
+            → list_any test (names_of self.new group) ≡ true) }
+        ensures kept { KeepsNames self.old self.new }
+    {
+        if let Some(name) = self.of(group).front() {
+            return Ok(*name);
+        }
+        self.start(group)
+    }
+
+    fn start(&mut self, group: GroupId) -> Result<GroupId, AllocError>
+        requires { names_of self.old group ≡ [] }
+        ensures named { IfOk result (λ name. (test : GroupNumber → Bool) → test name ≡ true
+            → list_any test (names_of self.new group) ≡ true) }
+        ensures kept { KeepsNames self.old self.new }
+    {
+        if self.made == MOST_NAMES {
+            return Err(AllocError);
+        }
+        let mut list = LinkedList::new(self.allocator());
+        list.push_back(group)?;
+        self.lists.insert(group, list)?;
+        self.made += 1;
+        Ok(group)
+    }
+
+    /// Drops names of a group under which nothing is kept. It does not allocate.
+    pub(crate) fn prune(&mut self, group: GroupId, mounts: &Sets<MountId>, lowers: &Sets<GroupId>)
+        ensures mounts { (mount : MountNumber) (at : GroupNumber) → is_under same_id self.old mounts.now mount at ≡ true
+            → is_under same_id self.new mounts.now mount at ≡ true }
+        ensures lowers { (lower at : GroupNumber) → is_under same_group self.old lowers.now lower at ≡ true
+            → is_under same_group self.new lowers.now lower at ≡ true }
+    {
+        let Some(list) = self.lists.get_mut(&group) else {
+            return;
+        };
+        drop_unused(list, mounts, lowers);
+        if list.is_empty() {
+            self.forget(group);
+        }
+    }
+
+    /// The names of a group that has ended become those of another, which has names. It does not allocate.
+    pub(crate) fn inherit(&mut self, lost: GroupId, heir: GroupId)
+        ensures own { same_group lost heir ≡ false
+            → is_some (lookup (same_group heir) self.old) ≡ true
+            → (test : GroupNumber → Bool) → list_any test (names_of self.old lost) ≡ true
+            → list_any test (names_of self.new heir) ≡ true }
+        ensures kept { (at : GroupNumber) (test : GroupNumber → Bool) → same_group lost at ≡ false
+            → list_any test (names_of self.old at) ≡ true → list_any test (names_of self.new at) ≡ true }
+    {
+        let Some(mut list) = self.lists.swap_remove(&lost) else {
+            return;
+        };
+        if let Some(own) = self.lists.get_mut(&heir) {
+            // It cannot fail: so few names were made.
+            let _ = own.append(&mut list);
+        }
+    }
+
+    /// Forgets the names of a group that has ended. It does not allocate.
+    pub(crate) fn forget(&mut self, lost: GroupId)
+        ensures kept { (at : GroupNumber) (test : GroupNumber → Bool) → same_group lost at ≡ false
+            → list_any test (names_of self.old at) ≡ true → list_any test (names_of self.new at) ≡ true }
+    {
+        self.lists.swap_remove(&lost);
+    }
+}
+
+// Drops the names at the front under which nothing is kept.
+fn drop_unused(list: &mut LinkedList<GroupId>, mounts: &Sets<MountId>, lowers: &Sets<GroupId>)
+    ensures mounts { (mount : MountNumber) → list_any (λ name. has same_id name mount mounts.now) list.old ≡ true
+        → list_any (λ name. has same_id name mount mounts.now) list.new ≡ true }
+    ensures lowers { (lower : GroupNumber) → list_any (λ name. has same_group name lower lowers.now) list.old ≡ true
+        → list_any (λ name. has same_group name lower lowers.now) list.new ≡ true }
+    ensures fewer { length list.new ≤ length list.old }
+{
+    while first_is_unused(list, mounts, lowers) {
+        list.pop_front();
+    }
+}
+
+// Whether nothing is kept under the first of these names.
+fn first_is_unused(
+    list: &LinkedList<GroupId>,
+    mounts: &Sets<MountId>,
+    lowers: &Sets<GroupId>,
+) -> bool
+    ensures some { result ≡ true → 0 < length list.now }
+    ensures mounts { result ≡ true → (mount : MountNumber)
+        → list_any (λ name. has same_id name mount mounts.now) list.now ≡ true
+        → list_any (λ name. has same_id name mount mounts.now) (drop 1 list.now) ≡ true }
+    ensures lowers { result ≡ true → (lower : GroupNumber)
+        → list_any (λ name. has same_group name lower lowers.now) list.now ≡ true
+        → list_any (λ name. has same_group name lower lowers.now) (drop 1 list.now) ≡ true }
+{
+    match list.front() {
+        Some(name) => mounts.get(*name).is_empty() && lowers.get(*name).is_empty(),
+        None => false,
+    }
+}
