@@ -28,7 +28,7 @@ use Rattle.vt_propagate.specs.Seen.{IsSeen}
 use Rattle.vt_propagate.proofs.TakenTwice.{taken_twice}
 
 -- where nothing goes, nothing changes
-nothing_taken : (world : World ℕ) → MountInvariants nat_eq world → taken_away nat_eq world [] ≡ world
+pub nothing_taken : (world : World ℕ) → MountInvariants nat_eq world → taken_away nat_eq world [] ≡ world
 nothing_taken world kept =
     ap (λ mounts. regrouped nat_eq (with_mounts world mounts))
     (map_same (after_going nat_eq world []) world.mounts (λ mount m. λ i. record mount {

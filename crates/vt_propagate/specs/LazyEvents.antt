@@ -1,7 +1,7 @@
 -- The events of a lazy unmount in order, by the list of mounts alone.
 use Rattle.std.specs.Prelude.{List, [], if◌then◌else◌, map, nat_eq, nat_lt, ℕ, ◌+◌, ◌∷◌}
-use Rattle.vt_spec.specs.Machine.Detach.{deepest_first, depth_of, is_going}
-use Rattle.vt_spec.specs.Machine.Mounts.{Mount, detached, mount_in, mount_tree}
+use Rattle.vt_spec.specs.Machine.Detach.{deepest_first, depth_of}
+use Rattle.vt_spec.specs.Machine.Mounts.{Mount, mount_in, mount_tree}
 use Rattle.vt_location.specs.Numbers.{counted}
 use Rattle.vt_propagate.specs.declared.lazily.Event.{Event}
 use Rattle.vt_propagate.specs.Falling.{of_mounts}
@@ -25,7 +25,3 @@ abbrev pub deepest_numbers : List (Mount ℕ) → ℕ → List ℕ
 deepest_numbers mounts number =
     map (λ mount. mount.number)
     (deepest_first nat_eq (of_mounts mounts) (mount_tree nat_eq mounts (mount_in nat_eq mounts number)))
-
--- a mount that is detached, if it is one of these
-abbrev pub detached_by : List ℕ → Mount ℕ → Mount ℕ
-detached_by gone mount = if is_going nat_eq gone mount.number then detached mount else mount
