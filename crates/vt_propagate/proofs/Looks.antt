@@ -1,31 +1,28 @@
 -- Mounts as earlier events left them, seen through those that are gone: which mounts the next event detaches.
-use Rattle.std.proofs.Common.{◌≡◌, refl, sym, ap, subst, ◌∙◌, ℕ, nat_eq, eq-eqb, eqb-true, Bool, true, false, true≢false, cond, ◌||◌, ◌&&◌, not, List, [], ◌∷◌, filter, map, length, Option, None, Some, is_some, option_map, inl, inr, ⊎_elim}
+use Rattle.std.proofs.Common.{◌≡◌, refl, sym, ap, subst, ◌∙◌, ℕ, nat_eq, eq-eqb, eqb-true, Bool, true, false, true≢false, cond, ◌||◌, not, List, [], ◌∷◌, filter, Option, None, Some, is_some, option_map, inl, inr, ⊎_elim}
 use Rattle.std.proofs.lemmas.Bool.{false_from_ne_true, or_parts}
 use Rattle.std.proofs.lemmas.Option.{same_Some}
-use Rattle.std.specs.List.{cons_option, list_all, list_any}
+use Rattle.std.specs.List.{cons_option}
 use Rattle.std.specs.Prelude.{filter_map, find, if◌then◌else◌, unwrap_or}
 use Rattle.vt_spec.specs.Lists.{any_pair, holds_of, then_some, when}
-use Rattle.vt_spec.specs.Machine.Attach.{receivers_of}
 use Rattle.vt_spec.specs.Machine.Detach.{after_going, covers_root, going, going_at, going_from, goes_at, is_going, may_go, mount_point_left, only_cover, taken_away}
 use Rattle.vt_spec.specs.Machine.Invariants.{MountInvariants, share_a_mount_point}
-use Rattle.vt_spec.specs.Machine.Mounts.{Location, Mount, Propagation, child_at, children, detached, group_of, is_shared, mount_in, no_mount, root_of, same_location, stands_at, stands_on}
+use Rattle.vt_spec.specs.Machine.Mounts.{Location, Mount, child_at, children, detached, group_of, is_shared, mount_in, no_mount, root_of, stands_at, stands_on}
 use Rattle.vt_spec.specs.Machine.Receives.{has_members, is_member_of, receivers}
 use Rattle.vt_spec.specs.Machine.World.{World, mount_at, mount_numbered}
 use Rattle.vt_spec.proofs.Lists.{Among, among-filter, among-from_filter, among-map, among_from_list_all, any_from_among, list_all_from_among, none_among, pair-filter}
 use Rattle.vt_spec.proofs.Truths.{same_truth}
 use Rattle.vt_spec.proofs.Worlds.{found_or_none}
 use Rattle.vt_group.proofs.GroupLemmas.{group-inherited}
-use Rattle.vt_mount_laws.specs.Mounts.Unmounting.{KeepsAllButPlaceAndType, PlacesEnd}
+use Rattle.vt_mount_laws.specs.Mounts.Unmounting.{KeepsAllButPlaceAndType}
 use Rattle.vt_mount_laws.specs.Mounts.Unmounting.FallsTo.{rests}
 use Rattle.vt_mount_laws.proofs.MountsFound.{found_in, number_found, placed_among}
 use Rattle.vt_mount_laws.proofs.MountsPlaces.{found_at_its_place, one_place_of_two, stands_at_its_place, stands_there}
 use Rattle.vt_mount_laws.proofs.MountsReplaced.{found_itself}
 use Rattle.vt_mount_laws.proofs.Standing.{standing_is_computed}
 use Rattle.vt_mount_laws.proofs.Unmounting.{detached_by_number, kept_by_number, middle, place_fallen, staying_is_placed, taken}
-use Rattle.vt_mount_laws.proofs.UnmountingGoes.{receivers_of_shared}
-use Rattle.vt_propagate.specs.Falling.{of_mounts}
 use Rattle.vt_propagate.specs.Going.{group_at}
-use Rattle.vt_propagate.specs.Through.{free_at_receiver, free_at_then, free_on_then, going_by, going_then, group_at_then, is_free_by_number, is_free_then, rests_on_root, shared_point_then, standing_over}
+use Rattle.vt_propagate.specs.Through.{free_at_then, free_on_then, going_by, going_then, group_at_then, is_free_by_number, is_free_then, rests_on_root, standing_over}
 use Rattle.vt_propagate.proofs.Found.{numbers}
 use Rattle.vt_propagate.proofs.Over.{Over, found_over_place, over_falls, over_first, over_found}
 

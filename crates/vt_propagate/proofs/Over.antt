@@ -7,9 +7,8 @@ use Rattle.vt_spec.specs.Machine.Detach.{is_going}
 use Rattle.vt_spec.specs.Machine.Invariants.{MountInvariants}
 use Rattle.vt_spec.specs.Machine.Mounts.{Location, Mount, child_at, root_of, stands_at}
 use Rattle.vt_spec.specs.Machine.World.{World, mount_numbered}
-use Rattle.vt_spec.proofs.Lists.{Among}
 use Rattle.vt_mount_laws.specs.Mounts.Unmounting.{FallsTo}
-use Rattle.vt_mount_laws.specs.Mounts.Unmounting.FallsTo.{falls, rests}
+use Rattle.vt_mount_laws.specs.Mounts.Unmounting.FallsTo.{falls}
 use Rattle.vt_mount_laws.proofs.MountsFound.{found_in, number_found, placed_among}
 use Rattle.vt_mount_laws.proofs.MountsPlaces.{found_at_its_place, stands_there}
 use Rattle.vt_mount_laws.proofs.MountsReplaced.{found_itself}

@@ -1,6 +1,6 @@
 -- What stands where once some mounts are gone, by the mounts as they were: the place that a mount had that is gone is
 -- looked through, to what stood on its root, or to what the mount stood on.
-use Rattle.std.specs.Prelude.{Bool, List, None, Option, Some, filter_map, find, if◌then◌else◌, is_some, length, map, nat_eq, not, option_map, suc, unwrap_or, zero, ℕ, ◌&&◌, ◌||◌, [], ◌∷◌}
+use Rattle.std.specs.Prelude.{Bool, List, None, Option, Some, filter_map, find, if◌then◌else◌, is_some, length, map, nat_eq, not, suc, zero, ℕ, ◌&&◌, ◌||◌, [], ◌∷◌}
 use Rattle.std.specs.List.{list_all}
 use Rattle.vt_spec.specs.Lists.{holds_of, then_some, when}
 use Rattle.vt_spec.specs.Machine.Detach.{covers_root, is_going, mount_point_left}
