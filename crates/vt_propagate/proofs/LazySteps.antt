@@ -1,5 +1,5 @@
 -- The events of a lazy unmount in turn, each seen through the mounts that those before it detached.
-use Rattle.std.proofs.Common.{◌≡◌, ◌<◌, ◌≤◌, ◌+◌, refl, sym, ap, subst, ◌∙◌, ℕ, nat_eq, Bool, true, false, true≢false, cond, ◌||◌, ◌&&◌, not, List, [], ◌∷◌, ◌++◌, drop, filter, get_or, map, length, Some, is_some, option_map, ⊎_elim}
+use Rattle.std.proofs.Common.{◌≡◌, ◌<◌, ◌≤◌, ◌+◌, refl, sym, ap, subst, ◌∙◌, ℕ, nat_eq, Bool, true, false, true≢false, cond, ◌||◌, ◌&&◌, not, List, [], ◌∷◌, ◌++◌, drop, filter, get_or, length, Some, is_some, option_map, ⊎_elim}
 use Rattle.std.proofs.lemmas.List.{append-nil, append_assoc, drop_all, drop_more}
 use Rattle.std.proofs.lemmas.List.Folds.{list_any-append}
 use Rattle.std.proofs.lemmas.Option.{same_Some}
@@ -22,7 +22,6 @@ use Rattle.vt_mount_laws.proofs.MountsReplaced.{found_itself}
 use Rattle.vt_mount_laws.proofs.Unmounting.{middle, taken}
 use Rattle.vt_mount_laws.proofs.UnmountingPlaces.{Falls, goes_or_may, stood}
 use Rattle.vt_mount_laws.proofs.UnmountingPlaces.Falls.{direct, down}
-use Rattle.vt_propagate.specs.declared.lazily.Event.{Event}
 use Rattle.vt_propagate.specs.LazyUnmounts.{going_if_there, gone_by, gone_lazily, lazy_events}
 use Rattle.vt_propagate.specs.Through.{going_then, going_then_if_there}
 use Rattle.vt_propagate.proofs.Found.{counts, numbers}
@@ -152,7 +151,8 @@ module _ (start : World ℕ) (at_first : MountInvariants nat_eq start) (one : �
     on_root : (number : ℕ) (place : Location ℕ) → (later number).mount_point ≡ Some place
         → is_going nat_eq more place.mount ≡ true → place ≡ root_of (later place.mount)
     on_root number place at goes =
-        same_Some place (root_of (later place.mount)) (sym at ∙ stands_there (root_of (later place.mount)) (later number)
+        same_Some place (root_of (later place.mount))
+        (sym at ∙ stands_there (root_of (later place.mount)) (later number)
         (covers (later place.mount) (children nat_eq now.mounts (later place.mount).number) may (later number)
         (among-filter (stands_on nat_eq (later place.mount).number) now.mounts (later number)
         (placed_among now.mounts number place at)
@@ -213,7 +213,8 @@ module _ (start : World ℕ) (at_first : MountInvariants nat_eq start) (one : �
       };
       at_once = λ others.
           taken_twice now more others reached.so.kept ∙ reached.at_once (more ++ others)
-          ∙ ap (λ list. without_dead_groups nat_eq (taken_away nat_eq start list)) (sym (append_assoc gone more others));
+          ∙ ap (λ list. without_dead_groups nat_eq (taken_away nat_eq start list))
+          (sym (append_assoc gone more others));
     }
     after_event false there = subst (IsReached now left) (sym (append-nil gone)) (record {
       way = subst (λ b. IsUnderWay start at_first one (if b then unmounted nat_eq now mount.number else now) left)
@@ -226,10 +227,6 @@ module _ (start : World ℕ) (at_first : MountInvariants nat_eq start) (one : �
     next_reached = after_event (is_some (later mount.number).namespace) refl
 
 -- One event after the other
-
--- the numbers of events
-abbrev pub event_numbers : List Event → List ℕ
-event_numbers events = map (λ event. counted event.mount.count) events
 
 -- a world is reached from which these events follow
 pub record IsTaken (start : World ℕ) (at_first : MountInvariants nat_eq start) (one : ℕ) (gone rest : List ℕ)
@@ -297,24 +294,24 @@ module _ (start : World ℕ) (at_first : MountInvariants nat_eq start) (one : �
 
   -- as code goes through its events
 
-  pub taken_first : (items : List Event) → event_numbers items ≡ numbers (lazy_events start one)
-      → IsTaken start at_first one [] (event_numbers items)
+  pub taken_first : (items : List MountId) → counts items ≡ numbers (lazy_events start one)
+      → IsTaken start at_first one [] (counts items)
   taken_first items are = subst (IsTaken start at_first one []) (sym are) taken_begin
 
-  pub taken_step : (gone going new : List MountId) (items : List Event) (i : ℕ) (default : Event)
+  pub taken_step : (gone going new : List MountId) (items : List MountId) (i : ℕ) (default : MountId)
       → i < length items → counts new ≡ counts gone ++ counts going
-      → IsTaken start at_first one (counts gone) (event_numbers (drop i items))
-      → counts going ≡ going_then_if_there start (counts gone) (counted (get_or items i default).mount.count)
-      → IsTaken start at_first one (counts new) (event_numbers (drop (i + 1) items))
+      → IsTaken start at_first one (counts gone) (counts (drop i items))
+      → counts going ≡ going_then_if_there start (counts gone) (counted (get_or items i default).count)
+      → IsTaken start at_first one (counts new) (counts (drop (i + 1) items))
   taken_step gone going new items i default less more so is =
-      subst (λ list. IsTaken start at_first one list (event_numbers (drop (i + 1) items))) (sym more)
-      (taken_next (counts gone) (counts going) (counted (get_or items i default).mount.count)
-      (event_numbers (drop (i + 1) items))
-      (subst (λ list. IsTaken start at_first one (counts gone) (event_numbers list)) (drop_more items i default less)
+      subst (λ list. IsTaken start at_first one list (counts (drop (i + 1) items))) (sym more)
+      (taken_next (counts gone) (counts going) (counted (get_or items i default).count)
+      (counts (drop (i + 1) items))
+      (subst (λ list. IsTaken start at_first one (counts gone) (counts list)) (drop_more items i default less)
       so) is)
 
-  pub taken_last : (gone : List MountId) (items : List Event) (i : ℕ) → length items ≤ i
-      → IsTaken start at_first one (counts gone) (event_numbers (drop i items)) → counts gone ≡ gone_lazily start one
+  pub taken_last : (gone : List MountId) (items : List MountId) (i : ℕ) → length items ≤ i
+      → IsTaken start at_first one (counts gone) (counts (drop i items)) → counts gone ≡ gone_lazily start one
   taken_last gone items i all so =
       taken_end (counts gone)
-      (subst (λ list. IsTaken start at_first one (counts gone) (event_numbers list)) (drop_all i items all) so)
+      (subst (λ list. IsTaken start at_first one (counts gone) (counts list)) (drop_all i items all) so)

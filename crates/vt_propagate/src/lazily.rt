@@ -3,7 +3,7 @@
 //!
 //! A lazy unmount is an unmount event for each mount of a tree, the deepest first. What an event detaches depends on
 //! those before it, so that each looks at the mounts through those that are gone.
-ghost use Rattle.std.specs.Prelude.{◌≡◌, ◌+◌, ◌++◌, All, IfErr, IfOk, OnOk, is_some, map, nat_eq, option_map, ℕ};
+ghost use Rattle.std.specs.Prelude.{◌≡◌, ◌++◌, ◌∷◌, [], All, IfErr, IfOk, OnOk, is_some, length, map, nat_eq, reverse, ℕ};
 ghost use Rattle.vt_spec.specs.declared.errors.Rule.TheVariants.{S5};
 ghost use Rattle.vt_spec.specs.Errors.{denial};
 ghost use Rattle.vt_spec.specs.Machine.Invariants.{MountInvariants};
@@ -12,7 +12,7 @@ ghost use Rattle.vt_spec.specs.Machine.World.{World};
 ghost use Rattle.vt_location.specs.Numbers.{counted};
 ghost use Rattle.vt_mount.specs.MountsValue.{mounts_in};
 ghost use Rattle.vt_propagate.specs.Falling.{FallsTo, HasJust, LeavesBy, point_of};
-ghost use Rattle.vt_propagate.specs.LazyEvents.{deepest_numbers, depth_in, event_of, with_event};
+ghost use Rattle.vt_propagate.specs.LazyEvents.{children_of, levels_from};
 ghost use Rattle.vt_propagate.specs.LazyUnmounts.{gone_lazily, lazy_events};
 ghost use Rattle.vt_propagate.specs.Seen.{IsSeen};
 ghost use Rattle.vt_propagate.specs.Through.{going_then_if_there};
@@ -26,13 +26,6 @@ use vt_group::Groups;
 use vt_location::MountId;
 use vt_mount::Mounts;
 use vt_spec::errors::{Deny, Rule};
-
-// The event of one mount of the tree: the mount, and how many ancestors it has.
-#[derive(Clone, Copy, Debug)]
-struct Event {
-    mount: MountId,
-    depth: usize,
-}
 
 /// Plans a lazy unmount of a mount and its descendants. It changes nothing: the mounts that stay are to be moved, those
 /// that go to be detached, and these to leave their groups at once.
@@ -79,23 +72,22 @@ fn all_gone(
     alloc: Global,
     mounts: &Mounts,
     groups: &Groups,
-    events: &[Event],
+    events: &[MountId],
 ) -> Result<Vec<MountId>, Deny>
     ensures ok { IfOk result (λ gone. (world : World ℕ) (number : ℕ) → IsSeen world mounts.now groups.now
         → MountInvariants nat_eq world
-        → map (λ event. counted event.mount.count) events.now
-        ≡ map (λ mount. mount.number) (lazy_events world number)
+        → map (λ id. counted id.count) events.now ≡ map (λ mount. mount.number) (lazy_events world number)
         → map (λ id. counted id.count) gone.items ≡ gone_lazily world number) }
     ensures memory { IfErr result (λ deny. deny ≡ denial S5) }
 {
     let mut ids = Vec::new(alloc);
     let mut set = IndexSet::new(alloc);
-    for event in events {
+    for id in events {
         let gone = Gone {
             ids: &ids,
             set: &set,
         };
-        let going = going_if_there(alloc, mounts, groups, &gone, event.mount)?;
+        let going = going_if_there(alloc, mounts, groups, &gone, *id)?;
         let Ok(()) = note_all(&mut ids, &mut set, &going) else {
             return Err(Rule::S5.denial());
         };
@@ -151,61 +143,50 @@ fn is_attached(mounts: &Mounts, id: MountId) -> bool
     }
 }
 
-// The events of a mount and all its descendants, the deepest first. Of those as deep the last one of the tree comes
-// first.
-fn deepest_first(alloc: Global, mounts: &Mounts, id: MountId) -> Result<Vec<Event>, Deny>
-    ensures ok { IfOk result (λ events. map (λ event. counted event.mount.count) events.items
-        ≡ deepest_numbers (mounts_in mounts.now) (counted id.count)) }
+// A mount and all its descendants, the deepest first. Of those as deep the last one of the tree comes first.
+fn deepest_first(alloc: Global, mounts: &Mounts, id: MountId) -> Result<Vec<MountId>, Deny>
+    ensures ok { IfOk result (λ events. map (λ id. counted id.count) events.items
+        ≡ reverse (levels_from (length (mounts_in mounts.now)) (mounts_in mounts.now) (counted id.count ∷ []))) }
     ensures memory { IfErr result (λ deny. deny ≡ denial S5) }
 {
-    mounts.are_ascending();
-    let tree = mounts.tree(id)?;
-    let mut events = Vec::new(alloc);
-    for mount in &tree {
-        let event = Event {
-            mount: *mount,
-            depth: depth(mounts, *mount),
-        };
-        let Ok(()) = insert_event(&mut events, event) else {
-            return Err(Rule::S5.denial());
-        };
-    }
+    let Ok(mut events) = levels(alloc, mounts, id) else {
+        return Err(Rule::S5.denial());
+    };
+    events.reverse();
     Ok(events)
 }
 
-// Puts an event before the first that is no deeper.
-fn insert_event(events: &mut Vec<Event>, event: Event) -> Result<(), AllocError>
-    ensures { OnOk result (map event_of events.new.items
-        ≡ with_event (event_of event) (map event_of events.old.items)) }
+// A mount, its children, the children of these, and so on, level by level.
+fn levels(alloc: Global, mounts: &Mounts, id: MountId) -> Result<Vec<MountId>, AllocError>
+    ensures { IfOk result (λ all. map (λ id. counted id.count) all.items
+        ≡ levels_from (length (mounts_in mounts.now)) (mounts_in mounts.now) (counted id.count ∷ [])) }
 {
-    let place = events
-        .iter()
-        .position(|other| other.depth <= event.depth)
-        .unwrap_or(events.len());
-    events.insert(place, event)?;
-    Ok(())
-}
-
-// How many ancestors a mount has.
-fn depth(mounts: &Mounts, id: MountId) -> usize
-    ensures { result + 1 ≡ depth_in (mounts_in mounts.now) (counted id.count) }
-{
-    let mut here = id;
-    let mut depth = 0;
+    let mut all = Vec::new(alloc);
+    let mut level = Vec::new(alloc);
+    level.push(id)?;
     for _ in 0..mounts.len() {
-        let Some(below) = parent(mounts, here) else {
-            return depth;
-        };
-        here = below;
-        depth += 1;
+        if level.is_empty() {
+            return Ok(all);
+        }
+        all.extend_from_slice(&level)?;
+        level = children_of(alloc, mounts, &level)?;
     }
-    depth
+    all.extend_from_slice(&level)?;
+    Ok(all)
 }
 
-// The mount that a mount stands on.
-fn parent(mounts: &Mounts, id: MountId) -> Option<MountId>
-    ensures { option_map (λ below. counted below.count) result
-        ≡ option_map (λ place. place.mount) (mount_in nat_eq (mounts_in mounts.now) (counted id.count)).mount_point }
+// The children of these mounts.
+fn children_of(
+    alloc: Global,
+    mounts: &Mounts,
+    level: &[MountId],
+) -> Result<Vec<MountId>, AllocError>
+    ensures { IfOk result (λ children. map (λ id. counted id.count) children.items
+        ≡ children_of (mounts_in mounts.now) (map (λ id. counted id.count) level.now)) }
 {
-    Some(mounts.get(id)?.mount_point?.mount)
+    let mut children = Vec::new(alloc);
+    for id in level {
+        children.extend_from_slice(mounts.children(*id))?;
+    }
+    Ok(children)
 }
