@@ -8,7 +8,6 @@ pub mod KeptLemmas
 pub mod PointLemmas
 pub mod TreeLemmas
 pub mod MoveLemmas
-mod CopiedLemmas
 pub mod SourceLemmas
 mod RoomLemmas
 mod GoingBackLemmas

@@ -1,5 +1,5 @@
 //! Mounts are attached, moved and detached: mount(2), umount(2).
-ghost use Rattle.std.specs.Prelude.{Some, ◌≡◌, ◌++◌, ◌∷◌, [], filter, find, nat_eq, nat_lt, not, option_map, true, IfErr, IfOk, OnErr, OnOk};
+ghost use Rattle.std.specs.Prelude.{Some, ◌≡◌, ◌++◌, ◌∷◌, [], filter, find, nat_eq, nat_lt, not, option_map, true, IfErr, OnErr, OnOk};
 ghost use Rattle.std.specs.List.{list_all};
 ghost use Rattle.vt_spec.specs.declared.errors.Rule.TheVariants.{S5};
 ghost use Rattle.vt_spec.specs.Errors.{denial};
@@ -15,22 +15,6 @@ use vt_location::{Location, Mount, MountId, NamespaceId, Propagation};
 use vt_spec::errors::{Deny, Rule};
 
 impl Mounts {
-    /// All mounts once more, for one who makes several changes or none. It passes over all mounts.
-    ///
-    /// S5 (ENOMEM): an allocation failed.
-    pub fn copied(&self) -> Result<Mounts, Deny>
-        ensures ok { IfOk result (λ copy. copy ≡ self.now) }
-        ensures memory { IfErr result (λ deny. deny ≡ denial S5) }
-    {
-        let Ok(by_number) = self.by_number.clone() else {
-            return Err(Rule::S5.denial());
-        };
-        let Ok(indexes) = self.indexes.copied() else {
-            return Err(Rule::S5.denial());
-        };
-        Ok(Mounts { by_number, indexes })
-    }
-
     /// Attaches a mount, after all others, with no uses yet: mount(2). Its number is greater than theirs.
     ///
     /// S5 (ENOMEM): an allocation failed.

@@ -1,5 +1,5 @@
 //! The lists of mounts by namespace, parent, mount point and inode.
-ghost use Rattle.std.specs.Prelude.{◌≡◌, ◌≤◌, [], length, nat_lt, true, IfOk, IfSome, OnErr, OnOk};
+ghost use Rattle.std.specs.Prelude.{◌≡◌, ◌≤◌, [], length, nat_lt, true, IfSome, OnErr, OnOk};
 ghost use Rattle.vt_location.specs.declared.numbers.MountId.{MountId};
 ghost use Rattle.vt_location.specs.declared.numbers.NamespaceId.{NamespaceId};
 ghost use Rattle.vt_mount.specs.Capacity.{KeepsCapacity, capacity_of};
@@ -37,21 +37,6 @@ impl Indexes {
             by_location: MountsBy::new(alloc),
             by_inode: MountsBy::new(alloc),
         }
-    }
-
-    /// The same lists once more.
-    pub(crate) fn copied(&self) -> Result<Self, AllocError>
-        ensures namespace { IfOk result (λ copy. (q : NamespaceId) → listed_in copy q ≡ listed_in self.now q) }
-        ensures parent { IfOk result (λ copy. (q : MountId) → listed_on copy q ≡ listed_on self.now q) }
-        ensures place { IfOk result (λ copy. (q : Location) → listed_at copy q ≡ listed_at self.now q) }
-        ensures inode { IfOk result (λ copy. (q : NodeRef) → listed_over copy q ≡ listed_over self.now q) }
-    {
-        Ok(Indexes {
-            by_namespace: self.by_namespace.copied()?,
-            by_parent: self.by_parent.copied()?,
-            by_location: self.by_location.copied()?,
-            by_inode: self.by_inode.copied()?,
-        })
     }
 
     /// Adds a mount to the end of its lists.

@@ -1,5 +1,5 @@
 //! Lists of mounts under keys.
-ghost use Rattle.std.specs.Prelude.{◌≡◌, ◌++◌, ◌∷◌, [], filter, if◌then◌else◌, not, true, vec_capacity, vec_len, ◌<◌, ◌≤◌, IfOk, OnErr, OnOk};
+ghost use Rattle.std.specs.Prelude.{◌≡◌, ◌++◌, ◌∷◌, [], filter, if◌then◌else◌, not, true, vec_capacity, vec_len, ◌<◌, ◌≤◌, OnErr, OnOk};
 ghost use Rattle.vt_mount.specs.Capacity.{KeepsCapacity};
 ghost use Rattle.vt_mount.specs.Listed.{has_room, inserted, listed, same_id};
 
@@ -14,7 +14,7 @@ pub(crate) struct MountsBy<K: Eq + Hash> {
     lists: IndexMap<K, Vec<MountId>>,
 }
 
-impl<K: Eq + Hash + Copy + Clone + Drop> MountsBy<K> {
+impl<K: Eq + Hash + Copy + Drop> MountsBy<K> {
     /// No lists. It does not allocate.
     pub(crate) fn new(alloc: Global) -> Self
         ensures { (q : K) → listed K.eq q result ≡ [] }
@@ -22,16 +22,6 @@ impl<K: Eq + Hash + Copy + Clone + Drop> MountsBy<K> {
         MountsBy {
             lists: IndexMap::new(alloc),
         }
-    }
-
-    /// The same lists once more.
-    pub(crate) fn copied(&self) -> Result<Self, AllocError>
-        requires { (key copy : K) → K.is_clone key copy → copy ≡ key }
-        ensures { IfOk result (λ copy. (q : K) → listed K.eq q copy ≡ listed K.eq q self.now) }
-    {
-        Ok(MountsBy {
-            lists: self.lists.clone()?,
-        })
     }
 
     /// The mounts under a key.

@@ -1,214 +1,444 @@
--- The events of a lazy unmount in order, by the depths of their mounts.
-use Rattle.std.proofs.Common.{◌≡◌, drop, ◌≤◌, ◌+◌, ℕ, zero, suc, Bool, true, false, cond, List, [], ◌∷◌, Option, None, Some, length, map, nat_eq, nat_lt, not, option_map, refl, sym, ap, ◌∙◌, arith, inl, inr, ⊎_elim, is_some, true≢false}
-use Rattle.std.proofs.lemmas.Bool.{leb-false, leb-true, ltb-false, ltb-true}
-use Rattle.std.proofs.lemmas.List.{drop_all}
-use Rattle.std.specs.Prelude.{if◌then◌else◌, insert, nat_le, unwrap_or}
-use Rattle.std.specs.List.{position, position_or_len, prefix_len}
-use Rattle.vt_spec.specs.Lists.{chain, folded}
-use Rattle.vt_spec.specs.Machine.Detach.{deepest_first, depth_of, insert_deepest}
-use Rattle.vt_spec.specs.Machine.Mounts.{Location, Mount, mount_in, mount_tree, no_mount}
-use Rattle.vt_spec.specs.Machine.World.{World, mount_at}
-use Rattle.vt_spec.proofs.Lists.{Among, chain_ends, chain_goes_on}
-use Rattle.vt_group.proofs.Together.{map-twice}
-use Rattle.vt_mount.specs.MountsValue.{are_ascending}
-use Rattle.vt_mount_laws.proofs.MountsFound.{number_found}
-use Rattle.vt_mount_laws.proofs.MountsReplaced.{tree_among}
+-- The events of a lazy unmount in order: the levels of the tree, turned round.
+use Rattle.std.proofs.Common.{◌≡◌, ◌<◌, ◌≤◌, refl, sym, ap, subst, ◌∙◌, arith, ℕ, zero, suc, nat_eq, nat_lt, eq-eqb, eqb-true, ne_eqb, Bool, true, false, true≢false, cond, List, [], ◌∷◌, ◌++◌, filter, flat_map, length, reverse, Option, None, Some, inl, inr, ⊎_elim}
+use Rattle.std.proofs.lemmas.Bool.{ltb-true}
+use Rattle.std.proofs.lemmas.Grind.{flat_map-append}
+use Rattle.std.proofs.lemmas.List.{append-nil, append_assoc, map-append, reverse-append}
+use Rattle.std.proofs.lemmas.List.Elements.{filter-append}
+use Rattle.std.specs.Prelude.{⊤}
+use Rattle.vt_spec.specs.Lists.{folded, holds_of}
+use Rattle.vt_spec.specs.Machine.Detach.{depth_of, insert_deepest}
+use Rattle.vt_spec.specs.Machine.Invariants.{MountInvariants}
+use Rattle.vt_spec.specs.Machine.Mounts.{Location, Mount, children, mount_in, mount_tree, stands_on, tree_from}
+use Rattle.vt_spec.specs.Machine.World.{World, mount_numbered}
+use Rattle.vt_spec.proofs.Lists.{Among, among-append, among-from_filter, among-from_flat_map, among-from_map, filter_here, filter_none, none_from_among}
+use Rattle.vt_spec.proofs.Worlds.{tree_among}
 use Rattle.vt_location.specs.declared.numbers.MountId.{MountId}
 use Rattle.vt_location.specs.Numbers.{counted}
-use Rattle.vt_propagate.specs.declared.lazily.Event.{Event}
-use Rattle.vt_propagate.specs.Falling.{of_mounts}
-use Rattle.vt_propagate.specs.LazyEvents.{deepest_numbers, depth_in, event_of, with_event}
+use Rattle.vt_mount_laws.proofs.EndingOrder.{AreDeepestFirst, among_inserted, in_order, is_itself, taken_in_turn}
+use Rattle.vt_mount_laws.proofs.MountsFound.{number_found}
+use Rattle.vt_mount_laws.proofs.MountsReplaced.{found_itself}
+use Rattle.vt_mount_laws.proofs.Standing.{depth_by_rank, rank, rank_child}
+use Rattle.vt_propagate.specs.LazyEvents.{children_of, levels_from}
 use Rattle.vt_propagate.specs.LazyUnmounts.{lazy_events}
-use Rattle.vt_propagate.proofs.Found.{counts, numbered_among, numbers}
+use Rattle.vt_propagate.proofs.Found.{counts, numbers}
 
--- Before the first that is no deeper
+reverse-first : (x : ℕ) (xs : List ℕ) → reverse (x ∷ xs) ≡ reverse xs ++ (x ∷ [])
+reverse-first x xs = reverse-append (x ∷ []) xs
 
-prefix-within : {X : Type 0} (p : X → Bool) (xs : List X) → prefix_len p xs ≤ length xs
-prefix-within p [] = omega arith
-prefix-within p (x ∷ xs) = by (p x) (prefix-within p xs)
-  where
-    by : (b : Bool) → prefix_len p xs ≤ length xs → cond b (1 + prefix_len p xs) 0 ≤ length (x ∷ xs)
-    by true rest = omega (arith, rest)
-    by false rest = omega arith
+among-reverse : (xs : List ℕ) (x : ℕ) → Among x (reverse xs) → Among x xs
+among-reverse [] x m = m
+among-reverse (y ∷ ys) x m =
+    ⊎_elim (λ l. inr (among-reverse ys x l)) (λ l. ⊎_elim inl (λ none. absurd none) l)
+    (among-append (reverse ys) (y ∷ []) x (subst (Among x) (reverse-first y ys) m))
 
-position-or : {X : Type 0} (p : X → Bool) (xs : List X) → unwrap_or (position p xs) (length xs) ≡ position_or_len p xs
-position-or p xs = by (nat_lt (position_or_len p xs) (length xs)) (ltb-false (position_or_len p xs) (length xs))
-  where
-    by : (b : Bool) → (b ≡ false → length xs ≤ position_or_len p xs)
-        → unwrap_or (cond b (Some (position_or_len p xs)) None) (length xs) ≡ position_or_len p xs
-    by true above = refl
-    by false above = omega (arith, above refl, prefix-within (λ x. not (p x)) xs)
+-- Numbers by a key
 
-abbrev pub no_deeper : Event → Event → Bool
-no_deeper event other = nat_le other.depth event.depth
+module _ (key : ℕ → ℕ) where
+  -- those with this key
+  abbrev at : ℕ → List ℕ → List ℕ
+  at d list = filter (λ x. nat_eq (key x) d) list
 
--- an event is deeper than another, or not
-deeper : (event other : Event) → not (no_deeper event other) ≡ nat_lt (event_of event).1 (event_of other).1
-deeper event other = by (nat_le other.depth event.depth) refl (nat_lt (event.depth + 1) (other.depth + 1)) refl
-  where
-    by : (a : Bool) → nat_le other.depth event.depth ≡ a → (b : Bool) → nat_lt (event.depth + 1) (other.depth + 1) ≡ b
-        → not a ≡ b
-    by true e true f =
-        absurd (omega (arith, leb-true other.depth event.depth e, ltb-true (event.depth + 1) (other.depth + 1) f))
-    by true e false f = refl
-    by false e true f = refl
-    by false e false f =
-        absurd (omega (arith, leb-false other.depth event.depth e, ltb-false (event.depth + 1) (other.depth + 1) f))
+  -- no key is greater than one before it
+  abbrev Falling : List ℕ → Type 0
+  Falling [] = ⊤
+  Falling (x ∷ rest) = ((y : ℕ) → Among y rest → key y ≤ key x) × Falling rest
 
-event-first : (event : Event) (list : List Event)
-    → map event_of (insert list (position_or_len (no_deeper event) list) event)
-    ≡ with_event (event_of event) (map event_of list)
-event-first event [] = refl
-event-first event (other ∷ list) =
-    by (no_deeper event other) (event-first event list)
-    ∙ ap (λ b. cond b (event_of other ∷ with_event (event_of event) (map event_of list))
-    (event_of event ∷ event_of other ∷ map event_of list)) (deeper event other)
-  where
-    n : ℕ
-    n = position_or_len (no_deeper event) list
+  at_its_own : (x : ℕ) (rest : List ℕ) → at (key x) (x ∷ rest) ≡ x ∷ at (key x) rest
+  at_its_own x rest = filter_here (λ y. nat_eq (key y) (key x)) x rest (eq-eqb (key x) (key x) refl)
 
-    more : 1 + n ≡ suc n
-    more = omega arith
-
-    by : (b : Bool) → map event_of (insert list n event) ≡ with_event (event_of event) (map event_of list)
-        → map event_of (insert (other ∷ list) (cond (not b) (1 + n) 0) event)
-        ≡ cond (not b) (event_of other ∷ with_event (event_of event) (map event_of list))
-        (event_of event ∷ event_of other ∷ map event_of list)
-    by true rest = refl
-    by false rest = ap (λ m. map event_of (insert (other ∷ list) m event)) more ∙ ap (λ l. event_of other ∷ l) rest
-
-pub event-there : (event : Event) (list new : List Event) (found : Option ℕ) (place : ℕ)
-    → found ≡ position (no_deeper event) list → place ≡ unwrap_or found (length list) → new ≡ insert list place event
-    → map event_of new ≡ with_event (event_of event) (map event_of list)
-event-there event list new found place first at is =
-    ap (map event_of) (is ∙ ap (λ m. insert list m event)
-    (at ∙ ap (λ r. unwrap_or r (length list)) first ∙ position-or (no_deeper event) list))
-    ∙ event-first event list
-
--- Depths
-
-module _ (mounts : List (Mount ℕ)) where
-  abbrev pub below : Mount ℕ → Option (Mount ℕ)
-  below mount = option_map (mount_at nat_eq (of_mounts mounts)) mount.mount_point
-
-  abbrev pub so_deep : ℕ → ℕ → ℕ
-  so_deep most number = length (chain most below (mount_in nat_eq mounts number))
-
-  pub none_below : (most number : ℕ)
-      → None ≡ option_map (λ (place : Location ℕ). place.mount) (mount_in nat_eq mounts number).mount_point
-      → so_deep most number ≡ 1
-  none_below zero number none = refl
-  none_below (suc most) number none =
-      ap length (chain_ends below most (mount_in nat_eq mounts number)
-      (by (mount_in nat_eq mounts number).mount_point none))
+  -- a list that falls is told by those with each key
+  falling_alike : (xs ys : List ℕ) → Falling xs → Falling ys → ((d : ℕ) → at d xs ≡ at d ys) → xs ≡ ys
+  falling_alike [] [] first second same = refl
+  falling_alike [] (y ∷ ys) first second same = absurd (none (same (key y) ∙ at_its_own y ys))
     where
-      by : (o : Option (Location ℕ)) → None ≡ option_map (λ (place : Location ℕ). place.mount) o
-          → option_map (mount_at nat_eq (of_mounts mounts)) o ≡ None
-      by None e = refl
-      by (Some place) e = absurd (true≢false (sym (ap is_some e)))
-
-  pub one_below : (most number under : ℕ)
-      → Some under ≡ option_map (λ (place : Location ℕ). place.mount) (mount_in nat_eq mounts number).mount_point
-      → so_deep (suc most) number ≡ suc (so_deep most under)
-  one_below most number under one =
-      ap length (chain_goes_on below most (mount_in nat_eq mounts number) (mount_in nat_eq mounts under)
-      (by (mount_in nat_eq mounts number).mount_point one))
+      none : [] ≡ y ∷ at (key y) ys → ⊥
+      none e = cc
+  falling_alike (x ∷ xs) [] first second same = absurd (none (sym (same (key x)) ∙ at_its_own x xs))
     where
-      by : (o : Option (Location ℕ)) → Some under ≡ option_map (λ (place : Location ℕ). place.mount) o
-          → option_map (mount_at nat_eq (of_mounts mounts)) o ≡ Some (mount_in nat_eq mounts under)
-      by None e = absurd (true≢false (ap is_some e))
-      by (Some place) e = ap (option_map (mount_in nat_eq mounts)) (sym e)
+      none : [] ≡ x ∷ at (key x) xs → ⊥
+      none e = cc
+  falling_alike (x ∷ xs) (y ∷ ys) first second same =
+      λ i. heads i ∷ falling_alike xs ys first.1 second.1 (λ d. rest d (nat_eq (key x) d) refl) i
+    where
+      no_higher : (a b : ℕ) (mine others : List ℕ) → Falling (b ∷ others)
+          → at (key a) (a ∷ mine) ≡ at (key a) (b ∷ others)
+          → key a ≤ key b
+      no_higher a b mine others falls e =
+          ⊎_elim (λ it. let equal : key a ≡ key b = ap key it in omega (arith, equal)) (falls.0 a)
+          (among-from_filter (λ z. nat_eq (key z) (key a)) (b ∷ others) a
+          (subst (Among a) (sym (at_its_own a mine) ∙ e) (inl refl))).0
 
--- The events of a tree
+      equal : key y ≡ key x
+      equal =
+          let one : key x ≤ key y = no_higher x y xs ys second (same (key x)) in
+          let other : key y ≤ key x = no_higher y x ys xs first (sym (same (key y))) in
+          omega (arith, one, other)
 
--- the number and the depth of a mount
-abbrev pub deep : List (Mount ℕ) → Mount ℕ → ℕ × ℕ
-deep mounts mount = (mount.number, depth_of nat_eq (of_mounts mounts) mount)
+      both : x ∷ at (key x) xs ≡ y ∷ at (key x) ys
+      both =
+          sym (at_its_own x xs) ∙ same (key x)
+          ∙ filter_here (λ z. nat_eq (key z) (key x)) y ys (eq-eqb (key y) (key x) equal)
 
-inserted : (mounts : List (Mount ℕ)) (mount : Mount ℕ) (sorted : List (Mount ℕ))
-    → map (deep mounts) (insert_deepest nat_eq (of_mounts mounts) mount sorted)
-    ≡ with_event (deep mounts mount) (map (deep mounts) sorted)
-inserted mounts mount [] = refl
-inserted mounts mount (other ∷ rest) =
-    by (nat_lt (depth_of nat_eq (of_mounts mounts) mount) (depth_of nat_eq (of_mounts mounts) other))
-    (inserted mounts mount rest)
-  where
-    by : (b : Bool) → map (deep mounts) (insert_deepest nat_eq (of_mounts mounts) mount rest)
-        ≡ with_event (deep mounts mount) (map (deep mounts) rest)
-        → map (deep mounts)
-        (cond b (other ∷ insert_deepest nat_eq (of_mounts mounts) mount rest) (mount ∷ other ∷ rest))
-        ≡ cond b (deep mounts other ∷ with_event (deep mounts mount) (map (deep mounts) rest))
-        (deep mounts mount ∷ deep mounts other ∷ map (deep mounts) rest)
-    by true later = ap (λ l. deep mounts other ∷ l) later
-    by false later = refl
+      heads : x ≡ y
+      heads = cc both
 
--- an event is put in its place by its number
-abbrev pub with_number : List (Mount ℕ) → List (ℕ × ℕ) → ℕ → List (ℕ × ℕ)
-with_number mounts events number = with_event (number, depth_in mounts number) events
+      rest : (d : ℕ) (b : Bool) → nat_eq (key x) d ≡ b → at d xs ≡ at d ys
+      rest d true e = tails
+        where
+          mine : at d (x ∷ xs) ≡ x ∷ at d xs
+          mine = ap (λ b. cond b (x ∷ at d xs) (at d xs)) e
 
-all_inserted : (mounts some sorted : List (Mount ℕ))
-    → ((mount : Mount ℕ) → Among mount some → mount_in nat_eq mounts mount.number ≡ mount)
-    → map (deep mounts) (folded (λ sorted mount. insert_deepest nat_eq (of_mounts mounts) mount sorted) sorted some)
-    ≡ folded (with_number mounts) (map (deep mounts) sorted) (numbers some)
-all_inserted mounts [] sorted known = refl
-all_inserted mounts (mount ∷ some) sorted known =
-    all_inserted mounts some (insert_deepest nat_eq (of_mounts mounts) mount sorted) (λ other m. known other (inr m))
-    ∙ ap (λ events. folded (with_number mounts) events (numbers some))
-    (inserted mounts mount sorted
-    ∙ ap (λ x. with_event (mount.number, depth_of nat_eq (of_mounts mounts) x) (map (deep mounts) sorted))
-    (sym (known mount (inl refl))))
+          other : at d (y ∷ ys) ≡ y ∷ at d ys
+          other = ap (λ b. cond b (y ∷ at d ys) (at d ys)) (ap (λ k. nat_eq k d) equal ∙ e)
 
--- those of a whole tree
-pub tree_inserted : (mounts : List (Mount ℕ)) → are_ascending mounts ≡ true → (number : ℕ) (tree : List ℕ)
-    → tree ≡ numbers (mount_tree nat_eq mounts (mount_in nat_eq mounts number))
-    → map (λ (event : ℕ × ℕ). event.0) (folded (with_number mounts) [] tree) ≡ deepest_numbers mounts number
-tree_inserted mounts up number tree is =
-    ap (λ all. map (λ (event : ℕ × ℕ). event.0) (folded (with_number mounts) [] all)) is
-    ∙ ap (map (λ (event : ℕ × ℕ). event.0))
-    (sym (all_inserted mounts (mount_tree nat_eq mounts (mount_in nat_eq mounts number)) [] known))
-    ∙ map-twice (λ (event : ℕ × ℕ). event.0) (deep mounts)
-    (deepest_first nat_eq (of_mounts mounts) (mount_tree nat_eq mounts (mount_in nat_eq mounts number)))
-  where
-    known : (mount : Mount ℕ) → Among mount (mount_tree nat_eq mounts (mount_in nat_eq mounts number))
-        → mount_in nat_eq mounts mount.number ≡ mount
-    known mount m = ⊎_elim
-        (λ same. ap (λ (x : Mount ℕ). mount_in nat_eq mounts x.number) same
-        ∙ ap (mount_in nat_eq mounts) (number_found mounts number) ∙ sym same)
-        (λ among. ap (λ o. unwrap_or o (no_mount mount.number)) (numbered_among mounts up mount among))
-        (tree_among (length mounts) mounts (mount_in nat_eq mounts number) mount m)
+          together : x ∷ at d xs ≡ y ∷ at d ys
+          together = sym mine ∙ same d ∙ other
 
--- Of the mounts of a world
+          tails : at d xs ≡ at d ys
+          tails = cc together
+      rest d false e =
+          sym (ap (λ b. cond b (x ∷ at d xs) (at d xs)) e) ∙ same d
+          ∙ ap (λ b. cond b (y ∷ at d ys) (at d ys)) (ap (λ k. nat_eq k d) equal ∙ e)
 
-insert_same : (world : World ℕ) (mount : Mount ℕ) (sorted : List (Mount ℕ))
-    → insert_deepest nat_eq world mount sorted ≡ insert_deepest nat_eq (of_mounts world.mounts) mount sorted
-insert_same world mount [] = refl
-insert_same world mount (other ∷ rest) =
-    ap (λ later. if nat_lt (depth_of nat_eq world mount) (depth_of nat_eq world other) then other ∷ later
-    else mount ∷ other ∷ rest) (insert_same world mount rest)
+  falling-append : (xs ys : List ℕ) → Falling xs → Falling ys
+      → ((x y : ℕ) → Among x xs → Among y ys → key y ≤ key x) → Falling (xs ++ ys)
+  falling-append [] ys first second below = second
+  falling-append (x ∷ xs) ys first second below = (
+    λ y m. ⊎_elim (first.0 y) (below x y (inl refl)) (among-append xs ys y m),
+    falling-append xs ys first.1 second (λ a b m k. below a b (inr m) k),
+  )
 
-all_same : (world : World ℕ) (mounts sorted : List (Mount ℕ))
-    → folded (λ sorted mount. insert_deepest nat_eq world mount sorted) sorted mounts
-    ≡ folded (λ sorted mount. insert_deepest nat_eq (of_mounts world.mounts) mount sorted) sorted mounts
-all_same world [] sorted = refl
-all_same world (mount ∷ mounts) sorted =
-    all_same world mounts (insert_deepest nat_eq world mount sorted)
-    ∙ ap (λ start. folded (λ sorted mount. insert_deepest nat_eq (of_mounts world.mounts) mount sorted) start mounts)
-    (insert_same world mount sorted)
+  same_falls : (d : ℕ) (list : List ℕ) → ((x : ℕ) → Among x list → key x ≡ d) → Falling list
+  same_falls d [] all = tt
+  same_falls d (x ∷ rest) all = (
+    λ y m. let one = all x (inl refl) in let other = all y (inr m) in omega (arith, one, other),
+    same_falls d rest (λ y m. all y (inr m)),
+  )
 
-pub lazy_numbers : (world : World ℕ) (number : ℕ)
-    → numbers (lazy_events world number) ≡ deepest_numbers world.mounts number
-lazy_numbers world number =
-    ap numbers (all_same world (mount_tree nat_eq world.mounts (mount_in nat_eq world.mounts number)) [])
+  at-reverse : (d : ℕ) (list : List ℕ) → at d (reverse list) ≡ reverse (at d list)
+  at-reverse d [] = refl
+  at-reverse d (x ∷ rest) =
+      ap (at d) (reverse-first x rest) ∙ filter-append (λ y. nat_eq (key y) d) (reverse rest) (x ∷ [])
+      ∙ ap (λ front. front ++ at d (x ∷ [])) (at-reverse d rest) ∙ by (nat_eq (key x) d)
+    where
+      by : (b : Bool) → reverse (at d rest) ++ cond b (x ∷ []) [] ≡ reverse (cond b (x ∷ at d rest) (at d rest))
+      by true = sym (reverse-first x (at d rest))
+      by false = append-nil (reverse (at d rest))
 
--- once all of a tree are put in their places
-pub events_in_order : (mounts : List (Mount ℕ)) → are_ascending mounts ≡ true → (number : ℕ) (events : List Event)
-    (tree : List MountId) (i : ℕ) → length tree ≤ i
-    → folded (with_number mounts) (map event_of events) (counts (drop i tree))
-    ≡ folded (with_number mounts) [] (counts tree)
-    → counts tree ≡ numbers (mount_tree nat_eq mounts (mount_in nat_eq mounts number))
-    → map (λ event. counted event.mount.count) events ≡ deepest_numbers mounts number
-events_in_order mounts up number events tree i all sofar is =
-    sym (map-twice (λ (event : ℕ × ℕ). event.0) event_of events)
-    ∙ ap (map (λ (event : ℕ × ℕ). event.0))
-    (ap (λ rest. folded (with_number mounts) (map event_of events) (counts rest)) (sym (drop_all i tree all)) ∙ sofar)
-    ∙ tree_inserted mounts up number (counts tree) is
+  all_at : (d : ℕ) (list : List ℕ) → ((x : ℕ) → Among x list → key x ≡ d) → at d list ≡ list
+  all_at d [] all = refl
+  all_at d (x ∷ rest) all =
+      filter_here (λ y. nat_eq (key y) d) x rest (eq-eqb (key x) d (all x (inl refl)))
+      ∙ ap (λ list. x ∷ list) (all_at d rest (λ y m. all y (inr m)))
+
+  none_at : (d : ℕ) (list : List ℕ) → ((x : ℕ) → Among x list → key x ≡ d → ⊥) → at d list ≡ []
+  none_at d list none =
+      filter_none (λ y. nat_eq (key y) d) list
+      (none_from_among (λ y. nat_eq (key y) d) list (λ x m. ne_eqb (key x) d (none x m)))
+
+-- The levels of a tree
+
+module _ (world : World ℕ) (kept : MountInvariants nat_eq world) where
+  abbrev key_of : ℕ → ℕ
+  key_of number = rank world kept.one_number kept.standing number
+
+  abbrev AllOf : ℕ → List ℕ → Type 0
+  AllOf r list = (x : ℕ) → Among x list → key_of x ≡ r
+
+  abbrev kids : ℕ → List ℕ
+  kids number = numbers (children nat_eq world.mounts number)
+
+  abbrev levels : ℕ → List ℕ → List ℕ
+  levels n list = levels_from n world.mounts list
+
+  kids_higher : (x : ℕ) → AllOf (suc (key_of x)) (kids x)
+  kids_higher x c m =
+      let from = among-from_map (λ (y : Mount ℕ). y.number) (children nat_eq world.mounts x) c m in
+      let on_it = among-from_filter (stands_on nat_eq x) world.mounts from.0 from.1 in
+      ap key_of from.2 ∙ by from.0 on_it.0 from.0.mount_point refl on_it.1
+    where
+      by : (child : Mount ℕ) → Among child world.mounts → (o : Option (Location ℕ)) → child.mount_point ≡ o
+          → stands_on nat_eq x child ≡ true → key_of child.number ≡ suc (key_of x)
+      by child there None e on =
+          absurd (true≢false (sym on ∙ ap (holds_of (λ (p : Location ℕ). nat_eq x p.mount)) e))
+      by child there (Some place) e on =
+          rank_child world kept.one_number kept.standing child.number place
+          (ap (λ (y : Mount ℕ). y.mount_point) (found_itself world.mounts kept.one_number child there) ∙ e)
+          ∙ ap (λ n. suc (key_of n))
+          (sym (eqb-true x place.mount (sym (ap (holds_of (λ (p : Location ℕ). nat_eq x p.mount)) e) ∙ on)))
+
+  all_kids_higher : (r : ℕ) (list : List ℕ) → AllOf r list → AllOf (suc r) (children_of world.mounts list)
+  all_kids_higher r list all c m =
+      let from = among-from_flat_map kids list c m in
+      kids_higher from.0 c from.2 ∙ ap suc (all from.0 from.1)
+
+  no_lower : (n r : ℕ) (list : List ℕ) → AllOf r list → (x : ℕ) → Among x (levels n list) → r ≤ key_of x
+  no_lower zero r list all x m = let same = all x m in omega (arith, same)
+  no_lower (suc n) r list all x m =
+      ⊎_elim
+      (λ here. let same = all x here in omega (arith, same))
+      (λ later.
+      let up = no_lower n (suc r) (children_of world.mounts list) (all_kids_higher r list all) x later in
+      omega (arith, up))
+      (among-append list (levels n (children_of world.mounts list)) x m)
+
+  levels_fall : (n r : ℕ) (list : List ℕ) → AllOf r list → Falling key_of (reverse (levels n list))
+  levels_fall zero r list all = same_falls key_of r (reverse list) (λ x m. all x (among-reverse list x m))
+  levels_fall (suc n) r list all =
+      let next : List ℕ = children_of world.mounts list in
+      subst (Falling key_of) (sym (reverse-append list (levels n next)))
+      (falling-append key_of (reverse (levels n next)) (reverse list)
+      (levels_fall n (suc r) next (all_kids_higher r list all))
+      (same_falls key_of r (reverse list) (λ x m. all x (among-reverse list x m)))
+      (λ x y m k.
+      let same = all y (among-reverse list y k) in
+      let up = no_lower n (suc r) next (all_kids_higher r list all) x (among-reverse (levels n next) x m) in
+      omega (arith, same, up)))
+
+  -- a tree by its numbers
+  under : ℕ → ℕ → List ℕ
+  under zero x = x ∷ []
+  under (suc n) x = x ∷ flat_map (under n) (kids x)
+
+  tree_numbers : (n : ℕ) (mount : Mount ℕ)
+      → numbers (tree_from nat_eq n world.mounts mount) ≡ under n mount.number
+  unfolding under
+  tree_numbers zero mount = refl
+  tree_numbers (suc n) mount =
+      ap (λ list. mount.number ∷ list) (all_trees (tree_numbers n) (children nat_eq world.mounts mount.number))
+    where
+      all_trees : ((x : Mount ℕ) → numbers (tree_from nat_eq n world.mounts x) ≡ under n x.number)
+          → (list : List (Mount ℕ))
+          → numbers (flat_map (tree_from nat_eq n world.mounts) list) ≡ flat_map (under n) (numbers list)
+      all_trees each [] = refl
+      all_trees each (x ∷ rest) =
+          map-append (λ (y : Mount ℕ). y.number) (tree_from nat_eq n world.mounts x)
+          (flat_map (tree_from nat_eq n world.mounts) rest)
+          ∙ (λ i. each x i ++ all_trees each rest i)
+
+  same_at : (n d r : ℕ) (list : List ℕ) → AllOf r list
+      → at key_of d (flat_map (under n) list) ≡ at key_of d (levels n list)
+  unfolding under
+  same_at zero d r list all = ap (at key_of d) (singles list)
+    where
+      singles : (some : List ℕ) → flat_map (under zero) some ≡ some
+      singles [] = refl
+      singles (x ∷ some) = ap (λ rest. x ∷ rest) (singles some)
+  same_at (suc n) d r list all = by (nat_eq r d) refl (same_at n d)
+    where
+      next : List ℕ
+      next = children_of world.mounts list
+
+      below : ℕ → List ℕ
+      below x = flat_map (under n) (kids x)
+
+      later : List ℕ
+      later = levels n next
+
+      all_below : (some : List ℕ) → flat_map below some ≡ flat_map (under n) (children_of world.mounts some)
+      all_below [] = refl
+      all_below (x ∷ some) =
+          ap (λ rest. below x ++ rest) (all_below some)
+          ∙ sym (flat_map-append (under n) (kids x) (children_of world.mounts some))
+
+      tops : d ≡ r → (some : List ℕ) → AllOf r some
+          → ((m : ℕ) (others : List ℕ) → AllOf m others
+          → at key_of d (flat_map (under n) others) ≡ at key_of d (levels n others))
+          → at key_of d (flat_map (λ x. x ∷ below x) some) ≡ some
+      tops same [] of_them again = refl
+      tops same (x ∷ some) of_them again =
+          filter_here (λ y. nat_eq (key_of y) d) x (below x ++ flat_map (λ y. y ∷ below y) some)
+          (eq-eqb (key_of x) d (of_them x (inl refl) ∙ sym same))
+          ∙ ap (λ rest. x ∷ rest)
+          (filter-append (λ y. nat_eq (key_of y) d) (below x) (flat_map (λ y. y ∷ below y) some)
+          ∙ (λ i. empty i ++ tops same some (λ y m. of_them y (inr m)) again i))
+        where
+          empty : at key_of d (below x) ≡ []
+          empty =
+              again (suc (key_of x)) (kids x) (kids_higher x)
+              ∙ none_at key_of d (levels n (kids x)) (λ y m e.
+              let up = no_lower n (suc (key_of x)) (kids x) (kids_higher x) y m in
+              let here = of_them x (inl refl) in
+              absurd (omega (arith, up, here, e, same)))
+
+      skipped : nat_eq r d ≡ false → (some : List ℕ) → AllOf r some
+          → at key_of d (flat_map (λ x. x ∷ below x) some) ≡ at key_of d (flat_map below some)
+      skipped apart [] of_them = refl
+      skipped apart (x ∷ some) of_them =
+          ap (λ b. cond b (x ∷ at key_of d (below x ++ flat_map (λ y. y ∷ below y) some))
+          (at key_of d (below x ++ flat_map (λ y. y ∷ below y) some)))
+          (ap (λ k. nat_eq k d) (of_them x (inl refl)) ∙ apart)
+          ∙ filter-append (λ y. nat_eq (key_of y) d) (below x) (flat_map (λ y. y ∷ below y) some)
+          ∙ ap (λ rest. at key_of d (below x) ++ rest) (skipped apart some (λ y m. of_them y (inr m)))
+          ∙ sym (filter-append (λ y. nat_eq (key_of y) d) (below x) (flat_map below some))
+
+      by : (b : Bool) → nat_eq r d ≡ b
+          → ((m : ℕ) (others : List ℕ) → AllOf m others
+          → at key_of d (flat_map (under n) others) ≡ at key_of d (levels n others))
+          → at key_of d (flat_map (λ x. x ∷ below x) list) ≡ at key_of d (list ++ later)
+      by true e again =
+          let same : d ≡ r = sym (eqb-true r d e) in
+          tops same list all again ∙ sym (append-nil list)
+          ∙ sym (λ i. all_at key_of d list (λ x m. all x m ∙ sym same) i ++ none_later same i)
+          ∙ sym (filter-append (λ y. nat_eq (key_of y) d) list later)
+        where
+          none_later : d ≡ r → at key_of d later ≡ []
+          none_later same = none_at key_of d later (λ x m f.
+              let up = no_lower n (suc r) next (all_kids_higher r list all) x m in
+              absurd (omega (arith, up, f, same)))
+      by false e again =
+          skipped e list all ∙ ap (at key_of d) (all_below list)
+          ∙ again (suc r) next (all_kids_higher r list all)
+          ∙ ap (λ front. front ++ at key_of d later) (sym none_here)
+          ∙ sym (filter-append (λ y. nat_eq (key_of y) d) list later)
+        where
+          none_here : at key_of d list ≡ []
+          none_here = none_at key_of d list (λ x m f.
+              true≢false (sym (eq-eqb r d (sym (all x m) ∙ f)) ∙ e))
+
+  -- Put in order
+
+  abbrev IsDeep : Mount ℕ → Type 0
+  IsDeep mount = depth_of nat_eq world mount ≡ suc (key_of mount.number)
+
+  inserted_at : (d : ℕ) (mount : Mount ℕ) (sorted : List (Mount ℕ)) → IsDeep mount
+      → ((x : Mount ℕ) → Among x sorted → IsDeep x)
+      → at key_of d (numbers (insert_deepest nat_eq world mount sorted))
+      ≡ at key_of d (mount.number ∷ numbers sorted)
+  inserted_at d mount [] deep all = refl
+  inserted_at d mount (other ∷ rest) deep all =
+      by (nat_lt (depth_of nat_eq world mount) (depth_of nat_eq world other)) refl
+      (inserted_at d mount rest deep (λ x m. all x (inr m)))
+    where
+      those : List ℕ
+      those = at key_of d (numbers rest)
+
+      turn : (a b : Bool) → (a ≡ true → b ≡ true → ⊥)
+          → cond b (other.number ∷ cond a (mount.number ∷ those) those) (cond a (mount.number ∷ those) those)
+          ≡ cond a (mount.number ∷ cond b (other.number ∷ those) those) (cond b (other.number ∷ those) those)
+      turn true true never = absurd (never refl refl)
+      turn true false never = refl
+      turn false true never = refl
+      turn false false never = refl
+
+      by : (b : Bool) → nat_lt (depth_of nat_eq world mount) (depth_of nat_eq world other) ≡ b
+          → at key_of d (numbers (insert_deepest nat_eq world mount rest))
+          ≡ at key_of d (mount.number ∷ numbers rest)
+          → at key_of d (numbers (cond b (other ∷ insert_deepest nat_eq world mount rest) (mount ∷ other ∷ rest)))
+          ≡ at key_of d (mount.number ∷ other.number ∷ numbers rest)
+      by true e later =
+          ap (λ list. cond (nat_eq (key_of other.number) d) (other.number ∷ list) list) later
+          ∙ turn (nat_eq (key_of mount.number) d) (nat_eq (key_of other.number) d) (λ f g.
+          let less : depth_of nat_eq world mount < depth_of nat_eq world other =
+          ltb-true (depth_of nat_eq world mount) (depth_of nat_eq world other) e in
+          let deep_too = all other (inl refl) in
+          let one : key_of mount.number ≡ d = eqb-true (key_of mount.number) d f in
+          let same : key_of other.number ≡ d = eqb-true (key_of other.number) d g in
+          absurd (omega (arith, less, deep, deep_too, one, same)))
+      by false e later = refl
+
+  all_inserted_at : (d : ℕ) (mounts sorted : List (Mount ℕ)) → ((x : Mount ℕ) → Among x mounts → IsDeep x)
+      → ((x : Mount ℕ) → Among x sorted → IsDeep x)
+      → at key_of d (numbers (folded (λ sorted mount. insert_deepest nat_eq world mount sorted) sorted mounts))
+      ≡ reverse (at key_of d (numbers mounts)) ++ at key_of d (numbers sorted)
+  all_inserted_at d [] sorted all deep = refl
+  all_inserted_at d (mount ∷ mounts) sorted all deep =
+      all_inserted_at d mounts (insert_deepest nat_eq world mount sorted) (λ x m. all x (inr m))
+      (λ x m. ⊎_elim (λ same. subst IsDeep (sym same) (all mount (inl refl))) (deep x)
+      (among_inserted world mount sorted x m))
+      ∙ ap (λ list. reverse (at key_of d (numbers mounts)) ++ list)
+      (inserted_at d mount sorted (all mount (inl refl)) deep)
+      ∙ by (nat_eq (key_of mount.number) d)
+    where
+      some : List ℕ
+      some = at key_of d (numbers mounts)
+
+      rest : List ℕ
+      rest = at key_of d (numbers sorted)
+
+      by : (b : Bool) → reverse some ++ cond b (mount.number ∷ rest) rest
+          ≡ reverse (cond b (mount.number ∷ some) some) ++ rest
+      by true =
+          sym (append_assoc (reverse some) (mount.number ∷ []) rest)
+          ∙ ap (λ front. front ++ rest) (sym (reverse-first mount.number some))
+      by false = refl
+
+  falls_by_depth : (list : List (Mount ℕ)) → AreDeepestFirst world list
+      → ((x : Mount ℕ) → Among x list → IsDeep x) → Falling key_of (numbers list)
+  falls_by_depth [] order all = tt
+  falls_by_depth (mount ∷ rest) order all = (
+    λ y m.
+        let from = among-from_map (λ (x : Mount ℕ). x.number) rest y m in
+        let low = order.0 from.0 from.1 in
+        let one = all mount (inl refl) in
+        let other = all from.0 (inr from.1) in
+        let same : key_of y ≡ key_of from.0.number = ap key_of from.2 in
+        omega (arith, low, one, other, same),
+    falls_by_depth rest order.1 (λ x m. all x (inr m)),
+  )
+
+  deep_itself : (mount : Mount ℕ) → mount_numbered nat_eq world mount.number ≡ mount → IsDeep mount
+  deep_itself mount itself =
+      ap (depth_of nat_eq world) (sym itself) ∙ depth_by_rank world kept.one_number kept.standing mount.number
+
+  in_tree : (number : ℕ) (mount : Mount ℕ)
+      → Among mount (mount_tree nat_eq world.mounts (mount_numbered nat_eq world number))
+      → mount_numbered nat_eq world mount.number ≡ mount
+  in_tree number mount m = ⊎_elim
+      (λ same. ap (λ (x : Mount ℕ). mount_in nat_eq world.mounts x.number) same
+      ∙ ap (mount_in nat_eq world.mounts) (number_found world.mounts number) ∙ sym same)
+      (λ among. found_itself world.mounts kept.one_number mount among)
+      (tree_among (length world.mounts) world.mounts (mount_numbered nat_eq world number) mount m)
+
+  pub lazy_levels : (number : ℕ)
+      → numbers (lazy_events world number) ≡ reverse (levels_from (length world.mounts) world.mounts (number ∷ []))
+  lazy_levels number =
+      falling_alike key_of (numbers (lazy_events world number)) (reverse (levels n (number ∷ [])))
+      (falls_by_depth (taken_in_turn world number) (in_order world number) (λ x m.
+      deep_itself x (is_itself world kept.one_number kept.standing number x m)))
+      (levels_fall n (key_of number) (number ∷ []) one)
+      (λ d.
+      all_inserted_at d tree [] (λ x m. deep_itself x (in_tree number x m)) (λ x m. absurd m)
+      ∙ append-nil (reverse (at key_of d (numbers tree)))
+      ∙ ap (λ list. reverse (at key_of d list))
+      (tree_numbers n (mount_numbered nat_eq world number) ∙ ap (under n) (number_found world.mounts number)
+      ∙ sym (append-nil (under n number)))
+      ∙ ap reverse (same_at n d (key_of number) (number ∷ []) one)
+      ∙ sym (at-reverse key_of d (levels n (number ∷ []))))
+    where
+      n : ℕ
+      n = length world.mounts
+
+      tree : List (Mount ℕ)
+      tree = mount_tree nat_eq world.mounts (mount_numbered nat_eq world number)
+
+      one : AllOf (key_of number) (number ∷ [])
+      one x m = ⊎_elim (λ e. ap key_of e) (λ none. absurd none) m
+
+-- after a last level nothing follows
+no_more_levels : (n : ℕ) (mounts : List (Mount ℕ)) → levels_from n mounts [] ≡ []
+no_more_levels zero mounts = refl
+no_more_levels (suc n) mounts = no_more_levels n mounts
+
+pub counts-reverse : (ids : List MountId) → counts (reverse ids) ≡ reverse (counts ids)
+counts-reverse [] = refl
+counts-reverse (id ∷ ids) =
+    ap counts (reverse-append (id ∷ []) ids) ∙ map-append (λ (one : MountId). counted one.count) (reverse ids) (id ∷ [])
+    ∙ ap (λ front. front ++ (counted id.count ∷ [])) (counts-reverse ids)
+    ∙ sym (reverse-append (counted id.count ∷ []) (counts ids))
+
+pub none_counted : (ids : List MountId) → length ids ≡ 0 → counts ids ≡ []
+none_counted [] none = refl
+none_counted (id ∷ ids) none = absurd (omega (arith, none))
+
+-- the next level follows those that are there
+module _ (mounts : List (Mount ℕ)) (all level : List ℕ) (n : ℕ) where
+  pub next_level : (more next : List ℕ) → more ≡ all ++ level → next ≡ children_of mounts level
+      → more ++ levels_from n mounts next ≡ all ++ levels_from (suc n) mounts level
+  next_level more next is children =
+      (λ i. is i ++ levels_from n mounts (children i))
+      ∙ append_assoc all level (levels_from n mounts (children_of mounts level))
+
+  pub no_next : level ≡ [] → all ≡ all ++ levels_from n mounts level
+  no_next none =
+      sym (append-nil all) ∙ ap (λ rest. all ++ rest) (sym (ap (levels_from n mounts) none ∙ no_more_levels n mounts))

@@ -28,7 +28,7 @@ use Rattle.vt_propagate.specs.Seen.{IsSeen}
 use Rattle.vt_propagate.proofs.TakenTwice.{taken_twice}
 
 -- where nothing goes, nothing changes
-nothing_taken : (world : World ℕ) → MountInvariants nat_eq world → taken_away nat_eq world [] ≡ world
+pub nothing_taken : (world : World ℕ) → MountInvariants nat_eq world → taken_away nat_eq world [] ≡ world
 nothing_taken world kept =
     ap (λ mounts. regrouped nat_eq (with_mounts world mounts))
     (map_same (after_going nat_eq world []) world.mounts (λ mount m. λ i. record mount {
@@ -86,7 +86,7 @@ goes_itself now kept number alone = by (mount_numbered nat_eq now number).mount_
     by (Some place) e = the_mount_itself_goes now number place kept.one_child e alone
 
 -- what stands in a tree stands in the namespace of its top
-pub same_namespace_in : (world : World ℕ) → MountInvariants nat_eq world → (top number : ℕ) → LiesIn world top number
+same_namespace_in : (world : World ℕ) → MountInvariants nat_eq world → (top number : ℕ) → LiesIn world top number
     → (mount_numbered nat_eq world number).namespace ≡ (mount_numbered nat_eq world top).namespace
 same_namespace_in world kept top number (itself it) = refl
 same_namespace_in world kept top number (under above it place e way) =

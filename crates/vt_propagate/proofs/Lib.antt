@@ -14,6 +14,9 @@ pub mod Moved
 pub mod Places
 pub mod TakenTwice
 pub mod LazyUnmounts
-pub mod LazyAlone
 pub mod LazyOrder
-pub mod LazyTrying
+pub mod ReceiversLeft
+pub mod Over
+pub mod Looks
+pub mod LazySteps
+pub mod LookedThrough

@@ -1,9 +1,8 @@
 -- Lazy unmounts: the mounts that the events detach one after the other may as well go all at once.
-use Rattle.std.specs.Prelude.{All, Contains, List, [], false, if◌then◌else◌, is_some, nat_eq, true, ℕ, ◌++◌, ◌∷◌, ◌≡◌}
-use Rattle.vt_spec.specs.Lists.{holds_of}
+use Rattle.std.specs.Prelude.{All, Contains, List, [], if◌then◌else◌, is_some, nat_eq, true, ℕ, ◌++◌, ◌∷◌, ◌≡◌}
 use Rattle.vt_spec.specs.Machine.Detach.{deepest_first, going, lazily_unmounted, taken_away, unmounted_if_there}
 use Rattle.vt_spec.specs.Machine.Invariants.{MountInvariants}
-use Rattle.vt_spec.specs.Machine.Mounts.{Mount, is_shared, mount_tree}
+use Rattle.vt_spec.specs.Machine.Mounts.{Mount, mount_tree}
 use Rattle.vt_spec.specs.Machine.Settled.{settled, without_dead_groups}
 use Rattle.vt_spec.specs.Machine.World.{World, mount_numbered}
 use Rattle.vt_group.specs.Grouping.{Grouping}
@@ -28,11 +27,6 @@ lazy_events world number =
 
 abbrev pub gone_lazily : World ℕ → ℕ → List ℕ
 gone_lazily world number = gone_by world (lazy_events world number)
-
--- the mount that a mount stands on is not shared
-abbrev pub StandsApart : World ℕ → Mount ℕ → Type 0
-StandsApart world mount =
-    holds_of (λ place. is_shared (mount_numbered nat_eq world place.mount).propagation) mount.mount_point ≡ false
 
 -- Mounts that are detached in two parts may as well go at once. What the two worlds say of the master of a group
 -- without members may differ, and does not count: the group ends as a world is settled.

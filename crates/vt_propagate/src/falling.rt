@@ -17,11 +17,11 @@ use vt_location::{Location, MountId};
 use vt_mount::{Mounts, NewPoint};
 use vt_spec::errors::{Deny, Rule};
 
-// The mounts that go, and the same as a set.
+/// The mounts that go, and the same as a set.
 #[derive(Clone, Copy, Debug)]
-struct Gone<'a> {
-    ids: &'a [MountId],
-    set: &'a IndexSet<MountId>,
+pub(crate) struct Gone<'a> {
+    pub(crate) ids: &'a [MountId],
+    pub(crate) set: &'a IndexSet<MountId>,
 }
 
 /// The new mount points of the mounts that stay where these are detached. A mount on one of them takes that one's mount
@@ -106,8 +106,8 @@ fn point_left(mounts: &Mounts, gone: &Gone, id: MountId) -> Option<NewPoint>
     })
 }
 
-// Where a mount point is left.
-fn place_left(mounts: &Mounts, gone: &Gone, place: Location) -> Location
+/// Where a mount point is left.
+pub(crate) fn place_left(mounts: &Mounts, gone: &Gone, place: Location) -> Location
     requires { HasJust gone.now.set.now.keys (map (λ id. counted id.count) gone.now.ids.now) }
     ensures { location_of result
         ≡ mount_point_left nat_eq (of_mounts (mounts_in mounts.now)) (map (λ id. counted id.count) gone.now.ids.now)
@@ -136,8 +136,8 @@ fn below_gone(mounts: &Mounts, gone: &Gone, place: Location) -> Option<Location>
     mounts.get(place.mount)?.mount_point
 }
 
-// Whether a mount is one of these.
-fn is_gone(gone: &Gone, id: MountId) -> bool
+/// Whether a mount is one of these.
+pub(crate) fn is_gone(gone: &Gone, id: MountId) -> bool
     requires { HasJust gone.now.set.now.keys (map (λ id. counted id.count) gone.now.ids.now) }
     ensures { result ≡ is_going nat_eq (map (λ id. counted id.count) gone.now.ids.now) (counted id.count) }
 {

@@ -14,6 +14,7 @@ mod numbering;
 mod pushing;
 mod reach;
 mod receiving;
+mod through;
 mod unmounting;
 
 pub use attaching::{Plan, attachment};

@@ -165,8 +165,8 @@ fn root_over(copies: &[Mount], place: Location) -> Option<Location>
     None
 }
 
-// Whether a mount stands at a location.
-fn stands_at(mount: &Mount, place: Location) -> bool
+/// Whether a mount stands at a location.
+pub(crate) fn stands_at(mount: &Mount, place: Location) -> bool
     ensures { result ≡ stands_at_place nat_eq (location_of place) (mount_of mount.now) }
 {
     match mount.mount_point {

@@ -9,7 +9,7 @@ ghost use Rattle.vt_spec.specs.Machine.World.{World, mount_numbered};
 ghost use Rattle.vt_location.specs.Locations.{location_of, number_of};
 ghost use Rattle.vt_location.specs.Numbers.{counted};
 ghost use Rattle.vt_mount.specs.MountsValue.{mounts_in, uses_of};
-ghost use Rattle.vt_propagate.specs.Going.{CountsUses, free_at, free_on, is_free, shared_point};
+ghost use Rattle.vt_propagate.specs.Going.{CountsUses, free_at, free_on, group_at as group_at_place, is_free, shared_point};
 ghost use Rattle.vt_propagate.specs.Seen.{IsSeen};
 
 use std::alloc::{AllocError, Global};
@@ -70,8 +70,8 @@ pub fn going(
     Ok(going)
 }
 
-// The list of one mount.
-fn alone(alloc: Global, id: MountId) -> Result<Vec<MountId>, Deny>
+/// The list of one mount.
+pub(crate) fn alone(alloc: Global, id: MountId) -> Result<Vec<MountId>, Deny>
     ensures ok { IfOk result (λ list. list.items ≡ id ∷ []) }
     ensures memory { IfErr result (λ deny. deny ≡ denial S5) }
 {
@@ -82,12 +82,19 @@ fn alone(alloc: Global, id: MountId) -> Result<Vec<MountId>, Deny>
     Ok(list)
 }
 
-/// The mount point of a mount whose parent is shared, and the parent's group.
-pub(crate) fn shared_point(mounts: &Mounts, id: MountId) -> Option<(Location, GroupId)>
+// The mount point of a mount whose parent is shared, and the parent's group.
+fn shared_point(mounts: &Mounts, id: MountId) -> Option<(Location, GroupId)>
     ensures { option_map (λ found. (location_of found.0, counted found.1.count)) result
         ≡ shared_point (mounts_in mounts.now) (counted id.count) }
 {
-    let point = mounts.get(id)?.mount_point?;
+    group_at(mounts, mounts.get(id)?.mount_point?)
+}
+
+/// A mount point on a shared mount, and that one's group.
+pub(crate) fn group_at(mounts: &Mounts, point: Location) -> Option<(Location, GroupId)>
+    ensures { option_map (λ found. (location_of found.0, counted found.1.count)) result
+        ≡ group_at_place (mounts_in mounts.now) (location_of point) }
+{
     match mounts.get(point.mount)?.propagation {
         Propagation::Shared(group) => Some((point, group)),
         Propagation::Slave(_) | Propagation::Private | Propagation::Unbindable => None,

@@ -1,0 +1,115 @@
+-- What stands where once mounts are gone, as code finds it out.
+use Rattle.std.proofs.Common.{◌≡◌, ◌<◌, ◌≤◌, ◌+◌, refl, sym, ap, ◌∙◌, ℕ, suc, nat_eq, Bool, true, false, true≢false, ◌&&◌, List, [], ◌∷◌, drop, get_or, length, Option, None, Some, is_some, option_map, inl, inr}
+use Rattle.std.proofs.lemmas.Option.{same_Some}
+use Rattle.std.proofs.lemmas.List.{drop_all, drop_more}
+use Rattle.std.specs.List.{list_all}
+use Rattle.std.specs.Prelude.{if◌then◌else◌}
+use Rattle.vt_spec.specs.Lists.{holds_of, then_some}
+use Rattle.vt_spec.specs.Machine.Detach.{is_going}
+use Rattle.vt_spec.specs.Machine.Mounts.{Location, Mount, child_at, children, root_of, stands_at, stands_on}
+use Rattle.vt_spec.proofs.Lists.{Among, among-from_filter}
+use Rattle.vt_location.specs.declared.numbers.MountId.{MountId}
+use Rattle.vt_location.specs.Numbers.{counted}
+use Rattle.vt_mount.specs.MountsValue.{are_ascending}
+use Rattle.vt_propagate.specs.Through.{is_free_by_number, is_free_then, over_from, rests_on_root}
+use Rattle.vt_propagate.proofs.Found.{counts, numbered, numbered_among, numbers}
+use Rattle.vt_propagate.proofs.Leaving.{found_one, numbered-number}
+
+module _ (mounts : List (Mount ℕ)) (gone : List ℕ) where
+  abbrev found_number : Location ℕ → Option ℕ
+  found_number place = option_map (λ (m : Mount ℕ). m.number) (child_at nat_eq mounts place)
+
+  abbrev up_from : ℕ → Mount ℕ → Option ℕ
+  up_from most child =
+      if is_going nat_eq gone child.number then over_from most mounts gone (root_of child) else Some child.number
+
+  pub over_none : (most : ℕ) (place : Location ℕ) → None ≡ found_number place
+      → None ≡ over_from (suc most) mounts gone place
+  over_none most place none = by (child_at nat_eq mounts place) none
+    where
+      by : (o : Option (Mount ℕ)) → None ≡ option_map (λ (m : Mount ℕ). m.number) o → None ≡ then_some o (up_from most)
+      by None e = refl
+      by (Some child) e = absurd (true≢false (sym (ap is_some e)))
+
+  pub over_here : (most : ℕ) (place : Location ℕ) (number : ℕ) → Some number ≡ found_number place
+      → is_going nat_eq gone number ≡ false → Some number ≡ over_from (suc most) mounts gone place
+  over_here most place number some stays = by (child_at nat_eq mounts place) some
+    where
+      by : (o : Option (Mount ℕ)) → Some number ≡ option_map (λ (m : Mount ℕ). m.number) o
+          → Some number ≡ then_some o (up_from most)
+      by None e = absurd (true≢false (ap is_some e))
+      by (Some child) e =
+          let same : number ≡ child.number = same_Some number child.number e in
+          ap Some same
+          ∙ sym (ap (λ b. if b then over_from most mounts gone (root_of child) else Some child.number)
+          (ap (is_going nat_eq gone) (sym same) ∙ stays))
+
+  module _ (up : are_ascending mounts ≡ true) where
+    found_child : (place : Location ℕ) (child : Mount ℕ) → child_at nat_eq mounts place ≡ Some child
+        → numbered mounts child.number ≡ Some child
+    found_child place child e = numbered_among mounts up child (found_one (stands_at nat_eq place) mounts child e).0
+
+    pub over_next : (most : ℕ) (place : Location ℕ) (number : ℕ) (mount : Mount ℕ) → Some number ≡ found_number place
+        → is_going nat_eq gone number ≡ true → Some mount ≡ numbered mounts number
+        → over_from (suc most) mounts gone place ≡ over_from most mounts gone (root_of mount)
+    over_next most place number mount some goes found = by (child_at nat_eq mounts place) refl some
+      where
+        by : (o : Option (Mount ℕ)) → child_at nat_eq mounts place ≡ o
+            → Some number ≡ option_map (λ (m : Mount ℕ). m.number) o
+            → then_some o (up_from most) ≡ over_from most mounts gone (root_of mount)
+        by None f e = absurd (true≢false (ap is_some e))
+        by (Some child) f e =
+            let same : number ≡ child.number = same_Some number child.number e in
+            let it : mount ≡ child =
+            same_Some mount child (found ∙ ap (numbered mounts) same ∙ found_child place child f) in
+            ap (λ b. if b then over_from most mounts gone (root_of child) else Some child.number)
+            (ap (is_going nat_eq gone) (sym same) ∙ goes)
+            ∙ ap (λ m. over_from most mounts gone (root_of m)) (sym it)
+
+    -- what stands at a place is a mount
+    pub over_lost : (place : Location ℕ) (number : ℕ) → Some number ≡ found_number place
+        → None ≡ numbered mounts number → ⊥
+    over_lost place number some none = by (child_at nat_eq mounts place) refl some
+      where
+        by : (o : Option (Mount ℕ)) → child_at nat_eq mounts place ≡ o
+            → Some number ≡ option_map (λ (m : Mount ℕ). m.number) o → ⊥
+        by None f e = true≢false (ap is_some e)
+        by (Some child) f e =
+            true≢false (sym (ap is_some (none ∙ ap (numbered mounts) (same_Some number child.number e)
+            ∙ found_child place child f)))
+
+    -- all mounts of some, by their numbers
+    all_numbered : (test : Mount ℕ → Bool) (some : List (Mount ℕ))
+        → ((mount : Mount ℕ) → Among mount some → Among mount mounts)
+        → list_all (λ n. holds_of test (numbered mounts n)) (numbers some) ≡ list_all test some
+    all_numbered test [] within = refl
+    all_numbered test (mount ∷ some) within =
+        λ i. holds_of test (numbered_among mounts up mount (within mount (inl refl)) i)
+        && all_numbered test some (λ x m. within x (inr m)) i
+
+    pub free_if_all : (number : ℕ) (mount : Mount ℕ) → Some mount ≡ numbered mounts number → (kids : List ℕ)
+        → kids ≡ numbers (children nat_eq mounts number)
+        → list_all (λ n. holds_of (rests_on_root mounts gone mount) (numbered mounts n)) kids
+        ≡ is_free_by_number mounts gone number
+    free_if_all number mount found kids are =
+        ap (list_all (λ n. holds_of (rests_on_root mounts gone mount) (numbered mounts n)))
+        (are ∙ ap (λ n. numbers (children nat_eq mounts n)) (numbered-number mounts number mount found))
+        ∙ all_numbered (rests_on_root mounts gone mount) (children nat_eq mounts mount.number)
+        (λ x m. (among-from_filter (stands_on nat_eq mount.number) mounts x m).0)
+        ∙ ap (holds_of (is_free_then mounts gone)) found
+
+-- the children of a mount rest on its root, so far as they were looked at
+module _ (mounts : List (Mount ℕ)) (gone : List ℕ) (mount : Mount ℕ) (kids : List MountId) (i : ℕ) where
+  abbrev rests : ℕ → Bool
+  rests number = holds_of (rests_on_root mounts gone mount) (numbered mounts number)
+
+  pub one_does_not : (default : MountId) → i < length kids → rests (counted (get_or kids i default).count) ≡ false
+      → list_all rests (counts (drop i kids)) ≡ list_all rests (counts kids) → false ≡ list_all rests (counts kids)
+  one_does_not default less fails sofar =
+      sym (ap (λ list. list_all rests (counts list)) (drop_more kids i default less)
+      ∙ ap (λ b. b && list_all rests (counts (drop (i + 1) kids))) fails)
+      ∙ sofar
+
+  pub all_rest : length kids ≤ i → list_all rests (counts (drop i kids)) ≡ list_all rests (counts kids)
+      → true ≡ list_all rests (counts kids)
+  all_rest all sofar = sym (ap (λ list. list_all rests (counts list)) (drop_all i kids all)) ∙ sofar
