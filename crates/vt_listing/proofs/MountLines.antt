@@ -1,5 +1,5 @@
 -- The list of a namespace's mounts: places in it, and the filesystems that it shows, each once.
-use Rattle.std.proofs.Common.{◌≡◌, ◌<◌, true≢false, refl, sym, ap, ◌∙◌, ℕ, suc, ◌+◌, Bool, true, false, not, cond, ◌||◌, nat_eq, eqb-true, eq-eqb, ne_eqb, List, [], ◌∷◌, ◌++◌, map, filter, length, take, get_or, position, Option, Some, None, option_map, unwrap_or, append_assoc, arith}
+use Rattle.std.proofs.Common.{◌≡◌, ◌<◌, true≢false, refl, sym, ap, ◌∙◌, ℕ, ◌+◌, Bool, true, false, not, cond, ◌||◌, nat_eq, eqb-true, eq-eqb, ne_eqb, List, [], ◌∷◌, ◌++◌, map, filter, length, take, get_or, position, Option, Some, None, option_map, unwrap_or, append_assoc, arith}
 use Rattle.std.specs.Prelude.{filter_map, flat_map, nat_lt}
 use Rattle.std.specs.List.{cons_option, list_any, position_or_len}
 use Rattle.std.proofs.lemmas.Bool.{lt-ltb, ltb-false, ltb-true}

@@ -1,5 +1,5 @@
 -- What a table of mounts shows of the worlds that have its mounts, groups and filesystems.
-use Rattle.std.proofs.Common.{◌≡◌, ap, nat_eq, map, ℕ, List}
+use Rattle.std.proofs.Common.{◌≡◌, ap, nat_eq, ℕ}
 use Rattle.vt_fs.specs.FilesystemsValue.{filesystems_seen}
 use Rattle.vt_group.specs.Grouping.{master_in}
 use Rattle.vt_mount.specs.MountsValue.{mounts_in}
