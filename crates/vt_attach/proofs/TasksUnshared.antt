@@ -16,7 +16,8 @@ use Rattle.vt_run_laws.specs.Handed.{counts_from}
 use Rattle.vt_tasks.specs.declared.task.Task.{Task as Own}
 use Rattle.vt_tasks.specs.TaskValue.{task_of}
 use Rattle.vt_tasks.specs.TasksValue.{called, changed_by, changed_called, replaced}
-use Rattle.vt_attach.specs.Copying.{CopiesAttached, attached_in, copies_of, moved_in, with_use_moved}
+use Rattle.vt_mount.specs.Attached.{attached_in}
+use Rattle.vt_attach.specs.Copying.{CopiesAttached, copies_of, moved_in, with_use_moved}
 use Rattle.vt_detach.specs.Events.{Permits}
 use Rattle.vt_detach.specs.Held.{IsHeld}
 use Rattle.vt_detach.specs.NamespacesLeft.{MountsAreLeft, namespace_entry, with_one_task_less}

@@ -18,13 +18,13 @@ use Rattle.vt_spec.specs.Machine.Mounts.{Mount, no_mount}
 use Rattle.vt_spec.specs.Machine.World.{World, mount_at}
 use Rattle.vt_spec.specs.Machine.Invariants.{is_located_well}
 use Rattle.vt_attach.specs.BoundMounts.{bound_mounts, rooted_at}
-use Rattle.vt_attach.specs.Copying.{AreOf}
+use Rattle.vt_mount.specs.Attached.{AreOf}
 use Rattle.vt_detach.specs.Held.{IsHeld}
 use Rattle.vt_detach.specs.WorldValue.{WorldValue, world_of}
 use Rattle.vt_detach.proofs.FilesSeen.{IsLocated, located}
 use Rattle.vt_attach.proofs.Binding.{found_some}
 use Rattle.vt_attach.proofs.CopiesAscend.{differs}
-use Rattle.vt_attach.proofs.CopyLemmas.{ascending_found, picked}
+use Rattle.vt_mount.proofs.AttachedLemmas.{ascending_found, picked}
 
 is_there : {A : Type 0} (o : Option A) (default : A) → is_some o ≡ true → o ≡ Some (unwrap_or o default)
 is_there None default some = absurd (true≢false (sym some))

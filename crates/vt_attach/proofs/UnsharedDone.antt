@@ -28,7 +28,8 @@ use Rattle.vt_mount.specs.MountsValue.{MountEntry, are_ascending, mounts_in}
 use Rattle.vt_permit_laws.proofs.SameNumbers.{same_worlds_keep_to_numbers}
 use Rattle.vt_run_laws.specs.Handed.{counts_from, is_counted_before}
 use Rattle.vt_tasks.specs.TasksValue.{Tasks}
-use Rattle.vt_attach.specs.Copying.{attached_in, copies_of}
+use Rattle.vt_mount.specs.Attached.{attached_in}
+use Rattle.vt_attach.specs.Copying.{copies_of}
 use Rattle.vt_detach.specs.Events.{Permits, left_by}
 use Rattle.vt_detach.specs.Held.{CountsWhatIsInIt, IsHeld}
 use Rattle.vt_detach.specs.NamespacesLeft.{MountsAreLeft, namespace_entry, numbers_inside, with_one_task_less}
@@ -37,7 +38,7 @@ use Rattle.vt_detach.specs.WorldValue.{NamespaceEntry, WorldValue, namespace_of,
 use Rattle.vt_attach.proofs.AddedBegins as Begins
 use Rattle.vt_attach.proofs.AddedBegins.{IsAdded, KeepsAdded, with_added}
 use Rattle.vt_attach.proofs.GrownGroups.{ascending_rises}
-use Rattle.vt_attach.proofs.CopyLemmas.{ascending_filter}
+use Rattle.vt_mount.proofs.AttachedLemmas.{ascending_filter}
 use Rattle.vt_attach.proofs.UnsharingLemmas.{copies_ascend}
 use Rattle.vt_attach.proofs.AddedUses.{gained_by, shown_by_all}
 use Rattle.vt_detach.proofs.Bridging.{IsSwept, swept_is_same}

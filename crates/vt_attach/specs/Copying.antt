@@ -1,32 +1,19 @@
 -- Copies of a namespace's mounts in another one: unshare(2) with CLONE_NEWNS.
 use Rattle.std.specs.List.{list_all}
-use Rattle.std.specs.Prelude.{Bool, List, [], false, filter, if◌then◌else◌, map, nat_eq, nat_lt, true, ℕ, ◌&&◌, ◌∷◌, ◌≡◌}
+use Rattle.std.specs.Prelude.{List, [], false, if◌then◌else◌, map, nat_eq, true, ℕ, ◌≡◌}
 use Rattle.vt_group.specs.Grouping.{Grouping}
 use Rattle.vt_group.specs.Together.{GrowsTo, typed}
 use Rattle.vt_location.specs.declared.mounts.Mount.{Mount as Attached}
-use Rattle.vt_location.specs.declared.numbers.MountId.{MountId}
 use Rattle.vt_location.specs.MountValue.{mount_of}
 use Rattle.vt_location.specs.Numbers.{counted}
-use Rattle.vt_mount.specs.MountsValue.{MountEntry, changed, held, mounts_in, released}
+use Rattle.vt_mount.specs.Attached.{attached_in}
+use Rattle.vt_mount.specs.MountsValue.{MountEntry, changed, held, released}
 use Rattle.vt_run_laws.specs.Handed.{counts_from}
-use Rattle.vt_spec.specs.Lists.{holds_of, odds}
+use Rattle.vt_spec.specs.Lists.{odds}
 use Rattle.vt_spec.specs.Machine.Mounts.{Location, Mount, numbers_by}
 use Rattle.vt_spec.specs.Machine.Namespaces.{copied_mount, moved_location}
 use Rattle.vt_attach.specs.Room.{has_small_slots}
 use Rattle.vt_detach.specs.Uses.{Kept, with_attached}
-
--- the mounts that are attached in a namespace
-abbrev pub attached_in : ℕ → List MountEntry → List (Mount ℕ)
-attached_in namespace entries = filter (λ mount. holds_of (nat_eq namespace) mount.namespace) (mounts_in entries)
-
--- each count is less than those after it
-abbrev pub are_rising : List MountId → Bool
-are_rising [] = true
-are_rising (id ∷ rest) = list_all (λ later. nat_lt id.count later.count) rest && are_rising rest
-
--- the originals are the mounts of a list, by their numbers
-abbrev pub AreOf : List MountId → List (Mount ℕ) → Type 0
-AreOf originals all = map (λ id. counted id.count) originals ≡ map (λ mount. mount.number) all
 
 -- the numbers of copies, which are counted with their namespace from the next count on; and the copies
 abbrev pub copy_numbers : ℕ → List (Mount ℕ) → ℕ → ℕ

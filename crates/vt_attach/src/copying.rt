@@ -10,7 +10,8 @@ ghost use Rattle.vt_spec.specs.Errors.{denial};
 ghost use Rattle.vt_spec.specs.Lists.{holds_of};
 ghost use Rattle.vt_spec.specs.Machine.Mounts as meant;
 ghost use Rattle.vt_spec.specs.Machine.Namespaces.{location_on_copy};
-ghost use Rattle.vt_attach.specs.Copying.{AreOf, CopiesAttached, are_rising, attached_in, copied_by, copies_of, copy_numbers, moved_in, with_use_moved};
+ghost use Rattle.vt_mount.specs.Attached.{AreOf, are_rising, attached_in};
+ghost use Rattle.vt_attach.specs.Copying.{CopiesAttached, copied_by, copies_of, copy_numbers, moved_in, with_use_moved};
 ghost use Rattle.vt_detach.specs.Uses.{kept};
 
 use crate::planned::{Planned, attach_planned};

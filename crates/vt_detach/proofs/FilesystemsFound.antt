@@ -6,8 +6,9 @@ use Rattle.vt_spec.specs.Machine.World.{Filesystem, no_filesystem}
 use Rattle.vt_spec.specs.Inodes.{node_in}
 use Rattle.vt_spec.specs.Tree.{Node}
 use Rattle.vt_location.specs.Numbers.{counted, inode_number, is_inode_of}
-use Rattle.vt_location.proofs.NumberLemmas.{counted_inode, inode_same, slot_of}
+use Rattle.vt_location.proofs.NumberLemmas.{counted_inode, slot_of}
 use Rattle.vt_fs.specs.FilesystemsValue.{FilesystemEntry, Filesystems, entry_at, entry_of, filesystem_seen, filesystems_seen, no_entry}
+use Rattle.vt_fs.proofs.Numbers.{inode_of_one}
 use Rattle.vt_detach.specs.Held.{HasOwnInodes}
 
 -- the filesystem with a number, as the definitions find it
@@ -75,12 +76,6 @@ own_filesystem (x ∷ fs) own number inode there =
         → (count : ℕ) × (number ≡ counted count) × (is_inode_of count inode ≡ true)
     by true e there rest = (x.count, eqb-true number (counted x.count) e, here (is_inode_of x.count inode) refl there)
     by false e there rest = rest there
-
-pub inode_of_one : (count filesystem slot : ℕ) → slot < 18446744073709551616
-    → is_inode_of count (inode_number filesystem slot) ≡ true → count ≡ filesystem
-inode_of_one count filesystem slot small e =
-    let place = slot_of count (inode_number filesystem slot) e in
-    sym (inode_same filesystem count slot place.0 small place.1 place.2).0
 
 -- an inode of one filesystem is in no other
 pub in_no_other : (fs : Filesystems) → All HasOwnInodes fs → (number filesystem slot : ℕ) → slot < 18446744073709551616

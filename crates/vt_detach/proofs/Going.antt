@@ -42,7 +42,7 @@ use Rattle.vt_detach.proofs.Moving.{Moves, Use, entry_counts, exchanged_shown, f
 use Rattle.vt_detach.proofs.Remaining.{remade}
 use Rattle.vt_detach.proofs.Staying.{IsDone, after, world_is_plain}
 use Rattle.vt_detach.proofs.LostUses.{filter_less, found_unless, positive, shown_by_rule}
-use Rattle.vt_detach.proofs.TreesLookedAt.{or_nothing}
+use Rattle.vt_fs.proofs.TreesLookedAt.{or_nothing}
 
 -- Lists
 

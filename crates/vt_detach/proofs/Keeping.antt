@@ -30,7 +30,7 @@ use Rattle.vt_detach.specs.Held.{CountsItsUses}
 use Rattle.vt_detach.specs.Uses.{Kept}
 use Rattle.vt_detach.specs.WorldValue.{WorldValue, world_of}
 use Rattle.vt_detach.proofs.Moving.{swap_eq}
-use Rattle.vt_detach.proofs.TreesLookedAt.{or_nothing}
+use Rattle.vt_fs.proofs.TreesLookedAt.{or_nothing}
 
 -- Mounts that are still to be detached
 

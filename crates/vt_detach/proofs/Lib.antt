@@ -1,5 +1,4 @@
 pub mod FilesystemsFound
-pub mod TreesLookedAt
 pub mod LookLemmas
 pub mod OwnInodesKept
 pub mod NumbersBeside

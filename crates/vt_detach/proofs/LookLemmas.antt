@@ -23,14 +23,14 @@ use Rattle.vt_location.specs.Numbers.{counted, inode_number, is_inode_of}
 use Rattle.vt_location.proofs.NumberLemmas.{counted_inode, counted_test, exchanged_back}
 use Rattle.vt_fs.specs.FilesystemsValue.{entry_at, files_at, filesystem_seen, filesystems_seen}
 use Rattle.vt_fs.specs.Laws.{ParentsAreNamed}
-use Rattle.vt_fs.proofs.Numbers.{found_by_number}
+use Rattle.vt_fs.proofs.Numbers.{found_by_number, inode_of_one}
 use Rattle.vt_mount.specs.MountsValue.{mounts_in, stands_over}
 use Rattle.vt_detach.specs.Held.{IsHeld}
 use Rattle.vt_detach.specs.Looking.{is_seen}
 use Rattle.vt_detach.specs.WorldValue.{WorldValue, world_of}
-use Rattle.vt_detach.proofs.FilesystemsFound.{found, found_number, found_plain, holds_at, in_no_other, inode_of_one, no_counted_inode, own_filesystem}
+use Rattle.vt_detach.proofs.FilesystemsFound.{found, found_number, found_plain, holds_at, in_no_other, no_counted_inode, own_filesystem}
 use Rattle.vt_fs.proofs.Parents.{parents_named}
-use Rattle.vt_detach.proofs.TreesLookedAt.{nowhere_removed, nowhere_under, or_nothing, under_nowhere}
+use Rattle.vt_fs.proofs.TreesLookedAt.{nowhere_removed, nowhere_under, or_nothing, under_nowhere}
 
 and_false : (b : Bool) → (b && false) ≡ false
 and_false true = refl

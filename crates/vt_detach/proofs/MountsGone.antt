@@ -36,7 +36,7 @@ use Rattle.vt_detach.proofs.Leaving.{found_it}
 use Rattle.vt_detach.proofs.Moving.{swap_eq}
 use Rattle.vt_detach.proofs.Shown.{found_entry}
 use Rattle.vt_detach.proofs.LostUses.{found_unless, positive, shown_by_rule}
-use Rattle.vt_detach.proofs.TreesLookedAt.{or_nothing}
+use Rattle.vt_fs.proofs.TreesLookedAt.{or_nothing}
 
 -- Mounts that are changed, by their numbers
 

@@ -5,3 +5,4 @@ pub mod Parents
 pub mod Numbers
 pub mod NewFilesystem
 pub mod PathsFound
+pub mod TreesLookedAt

@@ -5,10 +5,10 @@ use Rattle.std.proofs.lemmas.List.Sums.{sum_by-cons}
 use Rattle.vt_spec.specs.Lists.{any_pair, is_among}
 use Rattle.vt_spec.specs.Machine.World.{Filesystem, no_filesystem}
 use Rattle.vt_spec.specs.Inodes.{Inode, node_in, renamed_inode}
-use Rattle.vt_location.specs.Numbers.{counted, exchanged}
+use Rattle.vt_location.specs.Numbers.{counted, exchanged, inode_number, is_inode_of}
 use Rattle.vt_fs.specs.FilesystemsValue.{Filesystems, entry_of, filesystem_seen, filesystems_seen, filled_from, no_entry}
 use Rattle.vt_fs.specs.Laws.{FilesystemsAreFound, NumbersAreApart, NumbersAreCounted, NumbersAreListed}
-use Rattle.vt_location.proofs.NumberLemmas.{counted_test, exchanged_back}
+use Rattle.vt_location.proofs.NumberLemmas.{counted_test, exchanged_back, inode_same, slot_of}
 use Rattle.vt_spec.proofs.Truths.{or_false_left, or_false_right, same_truth}
 
 abbrev Slots : Type 0
@@ -99,6 +99,13 @@ apart-filled slot (Some inode ∷ rest) =
 
 pub numbers_apart_each : NumbersAreApart
 numbers_apart_each entry = apart-numbers entry.count (filled_from 0 entry.tree.slots) (apart-filled 0 entry.tree.slots)
+
+-- the number of an inode is one of a single filesystem
+pub inode_of_one : (count filesystem slot : ℕ) → slot < 18446744073709551616
+    → is_inode_of count (inode_number filesystem slot) ≡ true → count ≡ filesystem
+inode_of_one count filesystem slot small e =
+    let place = slot_of count (inode_number filesystem slot) e in
+    sym (inode_same filesystem count slot place.0 small place.1 place.2).0
 
 -- A filesystem is found by its number
 

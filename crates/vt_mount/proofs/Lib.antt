@@ -5,6 +5,7 @@ pub mod IndexLemmas
 pub mod WriteLemmas
 pub mod PlaceLemmas
 pub mod KeptLemmas
+pub mod AttachedLemmas
 pub mod PointLemmas
 pub mod TreeLemmas
 pub mod MoveLemmas

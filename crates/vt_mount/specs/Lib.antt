@@ -1,5 +1,6 @@
 pub mod MountsValue
 pub mod Listed
+pub mod Attached
 pub mod Indexes
 pub mod Indexed
 pub mod Waiting

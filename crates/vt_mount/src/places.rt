@@ -5,6 +5,7 @@ ghost use Rattle.vt_spec.specs.Lists.{holds_of};
 ghost use Rattle.vt_spec.specs.Machine.Mounts.{child_at, children, root_of, stands_on, topmost};
 ghost use Rattle.vt_location.specs.Locations.{location_of, number_of};
 ghost use Rattle.vt_location.specs.Numbers.{counted};
+ghost use Rattle.vt_mount.specs.Attached.{AreOf, attached_in};
 ghost use Rattle.vt_mount.specs.MountsValue.{mounts_in, stands_over};
 
 use crate::mounts::{Mounts, kept_under};
@@ -120,9 +121,7 @@ impl Mounts {
 
     /// The mounts that are attached in a namespace, in the order of their numbers.
     pub fn attached_in(&self, namespace: NamespaceId) -> &[MountId]
-        ensures { map (λ id. counted id.count) result.now
-            ≡ map (λ mount. mount.number)
-            (filter (λ mount. holds_of (nat_eq (counted namespace.count)) mount.namespace) (mounts_in self.now)) }
+        ensures { AreOf result.now (attached_in (counted namespace.count) self.now) }
     {
         self.indexes.by_namespace.get(&namespace)
     }

@@ -9,7 +9,7 @@ use Rattle.vt_spec.proofs.Lists.{among-filter, among-from_filter, any_among, any
 use Rattle.vt_mount_laws.proofs.MountsFound.{found_or_none, number_found}
 use Rattle.vt_mount_laws.proofs.MountsReplaced.{found_itself}
 use Rattle.vt_detach.proofs.LookLemmas.{turned}
-use Rattle.vt_detach.proofs.TreesLookedAt.{or_nothing}
+use Rattle.vt_fs.proofs.TreesLookedAt.{or_nothing}
 use Rattle.vt_detach.proofs.NumbersBeside.{one_test}
 use Rattle.vt_spec.proofs.Truths.{nat_eq_itself}
 

@@ -1,6 +1,6 @@
 pub mod LooksKept
 pub mod MountLooks
-pub mod MountPaths
+pub mod ListedWorlds
 pub mod FileAnswers
 pub mod FileMaking
 pub mod FileParts
@@ -26,10 +26,8 @@ pub mod MountsOn
 pub mod DirectoryRemoved
 pub mod RenamedOver
 pub mod VacantNumbers
-pub mod MountLines
 pub mod PointsMoved
 pub mod UnmountedWorlds
 pub mod UnmountedEverywhere
-pub mod ListedPeers
 pub mod RetypedMounts
 pub mod TypesDone

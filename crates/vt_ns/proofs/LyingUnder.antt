@@ -12,7 +12,7 @@ use Rattle.vt_detach.specs.Held.{IsHeld}
 use Rattle.vt_detach.specs.WorldValue.{WorldValue, world_of}
 use Rattle.vt_detach.proofs.FilesystemsFound.{in_no_other}
 use Rattle.vt_detach.proofs.LookLemmas.{turned}
-use Rattle.vt_detach.proofs.TreesLookedAt.{nowhere_under}
+use Rattle.vt_fs.proofs.TreesLookedAt.{nowhere_under}
 use Rattle.vt_ns.specs.LyingUnder.{lies_under}
 
 module _ (value : WorldValue) (top directory : NodeRef) where

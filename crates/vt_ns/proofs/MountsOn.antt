@@ -23,7 +23,7 @@ use Rattle.vt_detach.proofs.FileEvents.{IsSmall}
 use Rattle.vt_detach.proofs.LazilyUnmounted.{to_spec, trees_numbers}
 use Rattle.vt_detach.proofs.LocationsSeen.{seen_where_located}
 use Rattle.vt_detach.proofs.LookLemmas.{point_seen, points_are}
-use Rattle.vt_detach.proofs.TreesLookedAt.{or_nothing}
+use Rattle.vt_fs.proofs.TreesLookedAt.{or_nothing}
 
 -- Trees by the numbers of their mounts
 

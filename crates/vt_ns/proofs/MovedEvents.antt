@@ -16,8 +16,8 @@ use Rattle.vt_spec.specs.Machine.Permits.Permit.{ToMove}
 use Rattle.vt_spec.specs.Machine.World.{mount_numbered}
 use Rattle.vt_spec.specs.Machine.Invariants.{is_located_well}
 use Rattle.vt_attach.specs.BoundMounts.{bound_mounts, rooted_at}
-use Rattle.vt_attach.specs.Copying.{AreOf}
-use Rattle.vt_attach.proofs.CopyLemmas.{ascending_found, picked}
+use Rattle.vt_mount.specs.Attached.{AreOf}
+use Rattle.vt_mount.proofs.AttachedLemmas.{ascending_found, picked}
 use Rattle.vt_attach.proofs.MovesAscend.{ascending_once}
 use Rattle.vt_attach.proofs.TypedMounts.{same_numbered}
 use Rattle.vt_detach.specs.Events.{Permits}

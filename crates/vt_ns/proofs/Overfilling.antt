@@ -1,6 +1,6 @@
 -- Whether a namespace has too many mounts once a tree is attached: ENOSPC of mount(2).
 use Rattle.std.proofs.Common.{◌≡◌, refl, sym, ap, subst, ◌∙◌, ⊎_elim, ◌+◌, ◌-◌, ◌*◌, ℕ, nat_eq, Bool, true, false, true≢false, List, [], ◌∷◌, map, filter, find, length, take, Option, Some, None, is_some, option_map, unwrap_or, arith}
-use Rattle.std.proofs.lemmas.List.{length-map}
+use Rattle.std.proofs.lemmas.List.{length-map, take_all as all_taken}
 use Rattle.std.specs.Prelude.{Contains, drop}
 use Rattle.vt_spec.specs.Language.Calls.{MountFlags}
 use Rattle.vt_spec.specs.Lists.{odds, rest_of}
@@ -25,7 +25,6 @@ use Rattle.vt_propagate.proofs.Counting.{absent_counted, added_counted, moved_al
 use Rattle.vt_letting_go.proofs.Lists.{among-from_filter}
 use Rattle.vt_run_laws.specs.Handed.{counts_from}
 use Rattle.vt_world_laws.proofs.FewMounts.{shrinks_few}
-use Rattle.vt_attach.proofs.CopyLemmas.{all_taken}
 use Rattle.vt_detach.proofs.Leaving.{none_among}
 use Rattle.vt_detach.specs.Held.{IsHeld}
 use Rattle.vt_detach.specs.Looking.{overfills_of}

@@ -2,7 +2,6 @@ pub mod Trees
 pub mod LookingAlone
 pub mod Entering
 pub mod Vacancy
-pub mod GroupsListed
 pub mod LyingUnder
 pub mod Retyped
 pub mod Unmounting

@@ -1,54 +1,58 @@
-//! Where mounts stand and begin: mountinfo of proc(5).
-ghost use Rattle.std.specs.Prelude.{◌≡◌, IfErr, IfOk, map, nat_eq, option_map};
-ghost use Rattle.vt_location.specs.Locations.{location_of};
-ghost use Rattle.vt_location.specs.MountValue.{mount_of};
-ghost use Rattle.vt_request.specs.Answers.{spot_of};
+//! The lists of mounts and of peer groups: mountinfo of proc(5), mount_namespaces(7).
+ghost use Rattle.std.specs.Prelude.{ℕ, ◌≡◌, IfErr, IfOk, Some, map, nat_eq};
+ghost use Rattle.vt_request.specs.Answers.{mount_line_of, peer_line_of};
 ghost use Rattle.vt_spec.specs.declared.errors.Rule.TheVariants.{S5};
 ghost use Rattle.vt_spec.specs.Errors.{denial};
-ghost use Rattle.vt_spec.specs.Machine.Listing as listed;
+ghost use Rattle.vt_spec.specs.Machine.Listing as listing;
+ghost use Rattle.vt_spec.specs.Machine.Permits.Permit.{ToListMounts};
+ghost use Rattle.vt_spec.specs.Machine.World.{Task, task_called};
+ghost use Rattle.vt_detach.specs.Events.{Permits};
 ghost use Rattle.vt_detach.specs.WorldValue.{world_of};
+ghost use Rattle.vt_listing.specs.Shown.{IsShown, NameDirectoriesOnce};
 
 use crate::world::World;
-use vt_location::{Location, Mount};
-use vt_request::Spot;
+use vt_listing::MountTable;
+use vt_request::{MountLine, PeerLine, TaskName};
 use vt_spec::errors::Deny;
 
 impl World {
-    /// Where a mount point is: its path from the root of the mount that it is on.
+    /// The mounts of the caller's namespace, in the order of their attachment: mountinfo of proc(5).
     ///
     /// S5 (ENOMEM): an allocation failed.
-    pub(crate) fn place_spot(&self, place: Location) -> Result<Spot, Deny>
-        ensures ok { IfOk result (λ spot. spot_of spot
-            ≡ listed.place_spot nat_eq (world_of self.now) (location_of place)) }
+    pub fn mounts(&self, name: &TaskName) -> Result<Vec<MountLine>, Deny>
+        requires { Permits self.now name.now ToListMounts }
+        ensures ok { (task : Task ℕ) → task_called (world_of self.now) name.now ≡ Some task
+            → IfOk result (λ lines. map mount_line_of lines.items
+            ≡ listing.mount_lines nat_eq (world_of self.now) task.namespace) }
         ensures memory { IfErr result (λ deny. deny ≡ denial S5) }
     {
-        match self.mounts.get(place.mount) {
-            Some(mount) if mount.root.filesystem == place.node.filesystem => Ok(reached(
-                self.filesystems
-                    .path_down(self.alloc, mount.root, place.node)?,
-            )),
-            _ => Ok(Spot::Gone),
+        match self.tasks.namespace_called(name) {
+            Some(namespace) => self.table().mount_lines(namespace),
+            None => Ok(Vec::new(self.alloc)),
         }
     }
 
-    /// Where the tree begins that a mount shows: the path of its root from the root of its filesystem.
+    /// The peer groups of all namespaces, in the order in which they first stand among the types of all mounts.
     ///
     /// S5 (ENOMEM): an allocation failed.
-    pub(crate) fn root_spot(&self, mount: &Mount) -> Result<Spot, Deny>
-        ensures ok { IfOk result (λ spot. spot_of spot
-            ≡ listed.root_spot nat_eq (world_of self.now) (mount_of mount.now)) }
+    pub fn peers(&self) -> Result<Vec<PeerLine>, Deny>
+        ensures ok { IfOk result (λ lines. map peer_line_of lines.items
+            ≡ listing.peer_lines nat_eq (world_of self.now)) }
         ensures memory { IfErr result (λ deny. deny ≡ denial S5) }
     {
-        Ok(reached(self.filesystems.path_from_root(self.alloc, mount.root)?))
+        self.table().peer_lines(self.namespaces.keys().as_slice())
     }
-}
 
-// Where a path leads, if there is one.
-fn reached(path: Option<Vec<Vec<u8>>>) -> Spot
-    ensures { spot_of result ≡ listed.spot_of (option_map (λ names. map (λ name. name.items) names.items) path) }
-{
-    match path {
-        Some(names) => Spot::Reached(names),
-        None => Spot::Gone,
+    // All mounts, as they are listed.
+    fn table(&self) -> MountTable<'_>
+        ensures shown { IsShown (world_of self.now) result }
+        ensures once { NameDirectoriesOnce result.filesystems.now }
+    {
+        MountTable {
+            alloc: self.alloc,
+            mounts: &self.mounts,
+            groups: &self.groups,
+            filesystems: &self.filesystems,
+        }
     }
 }

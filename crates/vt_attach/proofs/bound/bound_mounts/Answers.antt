@@ -3,7 +3,8 @@ use Rattle.vt_location.specs.MountValue.{mount_of}
 use Rattle.vt_location.specs.Numbers.{counted}
 use Rattle.vt_mount.specs.MountsValue.{mounts_in}
 use Rattle.vt_attach.specs.BoundMounts.{bound_mounts, rooted_at}
-use Rattle.vt_attach.proofs.CopyLemmas.{all_taken, next_made, none_made}
+use Rattle.std.proofs.lemmas.List.{take_all as all_taken}
+use Rattle.vt_mount.proofs.AttachedLemmas.{next_made, none_made}
 use Rattle.vt_attach.proofs.bound.bound_mounts.Goals as goal
 use Rattle.vt_attach.proofs.bound.bound_mounts.Goals.{in-Some+in_ok-push, in_default}
 

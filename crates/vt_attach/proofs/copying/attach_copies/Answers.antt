@@ -6,10 +6,10 @@ use Rattle.vt_location.specs.MountValue.{mount_of}
 use Rattle.vt_location.specs.Numbers.{counted}
 use Rattle.vt_mount.specs.MountsValue.{are_ascending, mounts_in}
 use Rattle.vt_spec.specs.Lists.{holds_of}
-use Rattle.vt_attach.specs.Copying.{attached_in}
+use Rattle.vt_mount.specs.Attached.{attached_in}
 use Rattle.vt_attach.specs.Planned.{with_planned}
 use Rattle.vt_detach.specs.Uses.{Kept, with_attached}
-use Rattle.vt_attach.proofs.CopyLemmas.{ascending_filter}
+use Rattle.vt_mount.proofs.AttachedLemmas.{ascending_filter}
 use Rattle.vt_attach.proofs.UnsharingLemmas.{copies_ascend}
 use Rattle.vt_attach.proofs.copying.attach_copies.Goals as goal
 

@@ -6,8 +6,10 @@ use Rattle.vt_location.specs.Numbers.{counted}
 use Rattle.vt_mount.specs.MountsValue.{mounts_in}
 use Rattle.vt_spec.specs.Lists.{holds_of}
 use Rattle.vt_spec.specs.Machine.Mounts.{Mount}
-use Rattle.vt_attach.specs.Copying.{attached_in, copied_by}
-use Rattle.vt_attach.proofs.CopyLemmas.{all_taken, as_many, ascending_filter, ascending_found, next_made, none_made, picked, rising_ids}
+use Rattle.vt_mount.specs.Attached.{attached_in}
+use Rattle.vt_attach.specs.Copying.{copied_by}
+use Rattle.std.proofs.lemmas.List.{take_all as all_taken}
+use Rattle.vt_mount.proofs.AttachedLemmas.{as_many, ascending_filter, ascending_found, next_made, none_made, picked, rising_ids}
 use Rattle.vt_attach.proofs.copying.copies.Goals as goal
 use Rattle.vt_attach.proofs.copying.copies.Goals.{in-Some+in_ok-push, in_default}
 

@@ -3,7 +3,8 @@ use Rattle.std.specs.Prelude.{filter_map}
 use Rattle.vt_location.specs.MountValue.{mount_of}
 use Rattle.vt_location.specs.Numbers.{counted}
 use Rattle.vt_mount.specs.MountsValue.{mounts_in}
-use Rattle.vt_attach.specs.Copying.{attached_in, copied_by}
+use Rattle.vt_mount.specs.Attached.{attached_in}
+use Rattle.vt_attach.specs.Copying.{copied_by}
 use Rattle.vt_attach.proofs.copying.copies.Given as goal
 
 abbrev pub invariant-loop-id : goal.invariant-loop-id

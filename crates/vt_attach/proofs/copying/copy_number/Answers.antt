@@ -1,7 +1,8 @@
 use Rattle.std.proofs.Common.{ap, rules, ◌∙◌}
 use Rattle.std.proofs.lemmas.List.Sorted.{answers_always}
 use Rattle.vt_location.specs.Numbers.{counted}
-use Rattle.vt_attach.proofs.CopyLemmas.{found_place, numbered_so}
+use Rattle.vt_mount.proofs.AttachedLemmas.{found_place}
+use Rattle.vt_attach.proofs.CopyLemmas.{numbered_so}
 use Rattle.vt_attach.proofs.copying.copy_number.Goals as goal
 
 pub returns : goal.returns

@@ -4,8 +4,9 @@ use Rattle.vt_location.specs.Numbers.{counted}
 use Rattle.vt_mount.specs.MountsValue.{mounts_in}
 use Rattle.vt_spec.specs.Lists.{holds_of}
 use Rattle.vt_spec.specs.Machine.Namespaces.{location_on_copy}
-use Rattle.vt_attach.specs.Copying.{attached_in, copy_numbers}
-use Rattle.vt_attach.proofs.CopyLemmas.{ascending_filter, found_among, rising_ids}
+use Rattle.vt_mount.specs.Attached.{attached_in}
+use Rattle.vt_attach.specs.Copying.{copy_numbers}
+use Rattle.vt_mount.proofs.AttachedLemmas.{ascending_filter, found_among, rising_ids}
 use Rattle.vt_attach.proofs.copying.moved.Goals as goal
 
 pub on_copy-requires-clause-order : goal.on_copy-requires-clause-order

@@ -6,7 +6,7 @@ use Rattle.vt_mount.specs.MountsValue.{mounts_in}
 use Rattle.vt_spec.specs.Machine.Mounts.{mount_tree}
 use Rattle.vt_spec.specs.Machine.World.{mount_numbered}
 use Rattle.vt_ns.specs.contracts.world.World.{the_view}
-use Rattle.vt_attach.specs.Copying.{AreOf}
+use Rattle.vt_mount.specs.Attached.{AreOf}
 use Rattle.vt_detach.specs.WorldValue.{WorldValue, world_of}
 use Rattle.vt_ns.proofs.MovedEvents.{tree_below}
 use Rattle.vt_ns.proofs.world.World.mounts_below.Goals as goal

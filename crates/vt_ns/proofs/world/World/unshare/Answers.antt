@@ -7,10 +7,11 @@ use Rattle.vt_spec.specs.Machine.Permits.Permit.{ToUnshare}
 use Rattle.vt_tasks.specs.TaskValue.{task_of}
 use Rattle.vt_tasks.specs.TasksValue.{changed_called}
 use Rattle.vt_ns.specs.contracts.world.World.{the_view}
-use Rattle.vt_attach.specs.Copying.{attached_in, with_use_moved}
+use Rattle.vt_mount.specs.Attached.{attached_in}
+use Rattle.vt_attach.specs.Copying.{with_use_moved}
 use Rattle.vt_detach.specs.Events.{Becomes, Permits}
 use Rattle.vt_detach.specs.WorldValue.{WorldValue, entries_of}
-use Rattle.vt_attach.proofs.CopyLemmas.{as_many}
+use Rattle.vt_mount.proofs.AttachedLemmas.{as_many}
 use Rattle.vt_detach.proofs.Staying.{IsDone}
 use Rattle.vt_attach.proofs.TasksUnshared.{task_is_unshared}
 use Rattle.vt_attach.proofs.UnsharingLemmas.{namespace_added, numbers_before, uses_left, uses_left_then, writers_left, writers_left_then}

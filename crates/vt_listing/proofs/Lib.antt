@@ -1,0 +1,4 @@
+pub mod ShownWorlds
+pub mod MountLines
+pub mod ListedPeers
+pub mod MountPaths

@@ -1,0 +1,21 @@
+use Rattle.std.proofs.Common.{sym, ap, eqb-true, ◌∙◌, arith}
+use Rattle.vt_spec.specs.Machine.Listing.{spot_of}
+use Rattle.vt_listing.proofs.MountPaths.{spot_apart}
+use Rattle.vt_listing.proofs.table.MountTable.spot_under.Goals as goal
+
+pub path_down-requires : goal.path_down-requires
+path_down-requires c = record {
+  once = c.requires.once c.args.top.filesystem.count;
+  one_filesystem = λ i. record {
+    count = sym (eqb-true c.args.top.filesystem.count c.args.directory.filesystem.count
+        (sym c.eq.ensures ∙ c.if-eq.true)) i;
+  };
+}
+
+pub returns-then-eq-clause-ok : goal.returns-then-eq-clause-ok
+returns-then-eq-clause-ok c = c.reached.ensures ∙ ap spot_of c.in_ok-path_down.ensures.ok
+
+pub returns-clause-ok : goal.returns-clause-ok
+returns-clause-ok c =
+    spot_apart c.args.self.now.filesystems.now c.args.top c.args.directory (omega arith) (omega arith)
+    (sym c.eq.ensures ∙ c.if-eq.false) c.has_own_numbers.ensures

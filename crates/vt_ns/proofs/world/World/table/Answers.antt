@@ -1,0 +1,18 @@
+use Rattle.std.proofs.Common.{ap}
+use Rattle.vt_detach.specs.WorldValue.{WorldValue}
+use Rattle.vt_fs.specs.FilesystemsValue.{filesystems_seen}
+use Rattle.vt_group.specs.Grouping.{master_in}
+use Rattle.vt_mount.specs.MountsValue.{mounts_in}
+use Rattle.vt_ns.specs.contracts.world.World.{the_view}
+use Rattle.vt_ns.proofs.ListedWorlds.{named_once}
+use Rattle.vt_ns.proofs.world.World.table.Goals as goal
+
+pub returns-clause-shown : goal.returns-clause-shown
+returns-clause-shown c = record {
+  mounts = ap (λ (value : WorldValue). mounts_in value.mounts) c.self.view_is;
+  masters = λ group. ap (λ (value : WorldValue). master_in value.groups group) c.self.view_is;
+  filesystems = ap (λ (value : WorldValue). filesystems_seen value.filesystems) c.self.view_is;
+}
+
+pub returns-clause-once : goal.returns-clause-once
+returns-clause-once c = named_once (the_view c.self.inside) c.self.invariant
