@@ -21,7 +21,7 @@ use Rattle.vt_layer_laws.proofs.LockedApart.{found_among}
 use Rattle.vt_layer_laws.proofs.ShownDirectories.{led_is_there}
 use Rattle.vt_layer_laws.proofs.UpperWorld.{overlay_found}
 use Rattle.vt_layer_laws.proofs.ViewsNames.{alike_kept}
-use Rattle.vt_overlay_laws.proofs.ApartLater.{no_pair_later}
+use Rattle.vt_overlay_laws.proofs.ApartPairs.{no_pair_later}
 use Rattle.vt_overlay_laws.proofs.ApartPaths.{led_under, under_led}
 use Rattle.vt_overlay_laws.proofs.WholeGrown.{directory_alike}
 use Rattle.std.proofs.lemmas.Bool.{and_from, or_cases, or_left, or_right}
