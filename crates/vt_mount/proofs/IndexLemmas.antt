@@ -1,16 +1,16 @@
 -- The lists of mounts, where one is put behind all others, changed or taken out.
-use Rattle.std.proofs.Common.{◌≡◌, Bool, true, false, cond, ◌&&◌, T, List, [], ◌∷◌, ◌++◌, map, filter, not, None, Some, refl, sym, ap, ◌∙◌, arith, eq-eqb, ne_eqb}
+use Rattle.std.proofs.Common.{◌≡◌, Bool, true, false, cond, ◌&&◌, T, List, [], ◌∷◌, ◌++◌, map, filter, nat_lt, not, None, Some, refl, sym, ap, ◌∙◌, eq-eqb}
 use Rattle.std.specs.Ordering.{eq_by_cmp, is_eq, is_lt}
 use Rattle.std.specs.declared.cmp.Ordering.{Ordering}
 use Rattle.std.specs.declared.cmp.Ordering.TheVariants.{Less, Equal, Greater}
 use Rattle.std.specs.FinMap.Entries.{below_all}
-use Rattle.std.proofs.lemmas.Bool.{eqb-true, ltb-true}
+use Rattle.std.proofs.lemmas.Bool.{eqb-true}
 use Rattle.vt_location.specs.declared.mounts.Mount.{Mount}
 use Rattle.vt_location.specs.declared.numbers.MountId.{MountId}
 use Rattle.vt_mount.specs.declared.mounted.Mounted.{Mounted}
 use Rattle.vt_mount.specs.Indexed.{numbers_where}
-use Rattle.vt_mount.specs.Indexes.{lacks, pushed, taken}
-use Rattle.vt_mount.specs.Listed.{same_id}
+use Rattle.vt_mount.specs.Indexes.{pushed, taken}
+use Rattle.vt_mount.specs.Rising.{comes_last, same_id}
 use Rattle.vt_mount.specs.MountsValue.{id_cmp, mount_kept}
 use Rattle.vt_mount.proofs.ListLemmas.{others}
 use Rattle.vt_mount.proofs.OrderLemmas.{change_kept, found, is_above, rises, tied, without_kept}
@@ -163,25 +163,19 @@ module _ (test : Mount → Bool) where
       by true is = refl
       by false is = sym (failing-others id x kept rising there is)
 
-  pub lacks-above : (id : MountId) (kept : List (MountId × Mounted)) → is_above id kept ≡ true
-      → lacks id (numbers_where test kept)
-  lacks-above id [] above = refl
-  lacks-above id (one ∷ kept) above =
-      ap (others id) (cons-numbers test one kept)
-      ∙ by (passes test one) (lacks-above id kept (and_true_right _ _ above))
-      ∙ sym (cons-numbers test one kept)
+  -- where each mount has a smaller number, each that is listed has one
+  pub last-above : (id : MountId) (kept : List (MountId × Mounted)) → is_above id kept ≡ true
+      → comes_last id (numbers_where test kept) ≡ true
+  last-above id [] above = refl
+  last-above id (one ∷ kept) above =
+      ap (comes_last id) (cons-numbers test one kept)
+      ∙ by (passes test one) (last-above id kept (and_true_right _ _ above))
     where
-      apart : same_id one.0 id ≡ false
-      apart = ne_eqb one.0.count id.count
-          (λ is. omega (arith, is, ltb-true one.0.count id.count (and_true_left _ _ above)))
-
-      by : (b : Bool) → lacks id (numbers_where test kept)
-          → others id (cond b (one.0 ∷ numbers_where test kept) (numbers_where test kept))
-          ≡ cond b (one.0 ∷ numbers_where test kept) (numbers_where test kept)
+      by : (b : Bool) → comes_last id (numbers_where test kept) ≡ true
+          → comes_last id (cond b (one.0 ∷ numbers_where test kept) (numbers_where test kept)) ≡ true
       by true rest =
-          ap (λ s. cond (not s) (one.0 ∷ others id (numbers_where test kept))
-          (others id (numbers_where test kept))) apart
-          ∙ ap (λ l. one.0 ∷ l) rest
+          (λ i. and_true_left (nat_lt one.0.count id.count) (is_above id kept) above i
+          && comes_last id (numbers_where test kept)) ∙ rest
       by false rest = rest
 
   module _ (id : MountId) (change : Mounted → Mounted) where

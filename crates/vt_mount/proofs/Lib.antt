@@ -10,6 +10,7 @@ pub mod PointLemmas
 pub mod TreeLemmas
 pub mod MoveLemmas
 pub mod SourceLemmas
+mod RisingLemmas
 mod RoomLemmas
 mod GoingBackLemmas
 pub mod ComingLemmas

@@ -1,6 +1,6 @@
 -- Room in lists under keys.
 use Rattle.std.proofs.Common.{◌≡◌, ◌<◌, ◌≤◌, ℕ, suc, Bool, true, false, cond, ◌&&◌, List, [], ◌∷◌, length, nat_lt, Option, None, Some, option_map, refl, ap, arith, eq-eqb, lt-ltb}
-use Rattle.std.specs.Global.{Vec}
+use Rattle.vt_mount.specs.declared.ascending.Ascending.{Ascending}
 use Rattle.std.specs.Prelude.{unwrap_or, vec_capacity, vec_len}
 use Rattle.std.specs.Map.{lookup}
 use Rattle.vt_location.specs.declared.locations.Location.{Location}
@@ -24,23 +24,23 @@ module _ {K : Type 0} (eq : K → K → Bool) (q : K) (lists : MountsBy K) where
   pub listed-within : length (listed eq q lists) ≤ capacity_of eq q lists
   listed-within = by (lookup (eq q) lists.lists.entries)
     where
-      by : (found : Option (Vec MountId))
-          → length (unwrap_or (option_map (λ (list : Vec MountId). list.items) found) [])
-          ≤ unwrap_or (option_map (λ (list : Vec MountId). vec_capacity list) found) 0
+      by : (found : Option Ascending)
+          → length (unwrap_or (option_map (λ (list : Ascending). list.ids.items) found) [])
+          ≤ unwrap_or (option_map (λ (list : Ascending). vec_capacity list.ids) found) 0
       by None = omega arith
-      by (Some list) = omega (arith, list.ok.0, list.ok.1)
+      by (Some list) = omega (arith, list.ids.ok.0, list.ids.ok.1)
 
   -- a list that is shorter than its room
   pub has_room-shorter : length (listed eq q lists) < capacity_of eq q lists → has_room eq q lists ≡ true
   has_room-shorter = by (lookup (eq q) lists.lists.entries)
     where
-      by : (found : Option (Vec MountId))
-          → length (unwrap_or (option_map (λ (list : Vec MountId). list.items) found) [])
-          < unwrap_or (option_map (λ (list : Vec MountId). vec_capacity list) found) 0
-          → unwrap_or (option_map (λ (list : Vec MountId). nat_lt (vec_len list) (vec_capacity list)) found) false
+      by : (found : Option Ascending)
+          → length (unwrap_or (option_map (λ (list : Ascending). list.ids.items) found) [])
+          < unwrap_or (option_map (λ (list : Ascending). vec_capacity list.ids) found) 0
+          → unwrap_or (option_map (λ (list : Ascending). nat_lt (vec_len list.ids) (vec_capacity list.ids)) found) false
           ≡ true
       by None less = absurd (omega (arith, less))
-      by (Some list) less = lt-ltb (vec_len list) (vec_capacity list) (omega (arith, less, list.ok.0))
+      by (Some list) less = lt-ltb (vec_len list.ids) (vec_capacity list.ids) (omega (arith, less, list.ids.ok.0))
 
   -- room for one that is to be inserted
   pub has_room-inserted : (id : MountId) (list : List MountId) (most : ℕ) → listed eq q lists ≡ list

@@ -8,7 +8,7 @@ use Rattle.vt_mount.specs.Listed.{same_id}
 
 -- how many mounts the list under a key can have without another allocation
 abbrev pub capacity_of : {K : Type 0} → (K → K → Bool) → K → MountsBy K → ℕ
-capacity_of eq key lists = unwrap_or (option_map (λ list. vec_capacity list) (lookup (eq key) lists.lists.entries)) 0
+capacity_of eq key lists = unwrap_or (option_map (λ list. vec_capacity list.ids) (lookup (eq key) lists.lists.entries)) 0
 
 -- no list has less room
 abbrev pub KeepsCapacity : {K : Type 0} → (K → K → Bool) → MountsBy K → MountsBy K → Type 0

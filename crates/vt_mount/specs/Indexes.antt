@@ -1,5 +1,5 @@
 -- The lists of mounts by namespace, parent, mount point and inode.
-use Rattle.std.specs.Prelude.{Bool, List, Option, filter, if◌then◌else◌, nat_eq, nat_lt, not, option_map, true, unwrap_or, [], ◌&&◌, ◌++◌, ◌∷◌, ◌≡◌}
+use Rattle.std.specs.Prelude.{Bool, List, Option, filter, if◌then◌else◌, nat_eq, nat_lt, not, option_map, true, unwrap_or, [], ◌&&◌, ◌++◌, ◌∷◌}
 use Rattle.vt_spec.specs.Lists.{holds_of}
 use Rattle.vt_location.specs.declared.locations.Location.{Location}
 use Rattle.vt_location.specs.declared.locations.NodeRef.{NodeRef}
@@ -7,7 +7,8 @@ use Rattle.vt_location.specs.declared.mounts.Mount.{Mount}
 use Rattle.vt_location.specs.declared.numbers.MountId.{MountId}
 use Rattle.vt_location.specs.declared.numbers.NamespaceId.{NamespaceId}
 use Rattle.vt_mount.specs.declared.indexes.Indexes.{Indexes}
-use Rattle.vt_mount.specs.Listed.{inserted, listed, same_id}
+use Rattle.vt_mount.specs.Listed.{listed}
+use Rattle.vt_mount.specs.Rising.{inserted, same_id}
 
 abbrev pub same_namespace : NamespaceId → NamespaceId → Bool
 same_namespace a b = nat_eq a.count b.count
@@ -50,10 +51,6 @@ pushed here id list = if here then list ++ id ∷ [] else list
 
 abbrev pub taken : Bool → MountId → List MountId → List MountId
 taken here id list = if here then filter (λ other. not (same_id other id)) list else list
-
--- the mount is not in the list
-abbrev pub lacks : MountId → List MountId → Type 0
-lacks id list = filter (λ other. not (same_id other id)) list ≡ list
 
 -- the slot of the mount point's inode is below 2^64
 abbrev pub has_slot : Mount → Bool

@@ -1,4 +1,5 @@
 pub mod MountsValue
+pub mod Rising
 pub mod Listed
 pub mod Attached
 pub mod Indexes

@@ -3,10 +3,11 @@ ghost use Rattle.std.specs.Prelude.{◌≡◌, ◌≤◌, [], length, nat_lt, tr
 ghost use Rattle.vt_location.specs.declared.numbers.MountId.{MountId};
 ghost use Rattle.vt_location.specs.declared.numbers.NamespaceId.{NamespaceId};
 ghost use Rattle.vt_mount.specs.Capacity.{KeepsCapacity, capacity_of};
-ghost use Rattle.vt_mount.specs.Listed.{has_room, same_id};
+ghost use Rattle.vt_mount.specs.Listed.{has_room};
+ghost use Rattle.vt_mount.specs.Rising.{comes_last, same_id};
 ghost use Rattle.vt_location.specs.declared.locations.Location.{Location};
 ghost use Rattle.vt_location.specs.declared.locations.NodeRef.{NodeRef};
-ghost use Rattle.vt_mount.specs.Indexes.{has_slot, is_at, is_in, is_on, is_over, lacks, listed_at, listed_in, listed_on};
+ghost use Rattle.vt_mount.specs.Indexes.{has_slot, is_at, is_in, is_on, is_over, listed_at, listed_in, listed_on};
 ghost use Rattle.vt_mount.specs.Indexes.{listed_over, pushed, put_in_place, relisted, same_inode, same_place};
 ghost use Rattle.vt_mount.specs.Indexes.{same_namespace, stood_at, stood_on, stood_over, taken, was_in};
 
@@ -41,9 +42,10 @@ impl Indexes {
 
     /// Adds a mount to the end of its lists.
     pub(crate) fn enter(&mut self, mount: &Mount) -> Result<(), AllocError>
-        requires namespace { (q : NamespaceId) → lacks mount.now.number (listed_in self.old q) }
-        requires parent { (q : MountId) → lacks mount.now.number (listed_on self.old q) }
-        requires place { (q : Location) → lacks mount.now.number (listed_at self.old q) }
+        requires namespace { (q : NamespaceId) → comes_last mount.now.number (listed_in self.old q) ≡ true }
+        requires parent { (q : MountId) → comes_last mount.now.number (listed_on self.old q) ≡ true }
+        requires place { (q : Location) → comes_last mount.now.number (listed_at self.old q) ≡ true }
+        requires inode { (q : NodeRef) → comes_last mount.now.number (listed_over self.old q) ≡ true }
         ensures slot { OnOk result (has_slot mount.now ≡ true) }
         ensures namespace_ok { OnOk result ((q : NamespaceId) → listed_in self.new q
             ≡ pushed (is_in q mount.now) mount.now.number (listed_in self.old q)) }
@@ -304,8 +306,9 @@ impl Indexes {
 
     // Adds a mount to the end of the lists of a location.
     fn enter_place(&mut self, place: Location, mount: MountId) -> Result<(), AllocError>
-        requires parent { (q : MountId) → lacks mount (listed_on self.old q) }
-        requires place { (q : Location) → lacks mount (listed_at self.old q) }
+        requires parent { (q : MountId) → comes_last mount (listed_on self.old q) ≡ true }
+        requires place { (q : Location) → comes_last mount (listed_at self.old q) ≡ true }
+        requires inode { (q : NodeRef) → comes_last mount (listed_over self.old q) ≡ true }
         ensures slot { nat_lt place.node.slot 18446744073709551616 ≡ true }
         ensures same { self.new.by_namespace ≡ self.old.by_namespace }
         ensures parent_ok { OnOk result ((q : MountId) → listed_on self.new q

@@ -1,6 +1,7 @@
 //! The mounts of all namespaces: mount_namespaces(7).
 #![tactic(auto)]
 
+mod ascending;
 mod changes;
 mod indexes;
 mod lists;

@@ -1,8 +1,10 @@
-//! Lists of mounts under keys.
+//! Mounts under keys, in the order of their numbers.
 ghost use Rattle.std.specs.Prelude.{◌≡◌, ◌++◌, ◌∷◌, [], filter, if◌then◌else◌, not, true, vec_capacity, vec_len, ◌<◌, ◌≤◌, OnErr, OnOk};
 ghost use Rattle.vt_mount.specs.Capacity.{KeepsCapacity};
-ghost use Rattle.vt_mount.specs.Listed.{has_room, inserted, listed, same_id};
+ghost use Rattle.vt_mount.specs.Listed.{has_room, listed};
+ghost use Rattle.vt_mount.specs.Rising.{comes_last, inserted, same_id};
 
+use crate::ascending::Ascending;
 use indexmap::IndexMap;
 use std::alloc::{AllocError, Global};
 use std::hash::Hash;
@@ -11,7 +13,7 @@ use vt_location::MountId;
 /// Lists of mounts, each under a key: a namespace, a mount, a location or an inode.
 #[derive(Debug, Drop)]
 pub(crate) struct MountsBy<K: Eq + Hash> {
-    lists: IndexMap<K, Vec<MountId>>,
+    lists: IndexMap<K, Ascending>,
 }
 
 impl<K: Eq + Hash + Copy + Drop> MountsBy<K> {
@@ -37,17 +39,17 @@ impl<K: Eq + Hash + Copy + Drop> MountsBy<K> {
         }
     }
 
-    /// Adds a mount to the end of the list under a key.
+    /// Adds a mount to the end of the list under a key. Its number is greater than those of the others.
     pub(crate) fn push(&mut self, key: K, mount: MountId) -> Result<(), AllocError>
+        requires { comes_last mount (listed K.eq key self.old) ≡ true }
         ensures ok { OnOk result ((q : K) → listed K.eq q self.new
             ≡ (if K.eq q key then listed K.eq q self.old ++ mount ∷ [] else listed K.eq q self.old)) }
         ensures err { OnErr result ((q : K) → listed K.eq q self.new ≡ listed K.eq q self.old) }
     {
         if let Some(list) = self.lists.get_mut(&key) {
-            list.push(mount)?;
-            return Ok(());
+            return list.push(mount);
         }
-        let mut list = Vec::new(*self.lists.allocator());
+        let mut list = Ascending::new(*self.lists.allocator());
         list.push(mount)?;
         self.lists.insert(key, list)?;
         Ok(())
@@ -60,10 +62,10 @@ impl<K: Eq + Hash + Copy + Drop> MountsBy<K> {
         ensures capacity { KeepsCapacity K.eq self.old self.new }
     {
         if let Some(list) = self.lists.get_mut(&key) {
-            return list.reserve(1);
+            return list.reserve_one();
         }
-        let mut list = Vec::new(*self.lists.allocator());
-        list.reserve(1)?;
+        let mut list = Ascending::new(*self.lists.allocator());
+        list.reserve_one()?;
         self.lists.insert(key, list)?;
         Ok(())
     }
@@ -77,7 +79,7 @@ impl<K: Eq + Hash + Copy + Drop> MountsBy<K> {
         ensures capacity { KeepsCapacity K.eq self.old self.new }
     {
         if let Some(list) = self.lists.get_mut(key) {
-            take(list, mount);
+            list.remove(mount);
         }
     }
 
@@ -89,7 +91,7 @@ impl<K: Eq + Hash + Copy + Drop> MountsBy<K> {
         ensures capacity { KeepsCapacity K.eq self.old self.new }
     {
         if let Some(list) = self.lists.get_mut(key) {
-            insert_in_order(list, mount);
+            list.insert(mount);
         }
     }
 
@@ -111,32 +113,9 @@ impl<K: Eq + Hash + Copy + Drop> MountsBy<K> {
         let Some(list) = self.lists.get_mut(key) else {
             return;
         };
-        take(list, mount);
+        list.remove(mount);
         if list.is_empty() {
             self.lists.swap_remove(key);
         }
     }
-}
-
-// Removes a mount from a list.
-fn take(list: &mut Vec<MountId>, mount: MountId)
-    ensures capacity { vec_capacity list.new ≡ vec_capacity list.old }
-    ensures length { vec_len list.new ≤ vec_len list.old }
-    ensures items { list.new.items ≡ filter (λ other. not (same_id other mount)) list.old.items }
-{
-    list.retain(|other| *other != mount);
-}
-
-// Inserts a mount before the first of a list that has a greater number.
-fn insert_in_order(list: &mut Vec<MountId>, mount: MountId)
-    requires { vec_len list.old < vec_capacity list.old }
-    ensures items { list.new.items ≡ inserted mount list.old.items }
-    ensures capacity { vec_capacity list.old ≤ vec_capacity list.new }
-{
-    let place = list
-        .iter()
-        .position(|other| other.count > mount.count)
-        .unwrap_or(list.len());
-    // It cannot fail: room is reserved.
-    let _ = list.insert(place, mount);
 }

@@ -28,8 +28,8 @@ use vt_spec::errors::{Deny, Rule};
 /// The mounts of all namespaces, and those that were detached and are still in use.
 ///
 /// They are kept by hash, in no order; the lists under a namespace, a mount, a location and an inode keep the order of
-/// their numbers, which is that of attachment. Attaching a mount costs the same however many there are; removing or
-/// moving one passes over the lists that it is in.
+/// their numbers, which is that of attachment. Attaching a mount costs the same however many there are; one that is
+/// removed or moved is found in its lists by a binary search.
 ///
 /// What is done to a mount that does not exist has no effect.
 #[derive(Debug, Drop)]

@@ -25,3 +25,6 @@ returns-in_default-enter_place-clause-slot c =
     ap (λ point. unwrap_or (option_map
     (λ place. nat_lt place.node.slot 18446744073709551616) point) true) c.in-Some-mount_point.is
     ∙ c.enter_place.ensures.slot
+
+pub push-requires : goal.push-requires
+push-requires c = c.requires.namespace c.in-Some.namespace

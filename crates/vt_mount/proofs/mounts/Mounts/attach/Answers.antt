@@ -1,42 +1,45 @@
-use Rattle.std.proofs.Common.{Some, cond, ◌≡◌, ap, nat_lt, refl, subst, sym, true, ◌++◌, ◌∙◌, ◌∷◌, []}
+use Rattle.std.proofs.Common.{List, Some, cond, map, ◌≡◌, ap, nat_lt, refl, subst, sym, true, ◌++◌, ◌∙◌, ◌∷◌, []}
 use Rattle.std.specs.List.{list_all}
 use Rattle.std.specs.Map.{lookup}
 use Rattle.vt_location.specs.MountValue.{mount_of}
 use Rattle.vt_location.specs.Numbers.{counted}
 use Rattle.vt_location.specs.declared.numbers.MountId.{MountId}
+use Rattle.vt_mount.specs.declared.mounted.Mounted.{Mounted}
 use Rattle.vt_mount.specs.Indexed.{IsIndexed}
-use Rattle.vt_mount.specs.Indexes.{has_slot, is_at, is_in, is_on, lacks}
-use Rattle.vt_mount.specs.Listed.{same_id}
-use Rattle.vt_mount.specs.MountsValue.{entries_of, in_order, without}
+use Rattle.vt_mount.specs.Indexes.{has_slot, is_at, is_in, is_on, is_over}
+use Rattle.vt_mount.specs.Rising.{comes_last, same_id}
+use Rattle.vt_mount.specs.MountsValue.{MountEntry, entries_of, entry_of, in_order, without}
 use Rattle.vt_mount.proofs.EntryLemmas.{above-entries, kept-last}
-use Rattle.vt_mount.proofs.IndexLemmas.{lacks-above}
+use Rattle.vt_mount.proofs.IndexLemmas.{last-above}
 use Rattle.vt_mount.proofs.KeptLemmas.{indexed-entered, not-err, of-ok, without-last}
-use Rattle.vt_mount.proofs.OrderLemmas.{in_order-last}
+use Rattle.vt_mount.proofs.OrderLemmas.{in_order-last, is_above}
 use Rattle.vt_mount.proofs.mounts.Mounts.attach.Goals as goal
+
+-- each mount that is kept has a smaller number
+all_above : (number : MountId) (kept : List (MountId × Mounted)) (entries : List MountEntry) → map entry_of kept ≡ entries
+    → list_all (λ entry. nat_lt entry.mount.number (counted number.count)) entries ≡ true → is_above number kept ≡ true
+all_above number kept entries seen above =
+    above-entries number kept (ap (list_all (λ entry. nat_lt entry.mount.number (counted number.count))) seen ∙ above)
 
 pub enter-requires-clause-namespace : goal.enter-requires-clause-namespace
 enter-requires-clause-namespace c =
-    let above = ap (list_all (λ entry. nat_lt entry.mount.number (counted c.args.mount.number.count))) c.self.view_is
-    ∙ c.requires in
-    λ q. subst (lacks c.args.mount.number) (sym (c.self.invariant.namespace q))
-    (lacks-above (is_in q) c.args.mount.number _
-    (above-entries c.args.mount.number (in_order c.self.inside.by_number.entries) above))
+    λ q. ap (comes_last c.args.mount.number) (c.self.invariant.namespace q)
+    ∙ last-above (is_in q) c.args.mount.number _ (all_above c.args.mount.number _ _ c.self.view_is c.requires)
 
 pub enter-requires-clause-parent : goal.enter-requires-clause-parent
 enter-requires-clause-parent c =
-    let above = ap (list_all (λ entry. nat_lt entry.mount.number (counted c.args.mount.number.count))) c.self.view_is
-    ∙ c.requires in
-    λ q. subst (lacks c.args.mount.number) (sym (c.self.invariant.parent q))
-    (lacks-above (is_on q) c.args.mount.number _
-    (above-entries c.args.mount.number (in_order c.self.inside.by_number.entries) above))
+    λ q. ap (comes_last c.args.mount.number) (c.self.invariant.parent q)
+    ∙ last-above (is_on q) c.args.mount.number _ (all_above c.args.mount.number _ _ c.self.view_is c.requires)
 
 pub enter-requires-clause-place : goal.enter-requires-clause-place
 enter-requires-clause-place c =
-    let above = ap (list_all (λ entry. nat_lt entry.mount.number (counted c.args.mount.number.count))) c.self.view_is
-    ∙ c.requires in
-    λ q. subst (lacks c.args.mount.number) (sym (c.self.invariant.place q))
-    (lacks-above (is_at q) c.args.mount.number _
-    (above-entries c.args.mount.number (in_order c.self.inside.by_number.entries) above))
+    λ q. ap (comes_last c.args.mount.number) (c.self.invariant.place q)
+    ∙ last-above (is_at q) c.args.mount.number _ (all_above c.args.mount.number _ _ c.self.view_is c.requires)
+
+pub enter-requires-clause-inode : goal.enter-requires-clause-inode
+enter-requires-clause-inode c =
+    λ q. ap (comes_last c.args.mount.number) (c.self.invariant.inode q)
+    ∙ last-above (is_over q) c.args.mount.number _ (all_above c.args.mount.number _ _ c.self.view_is c.requires)
 
 -- the new mount is kept beside the others
 inserted : (c : goal.After-insert) (q : MountId)

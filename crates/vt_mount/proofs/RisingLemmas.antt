@@ -1,0 +1,221 @@
+-- Mounts in the order of their numbers: what a binary search finds among them, and what an edit there does.
+use Rattle.std.proofs.Common.{Result, Ok, Err, IfOk, IfErr, ◌≡◌, ◌<◌, ◌≤◌, ℕ, zero, suc, Bool, true, false, cond, ◌&&◌, List, [], ◌∷◌, ◌++◌, filter, get_or, length, nat_eq, nat_lt, not, refl, sym, ap, subst, ◌∙◌, arith}
+use Rattle.std.specs.List.{AllWithin, insert, remove}
+use Rattle.std.specs.List.Sorted.{IsBinarySearchResult, IsNonDecreasingBy, IsPartitionPoint, IsPartitionedBy, IsSearchInRange}
+use Rattle.std.specs.Ordering.{nat_cmp, ordering_index}
+use Rattle.std.specs.declared.cmp.Ordering.TheVariants.{Less, Equal, Greater}
+use Rattle.std.proofs.lemmas.Bool.{ltb-true, ltb-false}
+use Rattle.std.proofs.lemmas.Bool.Decides.{nat_tests}
+use Rattle.std.proofs.lemmas.Cmp.{ranked}
+use Rattle.vt_location.specs.declared.numbers.MountId.{MountId}
+use Rattle.vt_mount.specs.Rising.{IsAt, comes_last, inserted, none_below, rises, same_id}
+use Rattle.vt_spec.proofs.Truths.{and_true_left, and_true_right}
+
+both : (a b : Bool) → a ≡ true → b ≡ true → (a && b) ≡ true
+both a b left right = (λ i. left i && b) ∙ right
+
+from_not : (b : Bool) → not b ≡ true → b ≡ false
+from_not true is = sym is
+from_not false is = refl
+
+-- numbers that rise, as a binary search asks
+
+not-below : (id : MountId) (list : List MountId) (k : ℕ) (d : MountId) → none_below id list ≡ true → k < length list
+    → id.count ≤ (get_or list k d).count
+not-below id [] k d above within = absurd (omega (arith, within))
+not-below id (x ∷ list) zero d above within = ltb-false x.count id.count (from_not _ (and_true_left _ _ above))
+not-below id (x ∷ list) (suc k) d above within =
+    not-below id list k d (and_true_right _ _ above) (omega (arith, within))
+
+pub counts_rise : (list : List MountId) → rises list ≡ true → IsNonDecreasingBy (λ id. id.count) list
+counts_rise [] rising i j d le within = absurd (omega (arith, within))
+counts_rise (x ∷ list) rising zero zero d le within = omega arith
+counts_rise (x ∷ list) rising zero (suc j) d le within =
+    not-below x list j d (and_true_left _ _ rising) (omega (arith, within))
+counts_rise (x ∷ list) rising (suc i) zero d le within = absurd (omega (arith, le))
+counts_rise (x ∷ list) rising (suc i) (suc j) d le within =
+    counts_rise list (and_true_right _ _ rising) i j d (omega (arith, le)) (omega (arith, within))
+
+-- one that is put behind others
+
+pub rises-push : (id : MountId) (list : List MountId) → comes_last id list ≡ true → rises list ≡ true
+    → rises (list ++ id ∷ []) ≡ true
+rises-push id [] last rising = refl
+rises-push id (x ∷ list) last rising =
+    both _ _ (kept x list (and_true_left _ _ last) (and_true_left _ _ rising))
+    (rises-push id list (and_true_right _ _ last) (and_true_right _ _ rising))
+  where
+    turned : (m n : ℕ) → nat_lt m n ≡ true → not (nat_lt n m) ≡ true
+    turned m n is = let less = ltb-true m n is in grind (arith, nat_tests)
+
+    kept : (x : MountId) (list : List MountId) → nat_lt x.count id.count ≡ true → none_below x list ≡ true
+        → none_below x (list ++ id ∷ []) ≡ true
+    kept x [] less below = both _ _ (turned x.count id.count less) refl
+    kept x (y ∷ list) less below =
+        both _ _ (and_true_left _ _ below) (kept x list less (and_true_right _ _ below))
+
+-- one that is inserted
+
+lower : (id y : MountId) (list : List MountId) → id.count < y.count → none_below y list ≡ true
+    → none_below id list ≡ true
+lower id y [] less below = refl
+lower id y (z ∷ list) less below =
+    both _ _ (not_less z.count (ltb-false z.count y.count (from_not _ (and_true_left _ _ below))))
+    (lower id y list less (and_true_right _ _ below))
+  where
+    not_less : (n : ℕ) → y.count ≤ n → not (nat_lt n id.count) ≡ true
+    not_less n le = grind (arith, nat_tests)
+
+none_below-inserted : (id x : MountId) (list : List MountId) → not (nat_lt id.count x.count) ≡ true
+    → none_below x list ≡ true → none_below x (inserted id list) ≡ true
+none_below-inserted id x [] least below = both _ _ least refl
+none_below-inserted id x (y ∷ list) least below =
+    at (nat_lt id.count y.count) (none_below-inserted id x list least (and_true_right _ _ below))
+  where
+    at : (b : Bool) → none_below x (inserted id list) ≡ true
+        → none_below x (cond b (id ∷ y ∷ list) (y ∷ inserted id list)) ≡ true
+    at true rest = both _ _ least below
+    at false rest = both _ _ (and_true_left _ _ below) rest
+
+pub rises-inserted : (id : MountId) (list : List MountId) → rises list ≡ true → rises (inserted id list) ≡ true
+rises-inserted id [] rising = refl
+rises-inserted id (x ∷ list) rising =
+    by (nat_lt id.count x.count) refl (rises-inserted id list (and_true_right _ _ rising))
+  where
+    turned : id.count < x.count → not (nat_lt x.count id.count) ≡ true
+    turned less = grind (arith, nat_tests)
+
+    by : (b : Bool) → nat_lt id.count x.count ≡ b → rises (inserted id list) ≡ true
+        → rises (cond b (id ∷ x ∷ list) (x ∷ inserted id list)) ≡ true
+    by true is rest =
+        let less = ltb-true id.count x.count is in
+        both _ _ (both _ _ (turned less) (lower id x list less (and_true_left _ _ rising))) rising
+    by false is rest = both _ _ (none_below-inserted id x list (ap not is) (and_true_left _ _ rising)) rest
+
+-- where a search puts it: behind those that have no greater number
+pub inserted-there : (id : MountId) (list : List MountId) (place : ℕ) → place ≤ length list
+    → AllWithin (λ other. not (nat_lt id.count other.count) ≡ true) list 0 place
+    → AllWithin (λ other. not (nat_lt id.count other.count) ≡ false) list place (length list)
+    → insert list place id ≡ inserted id list
+inserted-there id [] zero within front rest = refl
+inserted-there id [] (suc place) within front rest = absurd (omega (arith, within))
+inserted-there id (x ∷ list) zero within front rest =
+    ap (λ b. cond b (id ∷ x ∷ list) (x ∷ inserted id list)) (sym (turned _ (rest 0 x (omega arith) (omega arith))))
+  where
+    turned : (b : Bool) → not b ≡ false → b ≡ true
+    turned true is = refl
+    turned false is = sym is
+inserted-there id (x ∷ list) (suc place) within front rest =
+    ap (λ l. x ∷ l) (inserted-there id list place (omega (arith, within))
+    (λ k d low high. front (suc k) d (omega arith) (omega (arith, high)))
+    (λ k d low high. rest (suc k) d (omega (arith, low)) (omega (arith, high))))
+    ∙ ap (λ b. cond b (id ∷ x ∷ list) (x ∷ inserted id list)) (sym (from_not _ (front 0 x (omega arith) (omega arith))))
+
+-- one that is taken out
+
+none_below-remove : (id : MountId) (list : List MountId) (place : ℕ) → none_below id list ≡ true
+    → none_below id (remove list place) ≡ true
+none_below-remove id [] zero below = refl
+none_below-remove id [] (suc place) below = refl
+none_below-remove id (x ∷ list) zero below = and_true_right _ _ below
+none_below-remove id (x ∷ list) (suc place) below =
+    both _ _ (and_true_left _ _ below) (none_below-remove id list place (and_true_right _ _ below))
+
+pub rises-remove : (list : List MountId) (place : ℕ) → rises list ≡ true → rises (remove list place) ≡ true
+rises-remove [] zero rising = refl
+rises-remove [] (suc place) rising = refl
+rises-remove (x ∷ list) zero rising = and_true_right _ _ rising
+rises-remove (x ∷ list) (suc place) rising =
+    both _ _ (none_below-remove x list place (and_true_left _ _ rising))
+    (rises-remove list place (and_true_right _ _ rising))
+
+abbrev pub others : MountId → List MountId → List MountId
+others id list = filter (λ other. not (same_id other id)) list
+
+-- it is no other, so that the others are those that are left
+pub others-remove : (id : MountId) (list : List MountId) (place : ℕ) → place < length list
+    → ((d : MountId) → same_id (get_or list place d) id ≡ true) → others id (remove list place) ≡ others id list
+others-remove id [] place within is = absurd (omega (arith, within))
+others-remove id (x ∷ list) zero within is = ap (λ b. cond (not b) (x ∷ others id list) (others id list)) (sym (is x))
+others-remove id (x ∷ list) (suc place) within is =
+    ap (λ rest. cond (not (same_id x id)) (x ∷ rest) rest) (others-remove id list place (omega (arith, within)) is)
+
+-- where it is not in the list, all are others
+others-all : (id : MountId) (list : List MountId)
+    → ((k : ℕ) (d : MountId) → k < length list → same_id (get_or list k d) id ≡ false) → others id list ≡ list
+others-all id [] apart = refl
+others-all id (x ∷ list) apart =
+    ap (λ b. cond (not b) (x ∷ others id list) (others id list)) (apart 0 x (omega arith))
+    ∙ ap (λ rest. x ∷ rest) (others-all id list (λ k d within. apart (suc k) d (omega (arith, within))))
+
+pub others-parted : (id : MountId) (list : List MountId) (place : ℕ)
+    → IsPartitionPoint (λ other. nat_cmp other.count id.count ≡ Less) (λ other. nat_cmp other.count id.count ≡ Greater)
+    list place → others id list ≡ list
+others-parted id list place parted = others-all id list apart
+  where
+    less : (n : ℕ) → nat_cmp n id.count ≡ Less → nat_eq n id.count ≡ false
+    less n is = let ranks = ranked n id.count Less (sym is) in grind (arith, nat_tests, ranks)
+
+    greater : (n : ℕ) → nat_cmp n id.count ≡ Greater → nat_eq n id.count ≡ false
+    greater n is = let ranks = ranked n id.count Greater (sym is) in grind (arith, nat_tests, ranks)
+
+    at : (k : ℕ) (d : MountId) (b : Bool) → nat_lt k place ≡ b → k < length list
+        → same_id (get_or list k d) id ≡ false
+    at k d true is within = less _ (parted.0 k d (omega arith) (ltb-true k place is))
+    at k d false is within = greater _ (parted.1 k d (ltb-false k place is) within)
+
+    apart : (k : ℕ) (d : MountId) → k < length list → same_id (get_or list k d) id ≡ false
+    apart k d within = at k d (nat_lt k place) refl within
+
+-- a mount is not among those before it
+pub others-last : (id : MountId) (list : List MountId) → comes_last id list ≡ true → others id list ≡ list
+others-last id [] last = refl
+others-last id (x ∷ list) last =
+    ap (λ b. cond (not b) (x ∷ others id list) (others id list)) (apart x.count (and_true_left _ _ last))
+    ∙ ap (λ rest. x ∷ rest) (others-last id list (and_true_right _ _ last))
+  where
+    apart : (n : ℕ) → nat_lt n id.count ≡ true → nat_eq n id.count ≡ false
+    apart n is = let less = ltb-true n id.count is in grind (arith, nat_tests)
+
+-- what searches answer, where the slice that they go over is the list
+
+pub found : (id : MountId) (slice list : List MountId) → slice ≡ list → (r : Result ℕ ℕ)
+    → IsSearchInRange r (length slice) → IsBinarySearchResult (λ other. nat_cmp other.count id.count) slice r
+    → IfOk r (IsAt id list)
+found id slice list is (Ok place) within at =
+    subst (λ list. IsAt id list place) is
+    (within, λ d. is_same (get_or slice place d).count (at d))
+  where
+    is_same : (n : ℕ) → nat_cmp n id.count ≡ Equal → nat_eq n id.count ≡ true
+    is_same n tie = let same = ranked n id.count Equal (sym tie) in grind (arith, nat_tests, same)
+found id slice list is (Err place) within at = tt
+
+pub missing : (id : MountId) (slice list : List MountId) → slice ≡ list → rises list ≡ true → (r : Result ℕ ℕ)
+    → IsBinarySearchResult (λ other. nat_cmp other.count id.count) slice r → IfErr r (λ _. others id list ≡ list)
+missing id slice list is rising (Ok place) at = tt
+missing id slice list is rising (Err place) at =
+    subst (λ list. others id list ≡ list) is
+    (others-parted id slice place (at (comparisons_rise (subst (λ list. rises list ≡ true) (sym is) rising))))
+  where
+    comparisons_rise : rises slice ≡ true
+        → IsNonDecreasingBy (λ other. ordering_index (nat_cmp other.count id.count)) slice
+    comparisons_rise rising i j d le within =
+        let le : (get_or slice i d).count ≤ (get_or slice j d).count = counts_rise slice rising i j d le within in
+        grind (arith, nat_tests)
+
+pub is_parted : (id : MountId) (slice list : List MountId) → slice ≡ list → rises list ≡ true
+    → IsPartitionedBy (λ other. not (nat_lt id.count other.count)) slice
+is_parted id slice list is rising i j d le within passes =
+    let le : (get_or slice i d).count ≤ (get_or slice j d).count =
+    counts_rise slice (subst (λ list. rises list ≡ true) (sym is) rising) i j d le within in
+    lower _ _ le (ltb-false id.count _ (from_not _ passes))
+  where
+    lower : (m n : ℕ) → m ≤ n → n ≤ id.count → not (nat_lt id.count m) ≡ true
+    lower m n le most = grind (arith, nat_tests)
+
+pub placed : (id : MountId) (slice list : List MountId) → slice ≡ list → (place : ℕ) → place ≤ length slice
+    → IsPartitionPoint (λ other. not (nat_lt id.count other.count) ≡ true)
+    (λ other. not (nat_lt id.count other.count) ≡ false) slice place
+    → insert list place id ≡ inserted id list
+placed id slice list is place within point =
+    subst (λ list. insert list place id ≡ inserted id list) is (inserted-there id slice place within point.0 point.1)
