@@ -1,5 +1,5 @@
 -- The names of groups, once some of them changed.
-use Rattle.std.proofs.Common.{◌≡◌, ℕ, Bool, true, false, cond, ◌+◌, ◌<◌, ◌≤◌, List, [], ◌∷◌, ◌++◌, length, zero, suc, Option, None, Some, is_some, get_or, refl, sym, ap, ◌∙◌, arith, true≢false, slice_get, sum_by, swap_remove, ◌||◌, Result, Ok, Err, is_ok, IsOk, length-append, ◌==◌}
+use Rattle.std.proofs.Common.{◌≡◌, ℕ, Bool, true, false, cond, ◌+◌, ◌<◌, ◌≤◌, List, [], ◌∷◌, ◌++◌, length, zero, suc, Option, None, Some, is_some, get_or, refl, sym, ap, ◌∙◌, arith, true≢false, slice_get, drop, take, sum_by, swap_remove, ◌||◌, Result, Ok, Err, is_ok, IsOk, length-append, ◌==◌}
 use Rattle.std.proofs.lemmas.List.Folds.{list_any-append}
 use Rattle.std.proofs.lemmas.List.Sums.{sum_by-cons, sum_by-swap_remove}
 use Rattle.std.proofs.lemmas.Bool.{eqb-true}
@@ -162,6 +162,16 @@ pub any_of_first : {T E : Type 0} (test : GroupId → Bool) (own list now : List
 any_of_first test own list now (Ok t) is any =
     ap (list_any test) is ∙ list_any-append test own list ∙ ap (λ b. b || list_any test list) any
 any_of_first test own list now (Err e) is any = ap (list_any test) is ∙ any
+
+-- a list whose first name goes to its back
+pub any_turned : (test : GroupId → Bool) (list : List GroupId) → list_any test list ≡ true
+    → list_any test (drop 1 list ++ take 1 list) ≡ true
+any_turned test [] any = any
+any_turned test (name ∷ list) any = list_any-append test list (name ∷ []) ∙ by (test name) any
+  where
+    by : (b : Bool) → (b || list_any test list) ≡ true → (list_any test list || (b || false)) ≡ true
+    by true any = or_true (list_any test list)
+    by false any = ap (λ t. t || false) any
 
 pub nil_from_none : (list : List GroupId) → (length list == 0) ≡ true → list ≡ []
 nil_from_none [] none = refl

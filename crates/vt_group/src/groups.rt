@@ -13,7 +13,7 @@ ghost use Rattle.vt_location.specs.Numbers.{counted};
 ghost use Rattle.vt_group.specs.Grouping.{Follows, GroupsLive, Has, HasGroup, HasMount, LacksGroup, below, master_in, no_groups, numbers_of, propagation_in, with_propagation};
 ghost use Rattle.vt_group.specs.Additions.{typed_pair};
 ghost use Rattle.vt_group.specs.Together.{GrowsTo, Shares, is_ordered, new_group, pair_of};
-ghost use Rattle.vt_group.specs.Together.{shared_group, shared_type, typed};
+ghost use Rattle.vt_group.specs.Together.{shared_group, shared_type, type_before, typed};
 ghost use Rattle.vt_group.specs.Leaving.{is_member_of, lone_group, lost_group, master_after_end, type_after_end, type_once_ended, type_once_left, type_once_retyped, type_once_slave};
 ghost use Rattle.std.specs.BTreeMap.{IsOrdered, get};
 ghost use Rattle.std.specs.Ordering.{nat_cmp};
@@ -363,6 +363,9 @@ impl Groups {
         let Ok(types) = types_of(alloc, mounts) else {
             return Err(Rule::S5.denial());
         };
+        let Ok(before) = self.types_before(alloc, types.as_slice()) else {
+            return Err(Rule::S5.denial());
+        };
         if self.index.join_all(new).is_err()
             || self.index.list_all(mounts).is_err()
             || add_all(
@@ -378,6 +381,7 @@ impl Groups {
             self.index.part_all(new, &self.above);
             return Err(Rule::S5.denial());
         }
+        self.index.unlist_all(before.as_slice(), &self.mounts);
         Ok(())
     }
 
@@ -397,6 +401,9 @@ impl Groups {
         let Ok(new) = self.groups_when_shared(alloc, named) else {
             return Err(Rule::S5.denial());
         };
+        let Ok(before) = self.types_before(alloc, types.as_slice()) else {
+            return Err(Rule::S5.denial());
+        };
         if self.index.share(named, &self.mounts).is_err()
             || add_all(
                 alloc,
@@ -411,7 +418,31 @@ impl Groups {
             self.index.part_all(new.as_slice(), &self.above);
             return Err(Rule::S5.denial());
         }
+        self.index.unlist_all(before.as_slice(), &self.mounts);
         Ok(())
+    }
+
+    // The types of mounts that get others, so that the mounts can be taken out of where they were listed for them.
+    fn types_before(
+        &self,
+        alloc: Global,
+        mounts: &[(MountId, Propagation)],
+    ) -> Result<Vec<(MountId, Propagation)>, AllocError>
+        ensures { IfOk result (λ types. map typed_pair types.items
+            ≡ map (λ pair. type_before self.now (counted pair.0.count)) mounts.now) }
+    {
+        let mut types = Vec::new(alloc);
+        for pair in mounts {
+            types.push((pair.0, self.type_before(pair.0)))?;
+        }
+        Ok(types)
+    }
+
+    // The type of a mount. One that is unbindable is taken for private, since neither is listed.
+    fn type_before(&self, mount: MountId) -> Propagation
+        ensures { (counted mount.count, propagation_of result) ≡ type_before self.now (counted mount.count) }
+    {
+        self.propagation_of(mount).unwrap_or(Propagation::Private)
     }
 
     // The types of mounts that become shared.

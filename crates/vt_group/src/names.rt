@@ -1,5 +1,5 @@
 //! Names, under which the mounts and the lower groups of each group are kept.
-ghost use Rattle.std.specs.Prelude.{◌≡◌, ◌<◌, ◌≤◌, [], Bool, drop, IfOk, false, is_some, length, true};
+ghost use Rattle.std.specs.Prelude.{◌≡◌, ◌≤◌, [], Bool, drop, IfOk, false, is_some, length, true};
 ghost use Rattle.std.specs.List.{list_any};
 ghost use Rattle.std.specs.Map.{lookup};
 ghost use Rattle.vt_location.specs.declared.numbers.GroupId.{GroupId as GroupNumber};
@@ -103,7 +103,7 @@ impl Names {
         Ok(group)
     }
 
-    /// Drops names of a group under which nothing is kept. It does not allocate.
+    /// Drops the names of a group under which nothing is kept. It does not allocate.
     pub(crate) fn prune(&mut self, group: GroupId, mounts: &Sets<MountId>, lowers: &Sets<GroupId>)
         ensures mounts { (mount : MountNumber) (at : GroupNumber) → is_under same_id self.old mounts.now mount at ≡ true
             → is_under same_id self.new mounts.now mount at ≡ true }
@@ -146,7 +146,7 @@ impl Names {
     }
 }
 
-// Drops the names at the front under which nothing is kept.
+// Drops the names under which nothing is kept. The others keep their order.
 fn drop_unused(list: &mut LinkedList<GroupId>, mounts: &Sets<MountId>, lowers: &Sets<GroupId>)
     ensures mounts { (mount : MountNumber) → list_any (λ name. has same_id name mount mounts.now) list.old ≡ true
         → list_any (λ name. has same_id name mount mounts.now) list.new ≡ true }
@@ -154,9 +154,29 @@ fn drop_unused(list: &mut LinkedList<GroupId>, mounts: &Sets<MountId>, lowers: &
         → list_any (λ name. has same_group name lower lowers.now) list.new ≡ true }
     ensures fewer { length list.new ≤ length list.old }
 {
-    while first_is_unused(list, mounts, lowers) {
-        list.pop_front();
+    for _ in 0..list.len() {
+        if first_is_unused(list, mounts, lowers) {
+            list.pop_front();
+        } else {
+            turn(list);
+        }
     }
+}
+
+// Moves the first of these names to the back. It does not allocate.
+fn turn(list: &mut LinkedList<GroupId>)
+    ensures kept { (test : GroupNumber → Bool) → list_any test list.old ≡ true → list_any test list.new ≡ true }
+    ensures fewer { length list.new ≤ length list.old }
+{
+    if list.len() < 2 {
+        return;
+    }
+    let Ok(mut rest) = list.split_off(1) else {
+        return;
+    };
+    // It cannot fail: the two were one list.
+    let _ = rest.append(list);
+    *list = rest;
 }
 
 // Whether nothing is kept under the first of these names.
@@ -165,7 +185,6 @@ fn first_is_unused(
     mounts: &Sets<MountId>,
     lowers: &Sets<GroupId>,
 ) -> bool
-    ensures some { result ≡ true → 0 < length list.now }
     ensures mounts { result ≡ true → (mount : MountNumber)
         → list_any (λ name. has same_id name mount mounts.now) list.now ≡ true
         → list_any (λ name. has same_id name mount mounts.now) (drop 1 list.now) ≡ true }

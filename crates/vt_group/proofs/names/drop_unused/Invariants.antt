@@ -5,14 +5,11 @@ use Rattle.vt_location.specs.declared.numbers.MountId.{MountId}
 use Rattle.vt_group.specs.Sets.{has, same_group, same_id}
 use Rattle.vt_group.proofs.names.drop_unused.Given as goal
 
-abbrev pub invariant-loop-list : goal.invariant-loop-list
-invariant-loop-list l = record {
+abbrev pub invariant-loop : goal.invariant-loop
+invariant-loop l = record {
   mounts : (mount : MountId) → list_any (λ name. has same_id name mount l.mounts) l.fn.list ≡ true
       → list_any (λ name. has same_id name mount l.mounts) l.list ≡ true;
   lowers : (lower : GroupId) → list_any (λ name. has same_group name lower l.lowers) l.fn.list ≡ true
       → list_any (λ name. has same_group name lower l.lowers) l.list ≡ true;
   fewer : length l.list ≤ length l.fn.list;
 }
-
-abbrev pub decreases-loop-list : goal.decreases-loop-list
-decreases-loop-list l = length l.list

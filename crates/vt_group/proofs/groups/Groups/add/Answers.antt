@@ -20,7 +20,7 @@ returns-clause-ok c world after has grows =
     let inside = c.self.inside in
     let peers = listed_ok c.add_all.result c.add_all.ensures.types added
     ∙ ap (folded with_type_of (map numbered_peer inside.mounts.entries))
-    (ap (map typed_pair) c.as_slice.ensures.value ∙ c.in-Ok.ensures) in
+    (ap (map typed_pair) c.as_slice-else-is_err-2.ensures.value ∙ c.in-Ok.ensures) in
     let masters = masters_put inside.above c.add_all.new.above c.args.new.now c.self.invariant.ordered_above
     (c.add_all.ensures.ordered_above c.self.invariant.ordered_above)
     (listed_ok c.add_all.result c.add_all.ensures.masters added) in
@@ -28,15 +28,15 @@ returns-clause-ok c world after has grows =
     ∙ ap (λ groups. all_added groups (map typed c.args.mounts.now) (map new_group c.args.new.now)) c.self.view_is))
     (grown_has world after c.args.self.now (map typed c.args.mounts.now) (map new_group c.args.new.now) has grows)
 
-pub invariant_of-self : goal.invariant_of-self
-invariant_of-self c =
+pub invariant_of-self-2 : goal.invariant_of-self-2
+invariant_of-self-2 c =
     let added = sym c.is_err-else-is_err-2.ensures.value ∙ c.if-is_err-3.false in
     let inside = c.self.inside in
     let index = c.list_all.new.self in
     let old_peers = map numbered_peer inside.mounts.entries in
     let old_masters = map numbered_master inside.above.entries in
     let peers = listed_ok c.add_all.result c.add_all.ensures.types added
-    ∙ ap (folded with_type_of old_peers) (ap (map typed_pair) c.as_slice.ensures.value ∙ c.in-Ok.ensures) in
+    ∙ ap (folded with_type_of old_peers) (ap (map typed_pair) c.as_slice-else-is_err-2.ensures.value ∙ c.in-Ok.ensures) in
     let ordered_above = c.add_all.ensures.ordered_above c.self.invariant.ordered_above in
     let masters = masters_put inside.above c.add_all.new.above c.args.new.now c.self.invariant.ordered_above
     ordered_above
@@ -51,11 +51,13 @@ invariant_of-self c =
     (rising_numbers group_number inside.above c.self.invariant.ordered_above)
     (found_lower inside.index index inside.mounts inside.above c.self.invariant
     (λ low up is. c.list_all.ensures.lower low up (c.join_all.ensures.lower low up is))) in
-    lists_found index c.add_all.new.types c.add_all.new.above (subst (FoundListed index) (sym peers) listed)
-    (subst (FoundLower index) (sym masters) lower) (c.add_all.ensures.ordered c.self.invariant.ordered) ordered_above
+    let lists = lists_found index c.add_all.new.types c.add_all.new.above (subst (FoundListed index) (sym peers) listed)
+    (subst (FoundLower index) (sym masters) lower) (c.add_all.ensures.ordered c.self.invariant.ordered) ordered_above in
+    lists_unlisted index c.unlist_all-2.new.self c.add_all.new.types c.add_all.new.above lists
+    c.unlist_all-2.ensures.kept (λ low up at. c.unlist_all-2.ensures.lower low up)
 
-pub invariant_of-self-then-is_err : goal.invariant_of-self-then-is_err
-invariant_of-self-then-is_err c =
+pub invariant_of-self : goal.invariant_of-self
+invariant_of-self c =
     let state = c.then-is_err.self-inside in
     let inside = c.self.inside in
     lists_unlisted state.index c.part_all.new.self state.mounts state.above

@@ -24,19 +24,19 @@ returns-clause-ok c world group named has live there same lacks =
     let inside = c.self.inside in
     let peers = listed_ok c.add_all.result c.add_all.ensures.types added
     ∙ ap (folded with_type_of (map numbered_peer inside.mounts.entries))
-    (ap (map typed_pair) c.as_slice.ensures.value ∙ c.in-Ok.ensures) in
-    let masters = masters_put inside.above c.add_all.new.above c.as_slice-else-is_err.result.now
+    (ap (map typed_pair) c.as_slice-else-is_err.ensures.value ∙ c.in-Ok.ensures) in
+    let masters = masters_put inside.above c.add_all.new.above c.as_slice-else-is_err-2.result.now
     c.self.invariant.ordered_above (c.add_all.ensures.ordered_above c.self.invariant.ordered_above)
     (listed_ok c.add_all.result c.add_all.ensures.masters added)
     ∙ ap (folded with_master_of (map numbered_master inside.above.entries))
-    (ap (map new_group) c.as_slice-else-is_err.ensures.value ∙ c.in-Ok-groups_when_shared.ensures) in
+    (ap (map new_group) c.as_slice-else-is_err-2.ensures.value ∙ c.in-Ok-groups_when_shared.ensures) in
     subst (Has (retyped nat_eq world group ToShared named)) (sym ((λ i. record { peers = peers i; masters = masters i })
     ∙ ap (λ groups. all_added groups (map (λ pair. shared_type c.args.self.now (pair_of pair)) c.args.named.now)
     (map (λ pair. shared_group c.args.self.now (pair_of pair)) c.args.named.now)) c.self.view_is))
     (shared_has world live c.args.self.now has group lacks named there c.args.named.now same)
 
-pub invariant_of-self : goal.invariant_of-self
-invariant_of-self c =
+pub invariant_of-self-2 : goal.invariant_of-self-2
+invariant_of-self-2 c =
     let added = sym c.is_err-else-is_err.ensures.value ∙ c.if-is_err-2.false in
     let inside = c.self.inside in
     let index = c.share.new.self in
@@ -48,22 +48,24 @@ invariant_of-self c =
     (get nat_cmp inside.mounts count) refl in
     let each = listed_ok c.share.result c.share.ensures.ok (sym c.is_err.ensures.value ∙ c.if-is_err.false) in
     let peers = listed_ok c.add_all.result c.add_all.ensures.types added
-    ∙ ap (folded with_type_of old_peers) (ap (map typed_pair) c.as_slice.ensures.value ∙ c.in-Ok.ensures) in
+    ∙ ap (folded with_type_of old_peers) (ap (map typed_pair) c.as_slice-else-is_err.ensures.value ∙ c.in-Ok.ensures) in
     let ordered_above = c.add_all.ensures.ordered_above c.self.invariant.ordered_above in
-    let masters = masters_put inside.above c.add_all.new.above c.as_slice-else-is_err.result.now
+    let masters = masters_put inside.above c.add_all.new.above c.as_slice-else-is_err-2.result.now
     c.self.invariant.ordered_above ordered_above (listed_ok c.add_all.result c.add_all.ensures.masters added)
     ∙ ap (folded with_master_of old_masters)
-    (ap (map new_group) c.as_slice-else-is_err.ensures.value ∙ c.in-Ok-groups_when_shared.ensures) in
+    (ap (map new_group) c.as_slice-else-is_err-2.ensures.value ∙ c.in-Ok-groups_when_shared.ensures) in
     let listed = all_shared_listed groups inside.mounts told index named old_peers each
     (found_listed inside.index index inside.mounts inside.above c.self.invariant c.share.ensures.kept) in
     let lower = all_shared_lower groups inside.mounts told index named old_masters each
     (rising_numbers group_number inside.above c.self.invariant.ordered_above)
     (found_lower inside.index index inside.mounts inside.above c.self.invariant c.share.ensures.lower) in
-    lists_found index c.add_all.new.types c.add_all.new.above (subst (FoundListed index) (sym peers) listed)
-    (subst (FoundLower index) (sym masters) lower) (c.add_all.ensures.ordered c.self.invariant.ordered) ordered_above
+    let lists = lists_found index c.add_all.new.types c.add_all.new.above (subst (FoundListed index) (sym peers) listed)
+    (subst (FoundLower index) (sym masters) lower) (c.add_all.ensures.ordered c.self.invariant.ordered) ordered_above in
+    lists_unlisted index c.unlist_all-2.new.self c.add_all.new.types c.add_all.new.above lists
+    c.unlist_all-2.ensures.kept (λ low up at. c.unlist_all-2.ensures.lower low up)
 
-pub invariant_of-self-then-is_err : goal.invariant_of-self-then-is_err
-invariant_of-self-then-is_err c =
+pub invariant_of-self : goal.invariant_of-self
+invariant_of-self c =
     let state = c.then-is_err.self-inside in
     let inside = c.self.inside in
     lists_unlisted state.index c.part_all.new.self state.mounts state.above
