@@ -21,9 +21,19 @@ chain   a mount and its unmount along 200 peer groups, each the slave of the one
 trees   a tree of 1,000 mounts, bound recursively onto a shared mount with one more peer, and unmounted lazily
 lazy60, lazy600, lazy2000
         three mounts at a shared mount with one more peer, and their lazy unmount, in a world with so many other mounts
+ending10, ending100
+        containers that begin and end, so many at a time: each is a task with a namespace of its own, whose copy of a
+        shared mount becomes a slave and then shared; between two of them the host mounts and unmounts, which all receive
+handed10
+        the same, and each container has one in it whose mount is its slave and which ends later: the group that ends
+        hands it to the host's
+later60, later600, later2000
+        so many mounted filesystems, of which the oldest is unmounted, again and again, and a new one mounted in its place
 
 The number of directories is 1,000, or fewer for a short script. The same words give the same script.
 """
+import collections
+import itertools
 import sys
 
 DIRECTORIES = 1000
@@ -326,6 +336,73 @@ def lazy_round(i, count):
     yield 't lazy /a/b'
 
 
+CHILDREN = 60
+
+
+def forks():
+    """Tasks, one after another, with the lines that make them: parents are made when they are needed, and end with their
+    last fork."""
+    for first, second, third in itertools.product(range(1, CHILDREN + 1), repeat=3):
+        made = [f't.{first}.{second} fork']
+        if third == 1:
+            made.insert(0, f't.{first} fork')
+            if second == 1:
+                made.insert(0, 't fork')
+        if third == CHILDREN:
+            made.append(f't.{first}.{second} exit')
+            if second == CHILDREN:
+                made.append(f't.{first} exit')
+        yield f't.{first}.{second}.{third}', made
+
+
+def ending(lines, count, is_nested=False):
+    yield from shared_mount()
+    yield from itertools.islice(endings(count, is_nested), lines - 4)
+
+
+def endings(count, is_nested):
+    """A container begins, an event of the host reaches all that are there, and the oldest one ends."""
+    alive = collections.deque()
+    left_behind = collections.deque()
+    for i, (name, made) in enumerate(forks()):
+        yield from made
+        yield f'{name} unshare'
+        yield f'{name} type /a slave'
+        yield f'{name} type /a shared'
+        if is_nested:
+            yield f'{name} fork'
+            yield f'{name}.1 unshare'
+            yield f'{name}.1 type /a slave'
+        alive.append(name)
+        yield 't mount plain /a/b'
+        yield f't write /a/b/f value-{i}'
+        yield f'{alive[0]} read /a/b/f'
+        yield 't umount /a/b'
+        if len(alive) > count:
+            yield f'{alive[0]} exit'
+            if is_nested:
+                left_behind.append(f'{alive[0]}.1')
+            alive.popleft()
+        if len(left_behind) > count:
+            yield f'{left_behind.popleft()} exit'
+
+
+def later(lines, count):
+    yield 't mkdir /l'
+    for i in range(count):
+        yield f't mkdir /l/{i}'
+        yield f't mount plain /l/{i}'
+        yield f't write /l/{i}/f first'
+    yield from rounds(lines - 1 - 3 * count, count, later_round)
+
+
+def later_round(i, count):
+    yield f't umount /l/{i % count}'
+    yield f't mount plain /l/{i % count}'
+    yield f't write /l/{i % count}/f value-{i}'
+    yield f't read /l/{(i + 1) % count}/f'
+
+
 KINDS = {
     'files': files, 'listed': listed, 'deep': deep, 'one': one, 'users': users, 'links': links, 'mounts': mounts,
     'spaces': spaces,
@@ -334,7 +411,10 @@ KINDS = {
     'services60': lambda lines: services(lines, 60), 'services600': lambda lines: services(lines, 600),
     'services2000': lambda lines: services(lines, 2000), 'chain': chain, 'trees': trees,
     'lazy60': lambda lines: lazy(lines, 60), 'lazy600': lambda lines: lazy(lines, 600),
-    'lazy2000': lambda lines: lazy(lines, 2000),
+    'lazy2000': lambda lines: lazy(lines, 2000), 'ending10': lambda lines: ending(lines, 10),
+    'ending100': lambda lines: ending(lines, 100), 'handed10': lambda lines: ending(lines, 10, is_nested=True),
+    'later60': lambda lines: later(lines, 60), 'later600': lambda lines: later(lines, 600),
+    'later2000': lambda lines: later(lines, 2000),
 }
 
 
