@@ -1,7 +1,7 @@
 -- Taking mounts away changes no filesystem, and no mount's filesystem.
 use Rattle.std.proofs.Common.{◌≡◌, refl, ap, ◌∙◌, ℕ, nat_eq, Bool, true, false, cond, List, [], ◌∷◌, map, Some, unwrap_or}
 use Rattle.std.specs.List.{find}
-use Rattle.vt_spec.specs.Machine.Detach.{mounts_on, trees_taken_away, without_mounts_on}
+use Rattle.vt_spec.specs.Machine.Detach.{without_mounts_on}
 use Rattle.vt_spec.specs.Machine.Mounts.{Location, Mount, mount_in, no_mount}
 use Rattle.vt_spec.specs.Machine.Receives.{inheriting, regrouped_by}
 use Rattle.vt_spec.specs.Machine.World.{World, mount_at}

@@ -1,5 +1,5 @@
 -- Names, texts and files of a plain tree stay within their limits in each part of a change.
-use Rattle.std.proofs.Common.{◌≡◌, refl, ap, ◌∙◌, eqb-true, ℕ, nat_eq, Bool, true, false, cond, ◌&&◌, List, [], ◌∷◌, map, Option, Some, None, is_some}
+use Rattle.std.proofs.Common.{◌≡◌, refl, ap, ◌∙◌, ℕ, nat_eq, Bool, true, false, cond, ◌&&◌, List, [], ◌∷◌, map, Option, Some, None, is_some}
 use Rattle.std.specs.List.{list_all}
 use Rattle.std.specs.Ordering.{eq_by_cmp}
 use Rattle.vt_spec.specs.declared.attributes.Attr.{Attr}
