@@ -15,16 +15,3 @@ pub mod Looked
 pub mod Readers
 pub mod MadeSeen
 pub mod AttrSeen
-pub mod CreatedSeen
-pub mod WaysMounts
-pub mod WaysLeft
-pub mod WaysRemoved
-pub mod SettledRoots
-pub mod AfterRemoval
-pub mod RemovalFits
-pub mod AfterRename
-pub mod RenameFits
-pub mod RenameWays
-pub mod UnsharedLeft
-pub mod UnsharedListed
-pub mod UndoneBeneath

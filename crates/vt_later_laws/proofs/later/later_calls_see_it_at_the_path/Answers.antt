@@ -7,7 +7,7 @@ mod WaysFiles
 mod WrittenSeen
 mod LinkedSeen
 use Rattle.vt_later_laws.proofs.AttrSeen.{chmod_then_stat, chown_then_stat}
-use Rattle.vt_later_laws.proofs.CreatedSeen.{exclusive_twice}
+use Rattle.vt_later_laws.proofs.later.CreatedSeen.{exclusive_twice}
 use Rattle.vt_later_laws.proofs.later.later_calls_see_it_at_the_path.Answers.DirectorySeen.{rename_directory_then_list, rename_directory_then_lstat}
 use Rattle.vt_later_laws.proofs.later.later_calls_see_it_at_the_path.Answers.FoundByName.{rename_then_found, rename_then_listed}
 use Rattle.vt_later_laws.proofs.later.later_calls_see_it_at_the_path.Answers.LinkedSeen.{link_then_lstat}

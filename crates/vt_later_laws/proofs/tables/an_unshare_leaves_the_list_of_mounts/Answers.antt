@@ -1,4 +1,4 @@
-use Rattle.vt_later_laws.proofs.UnsharedListed.{unshare_gives_a_namespace, unshare_then_mounts}
+use Rattle.vt_later_laws.proofs.tables.UnsharedListed.{unshare_gives_a_namespace, unshare_then_mounts}
 use Rattle.vt_later_laws.proofs.tables.an_unshare_leaves_the_list_of_mounts.Goals as goal
 
 pub returns-clause-told : goal.returns-clause-told

@@ -1,6 +1,6 @@
-use Rattle.vt_layer_laws.proofs.DirectoriesApart.{changed_stay_apart, lowers_stay_apart}
-use Rattle.vt_layer_laws.proofs.DirectoriesFit.{new_overlay_has_own_parents, new_overlay_is_fit, new_overlay_is_tree, new_overlay_lists_numbers}
-use Rattle.vt_layer_laws.proofs.DirectoriesStill.{overlays_still_merge}
+use Rattle.vt_layer_laws.proofs.directories.Apart.{changed_stay_apart, lowers_stay_apart}
+use Rattle.vt_layer_laws.proofs.directories.Fit.{new_overlay_has_own_parents, new_overlay_is_fit, new_overlay_is_tree, new_overlay_lists_numbers}
+use Rattle.vt_layer_laws.proofs.directories.Still.{overlays_still_merge}
 use Rattle.vt_layer_laws.proofs.directories.a_new_overlay_meets_the_invariants.Goals as goal
 
 pub returns-clause-tree : goal.returns-clause-tree

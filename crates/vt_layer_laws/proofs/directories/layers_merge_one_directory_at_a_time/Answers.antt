@@ -1,4 +1,4 @@
-use Rattle.vt_layer_laws.proofs.DirectoriesUnder.{directories_are_merged, layers_are_views, merged_are_views, placed_show_the_same, places_are_counted_back, shown_under_name}
+use Rattle.vt_layer_laws.proofs.directories.Under.{directories_are_merged, layers_are_views, merged_are_views, placed_show_the_same, places_are_counted_back, shown_under_name}
 use Rattle.vt_layer_laws.proofs.directories.layers_merge_one_directory_at_a_time.Goals as goal
 
 pub returns-clause-under : goal.returns-clause-under

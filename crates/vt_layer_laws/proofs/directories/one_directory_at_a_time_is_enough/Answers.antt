@@ -1,4 +1,4 @@
-use Rattle.vt_layer_laws.proofs.DirectoriesTree.{objects_are_those_shown, one_directory_is_enough, overlays_are_merged_by_directory, real_objects_are_those_shown}
+use Rattle.vt_layer_laws.proofs.directories.Tree.{objects_are_those_shown, one_directory_is_enough, overlays_are_merged_by_directory, real_objects_are_those_shown}
 use Rattle.vt_layer_laws.proofs.directories.one_directory_at_a_time_is_enough.Goals as goal
 
 pub returns-clause-tree : goal.returns-clause-tree

@@ -1,7 +1,7 @@
-use Rattle.vt_layer_laws.proofs.LowersKept.{others_stay}
-use Rattle.vt_layer_laws.proofs.LowersWorld.{others_elsewhere, the_rest_stays}
-use Rattle.vt_layer_laws.proofs.LowersEveryCall.{locked_inodes_stay}
-use Rattle.vt_layer_laws.proofs.UpperWorld.{upper_filesystem_keeps}
+use Rattle.vt_layer_laws.proofs.layers.LowersKept.{others_stay}
+use Rattle.vt_layer_laws.proofs.layers.LowersWorld.{others_elsewhere, the_rest_stays}
+use Rattle.vt_layer_laws.proofs.layers.LowersEveryCall.{locked_inodes_stay}
+use Rattle.vt_layer_laws.proofs.layers.UpperWorld.{upper_filesystem_keeps}
 use Rattle.vt_layer_laws.proofs.layers.lower_layers_stay.Goals as goal
 
 pub returns-clause-inodes : goal.returns-clause-inodes

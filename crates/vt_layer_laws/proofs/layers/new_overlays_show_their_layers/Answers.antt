@@ -1,4 +1,4 @@
-use Rattle.vt_layer_laws.proofs.ShownMounted.{new_overlay_is_merged, remount_shows_the_same}
+use Rattle.vt_layer_laws.proofs.layers.ShownMounted.{new_overlay_is_merged, remount_shows_the_same}
 use Rattle.vt_layer_laws.proofs.layers.new_overlays_show_their_layers.Goals as goal
 
 pub returns-clause-merged : goal.returns-clause-merged

@@ -1,5 +1,5 @@
-use Rattle.vt_layer_laws.proofs.ShownAtPath.{computed, nothing_is_shown, one_is_shown}
-use Rattle.vt_layer_laws.proofs.ShownNames.{names_are_those_shown}
+use Rattle.vt_layer_laws.proofs.layers.ShownAtPath.{computed, nothing_is_shown, one_is_shown}
+use Rattle.vt_layer_laws.proofs.layers.ShownNames.{names_are_those_shown}
 use Rattle.vt_layer_laws.proofs.layers.one_object_is_shown.Goals as goal
 
 pub returns-clause-one : goal.returns-clause-one

@@ -1,6 +1,6 @@
-use Rattle.vt_layer_laws.proofs.CopyingEachChange.{overlay_changes_as_asked}
-use Rattle.vt_layer_laws.proofs.CopyingLast.{copies_have_their_name}
-use Rattle.vt_layer_laws.proofs.UpperFit.{overlays_are_fit}
+use Rattle.vt_layer_laws.proofs.layers.CopyingEachChange.{overlay_changes_as_asked}
+use Rattle.vt_layer_laws.proofs.layers.CopyingLast.{copies_have_their_name}
+use Rattle.vt_layer_laws.proofs.layers.UpperFit.{overlays_are_fit}
 use Rattle.vt_layer_laws.proofs.layers.overlays_change_their_upper_layer.Goals as goal
 
 pub returns-clause-changes : goal.returns-clause-changes

@@ -1,5 +1,5 @@
-use Rattle.vt_layer_laws.proofs.LockedPaths.{lower_paths_are_locked, other_paths_stay}
-use Rattle.vt_layer_laws.proofs.LockedEveryCall.{calls_go_through_one, lower_layers_stay_locked, upper_objects_count}
+use Rattle.vt_layer_laws.proofs.locked.Paths.{lower_paths_are_locked, other_paths_stay}
+use Rattle.vt_layer_laws.proofs.locked.EveryCall.{calls_go_through_one, lower_layers_stay_locked, upper_objects_count}
 use Rattle.vt_layer_laws.proofs.locked.lower_layers_are_locked.Goals as goal
 
 pub returns-clause-calls : goal.returns-clause-calls

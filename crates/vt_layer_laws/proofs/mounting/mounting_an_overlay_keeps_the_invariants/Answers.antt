@@ -1,4 +1,4 @@
-use Rattle.vt_layer_laws.proofs.MountingKept.{mounting_keeps_overlays, mounting_keeps_trees, mounting_makes_overlay}
+use Rattle.vt_layer_laws.proofs.mounting.Kept.{mounting_keeps_overlays, mounting_keeps_trees, mounting_makes_overlay}
 use Rattle.vt_layer_laws.proofs.mounting.mounting_an_overlay_keeps_the_invariants.Goals as goal
 
 pub returns-clause-trees : goal.returns-clause-trees

@@ -1,4 +1,4 @@
-use Rattle.vt_layer_laws.proofs.ViewsMoves.{moved_leads_on, new_leads_as_old, old_leads_nowhere, through_is_split}
+use Rattle.vt_layer_laws.proofs.views.Moves.{moved_leads_on, new_leads_as_old, old_leads_nowhere, through_is_split}
 use Rattle.vt_layer_laws.proofs.views.moves_take_all_along.Goals as goal
 
 pub returns-clause-on : goal.returns-clause-on

@@ -1,4 +1,4 @@
-use Rattle.vt_layer_laws.proofs.ViewsNames.{add_name_adds_path, add_name_is_seen, make_adds_inode, make_adds_path, make_ends_paths, make_is_seen}
+use Rattle.vt_layer_laws.proofs.views.Names.{add_name_adds_path, add_name_is_seen, make_adds_inode, make_adds_path, make_ends_paths, make_is_seen}
 use Rattle.vt_layer_laws.proofs.views.new_names_add_a_path.Goals as goal
 
 pub returns-clause-made : goal.returns-clause-made

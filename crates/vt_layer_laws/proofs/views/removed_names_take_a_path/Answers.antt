@@ -1,4 +1,4 @@
-use Rattle.vt_layer_laws.proofs.ViewsNames.{remove_ends_paths, remove_is_seen, remove_takes_path}
+use Rattle.vt_layer_laws.proofs.views.Names.{remove_ends_paths, remove_is_seen, remove_takes_path}
 use Rattle.vt_layer_laws.proofs.views.removed_names_take_a_path.Goals as goal
 
 pub returns-clause-removed : goal.returns-clause-removed

@@ -1,5 +1,5 @@
-use Rattle.vt_layer_laws.proofs.ViewsNames.{names_leave_inodes}
-use Rattle.vt_layer_laws.proofs.ViewsStay.{attr_changes_one_inode, bytes_change_one_inode, elsewhere_keeps_view, mark_changes_one_inode}
+use Rattle.vt_layer_laws.proofs.views.Names.{names_leave_inodes}
+use Rattle.vt_layer_laws.proofs.views.Stay.{attr_changes_one_inode, bytes_change_one_inode, elsewhere_keeps_view, mark_changes_one_inode}
 use Rattle.vt_layer_laws.proofs.views.views_change_there_alone.Goals as goal
 
 pub returns-clause-bytes : goal.returns-clause-bytes

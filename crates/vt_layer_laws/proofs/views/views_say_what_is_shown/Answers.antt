@@ -1,4 +1,4 @@
-use Rattle.vt_layer_laws.proofs.ViewsFronts.{shown_by_fronts, shown_by_views}
+use Rattle.vt_layer_laws.proofs.views.Fronts.{shown_by_fronts, shown_by_views}
 use Rattle.vt_layer_laws.proofs.views.views_say_what_is_shown.Goals as goal
 
 pub returns-clause-everywhere : goal.returns-clause-everywhere

@@ -1,4 +1,4 @@
-use Rattle.vt_merge_laws.proofs.MergedNumbers.{inodes_are_those, merged_trees_are_one, numbers_are_those, others_are_held, overlays_are_merged_trees}
+use Rattle.vt_merge_laws.proofs.merged.Numbers.{inodes_are_those, merged_trees_are_one, numbers_are_those, others_are_held, overlays_are_merged_trees}
 use Rattle.vt_merge_laws.proofs.merged.a_merged_tree_is_a_function.Goals as goal
 
 pub returns-clause-numbers : goal.returns-clause-numbers

@@ -1,5 +1,5 @@
-use Rattle.vt_merge_laws.proofs.MountedAgain.{mounted_anew_shows_the_same, mounted_over_the_same_layers}
-use Rattle.vt_merge_laws.proofs.MountedLinks.{mounted_anew_links_the_same}
+use Rattle.vt_merge_laws.proofs.mounted.Again.{mounted_anew_shows_the_same, mounted_over_the_same_layers}
+use Rattle.vt_merge_laws.proofs.mounted.Links.{mounted_anew_links_the_same}
 use Rattle.vt_merge_laws.proofs.mounted.an_overlay_mounted_anew_shows_the_same.Goals as goal
 
 pub returns-clause-layers : goal.returns-clause-layers

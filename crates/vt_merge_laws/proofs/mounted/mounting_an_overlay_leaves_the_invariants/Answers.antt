@@ -1,8 +1,8 @@
-use Rattle.vt_merge_laws.proofs.MountedReached.{mounted_layers_are_reached}
-use Rattle.vt_layer_laws.proofs.MountingReached.{layers_are_reached}
-use Rattle.vt_merge_laws.proofs.WorldsRaised.{policy_mounts_a_world, raising_keeps_worlds}
-use Rattle.vt_merge_laws.proofs.MountedWorlds.{mounting_leaves_a_world}
-use Rattle.vt_merge_laws.proofs.MountedLeft.{mounting_leaves_overlays, mounting_leaves_trees, mounting_lets_nothing_go}
+use Rattle.vt_merge_laws.proofs.mounted.Reached.{mounted_layers_are_reached}
+use Rattle.vt_layer_laws.proofs.mounting.Reached.{layers_are_reached}
+use Rattle.vt_merge_laws.proofs.mounted.WorldsRaised.{policy_mounts_a_world, raising_keeps_worlds}
+use Rattle.vt_merge_laws.proofs.mounted.Worlds.{mounting_leaves_a_world}
+use Rattle.vt_merge_laws.proofs.mounted.Left.{mounting_leaves_overlays, mounting_leaves_trees, mounting_lets_nothing_go}
 use Rattle.vt_merge_laws.proofs.mounted.mounting_an_overlay_leaves_the_invariants.Goals as goal
 
 pub returns-clause-nothing : goal.returns-clause-nothing

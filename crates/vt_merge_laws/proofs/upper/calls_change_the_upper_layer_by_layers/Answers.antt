@@ -1,5 +1,5 @@
-use Rattle.vt_merge_laws.proofs.UpperAsked.{asked_changes_have_places}
-use Rattle.vt_merge_laws.proofs.UpperWorlds.{changes_are_by_layers, upper_layers_after_calls, upper_layers_after_whole_calls}
+use Rattle.vt_merge_laws.proofs.upper.Asked.{asked_changes_have_places}
+use Rattle.vt_merge_laws.proofs.upper.Worlds.{changes_are_by_layers, upper_layers_after_calls, upper_layers_after_whole_calls}
 use Rattle.vt_merge_laws.proofs.upper.calls_change_the_upper_layer_by_layers.Goals as goal
 
 pub returns-clause-changes : goal.returns-clause-changes

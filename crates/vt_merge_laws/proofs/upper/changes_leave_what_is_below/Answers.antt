@@ -1,4 +1,4 @@
-use Rattle.vt_merge_laws.proofs.BelowWhole.{below_ends, below_names, below_new, below_stays}
+use Rattle.vt_merge_laws.proofs.upper.BelowWhole.{below_ends, below_names, below_new, below_stays}
 use Rattle.vt_merge_laws.proofs.upper.changes_leave_what_is_below.Goals as goal
 
 pub returns-clause-stays : goal.returns-clause-stays

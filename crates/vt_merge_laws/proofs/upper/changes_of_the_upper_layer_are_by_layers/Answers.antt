@@ -1,4 +1,4 @@
-use Rattle.vt_merge_laws.proofs.UpperKinds.{attr_is_set_above, bytes_are_set_above, linked_above, made_above, mark_is_set_above, moved_above, opened_is_copied, removed_above}
+use Rattle.vt_merge_laws.proofs.upper.UpperKinds.{attr_is_set_above, bytes_are_set_above, linked_above, made_above, mark_is_set_above, moved_above, opened_is_copied, removed_above}
 use Rattle.vt_merge_laws.proofs.upper.changes_of_the_upper_layer_are_by_layers.Goals as goal
 
 pub returns-clause-bytes : goal.returns-clause-bytes

@@ -1,4 +1,4 @@
-use Rattle.vt_merge_laws.proofs.UpperPlaces.{copies_are_of_fronts, copies_hide_nothing, fronts_have_their_copies, fronts_lead_to_copies, held_have_their_copies}
+use Rattle.vt_merge_laws.proofs.upper.Places.{copies_are_of_fronts, copies_hide_nothing, fronts_have_their_copies, fronts_lead_to_copies, held_have_their_copies}
 use Rattle.vt_merge_laws.proofs.upper.copies_are_of_fronts.Goals as goal
 
 pub returns-clause-copies : goal.returns-clause-copies

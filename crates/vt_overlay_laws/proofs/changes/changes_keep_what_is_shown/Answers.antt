@@ -1,8 +1,8 @@
-use Rattle.vt_overlay_laws.proofs.WholeOthers.{calls_keep_other_overlays, other_overlays_stay_merged}
-use Rattle.vt_overlay_laws.proofs.WholeLater.{changed_overlay_is_merged}
-use Rattle.vt_overlay_laws.proofs.WholeHidden.{hidden_stays_hidden}
-use Rattle.vt_overlay_laws.proofs.WholeTogether.{changes_keep_shown}
-use Rattle.vt_overlay_laws.proofs.WholeWorlds.{overlays_are_whole, shown_is_merged}
+use Rattle.vt_overlay_laws.proofs.changes.WholeOthers.{calls_keep_other_overlays, other_overlays_stay_merged}
+use Rattle.vt_overlay_laws.proofs.changes.WholeLater.{changed_overlay_is_merged}
+use Rattle.vt_overlay_laws.proofs.changes.WholeHidden.{hidden_stays_hidden}
+use Rattle.vt_overlay_laws.proofs.changes.WholeTogether.{changes_keep_shown}
+use Rattle.vt_overlay_laws.proofs.changes.WholeWorlds.{overlays_are_whole, shown_is_merged}
 use Rattle.vt_overlay_laws.proofs.changes.changes_keep_what_is_shown.Goals as goal
 
 pub returns-clause-changes : goal.returns-clause-changes

@@ -1,11 +1,11 @@
-use Rattle.vt_overlay_laws.proofs.WholeMoved.{move_keeps_shown}
-use Rattle.vt_overlay_laws.proofs.WholeLinked.{link_keeps_shown}
-use Rattle.vt_overlay_laws.proofs.WholeRemoved.{remove_keeps_shown}
-use Rattle.vt_overlay_laws.proofs.WholeMade.{make_keeps_shown}
-use Rattle.vt_overlay_laws.proofs.WholeCopied.{copy_keeps_whole}
-use Rattle.vt_overlay_laws.proofs.WholeLines.{copies_keep_whole}
-use Rattle.vt_overlay_laws.proofs.WholeAttributes.{attr_keeps_whole, bytes_keep_whole}
-use Rattle.vt_overlay_laws.proofs.WholeMarked.{mark_keeps_whole, mark_of_the_tree_is_not_shown}
+use Rattle.vt_overlay_laws.proofs.steps.WholeMoved.{move_keeps_shown}
+use Rattle.vt_overlay_laws.proofs.steps.WholeLinked.{link_keeps_shown}
+use Rattle.vt_overlay_laws.proofs.steps.WholeRemoved.{remove_keeps_shown}
+use Rattle.vt_overlay_laws.proofs.steps.WholeMade.{make_keeps_shown}
+use Rattle.vt_overlay_laws.proofs.steps.WholeCopied.{copy_keeps_whole}
+use Rattle.vt_overlay_laws.proofs.steps.WholeLines.{copies_keep_whole}
+use Rattle.vt_overlay_laws.proofs.steps.WholeAttributes.{attr_keeps_whole, bytes_keep_whole}
+use Rattle.vt_overlay_laws.proofs.steps.WholeMarked.{mark_keeps_whole, mark_of_the_tree_is_not_shown}
 use Rattle.vt_overlay_laws.proofs.steps.steps_keep_what_is_shown.Goals as goal
 
 pub returns-clause-bytes : goal.returns-clause-bytes

@@ -1,6 +1,6 @@
-use Rattle.vt_overlay_laws.proofs.UpperLimits
-use Rattle.vt_overlay_laws.proofs.UpperOwn
-use Rattle.vt_overlay_laws.proofs.UpperWhole
+use Rattle.vt_overlay_laws.proofs.whole.UpperLimits
+use Rattle.vt_overlay_laws.proofs.whole.UpperOwn
+use Rattle.vt_overlay_laws.proofs.whole.UpperWhole
 use Rattle.vt_overlay_laws.proofs.whole.changes_keep_both_trees.Goals as goal
 
 pub returns-clause-upper : goal.returns-clause-upper

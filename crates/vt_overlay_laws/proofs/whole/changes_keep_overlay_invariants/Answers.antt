@@ -1,5 +1,5 @@
-use Rattle.vt_overlay_laws.proofs.ApartInvariants
-use Rattle.vt_overlay_laws.proofs.ApartLater
+use Rattle.vt_overlay_laws.proofs.whole.ApartInvariants
+use Rattle.vt_overlay_laws.proofs.whole.ApartLater
 use Rattle.vt_overlay_laws.proofs.whole.changes_keep_overlay_invariants.Goals as goal
 
 pub returns-clause-apart : goal.returns-clause-apart

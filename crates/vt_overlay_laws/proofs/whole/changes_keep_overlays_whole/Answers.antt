@@ -1,4 +1,4 @@
-use Rattle.vt_overlay_laws.proofs.UpperWhole
+use Rattle.vt_overlay_laws.proofs.whole.UpperWhole
 use Rattle.vt_overlay_laws.proofs.whole.changes_keep_overlays_whole.Goals as goal
 
 pub returns-clause-made : goal.returns-clause-made

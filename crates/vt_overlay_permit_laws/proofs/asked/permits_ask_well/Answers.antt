@@ -1,5 +1,5 @@
-use Rattle.vt_overlay_permit_laws.proofs.UnlockedOthers.{permits_spare_what_is_locked}
-use Rattle.vt_overlay_permit_laws.proofs.AskedOverlays
+use Rattle.vt_overlay_permit_laws.proofs.asked.UnlockedOthers.{permits_spare_what_is_locked}
+use Rattle.vt_overlay_permit_laws.proofs.asked.AskedOverlays
 use Rattle.vt_overlay_permit_laws.proofs.asked.permits_ask_well.Goals as goal
 
 pub returns-clause-all : goal.returns-clause-all

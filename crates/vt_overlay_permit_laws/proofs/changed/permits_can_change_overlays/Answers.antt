@@ -1,4 +1,4 @@
-use Rattle.vt_overlay_permit_laws.proofs.ChangedOverlays
+use Rattle.vt_overlay_permit_laws.proofs.changed.ChangedOverlays
 use Rattle.vt_overlay_permit_laws.proofs.changed.permits_can_change_overlays.Goals as goal
 
 pub returns-clause-asked : goal.returns-clause-asked

@@ -1,4 +1,4 @@
-use Rattle.vt_overlay_permit_laws.proofs.KeptOverlays
+use Rattle.vt_overlay_permit_laws.proofs.kept.KeptOverlays
 use Rattle.vt_overlay_permit_laws.proofs.kept.permits_keep_overlay_invariants.Goals as goal
 
 pub returns-clause-change : goal.returns-clause-change

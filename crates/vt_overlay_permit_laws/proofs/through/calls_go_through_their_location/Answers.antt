@@ -1,5 +1,5 @@
-use Rattle.vt_overlay_permit_laws.proofs.CallsThrough
-use Rattle.vt_overlay_permit_laws.proofs.LayersThrough
+use Rattle.vt_overlay_permit_laws.proofs.through.CallsThrough
+use Rattle.vt_overlay_permit_laws.proofs.through.LayersThrough
 use Rattle.vt_overlay_permit_laws.proofs.through.calls_go_through_their_location.Goals as goal
 
 pub returns-clause-location : goal.returns-clause-location

@@ -1,5 +1,5 @@
-use Rattle.vt_overlay_permit_laws.proofs.LayersLater.{every_call_leaves_other_layers}
-use Rattle.vt_overlay_permit_laws.proofs.LayersOverScripts.{layers_stay_over_scripts}
+use Rattle.vt_overlay_permit_laws.proofs.through.LayersLater.{every_call_leaves_other_layers}
+use Rattle.vt_overlay_permit_laws.proofs.through.LayersOverScripts.{layers_stay_over_scripts}
 use Rattle.vt_overlay_permit_laws.proofs.through.every_call_leaves_other_layers.Goals as goal
 
 pub returns-clause-calls : goal.returns-clause-calls

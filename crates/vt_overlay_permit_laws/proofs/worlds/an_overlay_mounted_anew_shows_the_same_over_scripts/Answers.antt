@@ -1,4 +1,4 @@
-use Rattle.vt_overlay_permit_laws.proofs.MountedScripts.{links_over_scripts, mounted_anew_over_scripts, same_layers_over_scripts}
+use Rattle.vt_overlay_permit_laws.proofs.worlds.MountedScripts.{links_over_scripts, mounted_anew_over_scripts, same_layers_over_scripts}
 use Rattle.vt_overlay_permit_laws.proofs.worlds.an_overlay_mounted_anew_shows_the_same_over_scripts.Goals as goal
 
 pub returns-clause-layers : goal.returns-clause-layers

@@ -1,4 +1,4 @@
-use Rattle.vt_overlay_permit_laws.proofs.EveryScript.{every_script_leads_to_worlds}
+use Rattle.vt_overlay_permit_laws.proofs.worlds.EveryScript.{every_script_leads_to_worlds}
 use Rattle.vt_overlay_permit_laws.proofs.worlds.every_script_leads_to_worlds.Goals as goal
 
 pub returns : goal.returns

@@ -1,6 +1,6 @@
-use Rattle.vt_overlays_let_go.proofs.NamesLost.{only_these_lose_names, overlay_changes_keep_all}
-use Rattle.vt_overlays_let_go.proofs.OverlayCalls.{made_in_overlays_lets_go, removed_from_overlays_let_go, replaced_in_overlays_let_go, taken_and_overlay_changes_let_go}
-use Rattle.vt_overlays_let_go.proofs.OverlaysChanged.{overlay_changes_let_go}
+use Rattle.vt_overlays_let_go.proofs.changing.NamesLost.{only_these_lose_names, overlay_changes_keep_all}
+use Rattle.vt_overlays_let_go.proofs.changing.OverlayCalls.{made_in_overlays_lets_go, removed_from_overlays_let_go, replaced_in_overlays_let_go, taken_and_overlay_changes_let_go}
+use Rattle.vt_overlays_let_go.proofs.changing.OverlaysChanged.{overlay_changes_let_go}
 use Rattle.vt_overlays_let_go.proofs.changing.what_a_change_of_an_overlay_leaves_goes.Goals as goal
 
 pub returns-clause-change : goal.returns-clause-change

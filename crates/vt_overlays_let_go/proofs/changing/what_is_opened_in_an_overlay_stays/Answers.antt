@@ -1,5 +1,5 @@
-use Rattle.vt_overlays_let_go.proofs.NamesLost.{opened_copies_keep_all}
-use Rattle.vt_overlays_let_go.proofs.OverlayCalls.{opened_new_in_overlays_lets_go}
+use Rattle.vt_overlays_let_go.proofs.changing.NamesLost.{opened_copies_keep_all}
+use Rattle.vt_overlays_let_go.proofs.changing.OverlayCalls.{opened_new_in_overlays_lets_go}
 use Rattle.vt_overlays_let_go.proofs.changing.what_is_opened_in_an_overlay_stays.Goals as goal
 
 pub returns-clause-new : goal.returns-clause-new

@@ -29,18 +29,18 @@ use Rattle.vt_world_laws.proofs.Reached.{directory_no_link}
 use Rattle.vt_later_laws.specs.LaterNames.{IsAnsweredUnlessBy, RenameDirectoryThenList, RenameDirectoryThenLstat, StandsOutside}
 use Rattle.vt_later_laws.specs.Later.{IsAnswered}
 use Rattle.vt_later_laws.specs.LaterPaths.{IsAnsweredUnless, IsRefused, LooksFrom, reads_all}
-use Rattle.vt_later_laws.proofs.AfterRename.{free_left, may, new_left, object_left, old_left, to_shown}
+use Rattle.vt_later_laws.proofs.later.AfterRename.{free_left, may, new_left, object_left, old_left, to_shown}
 use Rattle.vt_later_laws.proofs.Granted.{IsPermitted, permitted}
 use Rattle.vt_later_laws.proofs.Looked.{list_of, list_refused, lstat_of, lstat_refused, read_all, search_all}
 use Rattle.vt_later_laws.proofs.MadeSeen.{new_parts}
 use Rattle.vt_later_laws.proofs.Readers.{MayLook, all_stands, own_name, raised_credentials, raised_stands, stepped_by}
-use Rattle.vt_later_laws.proofs.RenameFits.{Fits, caller, directory_fits, fs, left_is, mounts_same, object_later, objects_stay, rights_left, root_fits}
-use Rattle.vt_later_laws.proofs.RenameWays.{fits_ways, mounts_seen}
+use Rattle.vt_later_laws.proofs.later.RenameFits.{Fits, caller, directory_fits, fs, left_is, mounts_same, object_later, objects_stay, rights_left, root_fits}
+use Rattle.vt_later_laws.proofs.later.RenameWays.{fits_ways, mounts_seen}
 use Rattle.vt_later_laws.proofs.Stays.{called_own}
 use Rattle.vt_later_laws.proofs.later.later_calls_see_it_at_the_path.Answers.FoundByName.{NamesParts, before, directory_kept, is_directory_before, names_parts, old_listed, old_told, told_alike}
 use Rattle.vt_later_laws.proofs.later.later_calls_see_it_at_the_path.Answers.Unlinked.{Missing}
 use Rattle.vt_later_laws.proofs.Ways.{LeadsToo}
-use Rattle.vt_later_laws.proofs.WaysLeft.{FitsWays, Known, MountsSeen, ObjectsStay, node_here, ways_lead}
+use Rattle.vt_later_laws.proofs.later.WaysLeft.{FitsWays, Known, MountsSeen, ObjectsStay, node_here, ways_lead}
 use Rattle.vt_later_laws.proofs.WaysPlaces.{EndsThere, directory_named_too, named_place, symlink_missing, symlink_named_too}
 use Rattle.vt_later_laws.proofs.WaysStay.{StandsAs, node_in}
 

@@ -34,7 +34,7 @@ use Rattle.vt_layer_laws.specs.Layers.Untouched.{IsKept}
 use Rattle.vt_world_laws.specs.Worlds.Kept.{IsPlain}
 use Rattle.vt_world_laws.proofs.Reached.{IsFound, directory_no_link}
 use Rattle.vt_later_laws.specs.LaterNames.{LeadsToName, RenameThenFound, RenameThenListed}
-use Rattle.vt_later_laws.proofs.AfterRename.{free_left, free_over, is_left, may, new_left, object_left, object_shown, old_left, to_shown}
+use Rattle.vt_later_laws.proofs.later.AfterRename.{free_left, free_over, is_left, may, new_left, object_left, object_shown, old_left, to_shown}
 use Rattle.vt_later_laws.proofs.Granted.{IsPermitted, permitted}
 use Rattle.vt_later_laws.proofs.Looked.{list_of, lstat_of, lstat_refused}
 use Rattle.vt_later_laws.proofs.MadeSeen.{Never, surely}

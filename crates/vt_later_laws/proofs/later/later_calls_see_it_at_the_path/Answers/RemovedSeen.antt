@@ -26,15 +26,15 @@ use Rattle.vt_mount_laws.proofs.MountsPlaces.{same_location_itself}
 use Rattle.vt_world_laws.specs.Worlds.Kept.{IsPlain}
 use Rattle.vt_later_laws.specs.Later.{IsOneInode}
 use Rattle.vt_later_laws.specs.LaterPaths.{RmdirThenLstat}
-use Rattle.vt_later_laws.proofs.AfterRemoval.{caller, is_left, mounts_seen, name_left, objects_stay, own_task, rights_left, seen_to}
+use Rattle.vt_later_laws.proofs.later.AfterRemoval.{caller, is_left, mounts_seen, name_left, objects_stay, own_task, rights_left, seen_to}
 use Rattle.vt_later_laws.proofs.Granted.{IsPermitted, permitted}
 use Rattle.vt_later_laws.proofs.Looked.{lstat_refused, search_all}
 use Rattle.vt_later_laws.proofs.Readers.{MayLook, all_stands, own_name, raised_credentials, raised_stands, stepped_by}
-use Rattle.vt_later_laws.proofs.RemovalFits.{Fits, IsOutside, fits_ways}
+use Rattle.vt_later_laws.proofs.later.RemovalFits.{Fits, IsOutside, fits_ways}
 use Rattle.vt_later_laws.proofs.Steps.{passing, same_ok}
 use Rattle.vt_later_laws.proofs.later.later_calls_see_it_at_the_path.Answers.Unlinked.{Missing, old_parts}
 use Rattle.vt_later_laws.proofs.Ways.{LeadsToo}
-use Rattle.vt_later_laws.proofs.WaysLeft.{Known, node_here, ways_lead}
+use Rattle.vt_later_laws.proofs.later.WaysLeft.{Known, node_here, ways_lead}
 use Rattle.vt_later_laws.proofs.WaysPlaces.{named_place, symlink_missing}
 use Rattle.vt_later_laws.proofs.WaysStay.{StandsAs, node_in}
 use Rattle.vt_spec.proofs.Options.{and_then-Ok}

@@ -1,0 +1,3 @@
+-- What the proofs of src/tables.rt use.
+pub mod UnsharedLeft
+pub mod UnsharedListed

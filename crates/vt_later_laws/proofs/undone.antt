@@ -1,0 +1,2 @@
+-- What the proofs of src/undone.rt use.
+pub mod Beneath

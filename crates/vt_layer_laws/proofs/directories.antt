@@ -1,0 +1,10 @@
+-- What the proofs of src/directories.rt use.
+pub mod Apart
+pub mod Below
+pub mod Fit
+pub mod Later
+pub mod Merged
+pub mod Order
+pub mod Still
+pub mod Tree
+pub mod Under

@@ -1,0 +1,8 @@
+-- What the proofs of src/locked.rt use.
+pub mod Apart
+pub mod Change
+pub mod EachCall
+pub mod EveryCall
+pub mod Paths
+pub mod Steps
+pub mod Walks

@@ -1,0 +1,2 @@
+-- What the proofs of src/merged.rt use.
+pub mod Numbers

@@ -1,0 +1,3 @@
+-- What the proofs of src/changed.rt use.
+pub mod ByLayers
+pub mod ChangedOverlays

@@ -1,0 +1,2 @@
+-- What the proofs of src/kept.rt use.
+pub mod KeptOverlays

@@ -1,0 +1,2 @@
+-- What the proofs of src/mounting.rt use.
+pub mod NewOverlays
